@@ -1,0 +1,24 @@
+-- Counts of faults, of ends and of bytes. A count is a `u64` that stops at its last value.
+use Rattle.std.specs.Prelude.{◌≡◌, ℕ, ◌+◌, ◌-◌, ◌^◌, ◌≤◌, min, Result, OnErr}
+
+-- a count after n more
+abbrev pub count_after : ℕ → ℕ → ℕ
+count_after before n = min (before + n) (2 ^ 64 - 1)
+
+-- the count rose by n, or to its last value, and did not fall
+pub record Counts (n before now : ℕ) : Type 0 where
+  pub later : before ≤ now
+  pub count : now ≡ count_after before n
+
+-- the count rose by n or more, or stands at its last value
+abbrev pub RoseBy : ℕ → ℕ → ℕ → Type 0
+RoseBy n before now = count_after before n ≤ now
+
+-- the count rose, or stands at its last value
+abbrev pub Rose : ℕ → ℕ → Type 0
+Rose before now = RoseBy 1 before now
+
+-- the count of faults did not fall, and a call fails only where it rose
+pub record HasCause {T E : Type 0} (before now : ℕ) (result : Result T E) : Type 0 where
+  pub later : before ≤ now
+  pub failed : OnErr result (Rose before now)

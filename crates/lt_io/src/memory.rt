@@ -1,0 +1,99 @@
+ghost use Rattle.std.specs.Prelude.{◌≡◌, ◌-◌, ◌↔◌, Some, min, length, IsErr, IfOk, Contains};
+ghost use Rattle.std.specs.Io.{ReadsAtMost};
+ghost use Rattle.std.specs.Io.KnownBytes.{ReadConsumes, WriteAppends};
+ghost use Rattle.lt_io.specs.Counts.{count_after, HasCause};
+ghost use Rattle.lt_io.specs.Source.{Ends, Gives};
+ghost use Rattle.lt_io.specs.Sink.{TakesSome};
+
+use crate::sink::Sink;
+use crate::source::{Failed, Source, ends_after};
+use crate::sure::copy_front;
+
+/// A source of bytes in memory for tests of its callers: the calls whose numbers stand in `fails`,
+/// counted from 1, fail.
+#[derive(Debug, Drop)]
+pub struct MemorySource {
+    pub bytes: Vec<u8>,
+    pub at: usize,
+    pub calls: u64,
+    pub fails: Vec<u64>,
+    pub given: u64,
+    pub faults: u64,
+    pub ends: u64,
+}
+
+impl Source for MemorySource {
+    ghost use Rattle.lt_io.specs.Memory.{bytes_left};
+
+    ghost left = { bytes_left };
+
+    ghost given = { λ s. s.given };
+
+    ghost faults = { λ s. s.faults };
+
+    ghost ends = { λ s. s.ends };
+
+    fn read(&mut self, buf: &mut [u8]) -> Result<usize, Failed>
+        ensures called { self.new.calls ≡ count_after self.old.calls 1 }
+        ensures failed { IsErr result ↔ Contains self.old.fails.items self.new.calls }
+        ensures gave { IfOk result (λ n.
+            n ≡ min (length self.old.bytes.items - self.old.at) (length buf.new)) }
+        ensures kept { (self.new.bytes ≡ self.old.bytes) × (self.new.fails ≡ self.old.fails) }
+
+        ensures bound { ReadsAtMost result buf.new }
+        ensures bytes { ReadConsumes (bytes_left self.old) (bytes_left self.new) result buf.new }
+        ensures count { Gives self.old.given self.new.given result }
+        ensures cause { HasCause self.old.faults self.new.faults result }
+        ensures end { Ends self.old.ends self.new.ends (length buf.new) result }
+    {
+        self.calls = self.calls.saturating_add(1);
+        if self.fails.contains(&self.calls) {
+            self.faults = self.faults.saturating_add(1);
+            return Err(Failed);
+        }
+        let count = copy_front(self.bytes.as_slice(), self.at, buf);
+        self.ends = ends_after(self.ends, buf.len(), count);
+        self.at += count;
+        self.given = self.given.saturating_add(count as u64);
+        Ok(count)
+    }
+}
+
+/// A sink in memory for tests of its callers: one write takes at most `per_write` bytes, and the calls
+/// whose numbers stand in `fails`, counted from 1, fail. So does a write for which memory is wanting.
+#[derive(Debug, Drop)]
+pub struct MemorySink {
+    pub bytes: Vec<u8>,
+    pub per_write: usize,
+    pub calls: u64,
+    pub fails: Vec<u64>,
+    pub faults: u64,
+}
+
+impl Sink for MemorySink {
+    ghost held = { λ s. Some s.bytes.items };
+
+    ghost faults = { λ s. s.faults };
+
+    fn write(&mut self, piece: &[u8]) -> Result<usize, Failed>
+        ensures called { self.new.calls ≡ count_after self.old.calls 1 }
+        // Any other failure is counted too, but what memory allows is left open.
+        ensures listed { Contains self.old.fails.items self.new.calls → IsErr result }
+        ensures took { IfOk result (λ n. n ≡ min self.old.per_write (length piece.now)) }
+        ensures kept { (self.new.per_write ≡ self.old.per_write) × (self.new.fails ≡ self.old.fails) }
+
+        ensures count { TakesSome result piece.now }
+        ensures bytes { WriteAppends (Some self.old.bytes.items) (Some self.new.bytes.items)
+            result piece.now }
+        ensures cause { HasCause self.old.faults self.new.faults result }
+    {
+        self.calls = self.calls.saturating_add(1);
+        let count = piece.len().min(self.per_write);
+        let refused = self.fails.contains(&self.calls) || (count == 0 && !piece.is_empty());
+        if refused || self.bytes.extend_from_slice(&piece[..count]).is_err() {
+            self.faults = self.faults.saturating_add(1);
+            return Err(Failed);
+        }
+        Ok(count)
+    }
+}

@@ -1,0 +1,67 @@
+use super::{
+    Failed, MemorySink, MemorySource, ReadFailure, ReaderSource, Source, SureSink, SureSource,
+    WriterSink, read_all, write_all,
+};
+use std::test::Fail;
+
+#[test]
+fn streams_of_std(rt: HostRuntime) -> Result<(), Fail> {
+    let text: &[u8] = b"ask and tell";
+    let mut source = ReaderSource::new(text);
+    let mut sink = WriterSink::new(Vec::new(rt.alloc()));
+    let bytes = read_all(rt.alloc(), &mut source, text.len())?;
+    assert_eq!(rt; bytes.as_slice(), text);
+    assert_eq!(rt; write_all(&mut sink, text), Ok(()));
+    Ok(())
+}
+
+#[test]
+fn memory_fails_where_it_is_told(rt: HostRuntime) -> Result<(), Fail> {
+    let mut source = MemorySource {
+        bytes: Vec::from_slice(rt.alloc(), b"hold")?,
+        at: 0,
+        calls: 0,
+        fails: Vec::from_slice(rt.alloc(), &[2])?,
+        given: 0,
+        faults: 0,
+        ends: 0,
+    };
+    let mut buf = [0; 3];
+    for want in [Ok(3), Err(Failed), Ok(1), Ok(0)] {
+        assert_eq!(rt; source.read(&mut buf), want);
+    }
+    assert_eq!(rt; (source.given, source.faults, source.ends), (4, 1, 1));
+
+    let mut sink = MemorySink {
+        bytes: Vec::new(rt.alloc()),
+        per_write: 2,
+        calls: 0,
+        fails: Vec::from_slice(rt.alloc(), &[3])?,
+        faults: 0,
+    };
+    assert_eq!(rt; write_all(&mut sink, b"grant"), Err(Failed));
+    assert_eq!(rt; sink.bytes.as_slice(), b"gran".as_slice());
+    assert_eq!(rt; write_all(&mut sink, b"t"), Ok(()));
+    assert_eq!(rt; (sink.calls, sink.faults), (4, 1));
+    Ok(())
+}
+
+#[test]
+fn sure_pair_at_the_limit(rt: HostRuntime) -> Result<(), Fail> {
+    const SIZE: usize = 1_048_576;
+    for (limit, want) in [(SIZE, None), (SIZE - 1, Some(ReadFailure::TooLong))] {
+        let mut source = SureSource {
+            bytes: vec![in rt.alloc(); 7; SIZE]?,
+            at: 0,
+            given: 0,
+            ends: 0,
+        };
+        let result = read_all(rt.alloc(), &mut source, limit);
+        if let Ok(bytes) = &result {
+            assert_eq!(rt; bytes.len(), SIZE);
+            assert_eq!(rt; write_all(&mut SureSink, bytes), Ok(()));
+        }
+        assert_eq!(rt; result.err(), want);
+    }
+    Ok(())
+}

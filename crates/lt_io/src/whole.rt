@@ -1,0 +1,108 @@
+ghost use Rattle.std.specs.Prelude.{◌≡◌, ◌≤◌, ◌<◌, ◌+◌, length, vec_len, IfOk, OnOk, OnErr, IfSome};
+ghost use Rattle.std.specs.Io.KnownBytes.{Consumes, Appends, IsAtEnd};
+ghost use Rattle.lt_io.specs.declared.whole.ReadFailure.TheVariants as failure;
+ghost use Rattle.lt_io.specs.Counts.{Counts, Rose, RoseBy, HasCause};
+ghost use Rattle.lt_io.specs.Source.{LosesPart};
+ghost use Rattle.lt_io.specs.Sink.{AppendsPart};
+
+use crate::sink::Sink;
+use crate::source::{Failed, Source};
+use std::alloc::{AllocError, Global};
+use std::error::Error;
+use std::fmt;
+
+// How many bytes one read may give.
+const ROOM: usize = 4096;
+
+/// Why a source was not read whole.
+#[derive(Clone, Copy, Debug, PartialEq, Eq)]
+pub enum ReadFailure {
+    /// Memory was wanting.
+    Memory,
+    /// A read failed.
+    Failed,
+    /// The source has more bytes than the limit.
+    TooLong,
+}
+
+impl fmt::Display for ReadFailure {
+    fn fmt<W: fmt::Write>(&self, f: &mut fmt::Formatter<W>) -> fmt::Result {
+        f.write_str(match self {
+            ReadFailure::Memory => "out of memory",
+            ReadFailure::Failed => "a read failed",
+            ReadFailure::TooLong => "the input is too long",
+        })
+    }
+}
+
+impl Error for ReadFailure {}
+
+impl From<Failed> for ReadFailure {
+    ghost from_gives = { λ _ e. e ≡ failure.Failed };
+
+    fn from(_failed: Failed) -> ReadFailure {
+        ReadFailure::Failed
+    }
+}
+
+impl From<AllocError> for ReadFailure {
+    ghost from_gives = { λ _ e. e ≡ failure.Memory };
+
+    fn from(_error: AllocError) -> ReadFailure {
+        ReadFailure::Memory
+    }
+}
+
+/// Reads a source to its end. A source with more bytes than the limit is left somewhere past it.
+/// Nothing is promised of when memory is wanting.
+pub fn read_all<S: Source>(
+    alloc: Global,
+    source: &mut S,
+    limit: usize,
+) -> Result<Vec<u8>, ReadFailure>
+    ensures taken { IfOk result (λ bytes.
+        Consumes (S.left source.old) (S.left source.new) bytes.items) }
+    ensures at_end { OnOk result (IsAtEnd (S.left source.new)) }
+    ensures ended { OnOk result (Counts 1 (S.ends source.old) (S.ends source.new)) }
+    ensures counted { IfOk result (λ bytes.
+        Counts (vec_len bytes) (S.given source.old) (S.given source.new)) }
+    ensures within { IfOk result (λ bytes. vec_len bytes ≤ limit) }
+
+    ensures failed { result ≡ Err ReadFailure.Failed →
+        Rose (S.faults source.old) (S.faults source.new) }
+    ensures too_long { result ≡ Err ReadFailure.TooLong →
+        RoseBy (limit + 1) (S.given source.old) (S.given source.new) }
+    ensures too_many_left { result ≡ Err ReadFailure.TooLong →
+        IfSome (S.left source.old) (λ bytes. limit < length bytes) }
+    ensures not_ended { OnErr result (S.ends source.new ≡ S.ends source.old) }
+
+    ensures part_taken { LosesPart (S.left source.old) (S.left source.new) }
+    ensures no_fault_lost { S.faults source.old ≤ S.faults source.new }
+    ensures none_uncounted { S.given source.old ≤ S.given source.new }
+{
+    let mut bytes = Vec::new(alloc);
+    let mut buf = [0; ROOM];
+    loop {
+        let count = source.read(&mut buf)?;
+        if count == 0 {
+            return Ok(bytes);
+        }
+        if count > limit - bytes.len() {
+            return Err(ReadFailure::TooLong);
+        }
+        bytes.extend_from_slice(&buf[..count])?;
+    }
+}
+
+/// Writes all of these bytes. Each write is given all that is not written yet.
+pub fn write_all<K: Sink>(sink: &mut K, bytes: &[u8]) -> Result<(), Failed>
+    ensures all { OnOk result (Appends (K.held sink.old) (K.held sink.new) bytes.now) }
+    ensures part { OnErr result (AppendsPart (K.held sink.old) (K.held sink.new) bytes.now) }
+    ensures cause { HasCause (K.faults sink.old) (K.faults sink.new) result }
+{
+    let mut at = 0;
+    while at < bytes.len() {
+        at += sink.write(&bytes[at..])?;
+    }
+    Ok(())
+}

@@ -1,0 +1,166 @@
+ghost use Rattle.std.specs.Prelude.{◌≡◌, ◌++◌, OnOk, count_by, length};
+ghost use Rattle.lt_model.specs.Text.{Holding as AnyHolding, same_holding, held_line, held_in_mode, held_in_set, held_by, held_text, waiting_line, waiting_text, owner_line, owners_text, outcome_text};
+
+use crate::events::lock;
+use crate::names::set_name;
+use crate::outcome::{Holding, Outcome, Owner, Waiting, is_same};
+use crate::text::Text;
+use lt_modes::Mode;
+use lt_script::Script;
+use std::alloc::AllocError;
+
+// All modes, in order.
+const MODES: [Mode; 5] = [
+    Mode::IntentionRead,
+    Mode::Read,
+    Mode::Upgrade,
+    Mode::IntentionWrite,
+    Mode::Write,
+];
+
+/// Writes the lines at rest: the locks held, the clients that wait, the owners, and the number of moves.
+pub fn outcome_lines(
+    text: &mut Text,
+    script: &Script,
+    outcome: &Outcome,
+    moves: u32,
+) -> Result<(), AllocError>
+    ensures { OnOk result (text.new ≡ text.old ++ outcome_text script.now outcome.now moves) }
+{
+    held_lines(text, script, &outcome.held)?;
+    waiting_lines(text, script, &outcome.waiting)?;
+    owner_lines(text, script, &outcome.owners)?;
+    text.first_word("end")?;
+    text.number(u64::from(moves))?;
+    text.end_line()
+}
+
+// Writes the lines of all locks, by client.
+fn held_lines(text: &mut Text, script: &Script, held: &[Holding]) -> Result<(), AllocError>
+    ensures { OnOk result (text.new ≡ text.old ++ held_text script.now held.now) }
+{
+    for client in 0..script.clients() {
+        held_by(text, script, held, client)?;
+    }
+    Ok(())
+}
+
+// Writes the lines of the client's locks, by set.
+fn held_by(
+    text: &mut Text,
+    script: &Script,
+    held: &[Holding],
+    client: u16,
+) -> Result<(), AllocError>
+    ensures { OnOk result (text.new ≡ text.old ++ held_by script.now held.now client) }
+{
+    for set in 0..script.sets() {
+        held_in_set(text, script, held, client, set)?;
+    }
+    Ok(())
+}
+
+// Writes the lines of the client's locks in a set, by mode.
+fn held_in_set(
+    text: &mut Text,
+    script: &Script,
+    held: &[Holding],
+    client: u16,
+    set: u8,
+) -> Result<(), AllocError>
+    ensures { OnOk result (text.new ≡ text.old ++ held_in_set script.now held.now client set) }
+{
+    for mode in &MODES {
+        let lock = Holding {
+            client,
+            set,
+            mode: *mode,
+        };
+        held_line(text, script, lock, count_of(held, lock))?;
+    }
+    Ok(())
+}
+
+// How many locks are like this.
+fn count_of(held: &[Holding], lock: Holding) -> usize
+    ensures { result ≡ count_by (λ (other : AnyHolding). same_holding other lock) held.now }
+{
+    held.iter().filter(|other| is_same(**other, lock)).count()
+}
+
+// Writes the line of so many locks, if there are some: `held CLIENT SET MODE COUNT`.
+fn held_line(
+    text: &mut Text,
+    script: &Script,
+    held: Holding,
+    count: usize,
+) -> Result<(), AllocError>
+    ensures { OnOk result (text.new ≡ text.old ++ held_line script.now held.client held.set held.mode count) }
+{
+    if count == 0 {
+        return Ok(());
+    }
+    lock(text, script, "held", held.client, held.set, held.mode)?;
+    text.number(count as u64)?;
+    text.end_line()
+}
+
+// Writes the lines of the clients that wait, in order.
+fn waiting_lines(
+    text: &mut Text,
+    script: &Script,
+    waiting: &[Option<Waiting>],
+) -> Result<(), AllocError>
+    ensures { OnOk result (text.new ≡ text.old ++ waiting_text script.now waiting.now) }
+{
+    for client in 0..script.clients() {
+        waiting_line(
+            text,
+            script,
+            client,
+            waiting.get(usize::from(client)).copied().flatten(),
+        )?;
+    }
+    Ok(())
+}
+
+// Writes the line of the client, if it waits: `waiting CLIENT SET MODE`.
+fn waiting_line(
+    text: &mut Text,
+    script: &Script,
+    client: u16,
+    waiting: Option<Waiting>,
+) -> Result<(), AllocError>
+    ensures { OnOk result (text.new ≡ text.old ++ waiting_line script.now client waiting) }
+{
+    let Some(waiting) = waiting else {
+        return Ok(());
+    };
+    lock(text, script, "waiting", client, waiting.set, waiting.mode)?;
+    text.end_line()
+}
+
+// Writes the lines of the sets' owners, in order.
+fn owner_lines(text: &mut Text, script: &Script, owners: &[Owner]) -> Result<(), AllocError>
+    ensures { OnOk result (text.new ≡ text.old ++ owners_text script.now owners.now) }
+{
+    for set in 0..script.sets() {
+        let owner = owners
+            .get(usize::from(set))
+            .copied()
+            .unwrap_or(Owner { node: 0, epoch: 0 });
+        owner_line(text, script, set, owner)?;
+    }
+    Ok(())
+}
+
+// Writes the line of the set's owner: `owner SET NODE EPOCH`.
+fn owner_line(text: &mut Text, script: &Script, set: u8, owner: Owner) -> Result<(), AllocError>
+    ensures { OnOk result (text.new ≡ text.old ++ owner_line script.now set owner) }
+{
+    text.first_word("owner")?;
+    text.word(set_name(script, set))?;
+    text.number(u64::from(owner.node))?;
+    text.number(owner.epoch)?;
+    text.end_line()
+}

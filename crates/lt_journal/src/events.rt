@@ -1,0 +1,170 @@
+ghost use Rattle.std.specs.Prelude.{◌≡◌, ◌++◌, [], ◌∷◌, OnOk, if◌then◌else◌};
+ghost use Rattle.std.specs.List.{flat_map};
+ghost use Rattle.lt_modes.specs.Modes.{has, word_of};
+ghost use Rattle.lt_model.specs.Text.{after_space, spaced, line, lock_words, drop_words, letter_words, event_words, event_text, move_words, words_of_modes};
+
+use crate::names::{client_name, set_name};
+use crate::text::Text;
+use lt_modes::{Event, Mode, ModeSet, Move, Step};
+use lt_script::Script;
+use std::alloc::AllocError;
+
+/// Writes the line of a move: `move CLOCK NODE act CLIENT` or `move CLOCK NODE take FROM`.
+pub fn move_line(text: &mut Text, script: &Script, made: Move) -> Result<(), AllocError>
+    ensures { OnOk result (text.new ≡ text.old ++ line (move_words script.now made)) }
+{
+    text.first_word("move")?;
+    text.number(made.stamp.clock)?;
+    text.number(u64::from(made.stamp.node))?;
+    match made.step {
+        Step::Act(client) => {
+            text.word(b"act")?;
+            text.word(client_name(script, client))?;
+        }
+        Step::Take(from) => {
+            text.word(b"take")?;
+            text.number(u64::from(from))?;
+        }
+    }
+    text.end_line()
+}
+
+/// Writes the line of an event.
+pub fn event_line(text: &mut Text, script: &Script, event: Event) -> Result<(), AllocError>
+    ensures { OnOk result (text.new ≡ text.old ++ event_text script.now event) }
+{
+    words_of_event(text, script, event)?;
+    text.end_line()
+}
+
+// Writes the words of an event's line.
+fn words_of_event(text: &mut Text, script: &Script, event: Event) -> Result<(), AllocError>
+    ensures { OnOk result (text.new ≡ text.old ++ spaced (event_words script.now event)) }
+{
+    match event {
+        Event::Grant { client, set, mode } => lock(text, script, "grant", client, set, mode),
+        Event::Wait { client, set, mode } => lock(text, script, "wait", client, set, mode),
+        Event::Try {
+            client,
+            set,
+            mode,
+            got,
+        } => {
+            lock(text, script, "try", client, set, mode)?;
+            text.word(if got { b"true" } else { b"false" })
+        }
+        Event::Unlock { client, set, mode } => lock(text, script, "unlock", client, set, mode),
+        Event::NotHeld { client, set, mode } => lock(text, script, "not_held", client, set, mode),
+        Event::Change {
+            client,
+            set,
+            gives_up,
+            mode,
+        } => {
+            lock(text, script, "change", client, set, gives_up)?;
+            text.word(mode.word().as_bytes())
+        }
+        Event::DropAll {
+            client,
+            other,
+            set,
+            count,
+        } => {
+            drop_words(text, script, "drop", client, other, set)?;
+            text.number(u64::from(count))
+        }
+        Event::Busy { client, other, set } => drop_words(text, script, "busy", client, other, set),
+        Event::Copy {
+            set,
+            to,
+            client,
+            mode,
+        } => {
+            letter(text, script, "copy", set, to)?;
+            text.word(client_name(script, client))?;
+            text.word(mode.word().as_bytes())
+        }
+        Event::Freeze {
+            set,
+            to,
+            number,
+            modes,
+        } => {
+            letter(text, script, "freeze", set, to)?;
+            text.number(number)?;
+            words_of_modes(text, modes)
+        }
+        Event::Token { set, to, epoch } => {
+            letter(text, script, "token", set, to)?;
+            text.number(epoch)
+        }
+    }
+}
+
+/// Writes the words of a line that names a client, a set and a mode.
+pub fn lock(
+    text: &mut Text,
+    script: &Script,
+    first: &str,
+    client: u16,
+    set: u8,
+    mode: Mode,
+) -> Result<(), AllocError>
+    ensures { OnOk result (text.new ≡ text.old ++ spaced (lock_words script.now first.now client set mode)) }
+{
+    text.first_word(first)?;
+    text.word(client_name(script, client))?;
+    text.word(set_name(script, set))?;
+    text.word(mode.word().as_bytes())
+}
+
+// Writes the words of a line that names two clients and a set.
+fn drop_words(
+    text: &mut Text,
+    script: &Script,
+    first: &str,
+    client: u16,
+    other: u16,
+    set: u8,
+) -> Result<(), AllocError>
+    ensures { OnOk result (text.new ≡ text.old ++ spaced (drop_words script.now first.now client other set)) }
+{
+    text.first_word(first)?;
+    text.word(client_name(script, client))?;
+    text.word(client_name(script, other))?;
+    text.word(set_name(script, set))
+}
+
+// Writes the words that say which letter goes to which node.
+fn letter(text: &mut Text, script: &Script, first: &str, set: u8, to: u8) -> Result<(), AllocError>
+    ensures { OnOk result (text.new ≡ text.old ++ spaced (letter_words script.now first.now set to)) }
+{
+    text.first_word(first)?;
+    text.word(set_name(script, set))?;
+    text.number(u64::from(to))
+}
+
+// Writes the words of a set of modes in order, or `none`.
+fn words_of_modes(text: &mut Text, modes: ModeSet) -> Result<(), AllocError>
+    ensures { OnOk result (text.new ≡ text.old ++ flat_map after_space (words_of_modes modes)) }
+{
+    if modes.is_empty() {
+        return text.word(b"none");
+    }
+    word_of_member(text, modes, Mode::IntentionRead)?;
+    word_of_member(text, modes, Mode::Read)?;
+    word_of_member(text, modes, Mode::Upgrade)?;
+    word_of_member(text, modes, Mode::IntentionWrite)?;
+    word_of_member(text, modes, Mode::Write)
+}
+
+// Writes the word of the mode, if it is in the set.
+fn word_of_member(text: &mut Text, modes: ModeSet, mode: Mode) -> Result<(), AllocError>
+    ensures { OnOk result (text.new ≡ text.old ++ (if has mode modes then after_space (word_of mode) else [])) }
+{
+    if modes.has(mode) {
+        text.word(mode.word().as_bytes())
+    } else {
+        Ok(())
+    }
+}

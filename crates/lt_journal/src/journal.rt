@@ -1,0 +1,68 @@
+ghost use Rattle.std.specs.Prelude.{◌≡◌, ◌++◌, OnOk, IfOk};
+ghost use Rattle.std.specs.List.{flat_map};
+ghost use Rattle.lt_model.specs.Text.{event_text, moves_text, closing_text, text_of};
+
+use crate::closing::outcome_lines;
+use crate::events::{event_line, move_line};
+use crate::outcome::outcome_of;
+use crate::text::Text;
+use lt_merge::Run;
+use lt_modes::Event;
+use lt_script::Script;
+use std::alloc::{AllocError, Global};
+
+/// The text of a run: for each move its line and the lines of its events, and then the lines of a run at
+/// rest, or those of a run that was cut at this node.
+pub fn write(
+    alloc: Global,
+    script: &Script,
+    run: &Run,
+    cut: Option<u8>,
+) -> Result<Vec<u8>, AllocError>
+    ensures { IfOk result (λ text. text.items ≡ text_of script.now run.now.entries cut) }
+{
+    let mut text = Text::new(alloc);
+    move_lines(&mut text, script, run)?;
+    closing_lines(alloc, &mut text, script, run, cut)?;
+    Ok(text.into_bytes())
+}
+
+// Writes the lines of all moves.
+fn move_lines(text: &mut Text, script: &Script, run: &Run) -> Result<(), AllocError>
+    ensures { OnOk result (text.new ≡ text.old ++ moves_text script.now run.now.entries) }
+{
+    for k in 0..run.len() {
+        move_line(text, script, run.made(k))?;
+        event_lines(text, script, run.events(k))?;
+    }
+    Ok(())
+}
+
+// Writes the lines of a move's events.
+fn event_lines(text: &mut Text, script: &Script, events: &[Event]) -> Result<(), AllocError>
+    ensures { OnOk result (text.new ≡ text.old ++ flat_map (event_text script.now) events.now) }
+{
+    for event in events {
+        event_line(text, script, *event)?;
+    }
+    Ok(())
+}
+
+// Writes the lines after the moves: those at rest, or `cut NODE`.
+fn closing_lines(
+    alloc: Global,
+    text: &mut Text,
+    script: &Script,
+    run: &Run,
+    cut: Option<u8>,
+) -> Result<(), AllocError>
+    ensures { OnOk result (text.new ≡ text.old ++ closing_text script.now run.now.entries cut) }
+{
+    let Some(node) = cut else {
+        let outcome = outcome_of(alloc, script, run)?;
+        return outcome_lines(text, script, &outcome, run.len());
+    };
+    text.first_word("cut")?;
+    text.number(u64::from(node))?;
+    text.end_line()
+}

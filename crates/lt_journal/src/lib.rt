@@ -1,0 +1,42 @@
+//! Journals: the text of a run.
+//!
+//! A line ends with a line feed. Its words have one space between them, and numbers have no zero in
+//! front. Each move has its line, and after it a line for each of its events, in order:
+//!
+//! | line | event |
+//! |---|---|
+//! | `move CLOCK NODE act CLIENT` | the node makes a command of the client |
+//! | `move CLOCK NODE take FROM` | the node takes a letter of another node |
+//! | `grant CLIENT SET MODE` | a lock is granted |
+//! | `wait CLIENT SET MODE` | the client waits for a lock of this mode |
+//! | `try CLIENT SET MODE true` or `false` | a `try` got its lock, or it didn't |
+//! | `unlock CLIENT SET MODE` | a lock is given up |
+//! | `not_held CLIENT SET MODE` | the lock to give up isn't held |
+//! | `change CLIENT SET MODE MODE` | a lock of the first mode becomes one of the second |
+//! | `drop CLIENT CLIENT SET COUNT` | the first client drops the locks of the second in the set's family |
+//! | `busy CLIENT CLIENT SET` | the second client waits, so none are dropped |
+//! | `copy SET TO CLIENT MODE` | a copy of the token goes to a node, for this client |
+//! | `freeze SET TO NUMBER MODES` | a node is told which modes are frozen: their words, or `none` |
+//! | `token SET TO EPOCH` | the token goes to a node |
+//!
+//! The closing lines tell what the events came to, or where the run was cut:
+//!
+//! | line | when |
+//! |---|---|
+//! | `held CLIENT SET MODE COUNT` | for each count above 0, by client, set and mode |
+//! | `waiting CLIENT SET MODE` | for each client that waits, in order |
+//! | `owner SET NODE EPOCH` | for each set in order, from its last token line, or `0 0` |
+//! | `end COUNT` | last, with the number of moves |
+//! | `cut NODE` | in place of the others, for a run that was cut |
+#![tactic(auto)]
+
+mod closing;
+mod events;
+mod journal;
+mod names;
+mod outcome;
+#[cfg(test)]
+mod tests;
+mod text;
+
+pub use journal::write;

@@ -1,0 +1,72 @@
+ghost use Rattle.std.specs.Prelude.{◌≡◌, [], ◌∷◌, ◌++◌, OnOk};
+ghost use Rattle.std.specs.Fmt.{decimal};
+ghost use Rattle.lt_model.specs.Text.{after_space};
+
+use std::alloc::{AllocError, Global};
+use std::fmt::Write;
+use std::marker::Model;
+
+/// A text that is being written: lines of words with one space between them.
+#[derive(Debug, Drop)]
+pub struct Text {
+    bytes: Vec<u8>,
+    // Where the digits of a number are written before they are copied.
+    digits: String,
+}
+
+impl Model for Text {
+    ghost use Rattle.std.specs.Prelude.{List, ℕ};
+
+    ghost Value = { List ℕ };
+
+    ghost view = { λ t. t.bytes.items };
+}
+
+impl Text {
+    pub fn new(alloc: Global) -> Text
+        ensures { result ≡ [] }
+    {
+        Text {
+            bytes: Vec::new(alloc),
+            digits: String::new(alloc),
+        }
+    }
+
+    /// Writes the first word of a line.
+    pub fn first_word(&mut self, word: &str) -> Result<(), AllocError>
+        ensures { OnOk result (self.new ≡ self.old ++ word.now) }
+    {
+        self.bytes.extend_from_slice(word.as_bytes())
+    }
+
+    /// Writes a later word of a line.
+    pub fn word(&mut self, word: &[u8]) -> Result<(), AllocError>
+        ensures { OnOk result (self.new ≡ self.old ++ after_space word.now) }
+    {
+        self.bytes.push(b' ')?;
+        self.bytes.extend_from_slice(word)
+    }
+
+    /// Writes a number as a later word of a line.
+    pub fn number(&mut self, number: u64) -> Result<(), AllocError>
+        ensures { OnOk result (self.new ≡ self.old ++ after_space (decimal number)) }
+    {
+        self.digits.clear();
+        write!(self.digits, "{number}")?;
+        self.bytes.push(b' ')?;
+        self.bytes.extend_from_slice(self.digits.as_bytes())
+    }
+
+    pub fn end_line(&mut self) -> Result<(), AllocError>
+        ensures { OnOk result (self.new ≡ self.old ++ 10 ∷ []) }
+    {
+        self.bytes.push(b'\n')?;
+        Ok(())
+    }
+
+    pub fn into_bytes(self) -> Vec<u8>
+        ensures { result.items ≡ self }
+    {
+        self.bytes
+    }
+}

@@ -1,0 +1,112 @@
+-- How the parts of the one list of events stand to each other, and what a push changes.
+use Rattle.std.proofs.Common.{◌≡◌, ℕ, zero, suc, ◌+◌, ◌-◌, ◌<◌, ◌≤◌, List, [], ◌∷◌, ◌++◌, length, take, drop, Some, refl, sym, ap, ◌∙◌, arith}
+use Rattle.std.specs.Prelude.{slice_get, slice_range, slice_index_or}
+use Rattle.std.specs.Option.{option_map}
+use Rattle.std.proofs.lemmas.List.{take-append-le, drop-append-le}
+use Rattle.std.proofs.lemmas.Slice.{between_to_end, between_is}
+use Rattle.lt_modes.specs.declared.event.Event.{Event}
+use Rattle.lt_model.specs.Log.{Logged}
+use Rattle.lt_merge.specs.declared.run.Mark.{Mark}
+use Rattle.lt_merge.specs.Run.{just_made, with_event, made_at, events_at}
+use Rattle.lt_merge.specs.Marks.{first_place, IsLaid, entries_of, part_at}
+use Rattle.std.proofs.lemmas.Option.{some_pair_parts}
+
+pub length-entries_of : (marks : List Mark) (events : List Event) → length (entries_of marks events) ≡ length marks
+length-entries_of [] events = refl
+length-entries_of (mark ∷ later) events = ap suc (length-entries_of later events)
+
+pub first_place_within : (marks : List Mark) (count : ℕ) → IsLaid marks count → first_place marks count ≤ count
+first_place_within [] count laid = omega arith
+first_place_within (mark ∷ later) count laid = omega (arith, laid.0, first_place_within later count laid.1)
+
+first_place-push : (marks : List Mark) (mark : Mark) (count : ℕ) → mark.start ≡ count → first_place (marks ++ mark ∷ []) count ≡ first_place marks count
+first_place-push [] mark count e = e
+first_place-push (first ∷ later) mark count e = refl
+
+pub laid_push : (marks : List Mark) (mark : Mark) (count : ℕ) → mark.start ≡ count → IsLaid marks count → IsLaid (marks ++ mark ∷ []) count
+laid_push [] mark count e laid = (omega (arith, e), tt)
+laid_push (first ∷ later) mark count e laid =
+    (omega (arith, laid.0, first_place-push later mark count e), laid_push later mark count e laid.1)
+
+first_place_grows : (marks : List Mark) (count : ℕ) → first_place marks count ≤ first_place marks (count + 1)
+first_place_grows [] count = omega arith
+first_place_grows (mark ∷ later) count = omega arith
+
+pub laid_grow : (marks : List Mark) (count : ℕ) → IsLaid marks count → IsLaid marks (count + 1)
+laid_grow [] count laid = tt
+laid_grow (mark ∷ later) count laid = (omega (arith, laid.0, first_place_grows later count), laid_grow later count laid.1)
+
+empty_range : (events : List Event) (n : ℕ) → slice_range events n n ≡ []
+empty_range events n =
+    let e : n - n ≡ 0 = omega arith in
+    ap (λ (k : ℕ). take k (drop n events)) e
+
+pub entries_of-push : (marks : List Mark) (mark : Mark) (events : List Event) → mark.start ≡ length events → entries_of (marks ++ mark ∷ []) events ≡ entries_of marks events ++ just_made mark.made ∷ []
+entries_of-push [] mark events e =
+    ap (λ (es : List Event). record { made = mark.made; events = es } ∷ [])
+    (ap (λ (n : ℕ). slice_range events n (length events)) e ∙ empty_range events (length events))
+entries_of-push (first ∷ later) mark events e =
+    ap (λ (n : ℕ). record { made = first.made; events = slice_range events first.start n } ∷ entries_of (later ++ mark ∷ []) events)
+    (first_place-push later mark (length events) e)
+    ∙ ap (λ (es : List Logged). record { made = first.made; events = slice_range events first.start (first_place later (length events)) } ∷ es)
+    (entries_of-push later mark events e)
+
+range_to_end-push : (events : List Event) (event : Event) (i : ℕ) → i ≤ length events → slice_range (events ++ event ∷ []) i (length (events ++ event ∷ [])) ≡ slice_range events i (length events) ++ event ∷ []
+range_to_end-push events event i h =
+    between_to_end (events ++ event ∷ []) i _ (omega arith)
+    ∙ (drop-append-le i events (event ∷ []) h
+    ∙ ap (λ (es : List Event). es ++ event ∷ []) (sym (between_to_end events i _ (omega arith))))
+
+range-push : (events : List Event) (event : Event) (i j : ℕ) → j ≤ length events → slice_range (events ++ event ∷ []) i j ≡ slice_range events i j
+range-push events event i j h =
+    between_is (events ++ event ∷ []) i j
+    ∙ (ap (λ (es : List Event). drop i es) (take-append-le j events (event ∷ []) h)
+    ∙ sym (between_is events i j))
+
+pub entries_of-event : (marks : List Mark) (events : List Event) (event : Event) → IsLaid marks (length events) → 0 < length marks → entries_of marks (events ++ event ∷ []) ≡ with_event (entries_of marks events) event
+entries_of-event [] events event laid some = absurd (omega (arith, some))
+entries_of-event (mark ∷ []) events event laid some =
+    ap (λ (es : List Event). record { made = mark.made; events = es } ∷ []) (range_to_end-push events event mark.start laid.0)
+entries_of-event (mark ∷ next ∷ later) events event laid some =
+    ap (λ (es : List Event). record { made = mark.made; events = es } ∷ entries_of (next ∷ later) (events ++ event ∷ []))
+    (range-push events event mark.start next.start (first_place_within (next ∷ later) (length events) laid.1))
+    ∙ ap (λ (es : List Logged). record { made = mark.made; events = slice_range events mark.start next.start } ∷ es)
+    (entries_of-event (next ∷ later) events event laid.1 (omega arith))
+
+pub made_at-entries_of : (marks : List Mark) (events : List Event) (k : ℕ) → made_at (entries_of marks events) k ≡ option_map (λ (mark : Mark). mark.made) (slice_get marks k)
+made_at-entries_of [] events k = refl
+made_at-entries_of (mark ∷ later) events zero = refl
+made_at-entries_of (mark ∷ later) events (suc k) = made_at-entries_of later events k
+
+pub events_at-entries_of : (marks : List Mark) (events : List Event) (k a b : ℕ) → part_at marks (length events) k ≡ Some (a, b) → events_at (entries_of marks events) k ≡ Some (slice_range events a b)
+events_at-entries_of [] events k a b e = cc
+events_at-entries_of (mark ∷ later) events zero a b e =
+    let parts = some_pair_parts mark.start a (first_place later (length events)) b e in
+    ap (λ (i : ℕ). Some (slice_range events i (first_place later (length events)))) parts.0
+    ∙ ap (λ (j : ℕ). Some (slice_range events a j)) parts.1
+events_at-entries_of (mark ∷ later) events (suc k) a b e = events_at-entries_of later events k a b e
+
+-- the part of a move is in range
+pub part_at_within : (marks : List Mark) (count k a b : ℕ) → IsLaid marks count → part_at marks count k ≡ Some (a, b) → (a ≤ b) × (b ≤ count)
+part_at_within [] count k a b laid e = cc
+part_at_within (mark ∷ later) count zero a b laid e =
+    let parts = some_pair_parts mark.start a (first_place later count) b e in
+    (omega (arith, laid.0, parts.0, parts.1), omega (arith, first_place_within later count laid.1, parts.1))
+part_at_within (mark ∷ later) count (suc k) a b laid e = part_at_within later count k a b laid.1 e
+
+-- the part of a move that another follows
+pub part_at-inner : (marks : List Mark) (count k : ℕ) (d : Mark) → k + 1 < length marks → part_at marks count k ≡ Some ((slice_index_or marks k d).start, (slice_index_or marks (k + 1) d).start)
+part_at-inner [] count k d h = absurd (omega (arith, h))
+part_at-inner (mark ∷ []) count zero d h = absurd (omega (arith, h))
+part_at-inner (mark ∷ next ∷ later) count zero d h = refl
+part_at-inner (mark ∷ later) count (suc k) d h =
+    let one : suc k + 1 ≡ suc (k + 1) = omega arith in
+    part_at-inner later count k d (omega (arith, h))
+    ∙ ap (λ (i : ℕ). Some ((slice_index_or later k d).start, (slice_index_or (mark ∷ later) i d).start)) (sym one)
+
+-- the part of the last move
+pub part_at-last : (marks : List Mark) (count k : ℕ) (d : Mark) → k < length marks → length marks ≤ k + 1 → part_at marks count k ≡ Some ((slice_index_or marks k d).start, count)
+part_at-last [] count k d h l = absurd (omega (arith, h))
+part_at-last (mark ∷ []) count zero d h l = refl
+part_at-last (mark ∷ next ∷ later) count zero d h l = absurd (omega (arith, l))
+part_at-last (mark ∷ later) count (suc k) d h l = part_at-last later count k d (omega (arith, h)) (omega (arith, l))

@@ -1,0 +1,20 @@
+use Rattle.std.proofs.Common.{◌++◌, ◌∷◌, [], ap, ◌∙◌, arith, List, length}
+use Rattle.lt_merge.specs.declared.run.Mark.{Mark}
+use Rattle.lt_merge.specs.Run.{just_made, RunData}
+use Rattle.lt_merge.specs.Marks.{entries_of}
+use Rattle.lt_merge.proofs.Laid.{laid_push, entries_of-push, length-entries_of}
+use Rattle.lt_merge.proofs.run.Run.push.Goals as goal
+
+pub invariant_of-self : goal.invariant_of-self
+invariant_of-self c =
+    let before = c.self.inside in (
+      omega (arith, length-entries_of before.moves.items before.events.items, before.moves.ok.0, ap (λ (run : RunData). length run.entries) c.self.view_is, c.push_reserved.ensures.len),
+      rw c.push_reserved.ensures.items (laid_push before.moves.items _ _ c.len-start.ensures c.self.invariant.1),
+    )
+
+pub returns-clause-entries : goal.returns-clause-entries
+returns-clause-entries c =
+    let before = c.self.inside in
+    ap (λ (ms : List Mark). entries_of ms before.events.items) c.push_reserved.ensures.items
+    ∙ (entries_of-push before.moves.items _ before.events.items (omega (arith, c.len-start.ensures, before.events.ok.0))
+    ∙ ap (λ (run : RunData). run.entries ++ just_made c.args.made ∷ []) c.self.view_is)

@@ -1,0 +1,174 @@
+ghost use Rattle.std.specs.Prelude.{◌≡◌, ◌+◌, ◌<◌, ◌≤◌, ◌^◌, [], ◌∷◌, ◌++◌, Some, length, OnOk};
+ghost use Rattle.lt_merge.specs.Run.{just_made, with_event, made_at, events_at};
+ghost use Rattle.lt_merge.specs.Marks.{entries_of, IsLaid, part_at};
+
+use lt_modes::{Event, Move};
+use std::alloc::{AllocError, Global};
+use std::marker::Model;
+use std::ops::Range;
+
+// A move, and the place of its first event among the events of all moves.
+#[derive(Clone, Copy, Debug)]
+struct Mark {
+    made: Move,
+    start: usize,
+}
+
+/// The moves made, in order, each with its events.
+#[derive(Debug, Drop)]
+pub struct Run {
+    moves: Vec<Mark>,
+    events: Vec<Event>,
+}
+
+impl Model for Run {
+    ghost use Rattle.std.specs.Prelude.{◌<◌, ◌-◌, ◌^◌, vec_len, vec_capacity};
+    ghost use Rattle.lt_merge.specs.Run.{RunData};
+
+    ghost Value = { RunData };
+
+    ghost use Rattle.lt_merge.specs.Marks.{entries_of, IsLaid};
+
+    ghost view = { λ r. record {
+      entries = entries_of r.moves.items r.events.items;
+      spare = vec_capacity r.moves - vec_len r.moves;
+      room = vec_capacity r.events - vec_len r.events;
+    } };
+
+    ghost invariant = { λ r. (vec_len r.moves < 2 ^ 32) × IsLaid r.moves.items (vec_len r.events) };
+}
+
+impl Run {
+    pub fn new(alloc: Global) -> Run
+        ensures { result.entries ≡ [] }
+    {
+        Run {
+            moves: Vec::new(alloc),
+            events: Vec::new(alloc),
+        }
+    }
+
+    /// Makes room for one further move with so many events.
+    pub fn reserve(&mut self, events: u32) -> Result<(), AllocError>
+        ensures entries { self.new.entries ≡ self.old.entries }
+        ensures spare { OnOk result (1 ≤ self.new.spare) }
+        ensures room { OnOk result (events ≤ self.new.room) }
+        ensures spare_kept { self.old.spare ≤ self.new.spare }
+        ensures room_kept { self.old.room ≤ self.new.room }
+    {
+        self.moves.reserve(1)?;
+        self.events.reserve(events as usize)
+    }
+
+    /// Adds a move that has no events yet.
+    pub fn push(&mut self, made: Move)
+        requires spare { 0 < self.old.spare }
+        requires few { length self.old.entries + 1 < 2 ^ 32 }
+        ensures entries { self.new.entries ≡ self.old.entries ++ just_made made ∷ [] }
+        ensures spare { self.old.spare ≤ self.new.spare + 1 }
+        ensures room { self.old.room ≤ self.new.room }
+    {
+        let start = self.events.len();
+        self.moves.push_reserved(Mark { made, start });
+    }
+
+    /// Adds an event to the last move.
+    pub fn add_event(&mut self, event: Event)
+        requires some { 0 < length self.old.entries }
+        requires room { 0 < self.old.room }
+        ensures entries { self.new.entries ≡ with_event self.old.entries event }
+        ensures spare { self.old.spare ≤ self.new.spare }
+        ensures room { self.old.room ≤ self.new.room + 1 }
+    {
+        self.events.push_reserved(event);
+    }
+
+    /// The number of moves.
+    pub fn len(&self) -> u32
+        ensures { result ≡ length self.now.entries }
+    {
+        self.moves.len() as u32
+    }
+
+    /// The move at place `k`.
+    pub fn made(&self, k: u32) -> Move
+        requires { k < length self.now.entries }
+        ensures { made_at self.now.entries k ≡ Some result }
+    {
+        self.moves[k as usize].made
+    }
+
+    /// The events of the move at place `k`.
+    pub fn events(&self, k: u32) -> &[Event]
+        requires { k < length self.now.entries }
+        ensures { events_at self.now.entries k ≡ Some result.now }
+    {
+        events_of(&self.moves, &self.events, k as usize)
+    }
+}
+
+// The events of the move at place `k`.
+fn events_of<'a>(moves: &[Mark], events: &'a [Event], k: usize) -> &'a [Event]
+    requires inside { k < length moves.now }
+    requires laid { IsLaid moves.now (length events.now) }
+    ensures { events_at (entries_of moves.now events.now) k ≡ Some result.now }
+{
+    let part = part_of(moves, k, events.len());
+    &events[part]
+}
+
+// Where the events of the move at place `k` stand, where there are `count` events of all moves.
+fn part_of(moves: &[Mark], k: usize, count: usize) -> Range<usize>
+    requires inside { k < length moves.now }
+    requires laid { IsLaid moves.now count }
+    ensures part { part_at moves.now count k ≡ Some (result.start, result.end) }
+    ensures ordered { result.start ≤ result.end }
+    ensures within { result.end ≤ count }
+{
+    let start = moves[k].start;
+    let end = if k + 1 < moves.len() {
+        moves[k + 1].start
+    } else {
+        count
+    };
+    start..end
+}
+
+#[cfg(test)]
+mod tests {
+    use super::*;
+    use lt_modes::{Mode, Stamp, Step};
+    use std::test::Fail;
+
+    fn grant() -> Event {
+        Event::Grant {
+            client: 0,
+            set: 0,
+            mode: Mode::Read,
+        }
+    }
+
+    #[test]
+    fn keeps_moves_with_their_events(rt: HostRuntime) -> Result<(), Fail> {
+        let first = Move {
+            stamp: Stamp { clock: 1, node: 0 },
+            step: Step::Act(0),
+        };
+        let second = Move {
+            stamp: Stamp { clock: 2, node: 0 },
+            step: Step::Take(1),
+        };
+        let mut run = Run::new(rt.alloc());
+        run.reserve(2)?;
+        run.push(first);
+        run.add_event(grant());
+        run.add_event(grant());
+        run.reserve(0)?;
+        run.push(second);
+        assert_eq!(rt; run.len(), 2);
+        assert_eq!(rt; run.made(1).stamp.clock, 2);
+        assert_eq!(rt; run.events(0).len(), 2);
+        assert_eq!(rt; run.events(1).len(), 0);
+        Ok(())
+    }
+}

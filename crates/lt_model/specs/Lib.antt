@@ -1,0 +1,5 @@
+pub mod Log
+pub mod Below
+pub mod World
+pub mod Order
+pub mod Text

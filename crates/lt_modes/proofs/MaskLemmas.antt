@@ -1,0 +1,60 @@
+-- What `|` and `&` do on masks below 32, as tables that the check computes.
+use Rattle.std.proofs.Common.{◌≡◌, ℕ, ◌<◌, Bool, true, false, refl, bit_or, bit_and, sym, ap, arith}
+use Rattle.std.specs.Prelude.{◌&&◌, ◌==◌, not, nat_lt, if◌then◌else◌}
+use Rattle.std.proofs.lemmas.Bool.{and_parts, ltb-true, eqb-true}
+use Rattle.lt_modes.specs.declared.mode.Mode.{Mode}
+use Rattle.lt_modes.specs.declared.mode.Mode.TheVariants.{IntentionRead, Read, Upgrade, IntentionWrite, Write}
+use Rattle.lt_modes.specs.Modes.{Modes, has, every_mode, modes_by, union, is_within}
+use Rattle.lt_modes.specs.Masks.{bit_of, modes_of_mask, all_below, all_below_at}
+
+all_pairs_at : (test : ℕ → ℕ → Bool) (i j : ℕ) → all_below 32 (λ a. all_below 32 (test a)) ≡ true → i < 32 → j < 32 → test i j ≡ true
+all_pairs_at test i j e hi hj =
+    all_below_at 32 (test i) j (all_below_at 32 (λ a. all_below 32 (test a)) i e hi) hj
+
+abbrev same_bool : Bool → Bool → Bool
+same_bool true b = b
+same_bool false b = not b
+
+same_bool_eq : (a b : Bool) → same_bool a b ≡ true → a ≡ b
+same_bool_eq true true e = refl
+same_bool_eq true false e = cc
+same_bool_eq false true e = cc
+same_bool_eq false false e = refl
+
+abbrev same_modes : Modes → Modes → Bool
+same_modes s t = same_bool s.intention_read t.intention_read && (same_bool s.read t.read && (same_bool s.upgrade t.upgrade && (same_bool s.intention_write t.intention_write && same_bool s.write t.write)))
+
+same_modes_eq : (s t : Modes) → same_modes s t ≡ true → s ≡ t
+same_modes_eq s t e =
+    let p = and_parts _ _ e in
+    let q = and_parts _ _ p.1 in
+    let r = and_parts _ _ q.1 in
+    let u = and_parts _ _ r.1 in
+    let e1 = same_bool_eq _ _ p.0 in
+    let e2 = same_bool_eq _ _ q.0 in
+    let e3 = same_bool_eq _ _ r.0 in
+    let e4 = same_bool_eq _ _ u.0 in
+    let e5 = same_bool_eq _ _ u.1 in
+    λ i. record { intention_read = e1 i; read = e2 i; upgrade = e3 i; intention_write = e4 i; write = e5 i }
+
+pub or_below : (a b : ℕ) → a < 32 → b < 32 → bit_or a b < 32
+unfolding all_below
+or_below a b ha hb = ltb-true _ _ (all_pairs_at (λ i j. nat_lt (bit_or i j) 32) a b refl ha hb)
+
+pub modes_of_or : (a b : ℕ) → a < 32 → b < 32 → modes_of_mask (bit_or a b) ≡ union (modes_of_mask a) (modes_of_mask b)
+unfolding all_below
+modes_of_or a b ha hb =
+    same_modes_eq _ _ (all_pairs_at (λ i j. same_modes (modes_of_mask (bit_or i j)) (union (modes_of_mask i) (modes_of_mask j))) a b refl ha hb)
+
+pub or_within : (a b : ℕ) → a < 32 → b < 32 → (bit_or a b == b) ≡ is_within (modes_of_mask a) (modes_of_mask b)
+unfolding all_below
+or_within a b ha hb =
+    same_bool_eq _ _ (all_pairs_at (λ i j. same_bool (bit_or i j == j) (is_within (modes_of_mask i) (modes_of_mask j))) a b refl ha hb)
+
+pub has_bit : (mode : Mode) (a : ℕ) → a < 32 → not (bit_and a (bit_of mode) == 0) ≡ has mode (modes_of_mask a)
+unfolding all_below
+has_bit IntentionRead a h = same_bool_eq _ _ (all_below_at 32 (λ i. same_bool (not (bit_and i 1 == 0)) (has IntentionRead (modes_of_mask i))) a refl h)
+has_bit Read a h = same_bool_eq _ _ (all_below_at 32 (λ i. same_bool (not (bit_and i 2 == 0)) (has Read (modes_of_mask i))) a refl h)
+has_bit Upgrade a h = same_bool_eq _ _ (all_below_at 32 (λ i. same_bool (not (bit_and i 4 == 0)) (has Upgrade (modes_of_mask i))) a refl h)
+has_bit IntentionWrite a h = same_bool_eq _ _ (all_below_at 32 (λ i. same_bool (not (bit_and i 8 == 0)) (has IntentionWrite (modes_of_mask i))) a refl h)
+has_bit Write a h = same_bool_eq _ _ (all_below_at 32 (λ i. same_bool (not (bit_and i 16 == 0)) (has Write (modes_of_mask i))) a refl h)

@@ -1,0 +1,9 @@
+pub mod Modes
+pub mod Masks
+pub mod Script
+pub mod State
+pub mod Held
+pub mod Queue
+pub mod Granting
+pub mod Serving
+pub mod SetMove

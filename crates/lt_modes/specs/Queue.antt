@@ -1,0 +1,37 @@
+-- The desk's queue: asks in the order in which they are served.
+use Rattle.std.specs.Prelude.{Bool, false, ◌+◌, ◌==◌, ◌&&◌, ℕ, List, [], ◌∷◌, Option, Some, None, if◌then◌else◌, fold, insert, remove, position, length}
+use Rattle.lt_modes.specs.declared.mode.Mode.TheVariants.{IntentionRead}
+use Rattle.lt_modes.specs.declared.stamp.Stamp.{Stamp}
+use Rattle.lt_modes.specs.declared.ask.Ask.{Ask}
+use Rattle.lt_modes.specs.Modes.{Modes, no_modes, with_mode}
+
+-- the place after the last holder's ask: `found` where the rest, which begins at place k, has none
+abbrev pub after_holders_from : ℕ → ℕ → List Ask → ℕ
+after_holders_from k found [] = found
+after_holders_from k found (ask ∷ rest) = after_holders_from (k + 1) (if ask.holder then k + 1 else found) rest
+
+-- where a new ask stands: a holder's directly after the last holder's ask, or first; any other last
+abbrev pub place : List Ask → Bool → ℕ
+place queue holder = if holder then after_holders_from 0 0 queue else length queue
+
+-- the queue with a new ask
+abbrev pub entered : List Ask → Ask → List Ask
+entered queue ask = insert queue (place queue ask.holder) ask
+
+-- the modes that these asks want
+abbrev pub modes_of_asks : List Ask → Modes
+modes_of_asks asks = fold (λ modes ask. with_mode modes ask.mode) no_modes asks
+
+abbrev pub no_ask : Ask
+no_ask = record { client = 0; node = 0; mode = IntentionRead; gives_up = None; holder = false; stamp = record { clock = 0; node = 0 } }
+
+abbrev pub has_stamp : Stamp → Ask → Bool
+has_stamp stamp ask = ask.stamp.clock == stamp.clock && ask.stamp.node == stamp.node
+
+abbrev pub without_at : List Ask → Option ℕ → List Ask
+without_at asks None = asks
+without_at asks (Some k) = remove asks k
+
+-- the asks without the one that has this stamp
+abbrev pub without : List Ask → Stamp → List Ask
+without asks stamp = without_at asks (position (has_stamp stamp) asks)

@@ -1,0 +1,69 @@
+use crate::mode::Mode;
+use crate::mode_set::ModeSet;
+
+/// What a move shows in the journal: one variant for each event line, but for the two lines of `try`.
+#[derive(Clone, Copy, Debug, PartialEq, Eq)]
+pub enum Event {
+    Grant {
+        client: u16,
+        set: u8,
+        mode: Mode,
+    },
+    Wait {
+        client: u16,
+        set: u8,
+        mode: Mode,
+    },
+    Try {
+        client: u16,
+        set: u8,
+        mode: Mode,
+        got: bool,
+    },
+    Unlock {
+        client: u16,
+        set: u8,
+        mode: Mode,
+    },
+    NotHeld {
+        client: u16,
+        set: u8,
+        mode: Mode,
+    },
+    Change {
+        client: u16,
+        set: u8,
+        gives_up: Mode,
+        mode: Mode,
+    },
+    /// `client` dropped `count` locks of `other` in the family of `set`.
+    DropAll {
+        client: u16,
+        other: u16,
+        set: u8,
+        count: u32,
+    },
+    /// `other` waits, so `client` dropped nothing.
+    Busy {
+        client: u16,
+        other: u16,
+        set: u8,
+    },
+    Copy {
+        set: u8,
+        to: u8,
+        client: u16,
+        mode: Mode,
+    },
+    Freeze {
+        set: u8,
+        to: u8,
+        number: u64,
+        modes: ModeSet,
+    },
+    Token {
+        set: u8,
+        to: u8,
+        epoch: u64,
+    },
+}

@@ -1,0 +1,22 @@
+//! What every crate of the lock service speaks of: modes, sets of modes, stamps, asks, commands, moves and events.
+//!
+//! The definitions of the rules on plain data, which contracts cite, stand in `specs/`.
+#![tactic(auto)]
+
+mod ask;
+mod command;
+mod event;
+mod mode;
+mod mode_set;
+mod moves;
+mod parts;
+mod stamp;
+
+pub use ask::Ask;
+pub use command::Command;
+pub use event::Event;
+pub use mode::Mode;
+pub use mode_set::ModeSet;
+pub use moves::{Move, Step};
+pub use parts::{Hoped, Link, Owed, Row};
+pub use stamp::Stamp;

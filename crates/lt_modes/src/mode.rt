@@ -1,0 +1,77 @@
+ghost use Rattle.std.specs.Prelude.{◌≡◌, ◌≢◌, IfSome, IfNone};
+ghost use Rattle.lt_modes.specs.Modes.{conflicts, is_taking, word_of, mode_of};
+ghost use Rattle.std.specs.Str.{bytes_eq};
+ghost use Rattle.lt_modes.specs.declared.mode.Mode.{Mode as AnyMode};
+
+/// The strength of a lock. The order is the one in which modes are listed everywhere.
+#[derive(Clone, Copy, Debug, PartialEq, Eq, PartialOrd, Ord, Hash)]
+pub enum Mode {
+    IntentionRead,
+    Read,
+    Upgrade,
+    IntentionWrite,
+    Write,
+}
+
+impl Mode {
+    /// Whether two clients may not hold locks of these modes in one set at the same time.
+    pub fn conflicts(self, other: Mode) -> bool
+        ensures { result ≡ conflicts self other }
+    {
+        match self {
+            Mode::IntentionRead => other == Mode::Write,
+            Mode::Read => other == Mode::IntentionWrite || other == Mode::Write,
+            Mode::Upgrade => other != Mode::IntentionRead && other != Mode::Read,
+            Mode::IntentionWrite => other != Mode::IntentionRead && other != Mode::IntentionWrite,
+            Mode::Write => true,
+        }
+    }
+
+    /// Whether at most one client can hold a lock of this mode.
+    pub fn taking(self) -> bool
+        ensures { result ≡ is_taking self }
+    {
+        self.conflicts(self)
+    }
+
+    /// The mode's word in scripts and journals.
+    pub fn word(self) -> &'static str
+        ensures { result.now ≡ word_of self }
+    {
+        match self {
+            Mode::IntentionRead => "intention_read",
+            Mode::Read => "read",
+            Mode::Upgrade => "upgrade",
+            Mode::IntentionWrite => "intention_write",
+            Mode::Write => "write",
+        }
+    }
+
+    /// The mode with this word.
+    pub fn from_word(word: &[u8]) -> Option<Mode>
+        ensures found { IfSome result (λ mode. word.now ≡ word_of mode) }
+        ensures none { IfNone result ((mode : AnyMode) → word.now ≢ word_of mode) }
+        ensures value { result ≡ mode_of word.now }
+    {
+        if is(word, "intention_read") {
+            Some(Mode::IntentionRead)
+        } else if is(word, "read") {
+            Some(Mode::Read)
+        } else if is(word, "upgrade") {
+            Some(Mode::Upgrade)
+        } else if is(word, "intention_write") {
+            Some(Mode::IntentionWrite)
+        } else if is(word, "write") {
+            Some(Mode::Write)
+        } else {
+            None
+        }
+    }
+}
+
+// Whether the bytes are those of the text.
+fn is(word: &[u8], text: &str) -> bool
+    ensures { result ≡ bytes_eq word.now text.now }
+{
+    word == text.as_bytes()
+}

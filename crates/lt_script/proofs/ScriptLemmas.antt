@@ -1,0 +1,123 @@
+-- What is added to a script leaves a script.
+use Rattle.std.proofs.Common.{◌≡◌, ℕ, zero, suc, ◌+◌, ◌<◌, ◌≤◌, ◌==◌, ◌⊎◌, cond, List, [], ◌∷◌, ◌++◌, length, Some, slice_get, refl, sym, ap, subst, ◌∙◌, inl, inr, arith}
+use Rattle.std.proofs.lemmas.Bool.{cases_eq, cases_lt, eq-eqb, ne_eqb}
+use Rattle.std.proofs.lemmas.List.{length_push}
+use Rattle.std.proofs.lemmas.List.Sums.{sum_by-append}
+use Rattle.lt_modes.specs.declared.command.Command.{Command}
+use Rattle.lt_modes.specs.declared.command.Command.TheVariants.{Lock, Try, Unlock, Change, DropAll}
+use Rattle.lt_modes.specs.Script.{ScriptData, SetData, ClientData, family_at, home_at, family_of_set, node_of_client}
+use Rattle.lt_script.specs.declared.limits.TheConstants.{MAX_SETS, MAX_CLIENTS, MAX_CLIENTS_OF_NODE}
+use Rattle.lt_script.specs.Script.{IsScript, IsFamilyOfNext, HasTargets, load_of}
+
+get_front : {X : Type 0} → (xs : List X) (y : X) (k : ℕ) → k < length xs → slice_get (xs ++ y ∷ []) k ≡ slice_get xs k
+get_front [] y k inside = absurd (omega arith)
+get_front (x ∷ xs) y zero inside = refl
+get_front (x ∷ xs) y (suc k) inside = get_front xs y k (omega arith)
+
+get_last : {X : Type 0} → (xs : List X) (y : X) → slice_get (xs ++ y ∷ []) (length xs) ≡ Some y
+get_last [] y = refl
+get_last (x ∷ xs) y = get_last xs y
+
+-- the families of earlier sets stay, and the last set has its own
+family_front : (sets : List SetData) (x : SetData) (set : ℕ) → set < length sets → family_at (sets ++ x ∷ []) set ≡ family_at sets set
+family_front sets x set inside = ap family_of_set (get_front sets x set inside)
+
+family_last : (sets : List SetData) (x : SetData) (set : ℕ) → set ≡ length sets → family_at (sets ++ x ∷ []) set ≡ x.family
+family_last sets x set e = ap (family_at (sets ++ x ∷ [])) e ∙ ap family_of_set (get_last sets x)
+
+home_front : (clients : List ClientData) (x : ClientData) (client : ℕ) → client < length clients → home_at (clients ++ x ∷ []) client ≡ home_at clients client
+home_front clients x client inside = ap node_of_client (get_front clients x client inside)
+
+home_last : (clients : List ClientData) (x : ClientData) (client : ℕ) → client ≡ length clients → home_at (clients ++ x ∷ []) client ≡ x.node
+home_last clients x client e = ap (home_at (clients ++ x ∷ [])) e ∙ ap node_of_client (get_last clients x)
+
+-- a number of the longer list is one of the shorter, or its length
+numbers_push : {X : Type 0} → (xs : List X) (y : X) (k : ℕ) → k < length (xs ++ y ∷ []) → (k < length xs) ⊎ (k ≡ length xs)
+numbers_push xs y k inside = elim (cases_lt k (length xs)) [
+  | inl below ↦ inl below
+  | inr above ↦ inr (omega (arith, length_push xs y))
+]
+
+more_sets : (sets : List SetData) (x : SetData) (clients : List ClientData) (client : ℕ) (command : Command) → HasTargets sets clients client command
+    → HasTargets (sets ++ x ∷ []) clients client command
+more_sets sets x clients client (Lock set mode) h = omega (arith, length_push sets x)
+more_sets sets x clients client (Try set mode) h = omega (arith, length_push sets x)
+more_sets sets x clients client (Unlock set mode) h = omega (arith, length_push sets x)
+more_sets sets x clients client (Change set gives_up mode) h = omega (arith, length_push sets x)
+more_sets sets x clients client (DropAll other set) h = (omega (arith, length_push sets x), h.1, h.2)
+
+more_clients : (sets : List SetData) (clients : List ClientData) (x : ClientData) (client : ℕ) (command : Command) → client < length clients → HasTargets sets clients client command
+    → HasTargets sets (clients ++ x ∷ []) client command
+more_clients sets clients x client (Lock set mode) inside h = h
+more_clients sets clients x client (Try set mode) inside h = h
+more_clients sets clients x client (Unlock set mode) inside h = h
+more_clients sets clients x client (Change set gives_up mode) inside h = h
+more_clients sets clients x client (DropAll other set) inside h =
+    (h.0, omega (arith, length_push clients x), home_front clients x other h.1 ∙ h.2 ∙ sym (home_front clients x client inside))
+
+family_not_later : (sets : List SetData) (family : ℕ) → IsFamilyOfNext sets family → family ≤ length sets
+family_not_later sets family h = elim h [ inl own ↦ omega arith | inr earlier ↦ omega arith ]
+
+pub set_added : (s : ScriptData) (x : SetData) → IsScript s → length s.sets < MAX_SETS → IsFamilyOfNext s.sets x.family
+    → IsScript (record s { sets = s.sets ++ x ∷ [] })
+set_added s x good room fits =
+    let sets : List SetData = s.sets ++ x ∷ [] in
+    record {
+      some_node = good.some_node;
+      few_nodes = good.few_nodes;
+      few_sets = omega (arith, length_push s.sets x);
+      families_not_later = λ set inside. elim (numbers_push s.sets x set inside) [
+        | inl below ↦ rw (family_front s.sets x set below) (good.families_not_later set below)
+        | inr last ↦ rw (family_last s.sets x set last) (omega (arith, last, family_not_later s.sets x.family fits))
+      ];
+      families_first = λ set inside. elim (numbers_push s.sets x set inside) [
+        | inl below ↦
+            ap (family_at sets) (family_front s.sets x set below)
+            ∙ family_front s.sets x (family_at s.sets set) (omega (arith, below, good.families_not_later set below))
+            ∙ good.families_first set below
+            ∙ sym (family_front s.sets x set below)
+        | inr last ↦
+            ap (family_at sets) (family_last s.sets x set last) ∙ first_of_last s.sets x fits ∙ sym (family_last s.sets x set last)
+      ];
+      few_clients = good.few_clients;
+      homes = good.homes;
+      loads = good.loads;
+      few_commands = good.few_commands;
+      requests = λ k d inside. (
+        (good.requests k d inside).0,
+        more_sets s.sets x s.clients _ _ (good.requests k d inside).1,
+      );
+    }
+  where
+    first_of_last : (sets : List SetData) (x : SetData) → IsFamilyOfNext sets x.family → family_at (sets ++ x ∷ []) x.family ≡ x.family
+    first_of_last sets x fits = elim fits [
+      | inl own ↦ family_last sets x x.family own
+      | inr earlier ↦ family_front sets x x.family earlier.0 ∙ earlier.1
+    ]
+
+load_push : (clients : List ClientData) (x : ClientData) (node : ℕ) → load_of (clients ++ x ∷ []) node ≡ load_of clients node + cond (x.node == node) 1 0
+load_push clients x node = omega (arith, sum_by-append (λ (y : ClientData). cond (y.node == node) 1 0) clients (x ∷ []))
+
+pub client_added : (s : ScriptData) (x : ClientData) → IsScript s → length s.clients < MAX_CLIENTS → x.node < s.nodes → load_of s.clients x.node < MAX_CLIENTS_OF_NODE
+    → IsScript (record s { clients = s.clients ++ x ∷ [] })
+client_added s x good room on_node load = record {
+  some_node = good.some_node;
+  few_nodes = good.few_nodes;
+  few_sets = good.few_sets;
+  families_not_later = good.families_not_later;
+  families_first = good.families_first;
+  few_clients = omega (arith, length_push s.clients x);
+  homes = λ client inside. elim (numbers_push s.clients x client inside) [
+    | inl below ↦ rw (home_front s.clients x client below) (good.homes client below)
+    | inr last ↦ rw (home_last s.clients x client last) on_node
+  ];
+  loads = λ node. rw (load_push s.clients x node) (elim (cases_eq x.node node) [
+    | inl same ↦ rw (eq-eqb x.node node same) (omega (arith, subst (λ n. load_of s.clients n < MAX_CLIENTS_OF_NODE) same load))
+    | inr other ↦ rw (ne_eqb x.node node other) (omega (arith, good.loads node))
+  ]);
+  few_commands = good.few_commands;
+  requests = λ k d inside. (
+    omega (arith, (good.requests k d inside).0, length_push s.clients x),
+    more_clients s.sets s.clients x _ _ (good.requests k d inside).0 (good.requests k d inside).1,
+  );
+}

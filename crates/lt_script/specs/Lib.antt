@@ -1,0 +1,3 @@
+pub mod Script
+pub mod Text
+pub mod Simple

@@ -1,0 +1,50 @@
+-- What a script says of its sets, clients and commands by their numbers, and when plain data is a script.
+use Rattle.std.specs.Prelude.{◌≡◌, ℕ, ◌<◌, ◌≤◌, ◌==◌, ◌⊎◌, List, [], length, Option, Some, None, slice_get, position, count_by}
+use Rattle.std.specs.List.{All}
+use Rattle.std.specs.Str.{bytes_eq}
+use Rattle.lt_modes.specs.declared.command.Command.{Command}
+use Rattle.lt_modes.specs.declared.command.Command.TheVariants.{Lock, Try, Unlock, Change, DropAll}
+use Rattle.lt_modes.specs.Script.{ScriptData, SetData, ClientData, family_at, home_at}
+use Rattle.lt_script.specs.declared.limits.TheConstants.{MAX_NODES, MAX_SETS, MAX_CLIENTS, MAX_CLIENTS_OF_NODE, MAX_COMMANDS}
+
+-- how many of the clients are on the node
+abbrev pub load_of : List ClientData → ℕ → ℕ
+load_of clients node = count_by (λ (x : ClientData). x.node == node) clients
+
+-- the number of the set with this name
+abbrev pub set_number : ScriptData → List ℕ → Option ℕ
+set_number s name = position (λ (x : SetData). bytes_eq x.name name) s.sets
+
+-- the number of the client with this name
+abbrev pub client_number : ScriptData → List ℕ → Option ℕ
+client_number s name = position (λ (x : ClientData). bytes_eq x.name name) s.clients
+
+-- a further set may be in this family: in one of its own, or in that of an earlier set, by the number of the family's first set
+abbrev pub IsFamilyOfNext : List SetData → ℕ → Type 0
+IsFamilyOfNext sets family = (family ≡ length sets) ⊎ ((family < length sets) × (family_at sets family ≡ family))
+
+-- the command's set is of the script, and so is the client whose locks it drops, which is on the node of the client that makes it
+abbrev pub HasTargets : List SetData → List ClientData → ℕ → Command → Type 0
+HasTargets sets clients client (Lock set mode) = set < length sets
+HasTargets sets clients client (Try set mode) = set < length sets
+HasTargets sets clients client (Unlock set mode) = set < length sets
+HasTargets sets clients client (Change set gives_up mode) = set < length sets
+HasTargets sets clients client (DropAll other set) =
+    (set < length sets) × (other < length clients) × (home_at clients other ≡ home_at clients client)
+
+-- a client of the script makes the command, and all that it names is of the script
+abbrev pub IsRequest : List SetData → List ClientData → ℕ × Command → Type 0
+IsRequest sets clients request = (request.0 < length clients) × HasTargets sets clients request.0 request.1
+
+-- the data keeps the limits of a script, and its numbers are those of its nodes, sets and clients
+pub record IsScript (s : ScriptData) : Type 0 where
+  pub some_node : 0 < s.nodes
+  pub few_nodes : s.nodes ≤ MAX_NODES
+  pub few_sets : length s.sets ≤ MAX_SETS
+  pub families_not_later : (set : ℕ) → set < length s.sets → family_at s.sets set ≤ set
+  pub families_first : (set : ℕ) → set < length s.sets → family_at s.sets (family_at s.sets set) ≡ family_at s.sets set
+  pub few_clients : length s.clients ≤ MAX_CLIENTS
+  pub homes : (client : ℕ) → client < length s.clients → home_at s.clients client < s.nodes
+  pub loads : (node : ℕ) → load_of s.clients node ≤ MAX_CLIENTS_OF_NODE
+  pub few_commands : length s.commands ≤ MAX_COMMANDS
+  pub requests : All (IsRequest s.sets s.clients) s.commands

@@ -1,0 +1,17 @@
+/// The most nodes of a script.
+pub const MAX_NODES: u8 = 16;
+
+/// The most sets of a script.
+pub const MAX_SETS: u8 = 8;
+
+/// The most clients of a script.
+pub const MAX_CLIENTS: u16 = 64;
+
+/// The most clients on one node.
+pub const MAX_CLIENTS_OF_NODE: u16 = 16;
+
+/// The most commands of a script, those of all clients together.
+pub const MAX_COMMANDS: u32 = 4096;
+
+/// The most bytes of a name.
+pub const MAX_NAME: usize = 32;

@@ -1,0 +1,215 @@
+ghost use Rattle.std.specs.Prelude.{◌≡◌, ◌<◌, ◌≤◌, ◌++◌, ◌∷◌, [], length, slice_get, position, IfOk, OnOk, OnErr, IfSome};
+ghost use Rattle.std.specs.Str.{bytes_eq};
+ghost use Rattle.lt_modes.specs.Script.{SetData, ClientData, set_name, family_at, client_name, home_at};
+ghost use Rattle.lt_script.specs.Script.{IsScript, IsFamilyOfNext, IsRequest, load_of, set_number, client_number};
+ghost use Rattle.lt_script.specs.declared.limits.TheConstants.{MAX_NODES, MAX_SETS, MAX_CLIENTS, MAX_CLIENTS_OF_NODE, MAX_COMMANDS};
+
+use crate::declarations::{ClientDecl, SetDecl};
+use lt_modes::Command;
+use std::alloc::{AllocError, Global};
+use std::marker::Model;
+
+/// The nodes, lock sets and clients of a run, and the commands that the clients make.
+///
+/// Sets and clients have numbers from 0, in the order of their declaration. A client's commands are its own
+/// among all of them, in order.
+#[derive(Debug, Drop)]
+pub struct Script {
+    nodes: u8,
+    sets: Vec<SetDecl>,
+    clients: Vec<ClientDecl>,
+    commands: Vec<(u16, Command)>,
+}
+
+impl Model for Script {
+    ghost use Rattle.lt_modes.specs.Script.{ScriptData};
+    ghost use Rattle.lt_script.specs.Script.{IsScript};
+
+    ghost Value = { ScriptData };
+
+    ghost view = { λ s. record {
+      nodes = s.nodes;
+      sets = s.sets.items;
+      clients = s.clients.items;
+      commands = s.commands.items;
+    } };
+
+    ghost invariant = { λ s. IsScript (record {
+      nodes = s.nodes;
+      sets = s.sets.items;
+      clients = s.clients.items;
+      commands = s.commands.items;
+    }) };
+}
+
+impl Script {
+    /// A script with no sets, clients or commands.
+    pub fn new(alloc: Global, nodes: u8) -> Result<Script, AllocError>
+        requires some_node { 0 < nodes }
+        requires few_nodes { nodes ≤ MAX_NODES }
+        ensures { IfOk result
+            (λ s. s ≡ record { nodes = nodes; sets = []; clients = []; commands = [] }) }
+    {
+        Ok(Script {
+            nodes,
+            sets: Vec::new(alloc),
+            clients: Vec::new(alloc),
+            commands: Vec::new(alloc),
+        })
+    }
+
+    /// The number of nodes.
+    pub fn nodes(&self) -> u8
+        ensures nodes { result ≡ self.now.nodes }
+        ensures kept { IsScript self.now }
+    {
+        self.nodes
+    }
+
+    /// The number of sets.
+    pub fn sets(&self) -> u8
+        ensures { result ≡ length self.now.sets }
+    {
+        self.sets.len() as u8
+    }
+
+    /// The number of clients.
+    pub fn clients(&self) -> u16
+        ensures clients { result ≡ length self.now.clients }
+        ensures kept { IsScript self.now }
+    {
+        self.clients.len() as u16
+    }
+
+    /// The number of commands.
+    pub fn commands(&self) -> u32
+        ensures { result ≡ length self.now.commands }
+    {
+        self.commands.len() as u32
+    }
+
+    pub fn set_name(&self, set: u8) -> &[u8]
+        requires { set < length self.now.sets }
+        ensures { result.now ≡ set_name self.now set }
+    {
+        self.sets[usize::from(set)].name()
+    }
+
+    /// The number of the first set of the set's family.
+    pub fn family(&self, set: u8) -> u8
+        requires { set < length self.now.sets }
+        ensures { result ≡ family_at self.now.sets set }
+    {
+        self.sets[usize::from(set)].family()
+    }
+
+    pub fn client_name(&self, client: u16) -> &[u8]
+        requires { client < length self.now.clients }
+        ensures { result.now ≡ client_name self.now client }
+    {
+        self.clients[usize::from(client)].name()
+    }
+
+    /// The client's node.
+    pub fn home(&self, client: u16) -> u8
+        requires { client < length self.now.clients }
+        ensures { result ≡ home_at self.now.clients client }
+    {
+        self.clients[usize::from(client)].node()
+    }
+
+    /// A command by its place among all commands, with the client that makes it.
+    pub fn command(&self, place: u32) -> (u16, Command)
+        requires { place < length self.now.commands }
+        ensures { slice_get self.now.commands place ≡ Some result }
+    {
+        self.commands[place as usize]
+    }
+
+    /// All commands in order, each with the client that makes it.
+    pub fn requests(&self) -> &[(u16, Command)]
+        ensures requests { result.now ≡ self.now.commands }
+        ensures kept { IsScript self.now }
+    {
+        &self.commands
+    }
+
+    /// The set with this name.
+    pub fn set_number(&self, name: &[u8]) -> Option<u8>
+        ensures number { result ≡ set_number self.now name.now }
+        ensures inside { IfSome result (λ set. set < length self.now.sets) }
+    {
+        let Some(place) = place_of_set(&self.sets, name) else {
+            return None;
+        };
+        Some(place as u8)
+    }
+
+    /// The client with this name.
+    pub fn client_number(&self, name: &[u8]) -> Option<u16>
+        ensures number { result ≡ client_number self.now name.now }
+        ensures inside { IfSome result (λ client. client < length self.now.clients) }
+    {
+        let Some(place) = place_of_client(&self.clients, name) else {
+            return None;
+        };
+        Some(place as u16)
+    }
+
+    /// Adds a last set. Its family is its own number, or that of the first set of an earlier family.
+    pub fn add_set(&mut self, name: &[u8], family: u8) -> Result<(), AllocError>
+        requires room { length self.old.sets < MAX_SETS }
+        requires family { IsFamilyOfNext self.old.sets family }
+        ensures added { OnOk result (self.new ≡ record self.old {
+          sets = self.old.sets ++ record { name = name.now; family = family } ∷ [];
+        }) }
+        ensures unchanged { OnErr result (self.new ≡ self.old) }
+    {
+        let set = SetDecl::new(*self.sets.allocator(), name, family)?;
+        self.sets.push(set)?;
+        Ok(())
+    }
+
+    /// Adds a last client.
+    pub fn add_client(&mut self, name: &[u8], node: u8) -> Result<(), AllocError>
+        requires room { length self.old.clients < MAX_CLIENTS }
+        requires node { node < self.old.nodes }
+        requires load { load_of self.old.clients node < MAX_CLIENTS_OF_NODE }
+        ensures added { OnOk result (self.new ≡ record self.old {
+          clients = self.old.clients ++ record { name = name.now; node = node } ∷ [];
+        }) }
+        ensures unchanged { OnErr result (self.new ≡ self.old) }
+    {
+        let client = ClientDecl::new(*self.clients.allocator(), name, node)?;
+        self.clients.push(client)?;
+        Ok(())
+    }
+
+    /// Adds a last command, which this client makes.
+    pub fn add_command(&mut self, client: u16, command: Command) -> Result<(), AllocError>
+        requires room { length self.old.commands < MAX_COMMANDS }
+        requires request { IsRequest self.old.sets self.old.clients (client, command) }
+        ensures added { OnOk result
+            (self.new ≡ record self.old { commands = self.old.commands ++ (client, command) ∷ [] }) }
+        ensures unchanged { OnErr result (self.new ≡ self.old) }
+    {
+        self.commands.push((client, command))?;
+        Ok(())
+    }
+}
+
+// The place of the first set with this name.
+fn place_of_set(sets: &[SetDecl], name: &[u8]) -> Option<usize>
+    ensures place { result ≡ position (λ (x : SetData). bytes_eq x.name name.now) sets.now }
+    ensures inside { IfSome result (λ place. place < length sets.now) }
+{
+    sets.iter().position(|set| set.is_named(name))
+}
+
+// The place of the first client with this name.
+fn place_of_client(clients: &[ClientDecl], name: &[u8]) -> Option<usize>
+    ensures place { result ≡ position (λ (x : ClientData). bytes_eq x.name name.now) clients.now }
+    ensures inside { IfSome result (λ place. place < length clients.now) }
+{
+    clients.iter().position(|client| client.is_named(name))
+}

@@ -1,0 +1,4 @@
+pub mod Choice
+pub mod Orders
+pub mod Standing
+pub mod Recording

@@ -1,0 +1,14 @@
+//! The world on one thread: which moves are enabled, in which order, and what each of them makes.
+//!
+//! So far a world has one node and one set, whose clients lock and unlock.
+#![tactic(auto)]
+
+mod choice;
+mod client;
+mod limits;
+mod moving;
+mod world;
+
+pub use choice::Choice;
+pub use limits::MAX_MOVES;
+pub use world::{World, is_lone};
