@@ -1,3 +1,4 @@
 pub mod Picks
+pub mod Places
 pub mod Runs
 pub mod Searches

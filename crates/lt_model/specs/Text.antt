@@ -10,24 +10,8 @@ use Rattle.lt_modes.specs.declared.moves.Step.TheVariants.{Act, Take}
 use Rattle.lt_modes.specs.declared.event.Event.{Event}
 use Rattle.lt_modes.specs.declared.event.Event.TheVariants.{Grant, Wait, Try, Unlock, NotHeld, Change, DropAll, Busy, Copy, Freeze, Token}
 use Rattle.lt_modes.specs.Modes.{Modes, word_of, has, has_none, same_mode}
-use Rattle.lt_modes.specs.Script.{ScriptData, SetData, ClientData}
+use Rattle.lt_modes.specs.Script.{ScriptData, family_at, set_name, client_name}
 use Rattle.lt_model.specs.Log.{Logged}
-
-abbrev pub name_of_set : Option SetData → List ℕ
-name_of_set (Some set) = set.name
-name_of_set None = []
-
--- the name of the set with this number; the empty name, where the script has no such set
-abbrev pub set_name : ScriptData → ℕ → List ℕ
-set_name script set = name_of_set (slice_get script.sets set)
-
-abbrev pub name_of_client : Option ClientData → List ℕ
-name_of_client (Some client) = client.name
-name_of_client None = []
-
--- the name of the client with this number; the empty name, where the script has no such client
-abbrev pub client_name : ScriptData → ℕ → List ℕ
-client_name script client = name_of_client (slice_get script.clients client)
 
 -- a word with the space before it
 abbrev pub after_space : List ℕ → List ℕ
@@ -138,13 +122,9 @@ without_at held (Some k) = remove held k
 abbrev pub without : Holding → List Holding → List Holding
 without lock held = without_at held (position (λ (other : Holding). same_holding other lock) held)
 
-abbrev pub family_of_set : Option SetData → ℕ
-family_of_set (Some set) = set.family
-family_of_set None = 0
-
 -- the two sets are of one family
 abbrev pub is_related : ScriptData → ℕ → ℕ → Bool
-is_related script set other = family_of_set (slice_get script.sets set) == family_of_set (slice_get script.sets other)
+is_related script set other = family_at script.sets set == family_at script.sets other
 
 -- the lock stays, as the client's locks in the set's family are dropped
 abbrev pub is_kept : ScriptData → ℕ → ℕ → Holding → Bool

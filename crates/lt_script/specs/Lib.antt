@@ -1,3 +1,4 @@
+pub mod Fault
 pub mod Script
 pub mod Text
 pub mod Simple

@@ -2,6 +2,7 @@
 #![tactic(auto)]
 
 mod declarations;
+mod fault;
 mod limits;
 mod script;
 mod simple;
@@ -9,6 +10,7 @@ mod simple;
 mod tests;
 mod text;
 
+pub use fault::{Fault, ScriptFault};
 pub use limits::{MAX_CLIENTS, MAX_CLIENTS_OF_NODE, MAX_COMMANDS, MAX_NAME, MAX_NODES, MAX_SETS};
 pub use script::Script;
 pub use simple::read;

@@ -1,6 +1,6 @@
 -- The world of one node, read from the fields.
 use Rattle.std.proofs.Common.{◌≡◌, Bool, true, false, ℕ, ◌<◌, ◌≤◌, ◌^◌, Option, Some, None, length, refl, sym, ap, subst, ◌∙◌, arith, slice_index_or, List, [], ◌∷◌}
-use Rattle.std.specs.Prelude.{slice_get, ◌&&◌, ◌||◌, ◌==◌, not, nat_lt, IsTrue}
+use Rattle.std.specs.Prelude.{slice_get, ◌&&◌, ◌||◌, ◌==◌, not, nat_lt, IsTrue, IsNone, ◌↔◌, is_some, option_map, option_and_then}
 use Rattle.std.specs.List.{list_all}
 use Rattle.std.proofs.lemmas.Bool.{and_parts, eqb-true}
 use Rattle.lt_modes.specs.Script.{ScriptData}
@@ -11,7 +11,11 @@ use Rattle.lt_core.specs.Core.{CoreData, OutData}
 use Rattle.lt_model.specs.Log.{Logged}
 use Rattle.lt_model.specs.Below.{any_below}
 use Rattle.lt_model.specs.World.{World, NodeState, world_after, home, commands_of, made_by, is_waiting, is_runnable, has_mail, is_at_rest, anyone_waits}
-use Rattle.lt_model.proofs.Searches.{any_below_at}
+use Rattle.lt_model.specs.Order.{next_act, act_at, act_from, count_acts}
+use Rattle.lt_model.proofs.Searches.{any_below_at, none_counted}
+use Rattle.lt_model.proofs.Places.{no_place}
+use Rattle.lt_world.specs.declared.choice.Choice.{Choice}
+use Rattle.lt_world.specs.Choice.{act_choice}
 use Rattle.lt_world.specs.Standing.{Progress, no_progress, Stands, is_lone}
 
 pub one_node : (script : ScriptData) → IsTrue (is_lone script) → script.nodes ≡ 1
@@ -34,6 +38,18 @@ someone_waits script limit clients core out run c s h e =
 
 pub not_at_rest : (script : ScriptData) (w : World) (c : ℕ) → c < length script.clients → is_runnable script w c ≡ true → is_at_rest script w ≡ false
 not_at_rest script w c h e = rw (any_below_at (length script.clients) c (is_runnable script w) h e) refl
+
+-- in a world of one node no letter is on its way, so it is at rest where no client comes first
+pub rest_alone : (script : ScriptData) (w : World) → IsTrue (is_lone script) → next_act script w None ≡ None → is_at_rest script w ≡ true
+rest_alone script w lone e =
+    let first : act_at script w 0 ≡ None = ap (λ (o : Option ℕ). option_and_then (λ client. act_from script w client 0) o) e in
+    let none : count_acts script w ≤ 0 = (no_place script w 0).0 (ap is_some first) in
+    rw (one_node script lone, none_counted (length script.clients) (is_runnable script w) (omega arith)) refl
+
+-- the move at a place, where no more moves than that are enabled
+pub no_move : (script : ScriptData) (w : World) (k : ℕ) (o : Option ℕ) → act_at script w k ≡ o → IsNone (option_map act_choice o) ↔ (count_acts script w ≤ k)
+no_move script w k None e = subst (λ (o : Option ℕ). IsNone o ↔ (count_acts script w ≤ k)) e (no_place script w k)
+no_move script w k (Some client) e = subst (λ (o : Option ℕ). IsNone o ↔ (count_acts script w ≤ k)) e (no_place script w k)
 
 -- a client's node is below the number of nodes, so it is node 0
 home_alone : (script : ScriptData) (c : ℕ) → IsScript script → IsTrue (is_lone script) → c < length script.clients → home script c ≡ 0

@@ -1,4 +1,4 @@
-ghost use Rattle.std.specs.Prelude.{◌≡◌, ◌+◌, ◌≤◌, ◌<◌, ◌↔◌, ℕ, Bool, [], ◌∷◌, ◌++◌, length, IsTrue, IsNone, IfOk, IfSome, OnOk, OnErr, option_map, Option, slice_index_or, if◌then◌else◌, ◌&&◌};
+ghost use Rattle.std.specs.Prelude.{◌≡◌, ◌+◌, ◌≤◌, ◌<◌, ◌↔◌, ℕ, Bool, [], ◌∷◌, ◌++◌, length, IsTrue, IsNone, IfOk, IfSome, OnOk, OnErr, option_map, Option, None, slice_index_or, if◌then◌else◌, ◌&&◌};
 ghost use Rattle.lt_model.specs.World.{World as WorldState, world_after, is_runnable, is_waiting, is_enabled, is_at_rest, anyone_waits, made_by, logged, IsRun, commands_of};
 ghost use Rattle.lt_model.specs.Order.{next_act, act_at, act_from, acts_before, comes_after, count_acts};
 ghost use Rattle.lt_model.specs.Below.{earlier as earlier_of};
@@ -113,6 +113,8 @@ impl<'a> World<'a> {
     pub fn pick(&self, k: u32) -> Option<Choice>
         ensures place { result ≡ option_map act_choice (act_at self.now.script (world_after self.now.script self.now.run) k) }
         ensures enabled { IfSome result (λ choice. IsTrue (is_enabled self.now.script (world_after self.now.script self.now.run) choice.node choice.step)) }
+        ensures none { IsNone result ↔ (count_acts self.now.script (world_after self.now.script self.now.run) ≤ k) }
+        ensures rest { IsNone result → k ≡ 0 → IsTrue (is_at_rest self.now.script (world_after self.now.script self.now.run)) }
     {
         let first = self.next_act(None)?;
         let client = self.act_from(first, k)?;
@@ -204,6 +206,7 @@ impl<'a> World<'a> {
     fn next_act(&self, earlier: Option<u16>) -> Option<u16>
         requires { IfSome earlier (λ client. client < length self.now.script.clients) }
         ensures next { result ≡ next_act self.now.script (world_after self.now.script self.now.run) earlier }
+        ensures rest { earlier ≡ None → result ≡ None → IsTrue (is_at_rest self.now.script (world_after self.now.script self.now.run)) }
         ensures runnable { IfSome result (IsRunnable self.now) }
     {
         let mut first = None;

@@ -1,0 +1,56 @@
+ghost use Rattle.std.specs.Prelude.{◌≡◌, ◌<◌, ◌⊎◌, [], length, true, IsTrue, IfOk, OnOk};
+ghost use Rattle.lt_model.specs.World.{world_after, is_at_rest, start};
+ghost use Rattle.lt_world.specs.Standing.{is_lone};
+ghost use Rattle.lt_world.specs.declared.limits.TheConstants.{MAX_MOVES};
+ghost use Rattle.lt_serve.specs.Serving.{AreFirstFrom, IsFirstRun, EndsAs, IsOver};
+
+use crate::status::Status;
+use lt_merge::Run;
+use lt_script::Script;
+use lt_world::{MAX_MOVES, World};
+use std::alloc::{AllocError, Global};
+
+/// Makes the moves of a script in their fixed order, until the world is at rest or the node has made as many as
+/// it may.
+pub(crate) fn first_run(alloc: Global, script: &Script) -> Result<(Status, Run), AllocError>
+    requires { IsTrue (is_lone script.now) }
+    ensures first { IfOk result (λ made. IsFirstRun script.now made.1.entries) }
+    ensures ends { IfOk result (λ made. EndsAs made.0 script.now made.1.entries) }
+{
+    let mut world = World::new(alloc, script, MAX_MOVES)?;
+    make_moves(&mut world)?;
+    let status = ending(&world);
+    Ok((status, world.into_run()))
+}
+
+fn make_moves(world: &mut World<'_>) -> Result<(), AllocError>
+    requires start { world.old.run ≡ [] }
+    requires limit { world.old.limit ≡ MAX_MOVES }
+    ensures script { (world.new.script ≡ world.old.script) × (world.new.limit ≡ world.old.limit) }
+    ensures in_order { OnOk result (AreFirstFrom world.new.script start world.new.run) }
+    ensures over { OnOk result (IsOver world.new) }
+{
+    while world.run().len() < MAX_MOVES {
+        let Some(choice) = world.pick(0) else {
+            return Ok(());
+        };
+        world.step(choice)?;
+    }
+    Ok(())
+}
+
+// How the moves ended.
+fn ending(world: &World<'_>) -> Status
+    requires over { IsOver world.now }
+    requires limit { world.now.limit ≡ MAX_MOVES }
+    ensures { EndsAs result world.now.script world.now.run }
+{
+    if let Some(node) = world.full() {
+        return Status::Cut { node };
+    }
+    if world.anyone_waits() {
+        Status::Stuck
+    } else {
+        Status::Done
+    }
+}

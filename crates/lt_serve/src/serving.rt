@@ -1,0 +1,94 @@
+ghost use Rattle.std.specs.Prelude.{◌≡◌, ◌↔◌, false, map, []};
+ghost use Rattle.std.specs.String.{string_bytes};
+ghost use Rattle.lt_io.specs.Counts.{Counts, Rose};
+ghost use Rattle.lt_serve.specs.declared.status.Status.TheVariants as status;
+ghost use Rattle.lt_serve.specs.Words.{is_command};
+ghost use Rattle.lt_serve.specs.Serving.{Tells, TellsOf, MadeRun, IsNotBuilt};
+ghost use Rattle.lt_world.specs.Standing.{is_lone};
+ghost use Rattle.std.specs.Prelude.{IsTrue};
+
+use crate::first::first_run;
+use crate::gate::Gate;
+use crate::reading::read_script;
+use crate::status::Status;
+use crate::words::is_command;
+use lt_io::{Sink, Source, write_all};
+use lt_journal::write;
+use lt_merge::Run;
+use lt_script::Script;
+use std::alloc::Global;
+use std::thread::Threads;
+
+/// What a command came to: its status, and the run that it made.
+#[derive(Drop)]
+pub struct Served {
+    pub status: Status,
+    pub run: Run,
+}
+
+/// Does what the words say, which don't have the program's name: reads the source, makes the run and writes its
+/// journal to the sink. The text is made whole before the first write.
+///
+/// So far the only words are `sim first`, which makes all moves on the caller's thread; neither the runtime nor the
+/// gate has a part in it.
+pub fn serve<R: Threads + Sync, S: Source, K: Sink, G: Gate>(
+    _rt: &R,
+    alloc: Global,
+    words: &[String],
+    source: &mut S,
+    sink: &mut K,
+    _gate: &G,
+) -> Served
+    // Each answer but want of memory has its cause.
+    ensures usage { (result.status ≡ status.Usage) ↔ (is_command (map string_bytes words.now) ≡ false) }
+    ensures not_built { result.status ≡ status.NotBuilt → IsNotBuilt (S.left source.old) (S.given source.old) (S.given source.new) (S.ends source.old) (S.ends source.new) }
+    ensures read_fault { result.status ≡ status.ReadFault → Rose (S.faults source.old) (S.faults source.new) }
+    ensures write_fault { result.status ≡ status.WriteFault → Rose (K.faults sink.old) (K.faults sink.new) }
+
+    // What the run is, how it ended, and what was written.
+    ensures tells { Tells result.status (S.left source.old) result.run.entries (K.held sink.old) (K.held sink.new) }
+    ensures read_to_the_end { MadeRun result.status → Counts 1 (S.ends source.old) (S.ends source.new) }
+    ensures unread { is_command (map string_bytes words.now) ≡ false → source.new ≡ source.old }
+{
+    if !is_command(words) {
+        return Served::without_run(alloc, Status::Usage);
+    }
+    match read_script(alloc, source) {
+        Ok(script) => run_script(alloc, &script, sink),
+        Err(status) => Served::without_run(alloc, status),
+    }
+}
+
+impl Served {
+    // No move was made.
+    fn without_run(alloc: Global, status: Status) -> Served
+        ensures status { result.status ≡ status }
+        ensures run { result.run.entries ≡ [] }
+    {
+        Served {
+            status,
+            run: Run::new(alloc),
+        }
+    }
+}
+
+// Makes the run and writes its journal.
+fn run_script<K: Sink>(alloc: Global, script: &Script, sink: &mut K) -> Served
+    requires { IsTrue (is_lone script.now) }
+    ensures tells { TellsOf result.status script.now result.run.entries (K.held sink.old) (K.held sink.new) }
+    ensures cause { result.status ≡ status.WriteFault → Rose (K.faults sink.old) (K.faults sink.new) }
+{
+    let Ok((status, run)) = first_run(alloc, script) else {
+        return Served::without_run(alloc, Status::NoMemory);
+    };
+    let Ok(text) = write(alloc, script, &run, status.cut()) else {
+        return Served::without_run(alloc, Status::NoMemory);
+    };
+    match write_all(sink, &text) {
+        Ok(()) => Served { status, run },
+        Err(_) => Served {
+            status: Status::WriteFault,
+            run,
+        },
+    }
+}

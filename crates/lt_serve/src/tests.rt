@@ -1,0 +1,228 @@
+use super::{Gate, Status, serve};
+use lt_io::{MemorySink, MemorySource};
+use std::alloc::{AllocError, Global};
+use std::test::Fail;
+
+#[derive(Drop)]
+struct Open;
+
+impl Gate for Open {
+    fn pass(&self, _node: u8) {}
+}
+
+fn sim_first(alloc: Global) -> Result<Vec<String>, AllocError> {
+    let mut words = Vec::new(alloc);
+    words.push(String::from_str(alloc, "sim")?)?;
+    words.push(String::from_str(alloc, "first")?)?;
+    Ok(words)
+}
+
+// A source whose read of this number fails.
+fn source_of(alloc: Global, text: &str, fails: &[u64]) -> Result<MemorySource, AllocError> {
+    Ok(MemorySource {
+        bytes: Vec::from_slice(alloc, text.as_bytes())?,
+        at: 0,
+        calls: 0,
+        fails: Vec::from_slice(alloc, fails)?,
+        given: 0,
+        faults: 0,
+        ends: 0,
+    })
+}
+
+// A sink that takes so many bytes at a time, and whose write of this number fails.
+fn sink_of(alloc: Global, per_write: usize, fails: &[u64]) -> Result<MemorySink, AllocError> {
+    Ok(MemorySink {
+        bytes: Vec::new(alloc),
+        per_write,
+        calls: 0,
+        fails: Vec::from_slice(alloc, fails)?,
+        faults: 0,
+    })
+}
+
+// Scripts, with the status and the journal that they come to.
+const JOURNALS: [(&str, Status, &str); 6] = [
+    (
+        "nodes 1\n\
+         set s\n\
+         client a at 0\n\
+         a lock s write\n\
+         a unlock s write\n",
+        Status::Done,
+        "move 1 0 act a\n\
+         grant a s write\n\
+         move 2 0 act a\n\
+         unlock a s write\n\
+         owner s 0 0\n\
+         end 2\n",
+    ),
+    (
+        "nodes 1\n\
+         set s\n\
+         client a at 0\n\
+         client b at 0\n\
+         a lock s write\n\
+         a unlock s write\n\
+         b lock s write\n\
+         b unlock s write\n",
+        Status::Done,
+        "move 1 0 act a\n\
+         grant a s write\n\
+         move 2 0 act b\n\
+         wait b s write\n\
+         move 3 0 act a\n\
+         unlock a s write\n\
+         grant b s write\n\
+         move 4 0 act b\n\
+         unlock b s write\n\
+         owner s 0 0\n\
+         end 4\n",
+    ),
+    (
+        "nodes 1\n\
+         set s\n\
+         client a at 0\n\
+         client b at 0\n\
+         a lock s write\n\
+         b lock s write\n",
+        Status::Stuck,
+        "move 1 0 act a\n\
+         grant a s write\n\
+         move 2 0 act b\n\
+         wait b s write\n\
+         held a s write 1\n\
+         waiting b s write\n\
+         owner s 0 0\n\
+         end 2\n",
+    ),
+    (
+        "nodes 1\n\
+         set s\n\
+         client c at 0\n\
+         client d at 0\n\
+         c lock s read\n\
+         d lock s write\n\
+         c lock s write\n",
+        Status::Stuck,
+        "move 1 0 act c\n\
+         grant c s read\n\
+         move 2 0 act d\n\
+         wait d s write\n\
+         move 3 0 act c\n\
+         grant c s write\n\
+         held c s read 1\n\
+         held c s write 1\n\
+         waiting d s write\n\
+         owner s 0 0\n\
+         end 3\n",
+    ),
+    (
+        "nodes 1\n\
+         set page\n\
+         client ann at 0\n\
+         client ben at 0\n\
+         ann lock page upgrade\n\
+         ann lock page write\n\
+         ann unlock page write\n\
+         ann unlock page upgrade\n\
+         ben lock page upgrade\n\
+         ben lock page read\n",
+        Status::Done,
+        "move 1 0 act ann\n\
+         grant ann page upgrade\n\
+         move 2 0 act ben\n\
+         wait ben page upgrade\n\
+         move 3 0 act ann\n\
+         grant ann page write\n\
+         move 4 0 act ann\n\
+         unlock ann page write\n\
+         move 5 0 act ann\n\
+         unlock ann page upgrade\n\
+         grant ben page upgrade\n\
+         move 6 0 act ben\n\
+         grant ben page read\n\
+         held ben page read 1\n\
+         held ben page upgrade 1\n\
+         owner page 0 0\n\
+         end 6\n",
+    ),
+    (
+        "nodes 1\n\
+         set page\n\
+         client ann at 0\n\
+         client ben at 0\n\
+         ann lock page read\n\
+         ann lock page intention_write\n\
+         ben lock page read\n\
+         ben lock page intention_write\n",
+        Status::Stuck,
+        "move 1 0 act ann\n\
+         grant ann page read\n\
+         move 2 0 act ben\n\
+         grant ben page read\n\
+         move 3 0 act ann\n\
+         wait ann page intention_write\n\
+         move 4 0 act ben\n\
+         wait ben page intention_write\n\
+         held ann page read 1\n\
+         held ben page read 1\n\
+         waiting ann page intention_write\n\
+         waiting ben page intention_write\n\
+         owner page 0 0\n\
+         end 4\n",
+    ),
+];
+
+#[test]
+fn journals(rt: HostRuntime) -> Result<(), Fail> {
+    let alloc = rt.alloc();
+    let words = sim_first(alloc)?;
+    for (script, status, journal) in &JOURNALS {
+        let mut source = source_of(alloc, script, &[])?;
+        let mut sink = sink_of(alloc, 1_000, &[])?;
+        let served = serve(&rt, alloc, words.as_slice(), &mut source, &mut sink, &Open);
+        assert_eq!(rt; served.status, *status);
+        assert_eq!(rt; sink.bytes.as_slice(), journal.as_bytes());
+    }
+    Ok(())
+}
+
+#[test]
+fn faults(rt: HostRuntime) -> Result<(), Fail> {
+    let alloc = rt.alloc();
+    let words = sim_first(alloc)?;
+    let script = "nodes 1\nset s\nclient a at 0\na lock s write\na unlock s write\n";
+
+    let mut source = source_of(alloc, script, &[])?;
+    let mut sink = sink_of(alloc, 10, &[3])?;
+    let served = serve(&rt, alloc, words.as_slice(), &mut source, &mut sink, &Open);
+    assert_eq!(rt; served.status, Status::WriteFault);
+    assert_eq!(rt; sink.bytes.as_slice(), b"move 1 0 act a\ngrant".as_slice());
+
+    let mut source = source_of(alloc, script, &[1])?;
+    let mut sink = sink_of(alloc, 10, &[])?;
+    let served = serve(&rt, alloc, words.as_slice(), &mut source, &mut sink, &Open);
+    assert_eq!(rt; served.status, Status::ReadFault);
+    assert!(rt; sink.bytes.is_empty());
+    Ok(())
+}
+
+#[test]
+fn texts(rt: HostRuntime) -> Result<(), Fail> {
+    let alloc = rt.alloc();
+    for (status, code, text) in [
+        (Status::Done, 0, ""),
+        (Status::Cut { node: 12 }, 7, "lockrun: cut at node 12"),
+        (
+            Status::BadJournal { line: 44 },
+            8,
+            "lockrun: line 44: journal",
+        ),
+        (Status::NotBuilt, 9, "lockrun: not built yet"),
+    ] {
+        assert_eq!(rt; status.code(), code);
+        assert_eq!(rt; status.text(alloc)?.as_str(), text);
+    }
+    Ok(())
+}
