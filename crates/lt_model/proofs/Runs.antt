@@ -1,5 +1,5 @@
 -- A run and one move more.
-use Rattle.std.proofs.Common.{◌≡◌, List, [], ◌∷◌, ◌++◌, refl, subst, sym}
+use Rattle.std.proofs.Common.{◌≡◌, List, [], ◌∷◌, ◌++◌, refl}
 use Rattle.lt_modes.specs.Script.{ScriptData}
 use Rattle.lt_model.specs.Log.{Logged}
 use Rattle.lt_model.specs.World.{World, after, after_run, IsMove, IsRunFrom}

@@ -1,7 +1,6 @@
 -- The world of one node, read from the fields.
-use Rattle.std.proofs.Common.{◌≡◌, Bool, true, false, ℕ, ◌<◌, ◌≤◌, ◌^◌, Option, Some, None, length, refl, sym, ap, subst, ◌∙◌, arith, slice_index_or, List, [], ◌∷◌}
-use Rattle.std.specs.Prelude.{slice_get, ◌&&◌, ◌||◌, ◌==◌, not, nat_lt, IsTrue, IsNone, ◌↔◌, is_some, option_map, option_and_then}
-use Rattle.std.specs.List.{list_all}
+use Rattle.std.proofs.Common.{◌≡◌, true, false, ℕ, ◌<◌, ◌≤◌, Option, Some, None, length, refl, ap, subst, ◌∙◌, arith, slice_index_or, List, []}
+use Rattle.std.specs.Prelude.{IsTrue, IsNone, ◌↔◌, is_some, option_map, option_and_then}
 use Rattle.std.proofs.lemmas.Bool.{and_parts, eqb-true}
 use Rattle.lt_modes.specs.Script.{ScriptData}
 use Rattle.lt_modes.specs.State.{lone_state}
@@ -9,12 +8,10 @@ use Rattle.lt_script.specs.Script.{IsScript}
 use Rattle.lt_modes.specs.Serving.{waits}
 use Rattle.lt_core.specs.Core.{CoreData, OutData}
 use Rattle.lt_model.specs.Log.{Logged}
-use Rattle.lt_model.specs.Below.{any_below}
-use Rattle.lt_model.specs.World.{World, NodeState, world_after, home, commands_of, made_by, is_waiting, is_runnable, has_mail, is_at_rest, anyone_waits}
+use Rattle.lt_model.specs.World.{World, world_after, home, commands_of, is_waiting, is_runnable, is_at_rest, anyone_waits}
 use Rattle.lt_model.specs.Order.{next_act, act_at, act_from, count_acts}
 use Rattle.lt_model.proofs.Searches.{any_below_at, none_counted}
 use Rattle.lt_model.proofs.Places.{no_place}
-use Rattle.lt_world.specs.declared.choice.Choice.{Choice}
 use Rattle.lt_world.specs.Choice.{act_choice}
 use Rattle.lt_world.specs.Standing.{Progress, no_progress, Stands, is_lone}
 

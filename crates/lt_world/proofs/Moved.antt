@@ -1,6 +1,6 @@
 -- The fields after one move are those of the run with that move.
-use Rattle.std.proofs.Common.{◌≡◌, ◌≢◌, Bool, true, false, ℕ, ◌+◌, ◌<◌, ◌≤◌, Option, Some, None, List, [], ◌∷◌, ◌++◌, length, refl, sym, ap, subst, ◌∙◌, inl, inr, arith, zero, suc, slice_index_or, slice_set, get_or-set_same, get_or-set_other, eq-eqb, length-append}
-use Rattle.std.specs.Prelude.{◌&&◌, ◌==◌, nat_lt, not, IsTrue, slice_get, if◌then◌else◌}
+use Rattle.std.proofs.Common.{◌≡◌, true, false, ℕ, ◌+◌, ◌<◌, ◌≤◌, Some, None, List, [], ◌∷◌, ◌++◌, length, refl, sym, ap, subst, ◌∙◌, inl, inr, arith, zero, suc, slice_index_or, slice_set, get_or-set_same, get_or-set_other, eq-eqb}
+use Rattle.std.specs.Prelude.{◌==◌, nat_lt, not, IsTrue, if◌then◌else◌}
 use Rattle.std.specs.List.{list_all, filter_map, cons_option}
 use Rattle.std.proofs.lemmas.Bool.{and_parts, eqb-true, ltb-true, ne_eqb, cases_eq, false≢true}
 use Rattle.std.proofs.lemmas.List.{length_push}
@@ -18,12 +18,11 @@ use Rattle.lt_core.specs.Core.{CoreData, OutData, SamePlace, load_of}
 use Rattle.lt_core.specs.Order.{move_of}
 use Rattle.lt_model.specs.Log.{Logged}
 use Rattle.lt_model.specs.Below.{put}
-use Rattle.lt_model.specs.World.{World, NodeState, NodeMade, start, after, world_after, home, made_by, is_enabled, is_runnable, has_mail, is_some_letter, commands_of, command_if, act_stamp, obeyed, touched, next_command, node_move, logged, IsMove}
+use Rattle.lt_model.specs.World.{World, NodeState, NodeMade, start, world_after, home, made_by, is_enabled, is_runnable, is_some_letter, commands_of, command_if, act_stamp, obeyed, touched, next_command, node_move, logged}
 use Rattle.lt_model.proofs.Runs.{after_run-push, IsRunFrom-push}
 use Rattle.lt_world.specs.Orders.{order_of, moved, entry_of}
 use Rattle.lt_world.specs.Standing.{Progress, no_progress, progress_of, next_of, no_command, one_more, Stands, is_lone, locks_or_unlocks, node_after}
 use Rattle.lt_world.specs.Choice.{IsAct}
-use Rattle.lt_world.proofs.Alone.{one_node}
 
 -- a front that passes before others that pass
 front_passes : (x : Command) (xs : List Command) (k : ℕ) (d : Command) → locks_or_unlocks x ≡ true

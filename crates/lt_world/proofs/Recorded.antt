@@ -1,5 +1,5 @@
 -- A run after a move and its events.
-use Rattle.std.proofs.Common.{◌≡◌, ℕ, ◌<◌, ◌+◌, List, [], ◌∷◌, ◌++◌, length, refl, ap, sym, ◌∙◌, subst, append-nil, append_assoc, arith}
+use Rattle.std.proofs.Common.{◌≡◌, List, [], ◌∷◌, ◌++◌, length, refl, ap, ◌∙◌, append-nil, append_assoc, arith}
 use Rattle.lt_modes.specs.declared.moves.Move.{Move}
 use Rattle.lt_modes.specs.declared.event.Event.{Event}
 use Rattle.lt_model.specs.Log.{Logged}

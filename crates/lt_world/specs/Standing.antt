@@ -1,14 +1,14 @@
 -- What the fields of a world hold, for the moves that were made.
-use Rattle.std.specs.Prelude.{◌≡◌, Bool, true, false, ◌&&◌, ◌==◌, ℕ, ◌+◌, ◌≤◌, ◌<◌, ◌^◌, List, [], length, slice_index_or, IsTrue, Option, Some, None, not, if◌then◌else◌}
+use Rattle.std.specs.Prelude.{◌≡◌, Bool, false, ◌&&◌, ◌==◌, ℕ, ◌+◌, ◌≤◌, ◌<◌, ◌^◌, List, [], length, slice_index_or, IsTrue, Option, Some, None, not, if◌then◌else◌}
 use Rattle.std.specs.List.{list_all}
 use Rattle.lt_modes.specs.declared.mode.Mode.TheVariants.{IntentionRead}
 use Rattle.lt_modes.specs.declared.command.Command.{Command}
-use Rattle.lt_modes.specs.declared.command.Command.TheVariants.{Lock, Unlock, Try, Change, DropAll}
+use Rattle.lt_modes.specs.declared.command.Command.TheVariants.{Lock, Unlock}
 use Rattle.lt_modes.specs.Script.{ScriptData}
 use Rattle.lt_core.specs.Core.{CoreData, OutData, load_of}
 use Rattle.lt_world.specs.declared.limits.TheConstants.{MAX_MOVES}
 use Rattle.lt_model.specs.Log.{Logged}
-use Rattle.lt_model.specs.World.{NodeState, IsRun, world_after, is_runnable, is_at_rest, commands_of, home}
+use Rattle.lt_model.specs.World.{World, NodeState, IsRun, world_after, is_runnable, is_at_rest, commands_of, home}
 
 -- the commands of a client, and how many of them it has made
 pub record Progress : Type 0 where
@@ -37,6 +37,10 @@ pub record WorldData : Type 0 where
   pub script : ScriptData
   pub limit : ℕ
   pub run : List Logged
+
+-- the world after the moves made so far
+abbrev pub world_of : WorldData → World
+world_of w = world_after w.script w.run
 
 -- the command locks or unlocks, in the only set
 abbrev pub locks_or_unlocks : Command → Bool
@@ -73,7 +77,7 @@ pub record Stands (script : ScriptData) (limit : ℕ) (clients : List Progress) 
 -- a client of the script that can act now
 abbrev pub IsRunnable : WorldData → ℕ → Type 0
 IsRunnable w client =
-    (client < length w.script.clients) × IsTrue (is_runnable w.script (world_after w.script w.run) client)
+    (client < length w.script.clients) × IsTrue (is_runnable w.script (world_of w) client)
 
 -- the node that has made as many moves as it may and has an enabled one
 abbrev pub full_node : ScriptData → ℕ → List Logged → Option ℕ

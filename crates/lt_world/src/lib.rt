@@ -6,9 +6,13 @@
 mod choice;
 mod client;
 mod limits;
+mod lone;
 mod moving;
+#[cfg(test)]
+mod tests;
 mod world;
 
 pub use choice::Choice;
 pub use limits::MAX_MOVES;
-pub use world::{World, is_lone};
+pub use lone::is_lone;
+pub use world::World;

@@ -1,19 +1,18 @@
-ghost use Rattle.std.specs.Prelude.{◌≡◌, ◌+◌, ◌≤◌, ◌<◌, ◌↔◌, ℕ, Bool, [], ◌∷◌, ◌++◌, length, IsTrue, IsNone, IfOk, IfSome, OnOk, OnErr, option_map, Option, None, slice_index_or, if◌then◌else◌, ◌&&◌};
-ghost use Rattle.lt_model.specs.World.{World as WorldState, world_after, is_runnable, is_waiting, is_enabled, is_at_rest, anyone_waits, made_by, logged, IsRun, commands_of};
-ghost use Rattle.lt_model.specs.Order.{next_act, act_at, act_from, acts_before, comes_after, count_acts};
-ghost use Rattle.lt_model.specs.Below.{earlier as earlier_of};
-ghost use Rattle.lt_script.specs.Script.{IsScript};
-ghost use Rattle.lt_world.specs.Standing.{WorldData, IsRunnable, full_node, is_lone, locks_or_unlocks, no_progress};
+mod order;
+
+ghost use Rattle.std.specs.Prelude.{◌≡◌, ◌≤◌, ◌<◌, ◌↔◌, [], ◌∷◌, ◌++◌, length, IsTrue, IsNone, IsFalse, IfOk, IfSome, OnSome, OnOk, OnErr, option_map};
+ghost use Rattle.lt_model.specs.World.{is_runnable, is_enabled, is_at_rest, anyone_waits, logged, IsRun};
+ghost use Rattle.lt_model.specs.Order.{act_at, count_acts};
+ghost use Rattle.lt_world.specs.Standing.{WorldData, full_node, is_lone, world_of};
 ghost use Rattle.lt_world.specs.Choice.{act_choice, IsAct};
-ghost use Rattle.std.specs.List.{list_all};
 ghost use Rattle.lt_world.specs.declared.limits.TheConstants.{MAX_MOVES};
 
 use crate::choice::Choice;
-use crate::client::Client;
+use crate::client::{Client, clients_of};
 use crate::moving::{act, make_room};
 use lt_core::{Core, Out};
 use lt_merge::Run;
-use lt_modes::{Command, Stamp, Step};
+use lt_modes::{Stamp, Step};
 use lt_script::Script;
 use std::alloc::{AllocError, Global};
 use std::marker::Model;
@@ -61,7 +60,7 @@ impl<'a> World<'a> {
 
     /// Whether the node can make the move now.
     pub fn enabled(&self, choice: Choice) -> bool
-        ensures { result ≡ is_enabled self.now.script (world_after self.now.script self.now.run) choice.node choice.step }
+        ensures { result ≡ is_enabled self.now.script (world_of self.now) choice.node choice.step }
     {
         match choice.step {
             Step::Act(client) => choice.node == 0
@@ -73,7 +72,7 @@ impl<'a> World<'a> {
 
     /// Whether no move is enabled.
     pub fn at_rest(&self) -> bool
-        ensures { result ≡ is_at_rest self.now.script (world_after self.now.script self.now.run) }
+        ensures { result ≡ is_at_rest self.now.script (world_of self.now) }
     {
         for client in 0..self.script.clients() {
             if self.is_runnable(client) {
@@ -85,7 +84,7 @@ impl<'a> World<'a> {
 
     /// The number of enabled moves.
     pub fn count(&self) -> u32
-        ensures { result ≡ count_acts self.now.script (world_after self.now.script self.now.run) }
+        ensures { result ≡ count_acts self.now.script (world_of self.now) }
     {
         let mut count = 0;
         for client in 0..self.script.clients() {
@@ -98,7 +97,7 @@ impl<'a> World<'a> {
 
     /// Whether some client waits.
     pub fn anyone_waits(&self) -> bool
-        ensures { result ≡ anyone_waits self.now.script (world_after self.now.script self.now.run) }
+        ensures { result ≡ anyone_waits self.now.script (world_of self.now) }
     {
         for client in 0..self.script.clients() {
             if self.core.waits(client) {
@@ -111,10 +110,11 @@ impl<'a> World<'a> {
     /// The enabled move at place `k`, from 0: clients by the number of commands that they have made, and then in
     /// the order of their declaration.
     pub fn pick(&self, k: u32) -> Option<Choice>
-        ensures place { result ≡ option_map act_choice (act_at self.now.script (world_after self.now.script self.now.run) k) }
-        ensures enabled { IfSome result (λ choice. IsTrue (is_enabled self.now.script (world_after self.now.script self.now.run) choice.node choice.step)) }
-        ensures none { IsNone result ↔ (count_acts self.now.script (world_after self.now.script self.now.run) ≤ k) }
-        ensures rest { IsNone result → k ≡ 0 → IsTrue (is_at_rest self.now.script (world_after self.now.script self.now.run)) }
+        ensures place { result ≡ option_map act_choice (act_at self.now.script (world_of self.now) k) }
+        ensures enabled { IfSome result (λ choice. IsTrue (is_enabled self.now.script (world_of self.now) choice.node choice.step)) }
+        ensures none { IsNone result ↔ (count_acts self.now.script (world_of self.now) ≤ k) }
+        ensures going { OnSome result (IsFalse (is_at_rest self.now.script (world_of self.now))) }
+        ensures rest { IsNone result → k ≡ 0 → IsTrue (is_at_rest self.now.script (world_of self.now)) }
     {
         let first = self.next_act(None)?;
         let client = self.act_from(first, k)?;
@@ -123,7 +123,8 @@ impl<'a> World<'a> {
 
     /// The node that has made as many moves as it may and has an enabled one.
     pub fn full(&self) -> Option<u8>
-        ensures { result ≡ full_node self.now.script self.now.limit self.now.run }
+        ensures full { result ≡ full_node self.now.script self.now.limit self.now.run }
+        ensures room { IsNone result → IsFalse (is_at_rest self.now.script (world_of self.now)) → length self.now.run < self.now.limit }
     {
         if self.run.len() == self.limit && !self.at_rest() {
             Some(0)
@@ -134,9 +135,9 @@ impl<'a> World<'a> {
 
     /// Makes an enabled move of a node that has made fewer moves than the limit.
     pub fn step(&mut self, choice: Choice) -> Result<(), AllocError>
-        requires enabled { IsTrue (is_enabled self.old.script (world_after self.old.script self.old.run) choice.node choice.step) }
+        requires enabled { IsTrue (is_enabled self.old.script (world_of self.old) choice.node choice.step) }
         requires room { length self.old.run < self.old.limit }
-        ensures ok { OnOk result (self.new ≡ record self.old { run = self.old.run ++ logged self.old.script (world_after self.old.script self.old.run) choice.node choice.step ∷ [] }) }
+        ensures ok { OnOk result (self.new ≡ record self.old { run = self.old.run ++ logged self.old.script (world_of self.old) choice.node choice.step ∷ [] }) }
         ensures err { OnErr result (self.new ≡ self.old) }
     {
         let stamp = Stamp {
@@ -171,151 +172,14 @@ impl<'a> World<'a> {
         self.run
     }
 
-    // The move of a client that can act.
-    fn choice_of(&self, client: u16) -> Choice
-        requires { IsRunnable self.now client }
-        ensures choice { result ≡ act_choice client }
-        ensures enabled { IsTrue (is_enabled self.now.script (world_after self.now.script self.now.run) result.node result.step) }
-    {
-        Choice {
-            node: self.script.home(client),
-            step: Step::Act(client),
-        }
-    }
-
-    // The client that comes so many places after this one.
-    #[tactic(auto, using(lt_model::proofs::Picks::act_from_next, lt_model::proofs::Picks::act_from_none))]
-    fn act_from(&self, first: u16, places: u32) -> Option<u16>
-        requires { IsRunnable self.now first }
-        ensures act { result ≡ act_from self.now.script (world_after self.now.script self.now.run) first places }
-        ensures runnable { IfSome result (IsRunnable self.now) }
-    {
-        let mut client = first;
-        let mut left = places;
-        while left > 0 {
-            match self.next_act(Some(client)) {
-                Some(next) => client = next,
-                None => return None,
-            }
-            left -= 1;
-        }
-        Some(client)
-    }
-
-    // The first runnable client after this one, in the order of moves.
-    fn next_act(&self, earlier: Option<u16>) -> Option<u16>
-        requires { IfSome earlier (λ client. client < length self.now.script.clients) }
-        ensures next { result ≡ next_act self.now.script (world_after self.now.script self.now.run) earlier }
-        ensures rest { earlier ≡ None → result ≡ None → IsTrue (is_at_rest self.now.script (world_after self.now.script self.now.run)) }
-        ensures runnable { IfSome result (IsRunnable self.now) }
-    {
-        let mut first = None;
-        for client in 0..self.script.clients() {
-            first = self.first_with(earlier, first, client);
-        }
-        first
-    }
-
-    // The first of `first` and this client, where it is runnable and comes after the earlier one.
-    fn first_with(&self, earlier: Option<u16>, first: Option<u16>, client: u16) -> Option<u16>
-        requires earlier { IfSome earlier (λ client. client < length self.now.script.clients) }
-        requires first { IfSome first (IsRunnable self.now) }
-        requires client { client < length self.now.script.clients }
-        ensures first { result ≡ (if is_runnable self.now.script (world_after self.now.script self.now.run) client && comes_after self.now.script (world_after self.now.script self.now.run) earlier client then earlier_of (acts_before self.now.script (world_after self.now.script self.now.run)) first client else first) }
-        ensures runnable { IfSome result (IsRunnable self.now) }
-    {
-        if !self.is_runnable(client) || !self.comes_after(earlier, client) {
-            return first;
-        }
-        match first {
-            Some(first) if !self.acts_before(client, first) => Some(first),
-            _ => Some(client),
-        }
-    }
-
-    fn comes_after(&self, earlier: Option<u16>, client: u16) -> bool
-        requires earlier { IfSome earlier (λ client. client < length self.now.script.clients) }
-        requires client { client < length self.now.script.clients }
-        ensures { result ≡ comes_after self.now.script (world_after self.now.script self.now.run) earlier client }
-    {
-        match earlier {
-            None => true,
-            Some(earlier) => self.acts_before(earlier, client),
-        }
-    }
-
-    // Whether the first client's next command comes before the second's.
-    fn acts_before(&self, a: u16, b: u16) -> bool
-        requires { (a < length self.now.script.clients) × (b < length self.now.script.clients) }
-        ensures { result ≡ acts_before self.now.script (world_after self.now.script self.now.run) a b }
-    {
-        let made_a = self.clients[usize::from(a)].made();
-        let made_b = self.clients[usize::from(b)].made();
-        made_a < made_b || made_a == made_b && a < b
-    }
-
     // Whether the client doesn't wait and has a command left.
     fn is_runnable(&self, client: u16) -> bool
         requires { client < length self.now.script.clients }
-        ensures { result ≡ is_runnable self.now.script (world_after self.now.script self.now.run) client }
+        ensures { result ≡ is_runnable self.now.script (world_of self.now) client }
     {
         let progress = &self.clients[usize::from(client)];
         !self.core.waits(client) && progress.has_next()
     }
-}
-
-/// Whether the script has one node and one set, and its clients only lock and unlock.
-pub fn is_lone(script: &Script) -> bool
-    ensures { result ≡ is_lone script.now }
-{
-    script.nodes() == 1 && script.sets() == 1 && all_lock_or_unlock(script)
-}
-
-fn all_lock_or_unlock(script: &Script) -> bool
-    ensures { result ≡ list_all (λ request. locks_or_unlocks request.1) script.now.commands }
-{
-    script
-        .requests()
-        .iter()
-        .all(|request| locks_or_unlocks(&request.1))
-}
-
-fn locks_or_unlocks(command: &Command) -> bool
-    ensures { result ≡ locks_or_unlocks command.now }
-{
-    match command {
-        Command::Lock { set, .. } | Command::Unlock { set, .. } => *set == 0,
-        _ => false,
-    }
-}
-
-// The commands of one client, in order.
-fn commands_of(alloc: Global, script: &Script, client: u16) -> Result<Vec<Command>, AllocError>
-    ensures { IfOk result (λ commands. commands.items ≡ commands_of script.now client) }
-{
-    script
-        .requests()
-        .iter()
-        .filter_map(|request| if request.0 == client {
-            Some(request.1)
-        } else {
-            None
-        })
-        .collect(alloc)
-}
-
-// The clients before their first command.
-fn clients_of(alloc: Global, script: &Script) -> Result<Vec<Client>, AllocError>
-    ensures script { IsScript script.now }
-    ensures count { IfOk result (λ clients. length clients.items ≡ length script.now.clients) }
-    ensures each { IfOk result (λ clients. (c : ℕ) → c < length clients.items → slice_index_or clients.items c no_progress ≡ record { commands = commands_of script.now c; made = 0 }) }
-{
-    let mut clients = Vec::new(alloc);
-    for client in 0..script.clients() {
-        let commands = commands_of(alloc, script, client)?;
-        clients.push(Client::new(commands))?;
-    }
-    Ok(clients)
 }
 
 // The client that acts.

@@ -1,9 +1,8 @@
-use Rattle.std.proofs.Common.{rules, ◌≡◌, ◌∙◌, ◌++◌, [], ◌∷◌, List, length, ap, arith, sym, append-nil}
+use Rattle.std.proofs.Common.{◌≡◌, ◌∙◌, ◌++◌, [], ◌∷◌, List, ap, arith}
 use Rattle.std.proofs.lemmas.Grind.{common_steps}
 use Rattle.lt_modes.specs.declared.event.Event.{Event}
-use Rattle.lt_core.specs.Order.{move_of}
-use Rattle.lt_world.specs.Orders.{order_of, moved, entry_of}
-use Rattle.lt_world.specs.Standing.{progress_of, next_of}
+use Rattle.lt_world.specs.Orders.{moved, entry_of}
+use Rattle.lt_world.specs.Standing.{progress_of}
 use Rattle.lt_world.specs.Recording.{with_events}
 use Rattle.lt_world.proofs.Recorded.{pushed}
 use Rattle.lt_world.proofs.moving.act.Goals as goal

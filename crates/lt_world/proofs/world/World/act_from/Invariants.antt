@@ -1,12 +1,11 @@
 use Rattle.std.proofs.Common.{◌≡◌}
-use Rattle.lt_model.specs.World.{world_after}
 use Rattle.lt_model.specs.Order.{act_from}
-use Rattle.lt_world.specs.Standing.{IsRunnable}
+use Rattle.lt_world.specs.Standing.{world_of, IsRunnable}
 use Rattle.lt_world.proofs.world.World.act_from.Given as goal
 
 abbrev pub invariant-loop-left : goal.invariant-loop-left
 invariant-loop-left l = record {
-  rest : act_from l.self.script (world_after l.self.script l.self.run) l.client l.left ≡ act_from l.self.script (world_after l.self.script l.self.run) l.first l.places;
+  rest : act_from l.self.script (world_of l.self) l.client l.left ≡ act_from l.self.script (world_of l.self) l.first l.places;
   runnable : IsRunnable l.self l.client;
 }
 

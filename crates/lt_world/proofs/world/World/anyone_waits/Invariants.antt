@@ -1,7 +1,8 @@
 use Rattle.std.proofs.Common.{◌≡◌, false}
 use Rattle.lt_model.specs.Below.{any_below}
-use Rattle.lt_model.specs.World.{world_after, is_waiting}
+use Rattle.lt_model.specs.World.{is_waiting}
+use Rattle.lt_world.specs.Standing.{world_of}
 use Rattle.lt_world.proofs.world.World.anyone_waits.Given as goal
 
 abbrev pub invariant-loop-client : goal.invariant-loop-client
-invariant-loop-client l = any_below l.client (is_waiting l.self.script (world_after l.self.script l.self.run)) ≡ false
+invariant-loop-client l = any_below l.client (is_waiting l.self.script (world_of l.self)) ≡ false

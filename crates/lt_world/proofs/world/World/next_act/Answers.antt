@@ -1,21 +1,16 @@
 use Rattle.std.proofs.Common.{◌≡◌, ◌∙◌, ℕ, Option, None, length, add-one, sym, ap, subst, arith}
-use Rattle.std.specs.Prelude.{◌&&◌, if◌then◌else◌, IsTrue}
-use Rattle.lt_model.specs.Below.{earlier}
-use Rattle.lt_model.specs.World.{world_after, is_runnable}
-use Rattle.lt_model.specs.Order.{acts_before, comes_after, next_act, next_below}
-use Rattle.lt_world.specs.Standing.{WorldData, is_lone}
+use Rattle.std.specs.Prelude.{IsTrue}
+use Rattle.lt_model.specs.Order.{next_act, next_below}
+use Rattle.lt_world.specs.Choice.{first_with}
+use Rattle.lt_world.specs.Standing.{WorldData, is_lone, world_of}
 use Rattle.lt_world.proofs.Alone.{rest_alone}
 use Rattle.lt_world.proofs.world.World.next_act.Goals as goal
 
 pub loop-client-preserved : goal.loop-client-preserved
 loop-client-preserved c =
-    let script = c.args.self.now.script in
-    let w = world_after script c.args.self.now.run in
-    let client = c.loop-client.client in
     record {
       first = rw add-one
-          (subst (λ (first : Option ℕ). c.first_with-first.result
-          ≡ (if is_runnable script w client && comes_after script w c.args.earlier client then earlier (acts_before script w) first client else first))
+          (subst (λ (first : Option ℕ). c.first_with-first.result ≡ first_with c.args.self.now.script (world_of c.args.self.now) c.args.earlier first c.loop-client.client)
           c.loop-client.invariant.first c.first_with-first.ensures.first);
       runnable = c.first_with-first.ensures.runnable;
     }
@@ -23,7 +18,7 @@ loop-client-preserved c =
 pub returns-clause-rest : goal.returns-clause-rest
 returns-clause-rest c = λ start none.
     let script = c.args.self.now.script in
-    let w = world_after script c.args.self.now.run in
+    let w = world_of c.args.self.now in
     let clients = ap (λ (w : WorldData). length w.script.clients) c.self.view_is in
     let all : c.loop-client.client ≡ length script.clients =
     omega (arith, c.loop-client-test.false, c.loop-client.auto.client-end, c.clients-client-end.ensures.clients, clients) in

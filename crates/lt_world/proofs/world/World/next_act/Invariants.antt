@@ -1,12 +1,11 @@
 use Rattle.std.proofs.Common.{◌≡◌}
 use Rattle.std.specs.Prelude.{IfSome}
-use Rattle.lt_model.specs.World.{world_after}
 use Rattle.lt_model.specs.Order.{next_below}
-use Rattle.lt_world.specs.Standing.{IsRunnable}
+use Rattle.lt_world.specs.Standing.{world_of, IsRunnable}
 use Rattle.lt_world.proofs.world.World.next_act.Given as goal
 
 abbrev pub invariant-loop-client : goal.invariant-loop-client
 invariant-loop-client l = record {
-  first : l.first ≡ next_below l.self.script (world_after l.self.script l.self.run) l.earlier l.client;
+  first : l.first ≡ next_below l.self.script (world_of l.self) l.earlier l.client;
   runnable : IfSome l.first (IsRunnable l.self);
 }

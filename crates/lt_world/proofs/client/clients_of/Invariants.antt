@@ -1,7 +1,7 @@
 use Rattle.std.proofs.Common.{◌≡◌, ℕ, ◌<◌, length, slice_index_or}
 use Rattle.lt_model.specs.World.{commands_of}
 use Rattle.lt_world.specs.Standing.{no_progress}
-use Rattle.lt_world.proofs.world.clients_of.Given as goal
+use Rattle.lt_world.proofs.client.clients_of.Given as goal
 
 abbrev pub invariant-loop-client : goal.invariant-loop-client
 invariant-loop-client l = record {

@@ -1,0 +1,12 @@
+//! The text layer of scripts and journals: lines, the words and fields of a line, and decimal numbers.
+#![tactic(auto)]
+
+mod cut;
+mod digits;
+mod laws;
+#[cfg(test)]
+mod tests;
+
+pub use cut::{is, next_field, next_line, next_word};
+pub use digits::{exact_number, number, push_number};
+pub use laws::{law_exact_number, law_fields, law_lines, law_number, law_words};
