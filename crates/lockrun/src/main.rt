@@ -1,11 +1,10 @@
 //! The lock service at the command line.
 #![tactic(auto)]
 
-use std::io;
-use std::process::ExitCode;
-
 use lt_io::{ReaderSource, WriterSink};
 use lt_serve::{Gate, serve};
+use std::io;
+use std::process::ExitCode;
 
 // A gate that never holds a node up.
 #[derive(Drop)]

@@ -3,9 +3,9 @@ use Rattle.std.specs.Prelude.{ℕ, ◌==◌, if◌then◌else◌}
 use Rattle.lt_modes.specs.declared.stamp.Stamp.{Stamp}
 use Rattle.lt_modes.specs.State.{SetState}
 use Rattle.lt_modes.specs.Held.{count_of}
-use Rattle.lt_modes.specs.Granting.{can_grant}
-use Rattle.lt_modes.specs.Serving.{Made}
-use Rattle.lt_modes.specs.SetMove.{lock, unlock}
+use Rattle.lt_core.specs.Granting.{can_grant}
+use Rattle.lt_core.specs.Serving.{Made}
+use Rattle.lt_core.specs.SetMove.{lock, unlock}
 use Rattle.lt_core.specs.declared.order.Order.{Order}
 use Rattle.lt_core.specs.declared.order.Order.TheVariants.{Lock, Unlock}
 use Rattle.lt_core.specs.declared.order.Answer.{Answer}

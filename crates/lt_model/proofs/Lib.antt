@@ -1,4 +1,7 @@
-pub mod Picks
-pub mod Places
 pub mod Runs
-pub mod Searches
+pub mod Sums
+pub mod Letters
+pub mod SentInMove
+pub mod PathsQuiet
+pub mod PathsHandOver
+pub mod StartKept

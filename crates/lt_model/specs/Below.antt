@@ -23,3 +23,8 @@ first_below (suc n) test before = if test n then earlier before (first_below n t
 abbrev pub count_below : ℕ → (ℕ → Bool) → ℕ
 count_below zero test = 0
 count_below (suc n) test = count_below n test + (if test n then 1 else 0)
+
+-- f at the numbers below n, added up
+abbrev pub sum_below : ℕ → (ℕ → ℕ) → ℕ
+sum_below zero f = 0
+sum_below (suc n) f = sum_below n f + f n

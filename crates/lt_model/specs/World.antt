@@ -1,49 +1,31 @@
 -- The world: the nodes and the letters on their way, its enabled moves, and runs.
-use Rattle.std.specs.Prelude.{◌≡◌, Bool, true, false, ◌&&◌, ◌||◌, ◌==◌, not, nat_lt, ℕ, zero, suc, ◌+◌, List, [], ◌∷◌, ◌++◌, Option, Some, None, if◌then◌else◌, length, slice_get, IsTrue, is_none}
-use Rattle.std.specs.List.{filter_map, list_any}
-use Rattle.lt_modes.specs.declared.mode.Mode.{Mode}
+use Rattle.std.specs.Prelude.{◌≡◌, Bool, true, false, ◌&&◌, ◌==◌, not, nat_lt, ℕ, List, [], ◌∷◌, ◌++◌, Option, Some, None, if◌then◌else◌, length, drop, IsTrue}
+use Rattle.std.specs.List.{filter_map}
 use Rattle.lt_modes.specs.declared.stamp.Stamp.{Stamp}
-use Rattle.lt_modes.specs.declared.command.Command.{Command}
-use Rattle.lt_modes.specs.declared.command.Command.TheVariants.{Lock, Unlock, Try, Change, DropAll}
 use Rattle.lt_modes.specs.declared.moves.Step.{Step}
 use Rattle.lt_modes.specs.declared.moves.Step.TheVariants.{Act, Take}
-use Rattle.lt_modes.specs.declared.moves.Move.{Move}
-use Rattle.lt_modes.specs.declared.event.Event.{Event}
-use Rattle.lt_modes.specs.Script.{ScriptData, home_at}
-use Rattle.lt_modes.specs.State.{SetState, Letter, lone_state}
-use Rattle.lt_modes.specs.Serving.{Made, waits}
-use Rattle.lt_modes.specs.SetMove.{lock, unlock}
+use Rattle.lt_modes.specs.Script.{ScriptData}
+use Rattle.lt_modes.specs.State.{Letter, Body, AskBody, TellBody, CopyBody, TokenBody, FreezeBody, first_state}
+use Rattle.lt_modes.specs.Made.{Post}
 use Rattle.lt_model.specs.Log.{Logged}
-use Rattle.lt_model.specs.Below.{any_below, first_below, put}
+use Rattle.lt_model.specs.Below.{any_below, put}
+use Rattle.lt_model.specs.Families.{home}
+use Rattle.lt_model.specs.NodeMove.{NodeState, NodeMade, no_move, has_command, node_waits, node_act, node_take, act_stamp, take_stamp}
 
--- a node: its clock, how many commands each client has made, and its sets
-pub record NodeState : Type 0 where
-  pub clock : ℕ
-  pub made : ℕ → ℕ
-  pub set : ℕ → SetState
-
--- the nodes, and the letters on their way from one node to another, the oldest first
+-- the nodes; the letters on their way from one node to another, the oldest first;
+-- and for each set the nodes that had its token, node 0 first
 pub record World : Type 0 where
   pub node : ℕ → NodeState
   pub mail : ℕ → ℕ → List Letter
+  pub went : ℕ → List ℕ
 
--- nobody holds a lock and node 0 has the desk of each set
-abbrev pub start : World
-start = record {
-  node = λ q. record { clock = 0; made = λ c. 0; set = λ s. lone_state [] [] [] };
+-- nobody holds a lock, nothing is on its way, and node 0 has the desk of each set
+abbrev pub start : ScriptData → World
+start script = record {
+  node = λ q. record { clock = 0; made = λ c. 0; set = λ s. first_state script.nodes q };
   mail = λ p q. [];
+  went = λ s. 0 ∷ [];
 }
-
-abbrev pub command_if : ℕ → ℕ × Command → Option Command
-command_if client request = if request.0 == client then Some request.1 else None
-
--- the client's commands, in order
-abbrev pub commands_of : ScriptData → ℕ → List Command
-commands_of script client = filter_map (command_if client) script.commands
-
--- the client's node
-abbrev pub home : ScriptData → ℕ → ℕ
-home script client = home_at script.clients client
 
 -- how many commands the client has made
 abbrev pub made_by : ScriptData → World → ℕ → ℕ
@@ -51,12 +33,12 @@ made_by script w client = (w.node (home script client)).made client
 
 -- an ask of the client is unanswered, in some set
 abbrev pub is_waiting : ScriptData → World → ℕ → Bool
-is_waiting script w client = any_below (length script.sets) (λ s. waits ((w.node (home script client)).set s) client)
+is_waiting script w client = node_waits script (w.node (home script client)) client
 
 -- the client doesn't wait and has a command left
 abbrev pub is_runnable : ScriptData → World → ℕ → Bool
 is_runnable script w client =
-    not (is_waiting script w client) && nat_lt (made_by script w client) (length (commands_of script client))
+    not (is_waiting script w client) && has_command script (w.node (home script client)) client
 
 abbrev pub is_some_letter : List Letter → Bool
 is_some_letter [] = false
@@ -67,7 +49,7 @@ abbrev pub has_mail : ScriptData → World → ℕ → ℕ → Bool
 has_mail script w p q =
     nat_lt p script.nodes && (nat_lt q script.nodes && (not (p == q) && is_some_letter (w.mail p q)))
 
--- the node can make the move
+-- node q can make the move
 abbrev pub is_enabled : ScriptData → World → ℕ → Step → Bool
 is_enabled script w q (Act client) =
     nat_lt client (length script.clients) && (home script client == q && is_runnable script w client)
@@ -83,47 +65,71 @@ is_at_rest script w =
 abbrev pub anyone_waits : ScriptData → World → Bool
 anyone_waits script w = any_below (length script.clients) (is_waiting script w)
 
--- what a node move made: the node's new state, and the event lines in order
-pub record NodeMade : Type 0 where
-  pub node : NodeState
-  pub events : List Event
+-- the stamp of the take of the front letter of this list
+abbrev pub front_stamp : ℕ → NodeState → List Letter → Stamp
+front_stamp q n [] = act_stamp q n
+front_stamp q n (letter ∷ rest) = take_stamp q n letter
 
--- the stamp of the node's next act
-abbrev pub act_stamp : ℕ → NodeState → Stamp
-act_stamp q n = record { clock = n.clock + 1; node = q }
+-- the stamp of the move
+abbrev pub move_stamp : World → ℕ → Step → Stamp
+move_stamp w q (Act client) = act_stamp q (w.node q)
+move_stamp w q (Take p) = front_stamp q (w.node q) (w.mail p q)
 
--- the client has made one command more, which touched this set
-abbrev pub touched : Stamp → ℕ → NodeState → ℕ → Made → NodeMade
-touched stamp client n s made = record {
-  node = record { clock = stamp.clock; made = put n.made client (n.made client + 1); set = put n.set s made.state };
-  events = made.events;
-}
-
--- the client makes this command
-abbrev pub obeyed : Stamp → ℕ → NodeState → Option Command → NodeMade
-obeyed stamp client n (Some (Lock s mode)) = touched stamp client n s (lock s stamp client mode (n.set s))
-obeyed stamp client n (Some (Unlock s mode)) = touched stamp client n s (unlock s client mode (n.set s))
-obeyed stamp client n other = record { node = n; events = [] }
-
--- the client's next command
-abbrev pub next_command : ScriptData → NodeState → ℕ → Option Command
-next_command script n client = slice_get (commands_of script client) (n.made client)
+-- what node q makes of the front letter of this list
+abbrev pub take_front : ℕ → NodeState → List Letter → NodeMade
+take_front q n [] = no_move n
+take_front q n (letter ∷ rest) = node_take q letter n
 
 -- what node q makes of the step
-abbrev pub node_move : ScriptData → ℕ → NodeState → Step → NodeMade
-node_move script q n (Act client) = obeyed (act_stamp q n) client n (next_command script n client)
-node_move script q n (Take p) = record { node = n; events = [] }
+abbrev pub node_move : ScriptData → World → ℕ → Step → NodeMade
+node_move script w q (Act client) = node_act script q client (w.node q)
+node_move script w q (Take p) = take_front q (w.node q) (w.mail p q)
 
 -- the entry that the move has in a run
 abbrev pub logged : ScriptData → World → ℕ → Step → Logged
 logged script w q step = record {
-  made = record { stamp = act_stamp q (w.node q); step = step };
-  events = (node_move script q (w.node q) step).events;
+  made = record { stamp = move_stamp w q step; step = step };
+  events = (node_move script w q step).events;
+}
+
+-- the letters with this list from p to q
+abbrev pub put_mail : (ℕ → ℕ → List Letter) → ℕ → ℕ → List Letter → ℕ → ℕ → List Letter
+put_mail mail p q letters a b = if a == p && b == q then letters else mail a b
+
+-- the world as the step finds it: the letter that is taken is on its way no more
+abbrev pub opened : World → ℕ → Step → World
+opened w q (Act client) = w
+opened w q (Take p) = record w { mail = put_mail w.mail p q (drop 1 (w.mail p q)) }
+
+abbrev pub letter_for : ℕ → Post → Option Letter
+letter_for q post = if post.to == q then Some post.letter else None
+
+-- the letters after node p has sent these
+abbrev pub sent : ℕ → List Post → (ℕ → ℕ → List Letter) → ℕ → ℕ → List Letter
+sent p posts mail a b = mail a b ++ (if a == p then filter_map (letter_for b) posts else [])
+
+abbrev pub token_by : Body → ℕ → Option ℕ
+token_by (TokenBody desk) to = Some to
+token_by (AskBody ask marked) to = None
+token_by (TellBody tell) to = None
+token_by (CopyBody ask) to = None
+token_by (FreezeBody number modes) to = None
+
+-- the node to which the letter brings the token of this set, where it does
+abbrev pub token_to : ℕ → Post → Option ℕ
+token_to s post = if post.letter.set == s then token_by post.letter.body post.to else None
+
+-- the world once node q has made this
+abbrev pub after_made : ℕ → NodeMade → World → World
+after_made q made w = record {
+  node = put w.node q made.node;
+  mail = sent q made.posts w.mail;
+  went = λ s. w.went s ++ filter_map (token_to s) made.posts;
 }
 
 -- the world after the move
 abbrev pub after : ScriptData → World → ℕ → Step → World
-after script w q step = record w { node = put w.node q (node_move script q (w.node q) step).node }
+after script w q step = after_made q (node_move script w q step) (opened w q step)
 
 -- the world after the moves of a run that began in w
 abbrev pub after_run : ScriptData → World → List Logged → World
@@ -132,7 +138,7 @@ after_run script w (entry ∷ rest) = after_run script (after script w entry.mad
 
 -- the world after the moves of a run from the start
 abbrev pub world_after : ScriptData → List Logged → World
-world_after script run = after_run script start run
+world_after script run = after_run script (start script) run
 
 -- the entry is an enabled move, with its stamp and its events
 pub record IsMove (script : ScriptData) (w : World) (entry : Logged) : Type 0 where
@@ -146,7 +152,7 @@ IsRunFrom script w (entry ∷ rest) =
 
 -- each move is enabled in its turn, from the start on
 abbrev pub IsRun : ScriptData → List Logged → Type 0
-IsRun script run = IsRunFrom script start run
+IsRun script run = IsRunFrom script (start script) run
 
 abbrev pub is_of_node : ℕ → Logged → Bool
 is_of_node q entry = entry.made.stamp.node == q

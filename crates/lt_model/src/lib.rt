@@ -1,2 +1,10 @@
 //! The world of the lock service on plain data: runs, their text, and the laws over them.
 #![tactic(auto)]
+
+mod laws;
+mod worked;
+
+pub use laws::law_start;
+pub use worked::{
+    law_examples_long, law_examples_nodes, law_examples_one_node, law_examples_orders,
+};

@@ -1,1 +1,3 @@
+pub mod ModeAlgebra
 mod MaskLemmas
+pub mod ServingLemmas

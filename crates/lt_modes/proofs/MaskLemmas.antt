@@ -1,10 +1,10 @@
 -- What `|` and `&` do on masks below 32, as tables that the check computes.
-use Rattle.std.proofs.Common.{◌≡◌, ℕ, ◌<◌, Bool, true, false, refl, bit_or, bit_and, sym, ap, arith}
-use Rattle.std.specs.Prelude.{◌&&◌, ◌==◌, not, nat_lt, if◌then◌else◌}
-use Rattle.std.proofs.lemmas.Bool.{and_parts, ltb-true, eqb-true}
+use Rattle.std.proofs.Common.{◌≡◌, ℕ, ◌<◌, Bool, true, false, refl, bit_or, bit_and}
+use Rattle.std.specs.Prelude.{◌&&◌, ◌==◌, not, nat_lt}
+use Rattle.std.proofs.lemmas.Bool.{and_parts, ltb-true}
 use Rattle.lt_modes.specs.declared.mode.Mode.{Mode}
 use Rattle.lt_modes.specs.declared.mode.Mode.TheVariants.{IntentionRead, Read, Upgrade, IntentionWrite, Write}
-use Rattle.lt_modes.specs.Modes.{Modes, has, every_mode, modes_by, union, is_within}
+use Rattle.lt_modes.specs.Modes.{Modes, has, union, is_within}
 use Rattle.lt_modes.specs.Masks.{bit_of, modes_of_mask, all_below, all_below_at}
 
 all_pairs_at : (test : ℕ → ℕ → Bool) (i j : ℕ) → all_below 32 (λ a. all_below 32 (test a)) ≡ true → i < 32 → j < 32 → test i j ≡ true

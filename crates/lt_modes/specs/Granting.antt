@@ -1,5 +1,5 @@
 -- When a node may grant a mode to a client at once.
-use Rattle.std.specs.Prelude.{Bool, false, ◌||◌, not, ℕ, List, take, Option, Some, None}
+use Rattle.std.specs.Prelude.{Bool, ◌||◌, ◌&&◌, not, ℕ, List, take, Option, Some, None}
 use Rattle.std.specs.List.{list_any}
 use Rattle.lt_modes.specs.declared.mode.Mode.{Mode}
 use Rattle.lt_modes.specs.declared.ask.Ask.{Ask}
@@ -7,6 +7,7 @@ use Rattle.lt_modes.specs.Modes.{Modes, has, union, bars, covers}
 use Rattle.lt_modes.specs.State.{SetState, Desk}
 use Rattle.lt_modes.specs.Held.{is_of, own_modes, other_modes}
 use Rattle.lt_modes.specs.Queue.{place, modes_of_asks}
+use Rattle.lt_modes.specs.Records.{others, own_owed}
 
 -- the client holds some lock in the set
 abbrev pub is_holder : SetState → ℕ → Bool
@@ -16,12 +17,21 @@ is_holder s client = list_any (is_of client) s.held
 abbrev pub asks_before : SetState → ℕ → Desk → List Ask
 asks_before s client desk = take (place desk.queue (is_holder s client)) desk.queue
 
--- at the desk: no lock of another client conflicts, and no ask that would stand before this one
-abbrev pub may_join : SetState → ℕ → Mode → Option Desk → Bool
-may_join s client mode None = false
-may_join s client mode (Some desk) =
-    not (has mode (bars (union (other_modes s.held client) (modes_of_asks (asks_before s client desk)))))
+-- what stands against a client's request at the desk, besides the locks of other clients of the node:
+-- the other nodes, the copies that are still on their way here, and the asks before it
+abbrev pub against : ℕ → SetState → ℕ → Desk → Modes
+against me s client desk =
+    union (others me s desk me) (union (own_owed me s desk) (modes_of_asks (asks_before s client desk)))
 
--- the client's own modes cover it, or the desk is here and nothing stands against it
-abbrev pub can_grant : SetState → ℕ → Mode → Bool
-can_grant s client mode = covers (own_modes s.held client) mode || may_join s client mode s.desk
+-- without the desk the node's charge must cover the mode, and it must not be frozen;
+-- at the desk nothing may stand against it
+abbrev pub may_join : ℕ → SetState → ℕ → Mode → Option Desk → Bool
+may_join me s client mode None = covers s.charge mode && not (has mode s.frozen)
+may_join me s client mode (Some desk) = not (has mode (bars (against me s client desk)))
+
+-- node `me` can grant the mode: the client's own modes cover it,
+-- or no lock of another client of the node conflicts and it may join
+abbrev pub can_grant : ℕ → SetState → ℕ → Mode → Bool
+can_grant me s client mode =
+    covers (own_modes s.held client) mode
+    || (not (has mode (bars (other_modes s.held client))) && may_join me s client mode s.desk)

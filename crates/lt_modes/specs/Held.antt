@@ -1,5 +1,5 @@
 -- Held locks: the rows of a node's clients in one set.
-use Rattle.std.specs.Prelude.{Bool, ◌&&◌, ◌==◌, not, ℕ, ◌+◌, ◌-◌, List, [], ◌∷◌, ◌++◌, Option, Some, None, if◌then◌else◌, position, fold, remove, sum_by, slice_index_or, slice_set}
+use Rattle.std.specs.Prelude.{Bool, ◌&&◌, ◌==◌, not, ℕ, ◌+◌, ◌-◌, List, [], ◌∷◌, ◌++◌, Option, Some, None, if◌then◌else◌, position, filter, fold, remove, sum_by, slice_index_or, slice_set}
 use Rattle.lt_modes.specs.declared.mode.Mode.{Mode}
 use Rattle.lt_modes.specs.declared.mode.Mode.TheVariants.{IntentionRead}
 use Rattle.lt_modes.specs.Modes.{Modes, same_mode, no_modes, with_mode}
@@ -62,6 +62,18 @@ own_modes rows client = fold (λ modes row. gather (is_of client row) modes row)
 -- the modes that other clients of the node hold
 abbrev pub other_modes : List Row → ℕ → Modes
 other_modes rows client = fold (λ modes row. gather (not (is_of client row)) modes row) no_modes rows
+
+-- the modes that are held
+abbrev pub held_modes : List Row → Modes
+held_modes rows = fold (λ modes (row : Row). with_mode modes row.mode) no_modes rows
+
+-- how many locks the client holds
+abbrev pub locks_of : List Row → ℕ → ℕ
+locks_of rows client = sum_by (λ (row : Row). row.count) (filter (is_of client) rows)
+
+-- the rows of the other clients
+abbrev pub without_client : List Row → ℕ → List Row
+without_client rows client = filter (λ row. not (is_of client row)) rows
 
 -- how many locks are held
 abbrev pub locks_in : List Row → ℕ

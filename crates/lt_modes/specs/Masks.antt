@@ -1,10 +1,10 @@
 -- Sets of modes as bit masks below 32: how they are stored.
-use Rattle.std.specs.Prelude.{Bool, true, false, ◌||◌, ◌&&◌, not, ℕ, zero, suc, ◌+◌, ◌*◌, ◌/◌, ◌%◌, ◌==◌, ◌<◌, ◌≡◌, nat_lt, if◌then◌else◌, bit_or, bit_and, refl}
-use Rattle.std.proofs.Common.{arith, inl, inr, ◌⊎◌, sym, subst, ap}
+use Rattle.std.specs.Prelude.{Bool, true, ◌&&◌, ℕ, zero, suc, ◌+◌, ◌/◌, ◌%◌, ◌==◌, ◌<◌, ◌≡◌, if◌then◌else◌, refl}
+use Rattle.std.proofs.Common.{arith, inl, inr, subst}
 use Rattle.std.proofs.lemmas.Bool.{and_parts, cases_lt, eqb-true}
 use Rattle.lt_modes.specs.declared.mode.Mode.{Mode}
 use Rattle.lt_modes.specs.declared.mode.Mode.TheVariants.{IntentionRead, Read, Upgrade, IntentionWrite, Write}
-use Rattle.lt_modes.specs.Modes.{Modes, has, modes_by, no_modes, union, bars, is_within, has_none, one}
+use Rattle.lt_modes.specs.Modes.{Modes, modes_by}
 
 abbrev pub bit_of : Mode → ℕ
 bit_of IntentionRead = 1

@@ -1,5 +1,5 @@
 -- Lock modes, the conflict table, and sets of modes.
-use Rattle.std.specs.Prelude.{Bool, true, false, ◌||◌, ◌&&◌, not, List, ℕ, codes, if◌then◌else◌, Option, Some, None}
+use Rattle.std.specs.Prelude.{Bool, true, false, ◌||◌, ◌&&◌, not, List, [], ◌∷◌, ℕ, codes, if◌then◌else◌, Option, Some, None}
 use Rattle.std.specs.Str.{bytes_eq}
 use Rattle.lt_modes.specs.declared.mode.Mode.{Mode}
 use Rattle.lt_modes.specs.declared.mode.Mode.TheVariants.{IntentionRead, Read, Upgrade, IntentionWrite, Write}
@@ -93,6 +93,9 @@ every_mode test = test IntentionRead && test Read && test Upgrade && test Intent
 abbrev pub no_modes : Modes
 no_modes = modes_by (λ m. false)
 
+abbrev pub all_modes : Modes
+all_modes = modes_by (λ m. true)
+
 abbrev pub one : Mode → Modes
 one mode = modes_by (same_mode mode)
 
@@ -118,3 +121,12 @@ covers modes mode = is_within (bars (one mode)) (bars modes)
 -- the set has no member
 abbrev pub has_none : Modes → Bool
 has_none modes = every_mode (λ m. not (has m modes))
+
+-- the sets have the same members
+abbrev pub same_modes : Modes → Modes → Bool
+same_modes a b = is_within a b && is_within b a
+
+-- the set of these modes
+abbrev pub modes_in : List Mode → Modes
+modes_in [] = no_modes
+modes_in (mode ∷ rest) = with_mode (modes_in rest) mode

@@ -1,9 +1,10 @@
 -- The desk's queue: asks in the order in which they are served.
-use Rattle.std.specs.Prelude.{Bool, false, ◌+◌, ◌==◌, ◌&&◌, ℕ, List, [], ◌∷◌, Option, Some, None, if◌then◌else◌, fold, insert, remove, position, length}
+use Rattle.std.specs.Prelude.{Bool, true, false, ◌+◌, ◌==◌, ◌&&◌, not, ℕ, List, [], ◌∷◌, Option, Some, None, if◌then◌else◌, fold, insert, remove, position, length}
 use Rattle.lt_modes.specs.declared.mode.Mode.TheVariants.{IntentionRead}
 use Rattle.lt_modes.specs.declared.stamp.Stamp.{Stamp}
 use Rattle.lt_modes.specs.declared.ask.Ask.{Ask}
-use Rattle.lt_modes.specs.Modes.{Modes, no_modes, with_mode}
+use Rattle.lt_modes.specs.declared.mode.Mode.{Mode}
+use Rattle.lt_modes.specs.Modes.{Modes, no_modes, with_mode, same_mode}
 
 -- the place after the last holder's ask: `found` where the rest, which begins at place k, has none
 abbrev pub after_holders_from : ℕ → ℕ → List Ask → ℕ
@@ -35,3 +36,20 @@ without_at asks (Some k) = remove asks k
 -- the asks without the one that has this stamp
 abbrev pub without : List Ask → Stamp → List Ask
 without asks stamp = without_at asks (position (has_stamp stamp) asks)
+
+abbrev pub same_choice : Option Mode → Option Mode → Bool
+same_choice None None = true
+same_choice (Some a) (Some b) = same_mode a b
+same_choice a b = false
+
+abbrev pub same_flag : Bool → Bool → Bool
+same_flag true b = b
+same_flag false b = not b
+
+-- the asks are equal in all fields
+abbrev pub same_ask : Ask → Ask → Bool
+same_ask a b =
+    has_stamp a.stamp b
+    && (a.client == b.client
+    && (a.node == b.node
+    && (same_mode a.mode b.mode && (same_choice a.gives_up b.gives_up && same_flag a.holder b.holder))))

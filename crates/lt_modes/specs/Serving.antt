@@ -1,20 +1,19 @@
--- How the desk's node serves the asks of its own clients.
-use Rattle.std.specs.Prelude.{Bool, ◌==◌, not, ℕ, zero, suc, ◌+◌, List, [], ◌∷◌, ◌++◌, Option, Some, None, if◌then◌else◌, length, remove, slice_index_or}
+-- How the desk's node serves the asks in the queue.
+use Rattle.std.specs.Prelude.{Bool, ◌||◌, ◌&&◌, ◌==◌, not, ℕ, zero, suc, ◌+◌, List, [], ◌∷◌, ◌++◌, Option, Some, None, if◌then◌else◌, length, remove, slice_index_or}
 use Rattle.std.specs.List.{list_any}
 use Rattle.lt_modes.specs.declared.mode.Mode.{Mode}
+use Rattle.lt_modes.specs.declared.stamp.Stamp.{Stamp}
 use Rattle.lt_modes.specs.declared.ask.Ask.{Ask}
 use Rattle.lt_modes.specs.declared.parts.Row.{Row}
 use Rattle.lt_modes.specs.declared.event.Event.{Event}
-use Rattle.lt_modes.specs.declared.event.Event.TheVariants.{Grant, Change}
-use Rattle.lt_modes.specs.Modes.{Modes, no_modes, has, union, bars, with_mode}
-use Rattle.lt_modes.specs.State.{SetState, Desk}
+use Rattle.lt_modes.specs.declared.event.Event.TheVariants.{Grant, Change, Copy}
+use Rattle.lt_modes.specs.Modes.{Modes, no_modes, has, union, bars, with_mode, covers}
+use Rattle.lt_modes.specs.State.{SetState, Desk, Entry, CopyBody}
 use Rattle.lt_modes.specs.Held.{add_lock, take_lock, other_modes}
 use Rattle.lt_modes.specs.Queue.{no_ask, without}
-
--- what a rule made: the new state of the set, and event lines in order
-pub record Made : Type 0 where
-  pub state : SetState
-  pub events : List Event
+use Rattle.lt_modes.specs.Made.{Made, silent, then_do, post_of}
+use Rattle.lt_modes.specs.Records.{entry_of, own_owed, modes_at, others}
+use Rattle.lt_modes.specs.Tells.{put_entry}
 
 abbrev pub queue_of_desk : Option Desk → List Ask
 queue_of_desk None = []
@@ -28,19 +27,41 @@ abbrev pub put_queue : List Ask → Option Desk → Option Desk
 put_queue queue None = None
 put_queue queue (Some desk) = Some (record desk { queue = queue })
 
--- no mode of the asks before it and no lock of another client conflicts with the ask
-abbrev pub is_served : List Row → Modes → Ask → Bool
-is_served held before ask = not (has ask.mode (bars (union (other_modes held ask.client) before)))
+-- neither another node nor an ask before it conflicts with the ask
+abbrev pub is_free : ℕ → SetState → Desk → Modes → Ask → Bool
+is_free me s desk before ask = not (has ask.mode (bars (union (others me s desk ask.node) before)))
+
+-- the ask is of this node, and neither a lock of another client here nor a copy on its way here conflicts
+abbrev pub is_local : ℕ → SetState → Desk → Ask → Bool
+is_local me s desk ask =
+    ask.node == me && not (has ask.mode (bars (union (other_modes s.held ask.client) (own_owed me s desk))))
+
+-- the ask's node has no mode that conflicts
+abbrev pub is_clear_at_home : ℕ → SetState → Desk → Ask → Bool
+is_clear_at_home me s desk ask = not (has ask.mode (bars (modes_at me s desk ask.node)))
+
+-- the ask is of another node, the other nodes cover it, and its own node has no mode that conflicts
+abbrev pub is_copy : ℕ → SetState → Desk → Ask → Bool
+is_copy me s desk ask =
+    not (ask.node == me) && (covers (others me s desk ask.node) ask.mode && is_clear_at_home me s desk ask)
+
+-- the ask is free, and either local or a copy
+abbrev pub is_served : ℕ → SetState → Desk → Modes → Ask → Bool
+is_served me s desk before ask = is_free me s desk before ask && (is_local me s desk ask || is_copy me s desk ask)
 
 -- the first ask that is served, of those from place k on
-abbrev pub next_from : List Row → Modes → ℕ → List Ask → Option ℕ
-next_from held before k [] = None
-next_from held before k (ask ∷ rest) =
-    if is_served held before ask then Some k else next_from held (with_mode before ask.mode) (k + 1) rest
+abbrev pub next_from : ℕ → SetState → Desk → Modes → ℕ → List Ask → Option ℕ
+next_from me s desk before k [] = None
+next_from me s desk before k (ask ∷ rest) =
+    if is_served me s desk before ask then Some k else next_from me s desk (with_mode before ask.mode) (k + 1) rest
 
--- the place of the ask that is served next
-abbrev pub next_service : SetState → Option ℕ
-next_service s = next_from s.held no_modes 0 (queue_of s)
+abbrev pub next_at : ℕ → SetState → Option Desk → Option ℕ
+next_at me s None = None
+next_at me s (Some desk) = next_from me s desk no_modes 0 desk.queue
+
+-- the place of the ask that node `me` serves next, where it has the desk
+abbrev pub next_service : ℕ → SetState → Option ℕ
+next_service me s = next_at me s s.desk
 
 abbrev pub give_up : List Row → ℕ → Option Mode → List Row
 give_up held client None = held
@@ -58,30 +79,74 @@ answer_by set ask (Some mode) = Change ask.client set mode ask.mode
 abbrev pub answer_event : ℕ → Ask → Event
 answer_event set ask = answer_by set ask ask.gives_up
 
+-- the ask at place k of the queue
+abbrev pub ask_at : SetState → ℕ → Ask
+ask_at s k = slice_index_or (queue_of s) k no_ask
+
 -- the ask at place k is granted and waits no more
 abbrev pub served : SetState → ℕ → SetState
-served s k =
-    let ask = slice_index_or (queue_of s) k no_ask in
-    record s {
-      held = answered s.held ask;
-      pending = without s.pending ask.stamp;
-      desk = put_queue (remove (queue_of s) k) s.desk;
-    }
-
-abbrev pub serve_step : ℕ → (SetState → Made) → SetState → Option ℕ → Made
-serve_step set next s None = record { state = s; events = [] }
-serve_step set next s (Some k) = record {
-  state = (next (served s k)).state;
-  events = answer_event set (slice_index_or (queue_of s) k no_ask) ∷ (next (served s k)).events;
+served s k = record s {
+  held = answered s.held (ask_at s k);
+  pending = without s.pending (ask_at s k).stamp;
+  desk = put_queue (remove (queue_of s) k) s.desk;
 }
 
-abbrev pub serve_up_to : ℕ → ℕ → SetState → Made
-serve_up_to set zero s = record { state = s; events = [] }
-serve_up_to set (suc n) s = serve_step set (serve_up_to set n) s (next_service s)
+-- a local ask: its client gets the lock
+abbrev pub serve_local : ℕ → ℕ → SetState → Made
+serve_local set k s = record { state = served s k; posts = []; events = answer_event set (ask_at s k) ∷ [] }
+
+-- the entry of a node that was sent a copy for the ask
+abbrev pub owing : Ask → Entry → Entry
+owing ask entry = record entry { owed = entry.owed ++ record { stamp = ask.stamp; mode = ask.mode } ∷ [] }
+
+abbrev pub owed_at : Ask → ℕ → Option Desk → Option Desk
+owed_at ask k None = None
+owed_at ask k (Some desk) =
+    Some (record (put_entry desk ask.node (owing ask (entry_of desk ask.node))) { queue = remove desk.queue k })
+
+-- a copy: the ask leaves the queue, its node is sent the mode and owes word of it
+abbrev pub serve_copy : ℕ → Stamp → ℕ → Ask → SetState → Made
+serve_copy set stamp k ask s = record {
+  state = record s { desk = owed_at ask k s.desk };
+  posts = post_of set stamp s ask.node (CopyBody ask) ∷ [];
+  events = Copy set ask.node ask.client ask.mode ∷ [];
+}
+
+-- the ask at place k is served
+abbrev pub serve_one : ℕ → Stamp → ℕ → SetState → Made
+serve_one set stamp k s =
+    if (ask_at s k).node == stamp.node then serve_local set k s else serve_copy set stamp k (ask_at s k) s
+
+abbrev pub serve_step : ℕ → Stamp → (SetState → Made) → SetState → Option ℕ → Made
+serve_step set stamp again s None = silent s
+serve_step set stamp again s (Some k) = then_do (serve_one set stamp k s) again
+
+abbrev pub serve_up_to : ℕ → ℕ → Stamp → SetState → Made
+serve_up_to zero set stamp s = silent s
+serve_up_to (suc n) set stamp s = serve_step set stamp (serve_up_to n set stamp) s (next_service stamp.node s)
 
 -- services until there is none
-abbrev pub serve : ℕ → SetState → Made
-serve set s = serve_up_to set (length (queue_of s)) s
+abbrev pub serve : ℕ → Stamp → SetState → Made
+serve set stamp s = serve_up_to (length (queue_of s)) set stamp s
+
+-- the ask is of another node, free, and first in the queue or without conflict at its own node
+abbrev pub may_draw : ℕ → SetState → Desk → Modes → ℕ → Ask → Bool
+may_draw me s desk before k ask =
+    not (ask.node == me) && (is_free me s desk before ask && (k == 0 || is_clear_at_home me s desk ask))
+
+-- the first ask that may draw the desk to its node, of those from place k on
+abbrev pub move_from : ℕ → SetState → Desk → Modes → ℕ → List Ask → Option ℕ
+move_from me s desk before k [] = None
+move_from me s desk before k (ask ∷ rest) =
+    if may_draw me s desk before k ask then Some k else move_from me s desk (with_mode before ask.mode) (k + 1) rest
+
+abbrev pub move_at : ℕ → SetState → Option Desk → Option ℕ
+move_at me s None = None
+move_at me s (Some desk) = move_from me s desk no_modes 0 desk.queue
+
+-- the place of the ask to whose node the desk moves, where no service is left
+abbrev pub next_move : ℕ → SetState → Option ℕ
+next_move me s = move_at me s s.desk
 
 -- an ask of the client is unanswered
 abbrev pub waits : SetState → ℕ → Bool

@@ -1,6 +1,5 @@
 -- What a node keeps for one lock set, and what it sends, as plain data.
-use Rattle.std.specs.Prelude.{List, [], ◌∷◌, ℕ, Bool, Option, Some, None}
-use Rattle.lt_modes.specs.declared.mode.Mode.{Mode}
+use Rattle.std.specs.Prelude.{List, [], ◌∷◌, ℕ, ◌==◌, Bool, Option, Some, None, if◌then◌else◌, replicate}
 use Rattle.lt_modes.specs.declared.stamp.Stamp.{Stamp}
 use Rattle.lt_modes.specs.declared.ask.Ask.{Ask}
 use Rattle.lt_modes.specs.declared.parts.Row.{Row}
@@ -79,4 +78,22 @@ lone_state held pending queue = record {
   pending = pending;
   parked = [];
   desk = Some (record { epoch = 0; number = 0; queue = queue; entries = first_entry ∷ [] });
+}
+
+-- the desk of a set in which nothing was asked, with an entry for each of so many nodes
+abbrev pub first_desk : ℕ → Desk
+first_desk nodes = record { epoch = 0; number = 0; queue = []; entries = replicate nodes first_entry }
+
+-- what node q of so many nodes keeps for a set at the start: node 0 has the desk
+abbrev pub first_state : ℕ → ℕ → SetState
+first_state nodes q = record {
+  held = [];
+  charge = no_modes;
+  frozen = no_modes;
+  number = 0;
+  firm = record { node = 0; epoch = 0 };
+  hoped = None;
+  pending = [];
+  parked = [];
+  desk = if q == 0 then Some (first_desk nodes) else None;
 }

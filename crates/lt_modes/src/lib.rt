@@ -6,6 +6,7 @@
 mod ask;
 mod command;
 mod event;
+mod laws;
 mod mode;
 mod mode_set;
 mod moves;
@@ -15,6 +16,7 @@ mod stamp;
 pub use ask::Ask;
 pub use command::Command;
 pub use event::Event;
+pub use laws::law_modes;
 pub use mode::Mode;
 pub use mode_set::ModeSet;
 pub use moves::{Move, Step};

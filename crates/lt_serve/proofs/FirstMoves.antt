@@ -4,8 +4,8 @@ use Rattle.std.specs.Option.{option_map}
 use Rattle.lt_modes.specs.declared.moves.Step.TheVariants.{Act}
 use Rattle.lt_modes.specs.Script.{ScriptData}
 use Rattle.lt_model.specs.Log.{Logged}
-use Rattle.lt_model.specs.World.{World, start, after, after_run, world_after, logged}
-use Rattle.lt_model.specs.Order.{act_at}
+use Rattle.lt_world.specs.OneNode.{World, start, after, after_run, world_after, logged}
+use Rattle.lt_world.specs.Order.{act_at}
 use Rattle.lt_world.specs.declared.choice.Choice.{Choice}
 use Rattle.lt_world.specs.Choice.{act_choice}
 use Rattle.lt_serve.specs.Serving.{IsFirstMove, AreFirstFrom}

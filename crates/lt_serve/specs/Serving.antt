@@ -8,8 +8,8 @@ use Rattle.lt_io.specs.declared.whole.ReadFailure.TheVariants.{Memory, Failed, T
 use Rattle.lt_modes.specs.declared.moves.Step.TheVariants.{Act}
 use Rattle.lt_modes.specs.Script.{ScriptData}
 use Rattle.lt_model.specs.Log.{Logged}
-use Rattle.lt_model.specs.World.{World, start, after, world_after, logged, IsRun, is_at_rest, anyone_waits}
-use Rattle.lt_model.specs.Order.{act_at}
+use Rattle.lt_world.specs.OneNode.{World, start, after, world_after, logged, IsRun, is_at_rest, anyone_waits}
+use Rattle.lt_world.specs.Order.{act_at}
 use Rattle.lt_model.specs.Text.{text_of}
 use Rattle.lt_script.specs.Simple.{simple_script}
 use Rattle.lt_world.specs.Standing.{WorldData, is_lone, full_node}

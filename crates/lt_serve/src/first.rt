@@ -1,5 +1,5 @@
 ghost use Rattle.std.specs.Prelude.{◌≡◌, ◌<◌, ◌⊎◌, [], length, true, IsTrue, IfOk, OnOk};
-ghost use Rattle.lt_model.specs.World.{world_after, is_at_rest, start};
+ghost use Rattle.lt_world.specs.OneNode.{world_after, is_at_rest, start};
 ghost use Rattle.lt_world.specs.Standing.{is_lone};
 ghost use Rattle.lt_world.specs.declared.limits.TheConstants.{MAX_MOVES};
 ghost use Rattle.lt_serve.specs.Serving.{AreFirstFrom, IsFirstRun, EndsAs, IsOver};

@@ -1,3 +1,7 @@
 mod Alone
 mod Moved
+mod Picks
+mod Places
 mod Recorded
+mod Runs
+mod Searches

@@ -1,3 +1,5 @@
+pub mod OneNode
+pub mod Order
 pub mod Choice
 pub mod Orders
 pub mod Standing

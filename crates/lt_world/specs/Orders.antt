@@ -6,7 +6,7 @@ use Rattle.lt_modes.specs.declared.command.Command.{Command}
 use Rattle.lt_modes.specs.declared.command.Command.TheVariants.{Lock, Unlock}
 use Rattle.lt_modes.specs.declared.moves.Step.TheVariants.{Act}
 use Rattle.lt_modes.specs.declared.event.Event.{Event}
-use Rattle.lt_modes.specs.Serving.{Made}
+use Rattle.lt_core.specs.Serving.{Made}
 use Rattle.lt_core.specs.declared.order.Order.{Order}
 use Rattle.lt_core.specs.declared.order.Order.TheVariants.{Lock as LockOrder, Unlock as UnlockOrder}
 use Rattle.lt_core.specs.Core.{CoreData}

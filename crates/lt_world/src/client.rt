@@ -1,5 +1,5 @@
 ghost use Rattle.std.specs.Prelude.{◌≡◌, ◌<◌, ◌+◌, ℕ, length, nat_lt, IfOk, slice_index_or};
-ghost use Rattle.lt_model.specs.World.{commands_of};
+ghost use Rattle.lt_world.specs.OneNode.{commands_of};
 ghost use Rattle.lt_script.specs.Script.{IsScript};
 ghost use Rattle.lt_world.specs.Standing.{next_of, one_more, no_progress};
 

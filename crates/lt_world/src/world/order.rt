@@ -1,6 +1,6 @@
 ghost use Rattle.std.specs.Prelude.{◌≡◌, ◌<◌, length, IsTrue, IfSome, None};
-ghost use Rattle.lt_model.specs.World.{is_enabled, is_at_rest};
-ghost use Rattle.lt_model.specs.Order.{next_act, act_from, acts_before, comes_after};
+ghost use Rattle.lt_world.specs.OneNode.{is_enabled, is_at_rest};
+ghost use Rattle.lt_world.specs.Order.{next_act, act_from, acts_before, comes_after};
 ghost use Rattle.lt_world.specs.Standing.{IsRunnable, world_of};
 ghost use Rattle.lt_world.specs.Choice.{act_choice, first_with};
 
@@ -23,7 +23,7 @@ impl<'a> World<'a> {
     }
 
     // The client that comes so many places after this one.
-    #[tactic(auto, using(lt_model::proofs::Picks::act_from_next, lt_model::proofs::Picks::act_from_none))]
+    #[tactic(auto, using(crate::proofs::Picks::act_from_next, crate::proofs::Picks::act_from_none))]
     pub(super) fn act_from(&self, first: u16, places: u32) -> Option<u16>
         requires { IsRunnable self.now first }
         ensures act { result ≡ act_from self.now.script (world_of self.now) first places }

@@ -1,7 +1,7 @@
 use Rattle.std.proofs.Common.{◌≡◌, ◌<◌, ◌∙◌, ◌++◌, ◌∷◌, [], List, length, arith, ap, subst, sym}
 use Rattle.std.proofs.lemmas.List.{length_push}
 use Rattle.lt_model.specs.Log.{Logged}
-use Rattle.lt_model.specs.World.{start, world_after, logged}
+use Rattle.lt_world.specs.OneNode.{start, world_after, logged}
 use Rattle.lt_world.specs.Standing.{WorldData}
 use Rattle.lt_serve.specs.Serving.{AreFirstFrom}
 use Rattle.lt_serve.proofs.FirstMoves.{picked_next}

@@ -1,5 +1,5 @@
 use Rattle.std.proofs.Common.{◌≡◌, ◌≤◌, ◌-◌, length}
-use Rattle.lt_model.specs.World.{start}
+use Rattle.lt_world.specs.OneNode.{start}
 use Rattle.lt_world.specs.declared.limits.TheConstants.{MAX_MOVES}
 use Rattle.lt_serve.specs.Serving.{AreFirstFrom}
 use Rattle.lt_serve.proofs.first.make_moves.Given as goal

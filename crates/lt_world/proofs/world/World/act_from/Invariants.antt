@@ -1,5 +1,5 @@
 use Rattle.std.proofs.Common.{◌≡◌}
-use Rattle.lt_model.specs.Order.{act_from}
+use Rattle.lt_world.specs.Order.{act_from}
 use Rattle.lt_world.specs.Standing.{world_of, IsRunnable}
 use Rattle.lt_world.proofs.world.World.act_from.Given as goal
 

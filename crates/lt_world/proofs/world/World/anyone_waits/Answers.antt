@@ -1,6 +1,6 @@
 use Rattle.std.proofs.Common.{◌≡◌, ◌<◌, ◌∙◌, true, length, arith, sym, subst}
-use Rattle.lt_modes.specs.Serving.{waits}
-use Rattle.lt_model.specs.World.{world_after, anyone_waits}
+use Rattle.lt_core.specs.Serving.{waits}
+use Rattle.lt_world.specs.OneNode.{world_after, anyone_waits}
 use Rattle.lt_world.specs.Standing.{WorldData}
 use Rattle.lt_world.proofs.Alone.{someone_waits}
 use Rattle.lt_world.proofs.world.World.anyone_waits.Goals as goal

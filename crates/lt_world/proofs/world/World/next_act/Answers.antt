@@ -1,6 +1,6 @@
 use Rattle.std.proofs.Common.{◌≡◌, ◌∙◌, ℕ, Option, None, length, add-one, sym, ap, subst, arith}
 use Rattle.std.specs.Prelude.{IsTrue}
-use Rattle.lt_model.specs.Order.{next_act, next_below}
+use Rattle.lt_world.specs.Order.{next_act, next_below}
 use Rattle.lt_world.specs.Choice.{first_with}
 use Rattle.lt_world.specs.Standing.{WorldData, is_lone, world_of}
 use Rattle.lt_world.proofs.Alone.{rest_alone}

@@ -2,8 +2,8 @@
 use Rattle.std.proofs.Common.{◌≡◌, ℕ, zero, suc, ◌<◌, ◌-◌, Some, None, refl, subst, arith}
 use Rattle.std.specs.Prelude.{option_and_then}
 use Rattle.lt_modes.specs.Script.{ScriptData}
-use Rattle.lt_model.specs.World.{World}
-use Rattle.lt_model.specs.Order.{next_act, act_from}
+use Rattle.lt_world.specs.OneNode.{World}
+use Rattle.lt_world.specs.Order.{next_act, act_from}
 
 pub act_from_more : (script : ScriptData) (w : World) (client k : ℕ) → 0 < k
     → act_from script w client k ≡ option_and_then (λ next. act_from script w next (k - 1)) (next_act script w (Some client))

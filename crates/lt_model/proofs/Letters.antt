@@ -1,0 +1,136 @@
+-- The letters on their way after some were sent, and after one was taken.
+use Rattle.std.proofs.Common.{◌≡◌, ◌≢◌, ℕ, zero, suc, ◌+◌, ◌<◌, inl, inr, List, [], ◌∷◌, ◌++◌, Option, Some, None, Bool, true, false, refl, sym, subst, arith, ap, length, ◌∙◌}
+use Rattle.std.specs.Prelude.{◌==◌, ◌&&◌, if◌then◌else◌, filter_map, sum_by, Contains, drop, ◌⊎◌}
+use Rattle.std.specs.List.{AllByRecursion}
+use Rattle.std.proofs.lemmas.Bool.{cases_eq, eq-eqb, ne_eqb, and_from, and_left, and_right}
+use Rattle.std.proofs.lemmas.List.{append-nil}
+use Rattle.std.proofs.lemmas.List.Elements.{All-contains, All-from_recursion, Contains-append_cases, Contains-append_left, Contains-append_right}
+use Rattle.std.proofs.lemmas.List.Sums.{sum_by-append, sum_by-cons}
+use Rattle.lt_modes.specs.State.{Letter}
+use Rattle.lt_modes.specs.Made.{Post}
+use Rattle.lt_model.specs.Below.{sum_below}
+use Rattle.lt_model.specs.World.{sent, put_mail, letter_for}
+use Rattle.lt_model.proofs.Sums.{sum_below-same, sum_below-none, sum_below-add, sum_below-change}
+
+-- those of the letters that go to b
+abbrev pub letters_to : ℕ → List Post → List Letter
+letters_to b posts = filter_map (letter_for b) posts
+
+pub letters_to-same : (b : ℕ) (post : Post) (rest : List Post) → post.to ≡ b → letters_to b (post ∷ rest) ≡ post.letter ∷ letters_to b rest
+letters_to-same b post rest e = rw (eq-eqb post.to b e) refl
+
+pub letters_to-other : (b : ℕ) (post : Post) (rest : List Post) → post.to ≢ b → letters_to b (post ∷ rest) ≡ letters_to b rest
+letters_to-other b post rest d = rw (ne_eqb post.to b d) refl
+
+all_letters_to : (Q : ℕ → Letter → Type 0) (b : ℕ) (posts : List Post)
+    → AllByRecursion (λ (post : Post). Q post.to post.letter) posts → AllByRecursion (Q b) (letters_to b posts)
+all_letters_to Q b [] h = tt
+all_letters_to Q b (post ∷ rest) h = elim (cases_eq post.to b) [
+  | inl e ↦ subst (AllByRecursion (Q b)) (sym (letters_to-same b post rest e))
+      (subst (λ (to : ℕ). Q to post.letter) e h.0, all_letters_to Q b rest h.1)
+  | inr d ↦ subst (AllByRecursion (Q b)) (sym (letters_to-other b post rest d)) (all_letters_to Q b rest h.1)
+]
+
+-- what holds of the letters that were on their way and of those sent holds of all
+pub all_sent : (Q : ℕ → ℕ → Letter → Type 0) (p : ℕ) (posts : List Post) (mail : ℕ → ℕ → List Letter)
+    → ((a b : ℕ) (letter : Letter) → Contains (mail a b) letter → Q a b letter)
+    → AllByRecursion (λ (post : Post). Q p post.to post.letter) posts
+    → (a b : ℕ) (letter : Letter) → Contains (sent p posts mail a b) letter → Q a b letter
+all_sent Q p posts mail before new a b letter h = elim (cases_eq a p) [
+  | inl e ↦
+      let among : Contains (mail a b ++ letters_to b posts) letter =
+      subst (λ (t : Bool). Contains (mail a b ++ (if t then letters_to b posts else [])) letter) (eq-eqb a p e) h in
+      elim (Contains-append_cases (mail a b) (letters_to b posts) letter among) [
+        | inl old ↦ before a b letter old
+        | inr fresh ↦ subst (λ (x : ℕ). Q x b letter) (sym e)
+            (All-contains (Q p b) (letters_to b posts) letter
+            (All-from_recursion (Q p b) (letters_to b posts) (all_letters_to (Q p) b posts new)) fresh)
+      ]
+  | inr d ↦
+      let among : Contains (mail a b ++ []) letter =
+      subst (λ (t : Bool). Contains (mail a b ++ (if t then letters_to b posts else [])) letter) (ne_eqb a p d) h in
+      elim (Contains-append_cases (mail a b) [] letter among) [
+        | inl old ↦ before a b letter old
+        | inr none ↦ absurd (omega (arith, none.1))
+      ]
+]
+
+-- what was on its way still is
+pub still_on_way : (p : ℕ) (posts : List Post) (mail : ℕ → ℕ → List Letter) (a b : ℕ) (letter : Letter)
+    → Contains (mail a b) letter → Contains (sent p posts mail a b) letter
+still_on_way p posts mail a b letter h = Contains-append_left (mail a b) _ letter h
+
+in_rest : (letters : List Letter) (letter : Letter) → Contains (drop 1 letters) letter → Contains letters letter
+in_rest [] letter h = absurd (omega (arith, h.1))
+in_rest (first ∷ rest) letter h = (suc h.0, omega (arith, h.1), h.2)
+
+-- what is on its way after a take was so before
+pub before_take : (mail : ℕ → ℕ → List Letter) (p q a b : ℕ) (letter : Letter)
+    → Contains (put_mail mail p q (drop 1 (mail p q)) a b) letter → Contains (mail a b) letter
+before_take mail p q a b letter h = elim (cases_eq a p) [
+  | inl e ↦ elim (cases_eq b q) [
+    | inl f ↦
+        let among : Contains (drop 1 (mail p q)) letter =
+        subst (λ (t : Bool). Contains (if t then drop 1 (mail p q) else mail a b) letter) (and_from _ _ (eq-eqb a p e) (eq-eqb b q f)) h in
+        subst (λ (x : ℕ). Contains (mail x b) letter) (sym e)
+        (subst (λ (y : ℕ). Contains (mail p y) letter) (sym f) (in_rest (mail p q) letter among))
+    | inr d ↦ subst (λ (t : Bool). Contains (if t then drop 1 (mail p q) else mail a b) letter) (and_right (a == p) _ (ne_eqb b q d)) h
+  ]
+  | inr d ↦ subst (λ (t : Bool). Contains (if t then drop 1 (mail p q) else mail a b) letter) (and_left _ (b == q) (ne_eqb a p d)) h
+]
+
+-- what the letters on their way between the nodes weigh together
+abbrev pub mail_weight : ℕ → (Letter → ℕ) → (ℕ → ℕ → List Letter) → ℕ
+mail_weight n of_letter mail = sum_below n (λ a. sum_below n (λ b. sum_by of_letter (mail a b)))
+
+abbrev pub posts_weight : (Letter → ℕ) → List Post → ℕ
+posts_weight of_letter posts = sum_by (λ (post : Post). of_letter post.letter) posts
+
+letters_weight : (n : ℕ) (of_letter : Letter → ℕ) (posts : List Post) → AllByRecursion (λ (post : Post). post.to < n) posts
+    → sum_below n (λ b. sum_by of_letter (letters_to b posts)) ≡ posts_weight of_letter posts
+letters_weight n of_letter [] h = sum_below-none n _ (λ b below. refl)
+letters_weight n of_letter (post ∷ rest) h =
+    let f : ℕ → ℕ = λ b. sum_by of_letter (letters_to b (post ∷ rest)) in
+    let g : ℕ → ℕ = λ b. sum_by of_letter (letters_to b rest) in
+    let change = sum_below-change n post.to f g h.0
+    (λ b below d. ap (sum_by of_letter) (letters_to-other b post rest (λ e. d (sym e)))) in
+    let here : f post.to ≡ of_letter post.letter + g post.to =
+    ap (sum_by of_letter) (letters_to-same post.to post rest refl) ∙ sum_by-cons of_letter post.letter (letters_to post.to rest) in
+    omega (arith, change, here, letters_weight n of_letter rest h.1, sum_by-cons (λ (p : Post). of_letter p.letter) post rest)
+
+row_weight : (n p : ℕ) (of_letter : Letter → ℕ) (posts : List Post) (mail : ℕ → ℕ → List Letter) → AllByRecursion (λ (post : Post). post.to < n) posts
+    → sum_below n (λ b. sum_by of_letter (sent p posts mail p b)) ≡ sum_below n (λ b. sum_by of_letter (mail p b)) + posts_weight of_letter posts
+row_weight n p of_letter posts mail h =
+    let each = sum_below-same n (λ b. sum_by of_letter (sent p posts mail p b))
+    (λ b. sum_by of_letter (mail p b) + sum_by of_letter (letters_to b posts))
+    (λ b below. rw (eq-eqb p p refl) (sum_by-append of_letter (mail p b) (letters_to b posts))) in
+    omega (
+      arith,
+      each,
+      sum_below-add n (λ b. sum_by of_letter (mail p b)) (λ b. sum_by of_letter (letters_to b posts)),
+      letters_weight n of_letter posts h,
+    )
+
+-- letters that are sent add their weight
+pub mail_weight-sent : (n p : ℕ) (of_letter : Letter → ℕ) (posts : List Post) (mail : ℕ → ℕ → List Letter)
+    → p < n → AllByRecursion (λ (post : Post). post.to < n) posts
+    → mail_weight n of_letter (sent p posts mail) ≡ mail_weight n of_letter mail + posts_weight of_letter posts
+mail_weight-sent n p of_letter posts mail below h =
+    let f : ℕ → ℕ = λ a. sum_below n (λ b. sum_by of_letter (sent p posts mail a b)) in
+    let g : ℕ → ℕ = λ a. sum_below n (λ b. sum_by of_letter (mail a b)) in
+    let change = sum_below-change n p f g below (λ a under d. sum_below-same n _ _
+    (λ b under_too. rw (ne_eqb a p d) (ap (sum_by of_letter) (append-nil (mail a b))))) in
+    omega (arith, change, row_weight n p of_letter posts mail h)
+
+-- a letter that is taken takes its weight away
+pub mail_weight-taken : (n p q : ℕ) (of_letter : Letter → ℕ) (mail : ℕ → ℕ → List Letter) (letter : Letter) (rest : List Letter)
+    → p < n → q < n → mail p q ≡ letter ∷ rest
+    → mail_weight n of_letter (put_mail mail p q rest) + of_letter letter ≡ mail_weight n of_letter mail
+mail_weight-taken n p q of_letter mail letter rest hp hq front =
+    let f : ℕ → ℕ = λ a. sum_below n (λ b. sum_by of_letter (put_mail mail p q rest a b)) in
+    let g : ℕ → ℕ = λ a. sum_below n (λ b. sum_by of_letter (mail a b)) in
+    let rows = sum_below-change n p f g hp (λ a under d. sum_below-same n _ _ (λ b under_too. rw (ne_eqb a p d) refl)) in
+    let row = sum_below-change n q (λ b. sum_by of_letter (put_mail mail p q rest p b)) (λ b. sum_by of_letter (mail p b)) hq
+    (λ b under d. rw (eq-eqb p p refl, ne_eqb b q d) refl) in
+    let here : sum_by of_letter (put_mail mail p q rest p q) ≡ sum_by of_letter rest = rw (eq-eqb p p refl, eq-eqb q q refl) refl in
+    omega (arith, rows, row, here, ap (sum_by of_letter) front, sum_by-cons of_letter letter rest)

@@ -1,0 +1,348 @@
+-- A move of a node on one set: it stays on the token's path, also where the token leaves.
+use Rattle.std.proofs.Common.{◌≡◌, ◌≢◌, ℕ, zero, suc, ◌+◌, ◌<◌, ◌≤◌, inl, inr, List, [], ◌∷◌, ◌++◌, length, Option, Some, None, Bool, true, false, refl, sym, ap, subst, arith, ◌∙◌}
+use Rattle.std.specs.Prelude.{◌==◌, ◌&&◌, not, nat_lt, if◌then◌else◌, IfSome, All, ◌⊎◌, is_some, filter_map, slice_index, slice_index_or}
+use Rattle.std.specs.List.{AllByRecursion, cons_option}
+use Rattle.std.proofs.lemmas.Bool.{eqb-false, eq-eqb, ne_eqb, not-true, and_parts, cases_lt}
+use Rattle.std.proofs.lemmas.List.{length-set, append-nil, get_or_append_left, get_or_push, length_push, length-append}
+use Rattle.std.proofs.lemmas.List.Elements.{filter_map-append}
+use Rattle.std.proofs.lemmas.List.Sums.{sum_by-append, sum_by-cons}
+use Rattle.lt_modes.specs.declared.mode.Mode.{Mode}
+use Rattle.lt_modes.specs.declared.stamp.Stamp.{Stamp}
+use Rattle.lt_modes.specs.declared.ask.Ask.{Ask}
+use Rattle.lt_modes.specs.declared.event.Event.TheVariants.{Try, Unlock, NotHeld, Change}
+use Rattle.lt_modes.specs.declared.parts.Link.{Link}
+use Rattle.lt_modes.specs.Modes.{Modes, with_mode}
+use Rattle.lt_modes.specs.Held.{count_of, take_lock, without_client}
+use Rattle.lt_modes.specs.State.{SetState, Desk, Body, AskBody, TellBody, CopyBody, TokenBody, FreezeBody, Letter, Parked, ParkedAsk, ParkedTell}
+use Rattle.lt_modes.specs.Queue.{no_ask}
+use Rattle.lt_modes.specs.Made.{Made, Post, silent, then_do}
+use Rattle.lt_modes.specs.Granting.{can_grant}
+use Rattle.lt_modes.specs.Serving.{queue_of_desk, ask_at, may_draw, move_from, move_at, next_move, serve}
+use Rattle.lt_modes.specs.Freezing.{freeze}
+use Rattle.lt_modes.specs.HandingOver.{without_desk, hand_over, hand_over_for, hand_over_to}
+use Rattle.lt_modes.specs.Routing.{learn}
+use Rattle.lt_modes.specs.Telling.{tell, attend, finish, finish_by}
+use Rattle.lt_modes.specs.Taking.{take_freeze, take_body, arrive}
+use Rattle.lt_modes.specs.SetMove.{answers, given, granted, ask_of, asked, locked, tried, unlocked, change_held, changed, dropped, lock, try, unlock, change, drop, take}
+use Rattle.lt_model.specs.World.{token_by, token_to}
+use Rattle.lt_model.specs.Facts.{one_if, tokens_in}
+use Rattle.lt_model.specs.Paths.{IsTrueLink, DeskOnPath, HasWay, StateOnPath, BodyOnPath, LetterOnPath}
+use Rattle.lt_model.proofs.Letters.{posts_weight}
+use Rattle.lt_model.proofs.SentInMove.{all_append, all_weaker}
+use Rattle.lt_model.proofs.PathsQuiet.{Ground, IsQuiet, Quiet, quiet_then, ask_at-named, route-quiet, learn_on_path, learn_desk, token_on_path, serve-quiet, freeze-quiet, tell-quiet}
+
+-- the tokens of the set that a letter carries
+abbrev pub token_weight : ℕ → Letter → ℕ
+token_weight s letter = if letter.set == s then tokens_in letter.body else 0
+
+-- the post carries no token of the set
+abbrev pub HasNoToken : ℕ → Post → Type 0
+HasNoToken s post = (token_to s post ≡ None) × (token_weight s post.letter ≡ 0)
+
+token_by_none : (body : Body) (to : ℕ) → tokens_in body ≡ 0 → token_by body to ≡ None
+token_by_none (TokenBody desk) to e = absurd (omega (arith, e))
+token_by_none (AskBody ask marked) to e = refl
+token_by_none (TellBody tell) to e = refl
+token_by_none (CopyBody ask) to e = refl
+token_by_none (FreezeBody number modes) to e = refl
+
+pub no_token : (s : ℕ) (post : Post) → tokens_in post.letter.body ≡ 0 → HasNoToken s post
+no_token s post e = by_test (post.letter.set == s)
+  where
+    by_test : (same : Bool) → ((if same then token_by post.letter.body post.to else None) ≡ None) × ((if same then tokens_in post.letter.body else 0) ≡ 0)
+    by_test true = (token_by_none post.letter.body post.to e, e)
+    by_test false = (refl, refl)
+
+pub no_token_of_other : (s : ℕ) (post : Post) → post.letter.set ≢ s → HasNoToken s post
+no_token_of_other s post d =
+    subst (λ (same : Bool). ((if same then token_by post.letter.body post.to else None) ≡ None) × ((if same then tokens_in post.letter.body else 0) ≡ 0))
+    (sym (ne_eqb post.letter.set s d)) (refl, refl)
+
+pub none_go : (s : ℕ) (posts : List Post) → AllByRecursion (HasNoToken s) posts → filter_map (token_to s) posts ≡ []
+none_go s [] h = refl
+none_go s (post ∷ rest) h =
+    subst (λ (o : Option ℕ). cons_option o (filter_map (token_to s) rest) ≡ []) (sym h.0.0) (none_go s rest h.1)
+
+pub none_weigh : (s : ℕ) (posts : List Post) → AllByRecursion (HasNoToken s) posts → posts_weight (token_weight s) posts ≡ 0
+none_weigh s [] h = refl
+none_weigh s (post ∷ rest) h =
+    omega (arith, sum_by-cons (λ (p : Post). token_weight s p.letter) post rest, h.0.1, none_weigh s rest h.1)
+
+-- the token goes from x, where it was, to another node
+pub record HandsOver (nodes : ℕ) (went : List ℕ) (x k : ℕ) (now : List ℕ) : Type 0 where
+  pub to : ℕ
+  pub grown : now ≡ went ++ to ∷ []
+  pub named : to < nodes
+  pub here : k ≡ 1
+  pub last : (epoch : ℕ) → epoch + 1 ≡ length went → slice_index went epoch ≡ x
+
+-- node x and its letters are on the path, with one token where there was one before (k), at x or in hand
+pub record Moved (nodes : ℕ) (went : List ℕ) (set x k : ℕ) (m : Made) : Type 0 where
+  pub now : List ℕ
+  pub grown : now ≡ went ++ filter_map (token_to set) m.posts
+  pub state : StateOnPath nodes now x m.state
+  pub posts : AllByRecursion (λ (post : Post). LetterOnPath nodes now x post.to post.letter) m.posts
+  pub count : one_if (is_some m.state.desk) + posts_weight (token_weight set) m.posts ≡ k
+  pub others : (now ≡ went) ⊎ HandsOver nodes went x k now
+
+quiet-moved : (nodes : ℕ) (went : List ℕ) (set x k : ℕ) (m : Made) → Quiet nodes went x k m → Moved nodes went set x k m
+quiet-moved nodes went set x k m quiet =
+    let none = all_weaker _ (HasNoToken set) (λ post h. no_token set post h.1) m.posts quiet.posts in
+    record {
+      now = went;
+      grown = sym (ap (λ (more : List ℕ). went ++ more) (none_go set m.posts none) ∙ append-nil went);
+      state = quiet.state;
+      posts = all_weaker _ _ (λ post h. h.0) m.posts quiet.posts;
+      count = omega (arith, none_weigh set m.posts none, quiet.desk);
+      others = inl refl;
+    }
+
+-- a link stays true as the token goes on
+pub link_later : (went more : List ℕ) (link : Link) → IsTrueLink went link → IsTrueLink (went ++ more) link
+link_later went more link true_link = record {
+  epoch = omega (arith, length-append went more, true_link.epoch);
+  node = get_or_append_left went more 0 link.epoch true_link.epoch ∙ true_link.node;
+}
+
+body_later : (nodes : ℕ) (went more : List ℕ) (q : ℕ) (body : Body) → tokens_in body ≡ 0 → BodyOnPath nodes went q body → BodyOnPath nodes (went ++ more) q body
+body_later nodes went more q (AskBody ask marked) e h = h
+body_later nodes went more q (TokenBody desk) e h = absurd (omega (arith, e))
+body_later nodes went more q (TellBody tell) e h = tt
+body_later nodes went more q (CopyBody ask) e h = tt
+body_later nodes went more q (FreezeBody number modes) e h = tt
+
+-- and so does a letter without the token
+pub letter_later : (nodes : ℕ) (went more : List ℕ) (p q : ℕ) (letter : Letter)
+    → tokens_in letter.body ≡ 0 → LetterOnPath nodes went p q letter → LetterOnPath nodes (went ++ more) p q letter
+letter_later nodes went more p q letter e h = record {
+  to = h.to;
+  other = h.other;
+  link = link_later went more letter.link h.link;
+  body = body_later nodes went more q letter.body e h.body;
+}
+
+-- first something quiet, then a rule
+moved_then : (nodes : ℕ) (went : List ℕ) (set x k : ℕ) (m : Made) (rule : SetState → Made)
+    → Quiet nodes went x k m → Moved nodes went set x k (rule m.state) → Moved nodes went set x k (then_do m rule)
+moved_then nodes went set x k m rule first second =
+    let rest = (rule m.state).posts in
+    let none = all_weaker _ (HasNoToken set) (λ post h. no_token set post h.1) m.posts first.posts in
+    let same : filter_map (token_to set) (m.posts ++ rest) ≡ filter_map (token_to set) rest =
+    filter_map-append (token_to set) m.posts rest ∙ ap (λ (more : List ℕ). more ++ filter_map (token_to set) rest) (none_go set m.posts none) in
+    let early : AllByRecursion (λ (post : Post). LetterOnPath nodes second.now x post.to post.letter) m.posts =
+    subst (λ (now : List ℕ). AllByRecursion (λ (post : Post). LetterOnPath nodes now x post.to post.letter) m.posts) (sym second.grown)
+    (all_weaker _ _ (λ (post : Post) h. letter_later nodes went (filter_map (token_to set) rest) x post.to post.letter h.1 h.0) m.posts first.posts) in
+    record {
+      now = second.now;
+      grown = second.grown ∙ ap (λ (more : List ℕ). went ++ more) (sym same);
+      state = second.state;
+      posts = all_append _ m.posts rest early second.posts;
+      count = omega (arith, second.count, none_weigh set m.posts none, sum_by-append (λ (post : Post). token_weight set post.letter) m.posts rest);
+      others = second.others;
+    }
+
+-- the ask that draws the desk is of another node
+drawn_from : (me : ℕ) (s : SetState) (desk : Desk) (before : Modes) (place : ℕ) (queue : List Ask) (k : ℕ) → move_from me s desk before place queue ≡ Some k
+    → (j : ℕ) × (k ≡ place + j) × ((slice_index_or queue j no_ask).node ≢ me)
+drawn_from me s desk before place [] k e = cc
+drawn_from me s desk before place (ask ∷ rest) k e =
+    by_test (λ f. drawn_from me s desk (with_mode before ask.mode) (place + 1) rest k f) (may_draw me s desk before place ask) refl e
+  where
+    by_test : (move_from me s desk (with_mode before ask.mode) (place + 1) rest ≡ Some k
+        → (j : ℕ) × (k ≡ place + 1 + j) × ((slice_index_or rest j no_ask).node ≢ me))
+        → (draws : Bool) → may_draw me s desk before place ask ≡ draws
+        → (if draws then Some place else move_from me s desk (with_mode before ask.mode) (place + 1) rest) ≡ Some k
+        → (j : ℕ) × (k ≡ place + j) × ((slice_index_or (ask ∷ rest) j no_ask).node ≢ me)
+    by_test again true t f = let same : place ≡ k = cc in (0, omega (arith, same), eqb-false ask.node me (not-true _ (and_parts _ _ t).0))
+    by_test again false t f = let found = again f in (suc found.0, omega (arith, found.1), found.2)
+
+drawn_other : (me : ℕ) (s : SetState) (k : ℕ) → next_move me s ≡ Some k → (ask_at s k).node ≢ me
+drawn_other me s k e = by_desk s.desk e
+  where
+    by_desk : (desk : Option Desk) → move_at me s desk ≡ Some k → (slice_index_or (queue_of_desk desk) k no_ask).node ≢ me
+    by_desk None f = cc
+    by_desk (Some desk) f =
+        let found = drawn_from me s desk _ 0 desk.queue k f in
+        let same : k ≡ found.0 = omega (arith, found.1) in
+        subst (λ (j : ℕ). (slice_index_or desk.queue j no_ask).node ≢ me) (sym same) found.2
+
+-- the desk leaves for node v
+leaves : (nodes : ℕ) (went : List ℕ) (set : ℕ) (stamp : Stamp) (s : SetState) (v : ℕ) (desk : Desk) → v < nodes → v ≢ stamp.node
+    → StateOnPath nodes went stamp.node s → DeskOnPath nodes went stamp.node desk
+    → Moved nodes went set stamp.node 1 (hand_over_to set stamp s v (Some desk))
+leaves nodes went set stamp s v desk named other h d = record {
+  now = went ++ v ∷ [];
+  grown = rw (eq-eqb set set refl) refl;
+  state = record {
+    link = new_link;
+    way = known;
+    hoped = tt;
+    parked = h.parked;
+  };
+  posts = (
+    record {
+      to = named;
+      other = other;
+      link = new_link;
+      body = record {
+        epoch = omega (arith, d.epoch, length_push went v);
+        node = get_or_push went v 0 (desk.epoch + 1) (sym d.epoch);
+        entries = length-set desk.entries stamp.node _ ∙ d.entries;
+        queue = d.queue;
+      };
+    },
+    tt,
+  );
+  count = rw (eq-eqb set set refl) refl;
+  others = inr (record {
+    to = v;
+    grown = refl;
+    named = named;
+    here = refl;
+    last = λ epoch e. let same : desk.epoch ≡ epoch = omega (arith, e, d.epoch) in subst (λ (k : ℕ). slice_index went k ≡ stamp.node) same d.node;
+  });
+}
+  where
+    new_link : IsTrueLink (went ++ v ∷ []) (record { node = v; epoch = desk.epoch + 1 })
+    new_link = record {
+      epoch = omega (arith, d.epoch, length_push went v);
+      node = get_or_push went v 0 (desk.epoch + 1) (sym d.epoch);
+    }
+
+    known : (epoch : ℕ) → epoch < length (went ++ v ∷ []) → slice_index (went ++ v ∷ []) epoch ≡ stamp.node
+        → (epoch < desk.epoch + 1) ⊎ (epoch + 1 ≡ length (went ++ v ∷ []))
+    known epoch below node = elim (cases_lt epoch (length went)) [
+      | inl old ↦ inl (omega (arith, old, d.epoch))
+      | inr new ↦
+          let last : length went ≡ epoch = omega (arith, below, new, length_push went v) in
+          absurd (other (sym (get_or_push went v 0 epoch last) ∙ node))
+    ]
+
+hand_over-moved : (nodes : ℕ) (went : List ℕ) (k set : ℕ) (stamp : Stamp) (s : SetState)
+    → Ground nodes went → StateOnPath nodes went stamp.node s → one_if (is_some s.desk) ≡ k
+    → Moved nodes went set stamp.node k (hand_over set stamp s)
+hand_over-moved nodes went k set stamp s g h here = by_place (next_move stamp.node s) refl
+  where
+    stays : Moved nodes went set stamp.node k (silent s)
+    stays = quiet-moved nodes went set stamp.node k (silent s) (record { state = h; posts = tt; desk = here })
+
+    by_desk : (v : ℕ) → v < nodes → v ≢ stamp.node → (desk : Option Desk) → HasWay nodes went stamp.node s.firm desk → one_if (is_some desk) ≡ k
+        → Moved nodes went set stamp.node k (hand_over_to set stamp s v desk)
+    by_desk v named other None way e = stays
+    by_desk v named other (Some desk) way e =
+        subst (λ (n : ℕ). Moved nodes went set stamp.node n (hand_over_to set stamp s v (Some desk))) e
+        (leaves nodes went set stamp s v desk named other h way.0)
+
+    by_place : (o : Option ℕ) → next_move stamp.node s ≡ o → Moved nodes went set stamp.node k (hand_over_for set stamp s o)
+    by_place None e = stays
+    by_place (Some j) e =
+        by_desk (ask_at s j).node (ask_at-named nodes went stamp.node s j g h) (drawn_other stamp.node s j e) s.desk h.way here
+
+-- the end of a move
+pub finish-moved : (nodes : ℕ) (went : List ℕ) (k set : ℕ) (stamp : Stamp) (s : SetState)
+    → Ground nodes went → StateOnPath nodes went stamp.node s → one_if (is_some s.desk) ≡ k
+    → Moved nodes went set stamp.node k (finish set stamp s)
+finish-moved nodes went k set stamp s g h here = by_desk s.desk
+  where
+    attended : Moved nodes went set stamp.node k (attend set stamp s)
+    attended =
+        let services = serve-quiet nodes went k set stamp s g h here in
+        let freezes = freeze-quiet nodes went k set stamp (serve set stamp s).state services.state services.desk in
+        let both = quiet_then nodes went stamp.node k (serve set stamp s) (freeze set stamp) services freezes in
+        moved_then nodes went set stamp.node k (then_do (serve set stamp s) (freeze set stamp)) (hand_over set stamp) both
+        (hand_over-moved nodes went k set stamp _ g both.state both.desk)
+
+    by_desk : (desk : Option Desk) → Moved nodes went set stamp.node k (finish_by set stamp s desk)
+    by_desk None = quiet-moved nodes went set stamp.node k (tell set stamp s) (tell-quiet nodes went k set stamp s g h here)
+    by_desk (Some desk) = attended
+
+-- a quiet rule and then the end of the move
+ends-moved : (nodes : ℕ) (went : List ℕ) (k set : ℕ) (stamp : Stamp) (m : Made)
+    → Ground nodes went → Quiet nodes went stamp.node k m → Moved nodes went set stamp.node k (then_do m (finish set stamp))
+ends-moved nodes went k set stamp m g quiet =
+    moved_then nodes went set stamp.node k m (finish set stamp) quiet (finish-moved nodes went k set stamp m.state g quiet.state quiet.desk)
+
+asked-quiet : (nodes : ℕ) (went : List ℕ) (set : ℕ) (stamp : Stamp) (ask : Ask) (s : SetState) → ask.node < nodes
+    → Ground nodes went → StateOnPath nodes went stamp.node s → Quiet nodes went stamp.node (one_if (is_some s.desk)) (asked set stamp ask s)
+asked-quiet nodes went set stamp ask s named g h =
+    let made = route-quiet nodes went (one_if (is_some s.desk)) set stamp false (ParkedAsk ask) (record s { pending = s.pending ++ ask ∷ [] }) g
+    (record { link = h.link; way = h.way; hoped = h.hoped; parked = h.parked }) named refl in
+    record { state = made.state; posts = made.posts; desk = made.desk }
+
+pub lock-moved : (nodes : ℕ) (went : List ℕ) (set : ℕ) (stamp : Stamp) (client : ℕ) (mode : Mode) (s : SetState) → stamp.node < nodes
+    → Ground nodes went → StateOnPath nodes went stamp.node s → Moved nodes went set stamp.node (one_if (is_some s.desk)) (lock set stamp client mode s)
+lock-moved nodes went set stamp client mode s named g h =
+    ends-moved nodes went _ set stamp (locked set stamp client mode s) g (by_test (can_grant stamp.node s client mode))
+  where
+    by_test : (can : Bool) → Quiet nodes went stamp.node (one_if (is_some s.desk))
+        (if can then granted set client mode s else asked set stamp (ask_of stamp client mode None s) s)
+    by_test true = record { state = record { link = h.link; way = h.way; hoped = h.hoped; parked = h.parked }; posts = tt; desk = refl }
+    by_test false = asked-quiet nodes went set stamp (ask_of stamp client mode None s) s named g h
+
+pub try-moved : (nodes : ℕ) (went : List ℕ) (set : ℕ) (stamp : Stamp) (client : ℕ) (mode : Mode) (s : SetState)
+    → Ground nodes went → StateOnPath nodes went stamp.node s → Moved nodes went set stamp.node (one_if (is_some s.desk)) (try set stamp client mode s)
+try-moved nodes went set stamp client mode s g h =
+    ends-moved nodes went _ set stamp (tried set stamp client mode s) g (by_test (can_grant stamp.node s client mode))
+  where
+    by_test : (can : Bool) → Quiet nodes went stamp.node (one_if (is_some s.desk))
+        (if can then answers (Try client set mode true) (given client mode None s) else answers (Try client set mode false) s)
+    by_test true = record { state = record { link = h.link; way = h.way; hoped = h.hoped; parked = h.parked }; posts = tt; desk = refl }
+    by_test false = record { state = h; posts = tt; desk = refl }
+
+pub unlock-moved : (nodes : ℕ) (went : List ℕ) (set : ℕ) (stamp : Stamp) (client : ℕ) (mode : Mode) (s : SetState)
+    → Ground nodes went → StateOnPath nodes went stamp.node s → Moved nodes went set stamp.node (one_if (is_some s.desk)) (unlock set stamp client mode s)
+unlock-moved nodes went set stamp client mode s g h =
+    ends-moved nodes went _ set stamp (unlocked set client mode s) g (by_test (count_of s.held client mode == 0))
+  where
+    by_test : (none : Bool) → Quiet nodes went stamp.node (one_if (is_some s.desk))
+        (if none then answers (NotHeld client set mode) s else answers (Unlock client set mode) (record s { held = take_lock s.held client mode }))
+    by_test true = record { state = h; posts = tt; desk = refl }
+    by_test false = record { state = record { link = h.link; way = h.way; hoped = h.hoped; parked = h.parked }; posts = tt; desk = refl }
+
+pub change-moved : (nodes : ℕ) (went : List ℕ) (set : ℕ) (stamp : Stamp) (client : ℕ) (gives_up mode : Mode) (s : SetState) → stamp.node < nodes
+    → Ground nodes went → StateOnPath nodes went stamp.node s → Moved nodes went set stamp.node (one_if (is_some s.desk)) (change set stamp client gives_up mode s)
+change-moved nodes went set stamp client gives_up mode s named g h =
+    ends-moved nodes went _ set stamp (changed set stamp client gives_up mode s) g (by_count (count_of s.held client gives_up == 0))
+  where
+    by_test : (can : Bool) → Quiet nodes went stamp.node (one_if (is_some s.desk))
+        (if can then answers (Change client set gives_up mode) (given client mode (Some gives_up) s) else asked set stamp (ask_of stamp client mode (Some gives_up) s) s)
+    by_test true = record { state = record { link = h.link; way = h.way; hoped = h.hoped; parked = h.parked }; posts = tt; desk = refl }
+    by_test false = asked-quiet nodes went set stamp (ask_of stamp client mode (Some gives_up) s) s named g h
+
+    by_count : (none : Bool) → Quiet nodes went stamp.node (one_if (is_some s.desk))
+        (if none then answers (NotHeld client set gives_up) s else change_held set stamp client gives_up mode s)
+    by_count true = record { state = h; posts = tt; desk = refl }
+    by_count false = by_test (can_grant stamp.node s client mode)
+
+pub drop-moved : (nodes : ℕ) (went : List ℕ) (set : ℕ) (stamp : Stamp) (client : ℕ) (s : SetState)
+    → Ground nodes went → StateOnPath nodes went stamp.node s → Moved nodes went set stamp.node (one_if (is_some s.desk)) (drop set stamp client s)
+drop-moved nodes went set stamp client s g h =
+    finish-moved nodes went (one_if (is_some s.desk)) set stamp (dropped client s) g
+    (record { link = h.link; way = h.way; hoped = h.hoped; parked = h.parked }) refl
+
+-- a letter that is taken, with its token in hand
+pub take-moved : (nodes : ℕ) (went : List ℕ) (p : ℕ) (stamp : Stamp) (letter : Letter) (s : SetState)
+    → Ground nodes went → StateOnPath nodes went stamp.node s → LetterOnPath nodes went p stamp.node letter
+    → one_if (is_some s.desk) + tokens_in letter.body ≤ 1
+    → Moved nodes went letter.set stamp.node (one_if (is_some s.desk) + tokens_in letter.body) (take stamp letter s)
+take-moved nodes went p stamp letter s g h on one =
+    let same = ap (λ (o : Option Desk). one_if (is_some o)) (learn_desk letter.link s) in
+    ends-moved nodes went _ letter.set stamp (arrive stamp letter s) g
+    (by_body letter.body (learn letter.link s) on.body (learn_on_path nodes went stamp.node letter.link s on.link h)
+    (one_if (is_some s.desk) + tokens_in letter.body) (omega (arith, same)) one)
+  where
+    by_body : (body : Body) (t : SetState) → BodyOnPath nodes went stamp.node body → StateOnPath nodes went stamp.node t
+        → (k : ℕ) → one_if (is_some t.desk) + tokens_in body ≡ k → k ≤ 1 → Quiet nodes went stamp.node k (take_body letter.set stamp body t)
+    by_body (AskBody ask marked) t named ht k e few =
+        route-quiet nodes went k letter.set stamp marked (ParkedAsk ask) t g ht named (omega (arith, e))
+    by_body (TellBody tell) t named ht k e few =
+        route-quiet nodes went k letter.set stamp false (ParkedTell tell) t g ht tt (omega (arith, e))
+    by_body (CopyBody ask) t named ht k e few =
+        record { state = record { link = ht.link; way = ht.way; hoped = ht.hoped; parked = ht.parked }; posts = tt; desk = omega (arith, e) }
+    by_body (TokenBody desk) t d ht k e few =
+        record { state = token_on_path nodes went stamp.node desk t d ht; posts = tt; desk = omega (arith, e, few) }
+    by_body (FreezeBody number modes) t named ht k e few = by_test (nat_lt t.number number)
+      where
+        by_test : (newer : Bool) → Quiet nodes went stamp.node k (silent (if newer then record t { frozen = modes; number = number } else t))
+        by_test true = record { state = record { link = ht.link; way = ht.way; hoped = ht.hoped; parked = ht.parked }; posts = tt; desk = omega (arith, e) }
+        by_test false = record { state = ht; posts = tt; desk = omega (arith, e) }

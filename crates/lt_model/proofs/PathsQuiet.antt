@@ -1,0 +1,375 @@
+-- A node's rules keep it on the token's path while the token stays where it is.
+use Rattle.std.proofs.Common.{◌≡◌, ◌≢◌, ℕ, zero, suc, ◌+◌, ◌<◌, ◌≤◌, inl, inr, List, [], ◌∷◌, ◌++◌, length, Option, Some, None, Bool, true, false, refl, sym, ap, subst, arith, ◌∙◌, take, drop}
+use Rattle.std.specs.Prelude.{◌==◌, ◌&&◌, not, nat_lt, if◌then◌else◌, IfSome, All, ◌⊎◌, is_some, fold, remove, slice_index_or}
+use Rattle.std.specs.List.{AllByRecursion}
+use Rattle.std.proofs.lemmas.Bool.{eqb-false, ltb-true, not-true, and_parts, cases_lt}
+use Rattle.std.proofs.lemmas.List.{length-set, get_or_past}
+use Rattle.std.proofs.lemmas.List.Elements.{All-append, All-take, All-drop, All-cons, All-push, recursion_from_All}
+use Rattle.lt_modes.specs.declared.stamp.Stamp.{Stamp}
+use Rattle.lt_modes.specs.declared.ask.Ask.{Ask}
+use Rattle.lt_modes.specs.declared.event.Event.{Event}
+use Rattle.lt_modes.specs.declared.parts.Link.{Link}
+use Rattle.lt_modes.specs.declared.parts.Hoped.{Hoped}
+use Rattle.lt_modes.specs.Modes.{Modes, is_taking, bars, same_modes}
+use Rattle.lt_modes.specs.Held.{held_modes}
+use Rattle.lt_modes.specs.State.{SetState, Desk, Entry, Body, AskBody, TellBody, CopyBody, TokenBody, FreezeBody, Letter, Parked, ParkedAsk, ParkedTell}
+use Rattle.lt_modes.specs.Queue.{entered, place, no_ask}
+use Rattle.lt_modes.specs.Places.{cons_if, places_from, map_from}
+use Rattle.lt_modes.specs.Made.{Made, Post, silent, then_do}
+use Rattle.lt_modes.specs.Serving.{queue_of, queue_of_desk, put_queue, owed_at, ask_at, next_service, serve, serve_up_to, serve_step, serve_one, serve_local, serve_copy}
+use Rattle.lt_modes.specs.Freezing.{freeze, freeze_at, frozen_by, frozen_entry, is_target, targets}
+use Rattle.lt_modes.specs.Routing.{Way, Parks, Goes, learn, dealt, is_behind, hoped_way, way, way_onward, body_of, reversed, sent_on, route, route_by}
+use Rattle.lt_modes.specs.Telling.{tell, tell_of, make_tell}
+use Rattle.lt_modes.specs.Taking.{take_token}
+use Rattle.lt_model.specs.Facts.{one_if, tokens_in}
+use Rattle.lt_model.specs.Paths.{IsTrueLink, IsNamed, IsParkedNamed, DeskOnPath, HasWay, StateOnPath, BodyOnPath, LetterOnPath}
+use Rattle.lt_model.proofs.StartKept.{all_none}
+use Rattle.lt_model.proofs.SentInMove.{all_append, all_map, all_weaker}
+
+-- there are nodes, and the token went to nodes
+pub record Ground (nodes : ℕ) (went : List ℕ) : Type 0 where
+  pub some : 0 < nodes
+  pub known : All (λ x. x < nodes) went
+
+pub link_named : (nodes : ℕ) (went : List ℕ) (link : Link) → Ground nodes went → IsTrueLink went link → link.node < nodes
+link_named nodes went link g true_link = subst (λ (x : ℕ). x < nodes) true_link.node (g.known link.epoch 0 true_link.epoch)
+
+-- the letter is on its path and carries no token
+abbrev pub IsQuiet : ℕ → List ℕ → ℕ → Post → Type 0
+IsQuiet nodes went x post = LetterOnPath nodes went x post.to post.letter × (tokens_in post.letter.body ≡ 0)
+
+-- node x stays on the path, its letters too, none carries the token, and k says whether the desk is there
+pub record Quiet (nodes : ℕ) (went : List ℕ) (x k : ℕ) (m : Made) : Type 0 where
+  pub state : StateOnPath nodes went x m.state
+  pub posts : AllByRecursion (IsQuiet nodes went x) m.posts
+  pub desk : one_if (is_some m.state.desk) ≡ k
+
+pub quiet_then : (nodes : ℕ) (went : List ℕ) (x k : ℕ) (m : Made) (rule : SetState → Made)
+    → Quiet nodes went x k m → Quiet nodes went x k (rule m.state) → Quiet nodes went x k (then_do m rule)
+quiet_then nodes went x k m rule first second = record {
+  state = second.state;
+  posts = all_append _ m.posts (rule m.state).posts first.posts second.posts;
+  desk = second.desk;
+}
+
+pub entered_named : (nodes : ℕ) (queue : List Ask) (ask : Ask) → All (IsNamed nodes) queue → IsNamed nodes ask → All (IsNamed nodes) (entered queue ask)
+entered_named nodes queue ask h named =
+    let k = place queue ask.holder in
+    All-append (IsNamed nodes) (take k queue) (ask ∷ drop k queue) (All-take (IsNamed nodes) k queue h)
+    (All-cons (IsNamed nodes) ask (drop k queue) named (All-drop (IsNamed nodes) k queue h))
+
+removed_named : (nodes : ℕ) (queue : List Ask) (k : ℕ) → All (IsNamed nodes) queue → All (IsNamed nodes) (remove queue k)
+removed_named nodes queue k h =
+    All-append (IsNamed nodes) (take k queue) (drop (suc k) queue) (All-take (IsNamed nodes) k queue h) (All-drop (IsNamed nodes) (suc k) queue h)
+
+pub dealt_on_path : (nodes : ℕ) (went : List ℕ) (x : ℕ) (desk : Desk) (item : Parked)
+    → DeskOnPath nodes went x desk → IsParkedNamed nodes item → DeskOnPath nodes went x (dealt desk item)
+dealt_on_path nodes went x desk (ParkedAsk ask) d named =
+    record { epoch = d.epoch; node = d.node; entries = d.entries; queue = entered_named nodes desk.queue ask d.queue named }
+dealt_on_path nodes went x desk (ParkedTell tell) d named =
+    record { epoch = d.epoch; node = d.node; entries = length-set desk.entries tell.node _ ∙ d.entries; queue = d.queue }
+
+dealt_epoch : (desk : Desk) (item : Parked) → (dealt desk item).epoch ≡ desk.epoch
+dealt_epoch desk (ParkedAsk ask) = refl
+dealt_epoch desk (ParkedTell tell) = refl
+
+all_dealt_on_path : (nodes : ℕ) (went : List ℕ) (x : ℕ) (items : List Parked) (desk : Desk)
+    → AllByRecursion (IsParkedNamed nodes) items → DeskOnPath nodes went x desk → DeskOnPath nodes went x (fold dealt desk items)
+all_dealt_on_path nodes went x [] desk named d = d
+all_dealt_on_path nodes went x (item ∷ rest) desk named d =
+    all_dealt_on_path nodes went x rest (dealt desk item) named.1 (dealt_on_path nodes went x desk item d named.0)
+
+all_dealt_epoch : (items : List Parked) (desk : Desk) → (fold dealt desk items).epoch ≡ desk.epoch
+all_dealt_epoch [] desk = refl
+all_dealt_epoch (item ∷ rest) desk = all_dealt_epoch rest (dealt desk item) ∙ dealt_epoch desk item
+
+abbrev IsWayOn : ℕ → ℕ → Way → Type 0
+IsWayOn nodes x Parks = Unit {0}
+IsWayOn nodes x (Goes to marked) = (to < nodes) × (to ≢ x)
+
+hoped_way_on : (nodes x firm : ℕ) (ask : Ask) (hoped : Option Hoped) → IfSome hoped (λ (link : Hoped). (link.node < nodes) × (link.node ≢ x))
+    → (firm < nodes) × (firm ≢ x) → IsWayOn nodes x (hoped_way hoped firm ask)
+hoped_way_on nodes x firm ask None h other = other
+hoped_way_on nodes x firm ask (Some link) h other = by_test _
+  where
+    by_test : (older : Bool) → IsWayOn nodes x (if older then Goes link.node true else Goes firm false)
+    by_test true = h
+    by_test false = other
+
+way_on : (nodes : ℕ) (went : List ℕ) (x : ℕ) (s : SetState) (marked : Bool) (item : Parked)
+    → Ground nodes went → StateOnPath nodes went x s → IsWayOn nodes x (way x marked item s)
+way_on nodes went x s marked item g h = by_test (s.firm.node == x) refl
+  where
+    behind : (ask : Ask) → s.firm.node ≢ x → (stands : Bool) → IsWayOn nodes x (if stands then Parks else Goes s.firm.node false)
+    behind ask d true = tt
+    behind ask d false = (link_named nodes went s.firm g h.link, d)
+
+    onward : (mark : Bool) (thing : Parked) → s.firm.node ≢ x → IsWayOn nodes x (way_onward mark thing s)
+    onward true (ParkedAsk ask) d = behind ask d (is_behind s.pending ask)
+    onward false (ParkedAsk ask) d = hoped_way_on nodes x s.firm.node ask s.hoped h.hoped (link_named nodes went s.firm g h.link, d)
+    onward mark (ParkedTell tell) d = (link_named nodes went s.firm g h.link, d)
+
+    by_test : (here : Bool) → (s.firm.node == x) ≡ here → IsWayOn nodes x (if here then Parks else way_onward marked item s)
+    by_test true e = tt
+    by_test false e = onward marked item (eqb-false s.firm.node x e)
+
+reversed_on_path : (nodes : ℕ) (went : List ℕ) (x : ℕ) (item : Parked) (s : SetState)
+    → IsParkedNamed nodes item → StateOnPath nodes went x s → StateOnPath nodes went x (reversed x item s)
+reversed_on_path nodes went x (ParkedTell tell) s named h = h
+reversed_on_path nodes went x (ParkedAsk ask) s named h = by_test (is_taking ask.mode && not (ask.node == x)) refl
+  where
+    by_test : (other : Bool) → (is_taking ask.mode && not (ask.node == x)) ≡ other
+        → StateOnPath nodes went x (if other then record s { hoped = Some (record { node = ask.node; stamp = ask.stamp }) } else s)
+    by_test true e = record {
+      link = h.link;
+      way = h.way;
+      hoped = (named, eqb-false ask.node x (not-true _ (and_parts _ _ e).1));
+      parked = h.parked;
+    }
+    by_test false e = h
+
+reversed_desk : (x : ℕ) (item : Parked) (s : SetState) → (reversed x item s).desk ≡ s.desk
+reversed_desk x (ParkedTell tell) s = refl
+reversed_desk x (ParkedAsk ask) s = by_test (is_taking ask.mode && not (ask.node == x))
+  where
+    by_test : (other : Bool) → (if other then record s { hoped = Some (record { node = ask.node; stamp = ask.stamp }) } else s).desk ≡ s.desk
+    by_test true = refl
+    by_test false = refl
+
+item_on_path : (nodes : ℕ) (went : List ℕ) (q : ℕ) (item : Parked) (marked : Bool) → IsParkedNamed nodes item → BodyOnPath nodes went q (body_of item marked)
+item_on_path nodes went q (ParkedAsk ask) marked named = named
+item_on_path nodes went q (ParkedTell tell) marked named = tt
+
+item_tokens : (item : Parked) (marked : Bool) → tokens_in (body_of item marked) ≡ 0
+item_tokens (ParkedAsk ask) marked = refl
+item_tokens (ParkedTell tell) marked = refl
+
+sent_on-quiet : (nodes : ℕ) (went : List ℕ) (k set : ℕ) (stamp : Stamp) (item : Parked) (s : SetState)
+    → StateOnPath nodes went stamp.node s → IsParkedNamed nodes item → one_if (is_some s.desk) ≡ k
+    → (w : Way) → IsWayOn nodes stamp.node w → Quiet nodes went stamp.node k (sent_on set stamp item s w)
+sent_on-quiet nodes went k set stamp item s h named here Parks on = record {
+  state = record { link = h.link; way = h.way; hoped = h.hoped; parked = All-push (IsParkedNamed nodes) s.parked item h.parked named };
+  posts = tt;
+  desk = here;
+}
+sent_on-quiet nodes went k set stamp item s h named here (Goes to marked) on = record {
+  state = reversed_on_path nodes went stamp.node item s named h;
+  posts = ((record { to = on.0; other = on.1; link = h.link; body = item_on_path nodes went to item marked named }, item_tokens item marked), tt);
+  desk = ap (λ (o : Option Desk). one_if (is_some o)) (reversed_desk stamp.node item s) ∙ here;
+}
+
+-- an ask or a tell is dealt with, parked or sent on
+pub route-quiet : (nodes : ℕ) (went : List ℕ) (k set : ℕ) (stamp : Stamp) (marked : Bool) (item : Parked) (s : SetState)
+    → Ground nodes went → StateOnPath nodes went stamp.node s → IsParkedNamed nodes item → one_if (is_some s.desk) ≡ k
+    → Quiet nodes went stamp.node k (route set stamp marked item s)
+route-quiet nodes went k set stamp marked item s g h named here = by_desk s.desk h.way here
+  where
+    by_desk : (desk : Option Desk) → HasWay nodes went stamp.node s.firm desk → one_if (is_some desk) ≡ k
+        → Quiet nodes went stamp.node k (route_by set stamp marked item s desk)
+    by_desk (Some desk) d e = record {
+      state = record {
+        link = h.link;
+        way = (dealt_on_path nodes went stamp.node desk item d.0 named, d.1, d.2 ∙ sym (dealt_epoch desk item));
+        hoped = h.hoped;
+        parked = h.parked;
+      };
+      posts = tt;
+      desk = e;
+    }
+    by_desk None d e = sent_on-quiet nodes went k set stamp item s h named here (way stamp.node marked item s)
+        (way_on nodes went stamp.node s marked item g h)
+
+-- a link is learnt
+pub learn_on_path : (nodes : ℕ) (went : List ℕ) (x : ℕ) (link : Link) (s : SetState)
+    → IsTrueLink went link → StateOnPath nodes went x s → StateOnPath nodes went x (learn link s)
+learn_on_path nodes went x link s true_link h = by_test (nat_lt s.firm.epoch link.epoch) refl
+  where
+    later : s.firm.epoch < link.epoch → (desk : Option Desk) → HasWay nodes went x s.firm desk → HasWay nodes went x link desk
+    later less None known = λ epoch below node. elim (known epoch below node) [
+      | inl before ↦ inl (omega (arith, before, less))
+      | inr last ↦ inr last
+    ]
+    later less (Some desk) d = absurd (omega (arith, less, d.2, d.0.epoch, true_link.epoch))
+
+    by_test : (greater : Bool) → nat_lt s.firm.epoch link.epoch ≡ greater
+        → StateOnPath nodes went x (if greater then record s { firm = link; hoped = None } else s)
+    by_test true e = record { link = true_link; way = later (ltb-true _ _ e) s.desk h.way; hoped = tt; parked = h.parked }
+    by_test false e = h
+
+pub learn_desk : (link : Link) (s : SetState) → (learn link s).desk ≡ s.desk
+learn_desk link s = by_test (nat_lt s.firm.epoch link.epoch)
+  where
+    by_test : (greater : Bool) → (if greater then record s { firm = link; hoped = None } else s).desk ≡ s.desk
+    by_test true = refl
+    by_test false = refl
+
+-- the token comes, and the parked letters are dealt with
+pub token_on_path : (nodes : ℕ) (went : List ℕ) (x : ℕ) (desk : Desk) (s : SetState)
+    → DeskOnPath nodes went x desk → StateOnPath nodes went x s → StateOnPath nodes went x (take_token x desk s)
+token_on_path nodes went x desk s d h = record {
+  link = record { epoch = omega (arith, d.epoch); node = d.node };
+  way = (
+    all_dealt_on_path nodes went x s.parked desk (recursion_from_All (IsParkedNamed nodes) s.parked h.parked) d,
+    refl,
+    sym (all_dealt_epoch s.parked desk),
+  );
+  hoped = tt;
+  parked = all_none _;
+}
+
+queue_named : (nodes : ℕ) (went : List ℕ) (x : ℕ) (firm : Link) (desk : Option Desk) → HasWay nodes went x firm desk → All (IsNamed nodes) (queue_of_desk desk)
+queue_named nodes went x firm None way = all_none _
+queue_named nodes went x firm (Some desk) way = way.0.queue
+
+-- an ask in the queue is of a node of the script
+pub ask_at-named : (nodes : ℕ) (went : List ℕ) (x : ℕ) (s : SetState) (k : ℕ) → Ground nodes went → StateOnPath nodes went x s → (ask_at s k).node < nodes
+ask_at-named nodes went x s k g h = elim (cases_lt k (length (queue_of s))) [
+  | inl below ↦ queue_named nodes went x s.firm s.desk h.way k no_ask below
+  | inr past ↦ subst (λ (ask : Ask). ask.node < nodes) (sym (get_or_past (queue_of s) k no_ask past)) g.some
+]
+
+put_queue_way : (nodes : ℕ) (went : List ℕ) (x : ℕ) (firm : Link) (queue : List Ask) (desk : Option Desk)
+    → HasWay nodes went x firm desk → All (IsNamed nodes) queue → HasWay nodes went x firm (put_queue queue desk)
+put_queue_way nodes went x firm queue None way named = way
+put_queue_way nodes went x firm queue (Some desk) way named =
+    (record { epoch = way.0.epoch; node = way.0.node; entries = way.0.entries; queue = named }, way.1, way.2)
+
+put_queue_some : (queue : List Ask) (desk : Option Desk) → is_some (put_queue queue desk) ≡ is_some desk
+put_queue_some queue None = refl
+put_queue_some queue (Some desk) = refl
+
+owed_at_way : (nodes : ℕ) (went : List ℕ) (x : ℕ) (firm : Link) (ask : Ask) (k : ℕ) (desk : Option Desk)
+    → HasWay nodes went x firm desk → HasWay nodes went x firm (owed_at ask k desk)
+owed_at_way nodes went x firm ask k None way = way
+owed_at_way nodes went x firm ask k (Some desk) way = (
+  record {
+    epoch = way.0.epoch;
+    node = way.0.node;
+    entries = length-set desk.entries ask.node _ ∙ way.0.entries;
+    queue = removed_named nodes desk.queue k way.0.queue;
+  },
+  way.1,
+  way.2,
+)
+
+owed_at_some : (ask : Ask) (k : ℕ) (desk : Option Desk) → is_some (owed_at ask k desk) ≡ is_some desk
+owed_at_some ask k None = refl
+owed_at_some ask k (Some desk) = refl
+
+-- one service
+serve_one-quiet : (nodes : ℕ) (went : List ℕ) (k set : ℕ) (stamp : Stamp) (place : ℕ) (s : SetState)
+    → Ground nodes went → StateOnPath nodes went stamp.node s → one_if (is_some s.desk) ≡ k
+    → Quiet nodes went stamp.node k (serve_one set stamp place s)
+serve_one-quiet nodes went k set stamp place s g h here = by_test ((ask_at s place).node == stamp.node) refl
+  where
+    by_test : (own : Bool) → ((ask_at s place).node == stamp.node) ≡ own
+        → Quiet nodes went stamp.node k (if own then serve_local set place s else serve_copy set stamp place (ask_at s place) s)
+    by_test true e = record {
+      state = record {
+        link = h.link;
+        way = put_queue_way nodes went stamp.node s.firm (remove (queue_of s) place) s.desk h.way
+            (removed_named nodes (queue_of s) place (queue_named nodes went stamp.node s.firm s.desk h.way));
+        hoped = h.hoped;
+        parked = h.parked;
+      };
+      posts = tt;
+      desk = ap one_if (put_queue_some (remove (queue_of s) place) s.desk) ∙ here;
+    }
+    by_test false e = record {
+      state = record {
+        link = h.link;
+        way = owed_at_way nodes went stamp.node s.firm (ask_at s place) place s.desk h.way;
+        hoped = h.hoped;
+        parked = h.parked;
+      };
+      posts = (
+        (record { to = ask_at-named nodes went stamp.node s place g h; other = eqb-false _ _ e; link = h.link; body = tt }, refl),
+        tt,
+      );
+      desk = ap one_if (owed_at_some (ask_at s place) place s.desk) ∙ here;
+    }
+
+serve-quiet_up_to : (n nodes : ℕ) (went : List ℕ) (k set : ℕ) (stamp : Stamp) (s : SetState)
+    → Ground nodes went → StateOnPath nodes went stamp.node s → one_if (is_some s.desk) ≡ k
+    → Quiet nodes went stamp.node k (serve_up_to n set stamp s)
+serve-quiet_up_to zero nodes went k set stamp s g h here = record { state = h; posts = tt; desk = here }
+serve-quiet_up_to (suc n) nodes went k set stamp s g h here =
+    step (λ t ht here_too. serve-quiet_up_to n nodes went k set stamp t g ht here_too) (next_service stamp.node s)
+  where
+    step : ((t : SetState) → StateOnPath nodes went stamp.node t → one_if (is_some t.desk) ≡ k → Quiet nodes went stamp.node k (serve_up_to n set stamp t))
+        → (o : Option ℕ) → Quiet nodes went stamp.node k (serve_step set stamp (serve_up_to n set stamp) s o)
+    step again None = record { state = h; posts = tt; desk = here }
+    step again (Some place) =
+        let one = serve_one-quiet nodes went k set stamp place s g h here in
+        quiet_then nodes went stamp.node k (serve_one set stamp place s) (serve_up_to n set stamp) one (again _ one.state one.desk)
+
+pub serve-quiet : (nodes : ℕ) (went : List ℕ) (k set : ℕ) (stamp : Stamp) (s : SetState)
+    → Ground nodes went → StateOnPath nodes went stamp.node s → one_if (is_some s.desk) ≡ k
+    → Quiet nodes went stamp.node k (serve set stamp s)
+serve-quiet nodes went k set stamp s g h here = serve-quiet_up_to (length (queue_of s)) nodes went k set stamp s g h here
+
+length-map_from : {X Y : Type 0} (f : ℕ → X → Y) (k : ℕ) (xs : List X) → length (map_from f k xs) ≡ length xs
+length-map_from f k [] = refl
+length-map_from f k (x ∷ xs) = ap suc (length-map_from f (k + 1) xs)
+
+-- the places of the items that pass
+places_on : (x : ℕ) (test : ℕ → Entry → Bool) → ((i : ℕ) (entry : Entry) → test i entry ≡ true → i ≢ x)
+    → (k : ℕ) (entries : List Entry) → AllByRecursion (λ i. (i < k + length entries) × (i ≢ x)) (places_from test k entries)
+places_on x test other k [] = tt
+places_on x test other k (entry ∷ rest) =
+    by_test (all_weaker _ _ (λ i h. (omega (arith, h.0), h.1)) (places_from test (k + 1) rest) (places_on x test other (k + 1) rest))
+    (test k entry) refl
+  where
+    by_test : AllByRecursion (λ i. (i < k + length (entry ∷ rest)) × (i ≢ x)) (places_from test (k + 1) rest)
+        → (wanted : Bool) → test k entry ≡ wanted
+        → AllByRecursion (λ i. (i < k + length (entry ∷ rest)) × (i ≢ x)) (cons_if wanted k (places_from test (k + 1) rest))
+    by_test later true e = ((omega arith, other k entry e), later)
+    by_test later false e = later
+
+-- the targets learn the frozen modes
+pub freeze-quiet : (nodes : ℕ) (went : List ℕ) (k set : ℕ) (stamp : Stamp) (s : SetState)
+    → StateOnPath nodes went stamp.node s → one_if (is_some s.desk) ≡ k → Quiet nodes went stamp.node k (freeze set stamp s)
+freeze-quiet nodes went k set stamp s h here = by_desk s.desk h.way here
+  where
+    by_desk : (desk : Option Desk) → HasWay nodes went stamp.node s.firm desk → one_if (is_some desk) ≡ k
+        → Quiet nodes went stamp.node k (freeze_at set stamp s desk)
+    by_desk None way e = record { state = h; posts = tt; desk = here }
+    by_desk (Some desk) way e =
+        let frozen = frozen_by desk.queue in
+        let found = places_on stamp.node (is_target stamp.node frozen)
+        (λ i entry t. eqb-false i stamp.node (not-true _ (and_parts _ _ t).0)) 0 desk.entries in
+        record {
+          state = record {
+            link = h.link;
+            way = (
+              record {
+                epoch = way.0.epoch;
+                node = way.0.node;
+                entries = length-map_from (frozen_entry stamp.node frozen) 0 desk.entries ∙ way.0.entries;
+                queue = way.0.queue;
+              },
+              way.1,
+              way.2,
+            );
+            hoped = h.hoped;
+            parked = h.parked;
+          };
+          posts = all_map _ _ (targets stamp.node frozen desk) (all_weaker _ _
+              (λ i ok. (record { to = omega (arith, ok.0, way.0.entries); other = ok.1; link = h.link; body = tt }, refl))
+              (targets stamp.node frozen desk) found);
+          desk = e;
+        }
+
+-- a tell is made where it is due
+pub tell-quiet : (nodes : ℕ) (went : List ℕ) (k set : ℕ) (stamp : Stamp) (s : SetState)
+    → Ground nodes went → StateOnPath nodes went stamp.node s → one_if (is_some s.desk) ≡ k
+    → Quiet nodes went stamp.node k (tell set stamp s)
+tell-quiet nodes went k set stamp s g h here = by_test (same_modes (bars (held_modes s.held)) (bars s.charge))
+  where
+    made : Quiet nodes went stamp.node k (make_tell set stamp s)
+    made = route-quiet nodes went k set stamp false (ParkedTell (tell_of stamp s)) (record s { charge = held_modes s.held }) g
+        (record { link = h.link; way = h.way; hoped = h.hoped; parked = h.parked }) tt here
+
+    by_test : (same : Bool) → Quiet nodes went stamp.node k (if same then silent s else make_tell set stamp s)
+    by_test true = record { state = h; posts = tt; desk = here }
+    by_test false = made

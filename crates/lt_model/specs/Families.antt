@@ -1,0 +1,36 @@
+-- What a script says of a client and of a set.
+use Rattle.std.specs.Prelude.{◌==◌, Bool, ℕ, List, Option, Some, None, if◌then◌else◌, slice_get, filter_map}
+use Rattle.lt_modes.specs.declared.command.Command.{Command}
+use Rattle.lt_modes.specs.Places.{places_from}
+use Rattle.lt_modes.specs.Script.{ScriptData, ClientData, SetData}
+
+abbrev pub command_if : ℕ → ℕ × Command → Option Command
+command_if client request = if request.0 == client then Some request.1 else None
+
+-- the client's commands, in order
+abbrev pub commands_of : ScriptData → ℕ → List Command
+commands_of script client = filter_map (command_if client) script.commands
+
+abbrev pub home_of : Option ClientData → ℕ
+home_of None = 0
+home_of (Some client) = client.node
+
+-- the client's node
+abbrev pub home : ScriptData → ℕ → ℕ
+home script client = home_of (slice_get script.clients client)
+
+abbrev pub family_of : ℕ → Option SetData → ℕ
+family_of s None = s
+family_of s (Some set) = set.family
+
+-- the first set of the set's family
+abbrev pub family : ScriptData → ℕ → ℕ
+family script s = family_of s (slice_get script.sets s)
+
+-- the sets are of one family
+abbrev pub is_related : ScriptData → ℕ → ℕ → Bool
+is_related script a b = family script a == family script b
+
+-- the sets of the set's family, in order
+abbrev pub related : ScriptData → ℕ → List ℕ
+related script s = places_from (λ k (set : SetData). set.family == family script s) 0 script.sets

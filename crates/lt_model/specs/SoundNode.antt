@@ -1,0 +1,39 @@
+-- What holds of a node and of the world's numbers.
+use Rattle.std.specs.Prelude.{◌&&◌, ◌==◌, ◌≤◌, ◌<◌, ℕ, ◌+◌, length, map, count_by, is_none}
+use Rattle.lt_modes.specs.declared.ask.Ask.{Ask}
+use Rattle.lt_modes.specs.Script.{ScriptData, ClientData}
+use Rattle.lt_modes.specs.Held.{locks_of}
+use Rattle.lt_modes.specs.Fits.{Numbers}
+use Rattle.lt_modes.specs.Sound.{SoundSet}
+use Rattle.lt_model.specs.Below.{sum_below}
+use Rattle.lt_model.specs.NodeMove.{NodeState}
+
+-- the numbers of a script
+abbrev pub numbers_of : ScriptData → Numbers
+numbers_of script = record {
+  nodes = script.nodes;
+  sets = length script.sets;
+  homes = map (λ (client : ClientData). client.node) script.clients;
+}
+
+-- how many asks of the client are unanswered, over all sets
+abbrev pub asks_of : ScriptData → NodeState → ℕ → ℕ
+asks_of script n client =
+    sum_below (length script.sets) (λ s. count_by (λ (ask : Ask). ask.client == client) (n.set s).pending)
+
+-- how many of them give up no mode
+abbrev pub new_asks_of : ScriptData → NodeState → ℕ → ℕ
+new_asks_of script n client =
+    sum_below (length script.sets)
+    (λ s. count_by (λ (ask : Ask). ask.client == client && is_none ask.gives_up) (n.set s).pending)
+
+-- how many locks the client holds, over all sets
+abbrev pub locks_in_all : ScriptData → NodeState → ℕ → ℕ
+locks_in_all script n client = sum_below (length script.sets) (λ s. locks_of (n.set s).held client)
+
+-- each set is sound, a client waits for at most one ask,
+-- and each of its locks and of its asks for one more came by a command of its own
+pub record SoundNode (script : ScriptData) (q : ℕ) (n : NodeState) : Type 0 where
+  pub sets : (s : ℕ) → s < length script.sets → SoundSet (numbers_of script) q n.clock (n.set s)
+  pub one_ask : (client : ℕ) → asks_of script n client ≤ 1
+  pub counts : (client : ℕ) → locks_in_all script n client + new_asks_of script n client ≤ n.made client

@@ -1,0 +1,155 @@
+-- Sets of modes by any conflict table: only the first lemmas look at single modes.
+use Rattle.std.proofs.Common.{◌≡◌, inl, inr, Bool, true, false, refl, sym, ◌∙◌}
+use Rattle.std.specs.Prelude.{◌||◌, ◌&&◌, not, IsTrue}
+use Rattle.std.proofs.lemmas.Bool.{and_parts, and_from, or_cases, or_left, or_right, false_from_ne_true}
+use Rattle.lt_modes.specs.declared.mode.Mode.{Mode}
+use Rattle.lt_modes.specs.declared.mode.Mode.TheVariants.{IntentionRead, Read, Upgrade, IntentionWrite, Write}
+use Rattle.lt_modes.specs.Modes.{conflicts, same_mode, has, modes_by, any_mode, every_mode, one, bars}
+use Rattle.lt_modes.specs.ModeLaws.{IsSymmetric, IsEachBarred, BarsBy, UnionHasBoth, BarsByTable, CoversByTable, UnionBarsBoth, BelowItself, BelowInTurn, UnionBelow, BelowWithMore, ClearBothWays, ClearBelow, CoveredIsClear, CopyIsNotTaking}
+
+pub conflicts-sym : IsSymmetric conflicts
+conflicts-sym IntentionRead IntentionRead = refl
+conflicts-sym IntentionRead Read = refl
+conflicts-sym IntentionRead Upgrade = refl
+conflicts-sym IntentionRead IntentionWrite = refl
+conflicts-sym IntentionRead Write = refl
+conflicts-sym Read IntentionRead = refl
+conflicts-sym Read Read = refl
+conflicts-sym Read Upgrade = refl
+conflicts-sym Read IntentionWrite = refl
+conflicts-sym Read Write = refl
+conflicts-sym Upgrade IntentionRead = refl
+conflicts-sym Upgrade Read = refl
+conflicts-sym Upgrade Upgrade = refl
+conflicts-sym Upgrade IntentionWrite = refl
+conflicts-sym Upgrade Write = refl
+conflicts-sym IntentionWrite IntentionRead = refl
+conflicts-sym IntentionWrite Read = refl
+conflicts-sym IntentionWrite Upgrade = refl
+conflicts-sym IntentionWrite IntentionWrite = refl
+conflicts-sym IntentionWrite Write = refl
+conflicts-sym Write IntentionRead = refl
+conflicts-sym Write Read = refl
+conflicts-sym Write Upgrade = refl
+conflicts-sym Write IntentionWrite = refl
+conflicts-sym Write Write = refl
+
+pub each_barred : IsEachBarred conflicts
+each_barred mode = (Write, conflicts-sym mode Write)
+
+-- membership in a set that a test makes
+pub has-modes_by : (test : Mode → Bool) (mode : Mode) → has mode (modes_by test) ≡ test mode
+has-modes_by test IntentionRead = refl
+has-modes_by test Read = refl
+has-modes_by test Upgrade = refl
+has-modes_by test IntentionWrite = refl
+has-modes_by test Write = refl
+
+pub has-itself : (mode : Mode) → same_mode mode mode ≡ true
+has-itself IntentionRead = refl
+has-itself Read = refl
+has-itself Upgrade = refl
+has-itself IntentionWrite = refl
+has-itself Write = refl
+
+-- some mode passes, and which one
+pub any_mode-which : (test : Mode → Bool) → any_mode test ≡ true → (mode : Mode) × IsTrue (test mode)
+any_mode-which test e = elim (or_cases _ _ e) [
+  | inl before ↦ elim (or_cases _ _ before) [
+    | inl before ↦ elim (or_cases _ _ before) [
+      | inl before ↦ elim (or_cases _ _ before) [
+        | inl h ↦ (IntentionRead, h)
+        | inr h ↦ (Read, h)
+      ]
+      | inr h ↦ (Upgrade, h)
+    ]
+    | inr h ↦ (IntentionWrite, h)
+  ]
+  | inr h ↦ (Write, h)
+]
+
+pub any_mode-at : (test : Mode → Bool) (mode : Mode) → test mode ≡ true → any_mode test ≡ true
+any_mode-at test IntentionRead h = or_left _ _ (or_left _ _ (or_left _ _ (or_left _ _ h)))
+any_mode-at test Read h = or_left _ _ (or_left _ _ (or_left _ _ (or_right _ _ h)))
+any_mode-at test Upgrade h = or_left _ _ (or_left _ _ (or_right _ _ h))
+any_mode-at test IntentionWrite h = or_left _ _ (or_right _ _ h)
+any_mode-at test Write h = or_right _ _ h
+
+pub every_mode-at : (test : Mode → Bool) (mode : Mode) → every_mode test ≡ true → test mode ≡ true
+every_mode-at test IntentionRead h = (and_parts _ _ (and_parts _ _ (and_parts _ _ (and_parts _ _ h).0).0).0).0
+every_mode-at test Read h = (and_parts _ _ (and_parts _ _ (and_parts _ _ (and_parts _ _ h).0).0).0).1
+every_mode-at test Upgrade h = (and_parts _ _ (and_parts _ _ (and_parts _ _ h).0).0).1
+every_mode-at test IntentionWrite h = (and_parts _ _ (and_parts _ _ h).0).1
+every_mode-at test Write h = (and_parts _ _ h).1
+
+pub union_has_both : UnionHasBoth
+union_has_both a b mode = has-modes_by (λ m. has m a || has m b) mode
+
+pub bars_by_table : BarsByTable
+bars_by_table modes mode = (
+  (λ h.
+      let found = any_mode-which (λ k. conflicts mode k && has k modes) (sym (is_bar mode) ∙ h) in
+      let parts = and_parts _ _ found.1 in
+      (found.0, parts.0, parts.1)),
+  (λ h. is_bar mode ∙ any_mode-at (λ k. conflicts mode k && has k modes) h.0 (and_from _ _ h.1 h.2)),
+)
+  where
+    is_bar : (m : Mode) → has m (bars modes) ≡ any_mode (λ k. conflicts m k && has k modes)
+    is_bar m = has-modes_by (λ m. any_mode (λ k. conflicts m k && has k modes)) m
+
+not_or : (a b : Bool) → (not a || b) ≡ true → a ≡ true → b ≡ true
+not_or true b e h = e
+not_or false b e h = cc
+
+pub covers_by_table : CoversByTable
+covers_by_table modes mode h other conflict =
+    let own : BarsBy conflicts (one mode) other = (mode, conflict, has-modes_by (same_mode mode) mode ∙ has-itself mode) in
+    let barred = (bars_by_table (one mode) other).1 own in
+    (bars_by_table modes other).0 (not_or _ _ (every_mode-at (λ m. not (has m (bars (one mode))) || has m (bars modes)) other h) barred)
+
+pub union_bars_both : UnionBarsBoth
+union_bars_both table a b mode = (
+  (λ h. elim (or_cases (has h.0 a) (has h.0 b) (sym (union_has_both a b h.0) ∙ h.2)) [
+    | inl own ↦ inl (h.0, h.1, own)
+    | inr own ↦ inr (h.0, h.1, own)
+  ]),
+  (λ h. elim h [
+    | inl own ↦ (own.0, own.1, union_has_both a b own.0 ∙ or_left _ _ own.2)
+    | inr own ↦ (own.0, own.1, union_has_both a b own.0 ∙ or_right _ _ own.2)
+  ]),
+)
+
+pub below_itself : BelowItself
+below_itself table a mode h = h
+
+pub below_in_turn : BelowInTurn
+below_in_turn table a b c ab bc mode h = bc mode (ab mode h)
+
+pub union_below : UnionBelow
+union_below table a b c ac bc mode h = elim ((union_bars_both table a b mode).0 h) [
+  | inl own ↦ ac mode own
+  | inr own ↦ bc mode own
+]
+
+pub below_with_more : BelowWithMore
+below_with_more table a b more ab mode h = elim ((union_bars_both table a more mode).0 h) [
+  | inl own ↦ (union_bars_both table b more mode).1 (inl (ab mode own))
+  | inr own ↦ (union_bars_both table b more mode).1 (inr own)
+]
+
+pub clear_both_ways : ClearBothWays
+clear_both_ways table symmetric a b clear mode member barred =
+    clear barred.0 barred.2 (mode, symmetric barred.0 mode ∙ barred.1, member)
+
+pub clear_below : ClearBelow
+clear_below table symmetric a b c below clear mode member barred =
+    let found = below barred.0 (mode, symmetric barred.0 mode ∙ barred.1, member) in
+    clear found.0 found.2 (barred.0, symmetric found.0 barred.0 ∙ found.1, barred.2)
+
+pub covered_is_clear : CoveredIsClear
+covered_is_clear table symmetric a b mode covered clear barred =
+    let found = covered barred.0 (symmetric barred.0 mode ∙ barred.1) in
+    clear found.0 found.2 (barred.0, symmetric found.0 barred.0 ∙ found.1, barred.2)
+
+pub copy_is_not_taking : CopyIsNotTaking
+copy_is_not_taking table a mode covered free = false_from_ne_true _ (λ taking. free (covered mode taking))

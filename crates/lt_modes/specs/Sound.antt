@@ -1,0 +1,62 @@
+-- What holds of the state that a node keeps for a set, at the start and after each move.
+use Rattle.std.specs.Prelude.{◌≡◌, ◌≢◌, ◌≤◌, ◌<◌, ℕ, List, [], Option, Some, None, IsTrue, IfSome, All, length, slice_index}
+use Rattle.lt_modes.specs.declared.mode.Mode.{Mode}
+use Rattle.lt_modes.specs.declared.ask.Ask.{Ask}
+use Rattle.lt_modes.specs.declared.parts.Row.{Row}
+use Rattle.lt_modes.specs.declared.parts.Hoped.{Hoped}
+use Rattle.lt_modes.specs.Modes.{bars}
+use Rattle.lt_modes.specs.State.{SetState, Desk, Parked, ParkedAsk, ParkedTell}
+use Rattle.lt_modes.specs.Held.{count_of, held_modes}
+use Rattle.lt_modes.specs.Fits.{Numbers, is_at_home, is_known, are_apart, asks_here}
+
+-- the row is of a client of node q, and holds some lock
+pub record SoundRow (numbers : Numbers) (q : ℕ) (row : Row) : Type 0 where
+  pub client : row.client < length numbers.homes
+  pub home : slice_index numbers.homes row.client ≡ q
+  pub count : 1 ≤ row.count
+
+-- the client holds the mode that the ask gives up, where it gives one up
+abbrev pub HoldsGivenUp : List Row → ℕ → Option Mode → Type 0
+HoldsGivenUp held client None = Unit {0}
+HoldsGivenUp held client (Some mode) = 1 ≤ count_of held client mode
+
+-- an unanswered ask of node q was made by a client of it, in a move of it, and what it gives up is held
+pub record SoundPending (numbers : Numbers) (q : ℕ) (held : List Row) (ask : Ask) : Type 0 where
+  pub home : IsTrue (is_at_home numbers ask)
+  pub node : ask.node ≡ q
+  pub maker : ask.stamp.node ≡ q
+  pub gives_up : HoldsGivenUp held ask.client ask.gives_up
+
+-- an ask that is parked or queued at node q is of a client of its node; where that is q, it is unanswered
+pub record SoundHere (numbers : Numbers) (q : ℕ) (s : SetState) (ask : Ask) : Type 0 where
+  pub home : IsTrue (is_at_home numbers ask)
+  pub known : IsTrue (is_known q s ask)
+
+-- without the desk the charge bars what the held modes bar; with it nothing is parked,
+-- neither its epoch nor its freeze number is above the clock, and it has one entry for each node
+abbrev pub SoundDesk : Numbers → ℕ → SetState → Option Desk → Type 0
+SoundDesk numbers clock s None = bars (held_modes s.held) ≡ bars s.charge
+SoundDesk numbers clock s (Some desk) =
+    (s.parked ≡ []) × (desk.epoch ≤ clock) × (desk.number ≤ clock) × (length desk.entries ≡ numbers.nodes)
+
+-- a hoped link names another node of the script
+abbrev pub SoundHoped : Numbers → ℕ → Option Hoped → Type 0
+SoundHoped numbers q hoped = IfSome hoped (λ (link : Hoped). (link.node < numbers.nodes) × (link.node ≢ q))
+
+-- a parked tell is of a node of the script
+abbrev pub SoundParked : Numbers → Parked → Type 0
+SoundParked numbers (ParkedAsk ask) = Unit {0}
+SoundParked numbers (ParkedTell tell) = tell.node < numbers.nodes
+
+-- what node q with this clock keeps for a set is sound
+pub record SoundSet (numbers : Numbers) (q clock : ℕ) (s : SetState) : Type 0 where
+  pub rows : All (SoundRow numbers q) s.held
+  pub pending : All (SoundPending numbers q s.held) s.pending
+  pub here : All (SoundHere numbers q s) (asks_here s)
+  pub apart : IsTrue (are_apart (asks_here s))
+  pub desk : SoundDesk numbers clock s s.desk
+  pub epoch : s.firm.epoch ≤ clock
+  pub number : s.number ≤ clock
+  pub firm : s.firm.node < numbers.nodes
+  pub hoped : SoundHoped numbers q s.hoped
+  pub parked : All (SoundParked numbers) s.parked
