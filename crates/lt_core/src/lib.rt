@@ -9,6 +9,8 @@ mod order;
 mod out;
 mod queue;
 mod serving;
+#[cfg(test)]
+mod tests;
 
 pub use one_set::Core;
 pub use order::{Answer, Order};

@@ -1,0 +1,44 @@
+use super::{Mode, ModeSet};
+
+const MODES: [Mode; 5] = [
+    Mode::IntentionRead,
+    Mode::Read,
+    Mode::Upgrade,
+    Mode::IntentionWrite,
+    Mode::Write,
+];
+
+// The printed conflict table, a row for each mode.
+const TABLE: [[bool; 5]; 5] = [
+    [false, false, false, false, true],
+    [false, false, false, true, true],
+    [false, false, true, true, true],
+    [false, true, true, false, true],
+    [true, true, true, true, true],
+];
+
+#[test]
+fn the_printed_table(rt: HostRuntime) {
+    for (mode, row) in MODES.iter().zip(TABLE.iter()) {
+        for (other, conflict) in MODES.iter().zip(row.iter()) {
+            assert_eq!(rt; mode.conflicts(*other), *conflict, "{mode:?} {other:?}");
+            assert_eq!(rt; ModeSet::one(*mode).bars().has(*other), *conflict);
+        }
+    }
+}
+
+#[test]
+fn the_words(rt: HostRuntime) {
+    let words = [
+        "intention_read",
+        "read",
+        "upgrade",
+        "intention_write",
+        "write",
+    ];
+    for (mode, word) in MODES.iter().zip(words.iter()) {
+        assert_eq!(rt; mode.word(), *word);
+        assert_eq!(rt; Mode::from_word(word.as_bytes()), Some(*mode));
+    }
+    assert_eq!(rt; Mode::from_word(b"reed"), None);
+}
