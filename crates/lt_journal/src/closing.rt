@@ -1,5 +1,5 @@
 ghost use Rattle.std.specs.Prelude.{◌≡◌, ◌++◌, OnOk, count_by, length};
-ghost use Rattle.lt_model.specs.Text.{Holding as AnyHolding, same_holding, held_line, held_in_mode, held_in_set, held_by, held_text, waiting_line, waiting_text, owner_line, owners_text, outcome_text};
+ghost use Rattle.lt_model.specs.Text.{Holding as AnyHolding, same_holding, held_line, held_in_mode, held_in_set, held_by, held_text, waiting_line, waiting_of, waiting_text, owner_line, owners_text, outcome_text};
 
 use crate::events::lock;
 use crate::names::set_name;
@@ -9,8 +9,8 @@ use lt_modes::Mode;
 use lt_script::Script;
 use std::alloc::AllocError;
 
-// All modes, in order.
-const MODES: [Mode; 5] = [
+/// All modes, in order.
+pub const MODES: [Mode; 5] = [
     Mode::IntentionRead,
     Mode::Read,
     Mode::Upgrade,
@@ -114,14 +114,21 @@ fn waiting_lines(
     ensures { OnOk result (text.new ≡ text.old ++ waiting_text script.now waiting.now) }
 {
     for client in 0..script.clients() {
-        waiting_line(
-            text,
-            script,
-            client,
-            waiting.get(usize::from(client)).copied().flatten(),
-        )?;
+        waiting_of(text, script, waiting, client)?;
     }
     Ok(())
+}
+
+fn waiting_of(
+    text: &mut Text,
+    script: &Script,
+    waiting: &[Option<Waiting>],
+    client: u16,
+) -> Result<(), AllocError>
+    ensures { OnOk result (text.new ≡ text.old ++ waiting_of script.now waiting.now client) }
+{
+    let waiting = waiting.get(usize::from(client)).copied().flatten();
+    waiting_line(text, script, client, waiting)
 }
 
 // Writes the line of the client, if it waits: `waiting CLIENT SET MODE`.

@@ -32,11 +32,21 @@
 
 mod closing;
 mod events;
+mod grammar;
 mod journal;
+mod line;
+mod lock;
 mod names;
 mod outcome;
+mod reading;
+#[cfg(test)]
+mod reading_tests;
+mod splitting;
 #[cfg(test)]
 mod tests;
 mod text;
 
 pub use journal::write;
+pub use line::Line;
+pub use reading::{Journal, read};
+pub use splitting::{Parts, split};

@@ -1,6 +1,6 @@
-//! Runs: the moves that were made, in order, each with its events.
+//! Logs and runs: the moves that were made, in order, each with its events.
 #![tactic(auto)]
 
 mod run;
 
-pub use run::Run;
+pub use run::{Log, Run};

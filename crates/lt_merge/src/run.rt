@@ -14,12 +14,15 @@ struct Mark {
     start: usize,
 }
 
-/// The moves made, in order, each with its events.
+/// The moves of all nodes, in order, each with its events.
 #[derive(Debug, Drop)]
 pub struct Run {
     moves: Vec<Mark>,
     events: Vec<Event>,
 }
+
+/// The moves that one node made, in order, each with its events. They are kept as those of a run are.
+pub type Log = Run;
 
 impl Model for Run {
     ghost use Rattle.std.specs.Prelude.{◌<◌, ◌-◌, ◌^◌, vec_len, vec_capacity};
@@ -158,7 +161,7 @@ mod tests {
             stamp: Stamp { clock: 2, node: 0 },
             step: Step::Take(1),
         };
-        let mut run = Run::new(rt.alloc());
+        let mut run = Log::new(rt.alloc());
         run.reserve(2)?;
         run.push(first);
         run.add_event(grant());

@@ -1,16 +1,16 @@
 -- The letters on their way after some were sent, and after one was taken.
-use Rattle.std.proofs.Common.{◌≡◌, ◌≢◌, ℕ, zero, suc, ◌+◌, ◌<◌, inl, inr, List, [], ◌∷◌, ◌++◌, Option, Some, None, Bool, true, false, refl, sym, subst, arith, ap, length, ◌∙◌}
-use Rattle.std.specs.Prelude.{◌==◌, ◌&&◌, if◌then◌else◌, filter_map, sum_by, Contains, drop, ◌⊎◌}
+use Rattle.std.proofs.Common.{◌≡◌, ◌≢◌, ℕ, suc, ◌+◌, ◌<◌, ◌≤◌, inl, inr, List, [], ◌∷◌, ◌++◌, Bool, true, false, refl, sym, subst, arith, ap, ◌∙◌}
+use Rattle.std.specs.Prelude.{◌==◌, if◌then◌else◌, filter_map, sum_by, Contains, drop}
 use Rattle.std.specs.List.{AllByRecursion}
 use Rattle.std.proofs.lemmas.Bool.{cases_eq, eq-eqb, ne_eqb, and_from, and_left, and_right}
 use Rattle.std.proofs.lemmas.List.{append-nil}
-use Rattle.std.proofs.lemmas.List.Elements.{All-contains, All-from_recursion, Contains-append_cases, Contains-append_left, Contains-append_right}
-use Rattle.std.proofs.lemmas.List.Sums.{sum_by-append, sum_by-cons}
+use Rattle.std.proofs.lemmas.List.Elements.{All-contains, All-from_recursion, Contains-append_cases, Contains-append_left}
+use Rattle.std.proofs.lemmas.List.Sums.{sum_by-append, sum_by-cons, get_or-le-sum_by}
 use Rattle.lt_modes.specs.State.{Letter}
 use Rattle.lt_modes.specs.Made.{Post}
 use Rattle.lt_model.specs.Below.{sum_below}
 use Rattle.lt_model.specs.World.{sent, put_mail, letter_for}
-use Rattle.lt_model.proofs.Sums.{sum_below-same, sum_below-none, sum_below-add, sum_below-change}
+use Rattle.lt_model.proofs.Sums.{sum_below-same, sum_below-none, sum_below-add, sum_below-change, sum_below-at}
 
 -- those of the letters that go to b
 abbrev pub letters_to : ℕ → List Post → List Letter
@@ -121,6 +121,49 @@ mail_weight-sent n p of_letter posts mail below h =
     let change = sum_below-change n p f g below (λ a under d. sum_below-same n _ _
     (λ b under_too. rw (ne_eqb a p d) (ap (sum_by of_letter) (append-nil (mail a b))))) in
     omega (arith, change, row_weight n p of_letter posts mail h)
+
+none_to : (of_letter : Letter → ℕ) (b : ℕ) (posts : List Post) → AllByRecursion (λ (post : Post). of_letter post.letter ≡ 0) posts
+    → sum_by of_letter (letters_to b posts) ≡ 0
+none_to of_letter b [] h = refl
+none_to of_letter b (post ∷ rest) h = elim (cases_eq post.to b) [
+  | inl e ↦ omega (
+    arith,
+    ap (sum_by of_letter) (letters_to-same b post rest e),
+    sum_by-cons of_letter post.letter (letters_to b rest),
+    h.0,
+    none_to of_letter b rest h.1,
+  )
+  | inr d ↦ omega (arith, ap (sum_by of_letter) (letters_to-other b post rest d), none_to of_letter b rest h.1)
+]
+
+-- letters that weigh nothing add nothing
+pub mail_weight-none : (n p : ℕ) (of_letter : Letter → ℕ) (posts : List Post) (mail : ℕ → ℕ → List Letter)
+    → AllByRecursion (λ (post : Post). of_letter post.letter ≡ 0) posts
+    → mail_weight n of_letter (sent p posts mail) ≡ mail_weight n of_letter mail
+mail_weight-none n p of_letter posts mail h = sum_below-same n _ _ (λ a below. sum_below-same n _ _ (λ b under. each a b (a == p)))
+  where
+    each : (a b : ℕ) (own : Bool) → sum_by of_letter (mail a b ++ (if own then letters_to b posts else [])) ≡ sum_by of_letter (mail a b)
+    each a b true = omega (arith, sum_by-append of_letter (mail a b) (letters_to b posts), none_to of_letter b posts h)
+    each a b false = ap (sum_by of_letter) (append-nil (mail a b))
+
+-- letters of a node that isn't counted add nothing
+pub mail_weight-beyond : (n p : ℕ) (of_letter : Letter → ℕ) (posts : List Post) (mail : ℕ → ℕ → List Letter)
+    → n ≤ p → mail_weight n of_letter (sent p posts mail) ≡ mail_weight n of_letter mail
+mail_weight-beyond n p of_letter posts mail h = sum_below-same n _ _ (λ a below. sum_below-same n _ _ (λ b under.
+    rw (ne_eqb a p (λ e. omega (arith, e, below, h))) (ap (sum_by of_letter) (append-nil (mail a b)))))
+
+-- a letter on its way is a part of the weight
+pub mail_weight-at : (n a b : ℕ) (of_letter : Letter → ℕ) (mail : ℕ → ℕ → List Letter) (letter : Letter)
+    → a < n → b < n → Contains (mail a b) letter → of_letter letter ≤ mail_weight n of_letter mail
+mail_weight-at n a b of_letter mail letter ha hb h =
+    let part : of_letter letter ≤ sum_by of_letter (mail a b) =
+    subst (λ (l : Letter). of_letter l ≤ sum_by of_letter (mail a b)) h.2 (get_or-le-sum_by of_letter (mail a b) h.0 letter h.1) in
+    omega (
+      arith,
+      part,
+      sum_below-at n b (λ j. sum_by of_letter (mail a j)) hb,
+      sum_below-at n a (λ i. sum_below n (λ j. sum_by of_letter (mail i j))) ha,
+    )
 
 -- a letter that is taken takes its weight away
 pub mail_weight-taken : (n p q : ℕ) (of_letter : Letter → ℕ) (mail : ℕ → ℕ → List Letter) (letter : Letter) (rest : List Letter)

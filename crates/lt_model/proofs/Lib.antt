@@ -4,4 +4,11 @@ pub mod Letters
 pub mod SentInMove
 pub mod PathsQuiet
 pub mod PathsHandOver
+pub mod PathsWorld
+pub mod PathsBeyond
+pub mod PathsMove
+pub mod NodeMoves
+pub mod OthersStay
+pub mod ClocksGrow
 pub mod StartKept
+pub mod PathsInRuns

@@ -1,6 +1,6 @@
 -- A move of a node on one set: it stays on the token's path, also where the token leaves.
-use Rattle.std.proofs.Common.{◌≡◌, ◌≢◌, ℕ, zero, suc, ◌+◌, ◌<◌, ◌≤◌, inl, inr, List, [], ◌∷◌, ◌++◌, length, Option, Some, None, Bool, true, false, refl, sym, ap, subst, arith, ◌∙◌}
-use Rattle.std.specs.Prelude.{◌==◌, ◌&&◌, not, nat_lt, if◌then◌else◌, IfSome, All, ◌⊎◌, is_some, filter_map, slice_index, slice_index_or}
+use Rattle.std.proofs.Common.{◌≡◌, ◌≢◌, ℕ, suc, ◌+◌, ◌<◌, ◌≤◌, inl, inr, List, [], ◌∷◌, ◌++◌, length, Option, Some, None, Bool, true, false, refl, sym, ap, subst, arith, ◌∙◌}
+use Rattle.std.specs.Prelude.{◌==◌, nat_lt, if◌then◌else◌, ◌⊎◌, is_some, filter_map, slice_index, slice_index_or}
 use Rattle.std.specs.List.{AllByRecursion, cons_option}
 use Rattle.std.proofs.lemmas.Bool.{eqb-false, eq-eqb, ne_eqb, not-true, and_parts, cases_lt}
 use Rattle.std.proofs.lemmas.List.{length-set, append-nil, get_or_append_left, get_or_push, length_push, length-append}
@@ -12,24 +12,24 @@ use Rattle.lt_modes.specs.declared.ask.Ask.{Ask}
 use Rattle.lt_modes.specs.declared.event.Event.TheVariants.{Try, Unlock, NotHeld, Change}
 use Rattle.lt_modes.specs.declared.parts.Link.{Link}
 use Rattle.lt_modes.specs.Modes.{Modes, with_mode}
-use Rattle.lt_modes.specs.Held.{count_of, take_lock, without_client}
-use Rattle.lt_modes.specs.State.{SetState, Desk, Body, AskBody, TellBody, CopyBody, TokenBody, FreezeBody, Letter, Parked, ParkedAsk, ParkedTell}
+use Rattle.lt_modes.specs.Held.{count_of, take_lock}
+use Rattle.lt_modes.specs.State.{SetState, Desk, Body, AskBody, TellBody, CopyBody, TokenBody, FreezeBody, Letter, ParkedAsk, ParkedTell}
 use Rattle.lt_modes.specs.Queue.{no_ask}
 use Rattle.lt_modes.specs.Made.{Made, Post, silent, then_do}
 use Rattle.lt_modes.specs.Granting.{can_grant}
 use Rattle.lt_modes.specs.Serving.{queue_of_desk, ask_at, may_draw, move_from, move_at, next_move, serve}
 use Rattle.lt_modes.specs.Freezing.{freeze}
-use Rattle.lt_modes.specs.HandingOver.{without_desk, hand_over, hand_over_for, hand_over_to}
+use Rattle.lt_modes.specs.HandingOver.{hand_over, hand_over_for, hand_over_to}
 use Rattle.lt_modes.specs.Routing.{learn}
 use Rattle.lt_modes.specs.Telling.{tell, attend, finish, finish_by}
-use Rattle.lt_modes.specs.Taking.{take_freeze, take_body, arrive}
+use Rattle.lt_modes.specs.Taking.{take_body, arrive}
 use Rattle.lt_modes.specs.SetMove.{answers, given, granted, ask_of, asked, locked, tried, unlocked, change_held, changed, dropped, lock, try, unlock, change, drop, take}
 use Rattle.lt_model.specs.World.{token_by, token_to}
 use Rattle.lt_model.specs.Facts.{one_if, tokens_in}
 use Rattle.lt_model.specs.Paths.{IsTrueLink, DeskOnPath, HasWay, StateOnPath, BodyOnPath, LetterOnPath}
 use Rattle.lt_model.proofs.Letters.{posts_weight}
 use Rattle.lt_model.proofs.SentInMove.{all_append, all_weaker}
-use Rattle.lt_model.proofs.PathsQuiet.{Ground, IsQuiet, Quiet, quiet_then, ask_at-named, route-quiet, learn_on_path, learn_desk, token_on_path, serve-quiet, freeze-quiet, tell-quiet}
+use Rattle.lt_model.proofs.PathsQuiet.{Ground, Quiet, quiet_then, ask_at-named, route-quiet, learn_on_path, learn_desk, token_on_path, serve-quiet, freeze-quiet, tell-quiet}
 
 -- the tokens of the set that a letter carries
 abbrev pub token_weight : ℕ → Letter → ℕ

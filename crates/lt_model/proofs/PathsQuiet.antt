@@ -1,18 +1,17 @@
 -- A node's rules keep it on the token's path while the token stays where it is.
-use Rattle.std.proofs.Common.{◌≡◌, ◌≢◌, ℕ, zero, suc, ◌+◌, ◌<◌, ◌≤◌, inl, inr, List, [], ◌∷◌, ◌++◌, length, Option, Some, None, Bool, true, false, refl, sym, ap, subst, arith, ◌∙◌, take, drop}
-use Rattle.std.specs.Prelude.{◌==◌, ◌&&◌, not, nat_lt, if◌then◌else◌, IfSome, All, ◌⊎◌, is_some, fold, remove, slice_index_or}
+use Rattle.std.proofs.Common.{◌≡◌, ◌≢◌, ℕ, zero, suc, ◌+◌, ◌<◌, inl, inr, List, [], ◌∷◌, length, Option, Some, None, Bool, true, false, refl, sym, ap, subst, arith, ◌∙◌, take, drop}
+use Rattle.std.specs.Prelude.{◌==◌, ◌&&◌, not, nat_lt, if◌then◌else◌, IfSome, All, is_some, fold, remove}
 use Rattle.std.specs.List.{AllByRecursion}
 use Rattle.std.proofs.lemmas.Bool.{eqb-false, ltb-true, not-true, and_parts, cases_lt}
 use Rattle.std.proofs.lemmas.List.{length-set, get_or_past}
 use Rattle.std.proofs.lemmas.List.Elements.{All-append, All-take, All-drop, All-cons, All-push, recursion_from_All}
 use Rattle.lt_modes.specs.declared.stamp.Stamp.{Stamp}
 use Rattle.lt_modes.specs.declared.ask.Ask.{Ask}
-use Rattle.lt_modes.specs.declared.event.Event.{Event}
 use Rattle.lt_modes.specs.declared.parts.Link.{Link}
 use Rattle.lt_modes.specs.declared.parts.Hoped.{Hoped}
-use Rattle.lt_modes.specs.Modes.{Modes, is_taking, bars, same_modes}
+use Rattle.lt_modes.specs.Modes.{is_taking, bars, same_modes}
 use Rattle.lt_modes.specs.Held.{held_modes}
-use Rattle.lt_modes.specs.State.{SetState, Desk, Entry, Body, AskBody, TellBody, CopyBody, TokenBody, FreezeBody, Letter, Parked, ParkedAsk, ParkedTell}
+use Rattle.lt_modes.specs.State.{SetState, Desk, Entry, Parked, ParkedAsk, ParkedTell}
 use Rattle.lt_modes.specs.Queue.{entered, place, no_ask}
 use Rattle.lt_modes.specs.Places.{cons_if, places_from, map_from}
 use Rattle.lt_modes.specs.Made.{Made, Post, silent, then_do}
@@ -128,7 +127,7 @@ reversed_on_path nodes went x (ParkedAsk ask) s named h = by_test (is_taking ask
     }
     by_test false e = h
 
-reversed_desk : (x : ℕ) (item : Parked) (s : SetState) → (reversed x item s).desk ≡ s.desk
+pub reversed_desk : (x : ℕ) (item : Parked) (s : SetState) → (reversed x item s).desk ≡ s.desk
 reversed_desk x (ParkedTell tell) s = refl
 reversed_desk x (ParkedAsk ask) s = by_test (is_taking ask.mode && not (ask.node == x))
   where
@@ -140,7 +139,7 @@ item_on_path : (nodes : ℕ) (went : List ℕ) (q : ℕ) (item : Parked) (marked
 item_on_path nodes went q (ParkedAsk ask) marked named = named
 item_on_path nodes went q (ParkedTell tell) marked named = tt
 
-item_tokens : (item : Parked) (marked : Bool) → tokens_in (body_of item marked) ≡ 0
+pub item_tokens : (item : Parked) (marked : Bool) → tokens_in (body_of item marked) ≡ 0
 item_tokens (ParkedAsk ask) marked = refl
 item_tokens (ParkedTell tell) marked = refl
 

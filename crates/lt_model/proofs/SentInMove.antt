@@ -7,12 +7,12 @@ use Rattle.lt_modes.specs.declared.mode.Mode.{Mode}
 use Rattle.lt_modes.specs.declared.stamp.Stamp.{Stamp}
 use Rattle.lt_modes.specs.declared.ask.Ask.{Ask}
 use Rattle.lt_modes.specs.State.{SetState, Desk, Body, AskBody, TellBody, CopyBody, TokenBody, FreezeBody, Letter, Parked, ParkedAsk, ParkedTell}
-use Rattle.lt_modes.specs.Made.{Made, Post, silent, then_do, post_of}
+use Rattle.lt_modes.specs.Made.{Made, Post, silent, then_do}
 use Rattle.lt_modes.specs.Serving.{queue_of, ask_at, next_service, next_move, serve, serve_up_to, serve_step, serve_one, serve_local, serve_copy}
-use Rattle.lt_modes.specs.Freezing.{freeze, freeze_at, freeze_with, frozen_by, targets, number_after}
+use Rattle.lt_modes.specs.Freezing.{freeze, freeze_at, frozen_by, targets}
 use Rattle.lt_modes.specs.HandingOver.{hand_over, hand_over_for, hand_over_to}
 use Rattle.lt_modes.specs.Routing.{Way, Parks, Goes, route, route_by, sent_on, way, learn}
-use Rattle.lt_modes.specs.Telling.{tell_of, tell, make_tell, attend, finish, finish_by}
+use Rattle.lt_modes.specs.Telling.{tell_of, tell, make_tell, finish, finish_by}
 use Rattle.lt_modes.specs.Taking.{take_body, arrive}
 use Rattle.lt_modes.specs.declared.event.Event.TheVariants.{Try, Unlock, NotHeld, Change}
 use Rattle.lt_modes.specs.Held.{count_of, take_lock}

@@ -1,7 +1,7 @@
 -- The start of each script has the invariant.
-use Rattle.std.proofs.Common.{◌≡◌, ◌≢◌, ℕ, zero, suc, ◌+◌, ◌<◌, inl, inr, [], ◌∷◌, length, Option, Some, None, Bool, true, false, refl, sym, ap, subst, arith, ◌∙◌}
-use Rattle.std.specs.Prelude.{◌==◌, if◌then◌else◌, IfSome, ◌⊎◌, All, Contains, IsTrue, is_some, slice_index, slice_index_or, unwrap_or}
-use Rattle.std.proofs.lemmas.Bool.{eq-eqb, ne_eqb, eqb-true}
+use Rattle.std.proofs.Common.{◌≡◌, ◌≢◌, ℕ, zero, suc, ◌<◌, inl, inr, [], ◌∷◌, length, Option, Some, None, Bool, true, false, refl, sym, ap, subst, arith, ◌∙◌}
+use Rattle.std.specs.Prelude.{◌==◌, if◌then◌else◌, IfSome, All, Contains, IsTrue, is_some, slice_index_or, unwrap_or}
+use Rattle.std.proofs.lemmas.Bool.{ne_eqb, eqb-true}
 use Rattle.std.proofs.lemmas.List.{length-replicate, get_or-replicate}
 use Rattle.lt_modes.specs.declared.ask.Ask.{Ask}
 use Rattle.lt_modes.specs.declared.mode.Mode.{Mode}
@@ -259,7 +259,7 @@ way_start nodes x false e = λ epoch below node. inr (omega (arith, below))
 hoped_start : (nodes x : ℕ) (here : Bool) → IfSome (state_if nodes here).hoped (λ (link : Hoped). (link.node < nodes) × (link.node ≢ x))
 hoped_start nodes x here = tt
 
-paths_start : (script : ScriptData) (s : ℕ) → 0 < script.nodes → Paths script (start script) s
+pub paths_start : (script : ScriptData) (s : ℕ) → 0 < script.nodes → Paths script (start script) s
 paths_start script s some = record {
   went = λ k d below. went_all k d below;
   some = omega arith;

@@ -1,2 +1,4 @@
-pub mod TextLemmas
 pub mod ScriptLemmas
+pub mod NameLemmas
+pub mod Allowed
+pub mod ReadLemmas

@@ -1,13 +1,16 @@
 -- What is added to a script leaves a script.
-use Rattle.std.proofs.Common.{◌≡◌, ℕ, zero, suc, ◌+◌, ◌<◌, ◌≤◌, ◌==◌, ◌⊎◌, cond, List, [], ◌∷◌, ◌++◌, length, Some, slice_get, refl, sym, ap, subst, ◌∙◌, inl, inr, arith}
+use Rattle.std.proofs.Common.{◌≡◌, ℕ, zero, suc, ◌+◌, ◌<◌, ◌≤◌, ◌==◌, ◌⊎◌, cond, List, [], ◌∷◌, ◌++◌, length, Some, None, true, false, slice_get, refl, sym, ap, subst, ◌∙◌, inl, inr, arith}
 use Rattle.std.proofs.lemmas.Bool.{cases_eq, cases_lt, eq-eqb, ne_eqb}
 use Rattle.std.proofs.lemmas.List.{length_push}
 use Rattle.std.proofs.lemmas.List.Sums.{sum_by-append}
 use Rattle.lt_modes.specs.declared.command.Command.{Command}
 use Rattle.lt_modes.specs.declared.command.Command.TheVariants.{Lock, Try, Unlock, Change, DropAll}
-use Rattle.lt_modes.specs.Script.{ScriptData, SetData, ClientData, family_at, home_at, family_of_set, node_of_client}
+use Rattle.lt_modes.specs.Script.{ScriptData, SetData, ClientData, family_at, home_at, name_of_set, family_of_set, name_of_client, node_of_client}
 use Rattle.lt_script.specs.declared.limits.TheConstants.{MAX_SETS, MAX_CLIENTS, MAX_CLIENTS_OF_NODE}
-use Rattle.lt_script.specs.Script.{IsScript, IsFamilyOfNext, HasTargets, load_of}
+use Rattle.std.specs.Str.{bytes_eq}
+use Rattle.lt_script.specs.Names.{is_name}
+use Rattle.lt_script.specs.Script.{IsScript, IsFamilyOfNext, HasTargets, load_of, is_declared}
+use Rattle.lt_script.proofs.NameLemmas.{found_stays, found_last, found_never, is_new, same_name, set_not_client}
 
 get_front : {X : Type 0} → (xs : List X) (y : X) (k : ℕ) → k < length xs → slice_get (xs ++ y ∷ []) k ≡ slice_get xs k
 get_front [] y k inside = absurd (omega arith)
@@ -17,6 +20,19 @@ get_front (x ∷ xs) y (suc k) inside = get_front xs y k (omega arith)
 get_last : {X : Type 0} → (xs : List X) (y : X) → slice_get (xs ++ y ∷ []) (length xs) ≡ Some y
 get_last [] y = refl
 get_last (x ∷ xs) y = get_last xs y
+
+-- the names of earlier sets stay
+set_name_front : (sets : List SetData) (x : SetData) (set : ℕ) → set < length sets → name_of_set (slice_get (sets ++ x ∷ []) set) ≡ name_of_set (slice_get sets set)
+set_name_front sets x set inside = ap name_of_set (get_front sets x set inside)
+
+set_name_last : (sets : List SetData) (x : SetData) (set : ℕ) → set ≡ length sets → name_of_set (slice_get (sets ++ x ∷ []) set) ≡ x.name
+set_name_last sets x set e = ap (λ k. name_of_set (slice_get (sets ++ x ∷ []) k)) e ∙ ap name_of_set (get_last sets x)
+
+client_name_front : (clients : List ClientData) (x : ClientData) (client : ℕ) → client < length clients → name_of_client (slice_get (clients ++ x ∷ []) client) ≡ name_of_client (slice_get clients client)
+client_name_front clients x client inside = ap name_of_client (get_front clients x client inside)
+
+client_name_last : (clients : List ClientData) (x : ClientData) (client : ℕ) → client ≡ length clients → name_of_client (slice_get (clients ++ x ∷ []) client) ≡ x.name
+client_name_last clients x client e = ap (λ k. name_of_client (slice_get (clients ++ x ∷ []) k)) e ∙ ap name_of_client (get_last clients x)
 
 -- the families of earlier sets stay, and the last set has its own
 family_front : (sets : List SetData) (x : SetData) (set : ℕ) → set < length sets → family_at (sets ++ x ∷ []) set ≡ family_at sets set
@@ -58,14 +74,27 @@ more_clients sets clients x client (DropAll other set) inside h =
 family_not_later : (sets : List SetData) (family : ℕ) → IsFamilyOfNext sets family → family ≤ length sets
 family_not_later sets family h = elim h [ inl own ↦ omega arith | inr earlier ↦ omega arith ]
 
-pub set_added : (s : ScriptData) (x : SetData) → IsScript s → length s.sets < MAX_SETS → IsFamilyOfNext s.sets x.family
+pub set_added : (s : ScriptData) (x : SetData) → IsScript s → is_name x.name ≡ true → is_declared s x.name ≡ false → length s.sets < MAX_SETS → IsFamilyOfNext s.sets x.family
     → IsScript (record s { sets = s.sets ++ x ∷ [] })
-set_added s x good room fits =
+set_added s x good named undeclared room fits =
     let sets : List SetData = s.sets ++ x ∷ [] in
+    let new = is_new s x.name undeclared in
     record {
       some_node = good.some_node;
       few_nodes = good.few_nodes;
       few_sets = omega (arith, length_push s.sets x);
+      sets_named = λ set inside. elim (numbers_push s.sets x set inside) [
+        | inl below ↦ rw (set_name_front s.sets x set below) (good.sets_named set below)
+        | inr last ↦ rw (set_name_last s.sets x set last) named
+      ];
+      sets_found = λ set inside. elim (numbers_push s.sets x set inside) [
+        | inl below ↦
+            rw (set_name_front s.sets x set below)
+              (found_stays (λ (y : SetData). bytes_eq y.name (name_of_set (slice_get s.sets set))) s.sets (x ∷ []) set (good.sets_found set below))
+        | inr last ↦
+            rw (set_name_last s.sets x set last)
+              (found_last (λ (y : SetData). bytes_eq y.name x.name) s.sets x new.no_set (same_name x.name) ∙ ap Some (sym last))
+      ];
       families_not_later = λ set inside. elim (numbers_push s.sets x set inside) [
         | inl below ↦ rw (family_front s.sets x set below) (good.families_not_later set below)
         | inr last ↦ rw (family_last s.sets x set last) (omega (arith, last, family_not_later s.sets x.family fits))
@@ -80,6 +109,11 @@ set_added s x good room fits =
             ap (family_at sets) (family_last s.sets x set last) ∙ first_of_last s.sets x fits ∙ sym (family_last s.sets x set last)
       ];
       few_clients = good.few_clients;
+      clients_named = good.clients_named;
+      clients_found = good.clients_found;
+      clients_no_sets = λ client inside.
+        found_never (λ (y : SetData). bytes_eq y.name (name_of_client (slice_get s.clients client))) s.sets x (good.clients_no_sets client inside)
+          (set_not_client s x.name client inside new.no_client);
       homes = good.homes;
       loads = good.loads;
       few_commands = good.few_commands;
@@ -98,15 +132,35 @@ set_added s x good room fits =
 load_push : (clients : List ClientData) (x : ClientData) (node : ℕ) → load_of (clients ++ x ∷ []) node ≡ load_of clients node + cond (x.node == node) 1 0
 load_push clients x node = omega (arith, sum_by-append (λ (y : ClientData). cond (y.node == node) 1 0) clients (x ∷ []))
 
-pub client_added : (s : ScriptData) (x : ClientData) → IsScript s → length s.clients < MAX_CLIENTS → x.node < s.nodes → load_of s.clients x.node < MAX_CLIENTS_OF_NODE
+pub client_added : (s : ScriptData) (x : ClientData) → IsScript s → is_name x.name ≡ true → is_declared s x.name ≡ false → length s.clients < MAX_CLIENTS → x.node < s.nodes → load_of s.clients x.node < MAX_CLIENTS_OF_NODE
     → IsScript (record s { clients = s.clients ++ x ∷ [] })
-client_added s x good room on_node load = record {
+client_added s x good named undeclared room on_node load =
+  let new = is_new s x.name undeclared in
+  record {
   some_node = good.some_node;
   few_nodes = good.few_nodes;
   few_sets = good.few_sets;
+  sets_named = good.sets_named;
+  sets_found = good.sets_found;
   families_not_later = good.families_not_later;
   families_first = good.families_first;
   few_clients = omega (arith, length_push s.clients x);
+  clients_named = λ client inside. elim (numbers_push s.clients x client inside) [
+    | inl below ↦ rw (client_name_front s.clients x client below) (good.clients_named client below)
+    | inr last ↦ rw (client_name_last s.clients x client last) named
+  ];
+  clients_found = λ client inside. elim (numbers_push s.clients x client inside) [
+    | inl below ↦
+        rw (client_name_front s.clients x client below)
+          (found_stays (λ (y : ClientData). bytes_eq y.name (name_of_client (slice_get s.clients client))) s.clients (x ∷ []) client (good.clients_found client below))
+    | inr last ↦
+        rw (client_name_last s.clients x client last)
+          (found_last (λ (y : ClientData). bytes_eq y.name x.name) s.clients x new.no_client (same_name x.name) ∙ ap Some (sym last))
+  ];
+  clients_no_sets = λ client inside. elim (numbers_push s.clients x client inside) [
+    | inl below ↦ rw (client_name_front s.clients x client below) (good.clients_no_sets client below)
+    | inr last ↦ rw (client_name_last s.clients x client last) new.no_set
+  ];
   homes = λ client inside. elim (numbers_push s.clients x client inside) [
     | inl below ↦ rw (home_front s.clients x client below) (good.homes client below)
     | inr last ↦ rw (home_last s.clients x client last) on_node

@@ -1,4 +1,6 @@
 pub mod Fault
+pub mod Names
 pub mod Script
-pub mod Text
-pub mod Simple
+pub mod Forms
+pub mod Faults
+pub mod Reading

@@ -1,10 +1,11 @@
 -- What a script says of its sets, clients and commands by their numbers, and when plain data is a script.
-use Rattle.std.specs.Prelude.{◌≡◌, ℕ, ◌<◌, ◌≤◌, ◌==◌, ◌⊎◌, List, [], length, Option, Some, None, slice_get, position, count_by}
+use Rattle.std.specs.Prelude.{◌≡◌, ℕ, ◌<◌, ◌≤◌, ◌==◌, ◌⊎◌, Bool, true, ◌||◌, is_some, List, [], length, Option, Some, None, slice_get, position, count_by}
 use Rattle.std.specs.List.{All}
 use Rattle.std.specs.Str.{bytes_eq}
 use Rattle.lt_modes.specs.declared.command.Command.{Command}
 use Rattle.lt_modes.specs.declared.command.Command.TheVariants.{Lock, Try, Unlock, Change, DropAll}
-use Rattle.lt_modes.specs.Script.{ScriptData, SetData, ClientData, family_at, home_at}
+use Rattle.lt_modes.specs.Script.{ScriptData, SetData, ClientData, set_name, client_name, family_at, home_at}
+use Rattle.lt_script.specs.Names.{is_name}
 use Rattle.lt_script.specs.declared.limits.TheConstants.{MAX_NODES, MAX_SETS, MAX_CLIENTS, MAX_CLIENTS_OF_NODE, MAX_COMMANDS}
 
 -- how many of the clients are on the node
@@ -18,6 +19,10 @@ set_number s name = position (λ (x : SetData). bytes_eq x.name name) s.sets
 -- the number of the client with this name
 abbrev pub client_number : ScriptData → List ℕ → Option ℕ
 client_number s name = position (λ (x : ClientData). bytes_eq x.name name) s.clients
+
+-- a set or a client of the script has this name
+abbrev pub is_declared : ScriptData → List ℕ → Bool
+is_declared s name = is_some (set_number s name) || is_some (client_number s name)
 
 -- a further set may be in this family: in one of its own, or in that of an earlier set, by the number of the family's first set
 abbrev pub IsFamilyOfNext : List SetData → ℕ → Type 0
@@ -36,14 +41,20 @@ HasTargets sets clients client (DropAll other set) =
 abbrev pub IsRequest : List SetData → List ClientData → ℕ × Command → Type 0
 IsRequest sets clients request = (request.0 < length clients) × HasTargets sets clients request.0 request.1
 
--- the data keeps the limits of a script, and its numbers are those of its nodes, sets and clients
+-- the data is a script: it keeps the limits, its names are names and all apart, so that each is found at its number,
+-- and its numbers are those of its nodes, sets and clients
 pub record IsScript (s : ScriptData) : Type 0 where
   pub some_node : 0 < s.nodes
   pub few_nodes : s.nodes ≤ MAX_NODES
   pub few_sets : length s.sets ≤ MAX_SETS
+  pub sets_named : (set : ℕ) → set < length s.sets → is_name (set_name s set) ≡ true
+  pub sets_found : (set : ℕ) → set < length s.sets → set_number s (set_name s set) ≡ Some set
   pub families_not_later : (set : ℕ) → set < length s.sets → family_at s.sets set ≤ set
   pub families_first : (set : ℕ) → set < length s.sets → family_at s.sets (family_at s.sets set) ≡ family_at s.sets set
   pub few_clients : length s.clients ≤ MAX_CLIENTS
+  pub clients_named : (client : ℕ) → client < length s.clients → is_name (client_name s client) ≡ true
+  pub clients_found : (client : ℕ) → client < length s.clients → client_number s (client_name s client) ≡ Some client
+  pub clients_no_sets : (client : ℕ) → client < length s.clients → set_number s (client_name s client) ≡ None
   pub homes : (client : ℕ) → client < length s.clients → home_at s.clients client < s.nodes
   pub loads : (node : ℕ) → load_of s.clients node ≤ MAX_CLIENTS_OF_NODE
   pub few_commands : length s.commands ≤ MAX_COMMANDS

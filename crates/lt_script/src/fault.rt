@@ -58,3 +58,12 @@ pub struct ScriptFault {
     pub line: u32,
     pub fault: Fault,
 }
+
+/// Why a script is not read.
+#[derive(Clone, Copy, Debug, PartialEq, Eq, Error)]
+pub enum ReadError {
+    #[error("no memory")]
+    Memory,
+    #[error(transparent)]
+    Fault(#[from] ScriptFault),
+}

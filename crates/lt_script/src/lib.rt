@@ -3,14 +3,17 @@
 
 mod declarations;
 mod fault;
+mod form;
 mod limits;
+mod line;
+mod name;
+mod reading;
 mod script;
-mod simple;
 #[cfg(test)]
 mod tests;
-mod text;
 
-pub use fault::{Fault, ScriptFault};
-pub use limits::{MAX_CLIENTS, MAX_CLIENTS_OF_NODE, MAX_COMMANDS, MAX_NAME, MAX_NODES, MAX_SETS};
+pub use fault::{Fault, ReadError, ScriptFault};
+pub use limits::{MAX_CLIENTS, MAX_CLIENTS_OF_NODE, MAX_COMMANDS, MAX_LINE, MAX_NAME, MAX_NODES, MAX_SETS};
+pub use reading::read;
 pub use script::Script;
-pub use simple::read;
+

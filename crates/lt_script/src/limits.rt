@@ -15,3 +15,6 @@ pub const MAX_COMMANDS: u32 = 4096;
 
 /// The most bytes of a name.
 pub const MAX_NAME: usize = 32;
+
+/// The most bytes of a line that isn't skipped, without its line end.
+pub const MAX_LINE: usize = 200;

@@ -1,7 +1,8 @@
-ghost use Rattle.std.specs.Prelude.{◌≡◌, ◌<◌, ◌≤◌, ◌++◌, ◌∷◌, [], length, slice_get, position, IfOk, OnOk, OnErr, IfSome};
+ghost use Rattle.std.specs.Prelude.{◌≡◌, ◌<◌, ◌≤◌, ◌++◌, ◌∷◌, [], true, false, length, slice_get, position, IfOk, OnOk, OnErr, IfSome};
 ghost use Rattle.std.specs.Str.{bytes_eq};
 ghost use Rattle.lt_modes.specs.Script.{SetData, ClientData, set_name, family_at, client_name, home_at};
-ghost use Rattle.lt_script.specs.Script.{IsScript, IsFamilyOfNext, IsRequest, load_of, set_number, client_number};
+ghost use Rattle.lt_script.specs.Names.{is_name};
+ghost use Rattle.lt_script.specs.Script.{IsScript, IsFamilyOfNext, IsRequest, load_of, set_number, client_number, is_declared};
 ghost use Rattle.lt_script.specs.declared.limits.TheConstants.{MAX_NODES, MAX_SETS, MAX_CLIENTS, MAX_CLIENTS_OF_NODE, MAX_COMMANDS};
 
 use crate::declarations::{ClientDecl, SetDecl};
@@ -23,7 +24,8 @@ pub struct Script {
 
 impl Model for Script {
     ghost use Rattle.lt_modes.specs.Script.{ScriptData};
-    ghost use Rattle.lt_script.specs.Script.{IsScript};
+    ghost use Rattle.lt_script.specs.Names.{is_name};
+ghost use Rattle.lt_script.specs.Script.{IsScript};
 
     ghost Value = { ScriptData };
 
@@ -98,7 +100,9 @@ impl Script {
     /// The number of the first set of the set's family.
     pub fn family(&self, set: u8) -> u8
         requires { set < length self.now.sets }
-        ensures { result ≡ family_at self.now.sets set }
+        ensures family { result ≡ family_at self.now.sets set }
+        ensures earlier { result ≤ set }
+        ensures first { family_at self.now.sets result ≡ result }
     {
         self.sets[usize::from(set)].family()
     }
@@ -156,8 +160,24 @@ impl Script {
         Some(place as u16)
     }
 
+    /// Whether a set or a client has this name.
+    pub fn is_declared(&self, name: &[u8]) -> bool
+        ensures { result ≡ is_declared self.now name.now }
+    {
+        self.set_number(name).is_some() || self.client_number(name).is_some()
+    }
+
+    /// The number of clients on the node.
+    pub fn load(&self, node: u8) -> u16
+        ensures { result ≡ load_of self.now.clients node }
+    {
+        load_of(&self.clients, node) as u16
+    }
+
     /// Adds a last set. Its family is its own number, or that of the first set of an earlier family.
     pub fn add_set(&mut self, name: &[u8], family: u8) -> Result<(), AllocError>
+        requires name { is_name name.now ≡ true }
+        requires new { is_declared self.old name.now ≡ false }
         requires room { length self.old.sets < MAX_SETS }
         requires family { IsFamilyOfNext self.old.sets family }
         ensures added { OnOk result (self.new ≡ record self.old {
@@ -172,6 +192,8 @@ impl Script {
 
     /// Adds a last client.
     pub fn add_client(&mut self, name: &[u8], node: u8) -> Result<(), AllocError>
+        requires name { is_name name.now ≡ true }
+        requires new { is_declared self.old name.now ≡ false }
         requires room { length self.old.clients < MAX_CLIENTS }
         requires node { node < self.old.nodes }
         requires load { load_of self.old.clients node < MAX_CLIENTS_OF_NODE }
@@ -196,6 +218,13 @@ impl Script {
         self.commands.push((client, command))?;
         Ok(())
     }
+}
+
+// How many of the clients are on the node.
+fn load_of(clients: &[ClientDecl], node: u8) -> usize
+    ensures { result ≡ load_of clients.now node }
+{
+    clients.iter().filter(|client| client.node() == node).count()
 }
 
 // The place of the first set with this name.

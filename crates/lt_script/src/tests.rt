@@ -1,75 +1,76 @@
-use crate::{Script, read};
+use crate::{MAX_CLIENTS, ReadError, Script, read};
 use lt_modes::{Command, Mode};
+use lt_text::push_number;
+use std::alloc::{AllocError, Global};
 use std::test::Fail;
 
-#[test]
-fn reads_a_simple_script(rt: HostRuntime) -> Result<(), Fail> {
-    let text =
-        "nodes 1\nset s\nclient a at 0\nclient b.2 at 0\nb.2 lock s intention_read\na unlock s write\n";
-    let script = read(rt.alloc(), text.as_bytes())?.ok_or("refused")?;
-    assert_eq!(rt; script.nodes(), 1);
-    assert_eq!(rt; script.sets(), 1);
-    assert_eq!(rt; script.clients(), 2);
-    assert_eq!(rt; script.commands(), 2);
-    assert_eq!(rt; script.family(0), 0);
-    assert!(rt; script.client_name(1) == "b.2".as_bytes());
-    assert_eq!(rt; script.home(1), 0);
-    let lock = Command::Lock {
-        set: 0,
-        mode: Mode::IntentionRead,
-    };
-    let unlock = Command::Unlock {
-        set: 0,
-        mode: Mode::Write,
-    };
-    assert_eq!(rt; script.command(0), (1, lock));
-    assert_eq!(rt; script.command(1), (0, unlock));
-    Ok(())
-}
-
-#[test]
-fn makes_a_script(rt: HostRuntime) -> Result<(), Fail> {
-    let mut script = Script::new(rt.alloc(), 2)?;
-    script.add_set("first".as_bytes(), 0)?;
-    script.add_set("second".as_bytes(), 0)?;
-    script.add_client("a".as_bytes(), 1)?;
-    script.add_command(
-        0,
-        Command::Try {
-            set: 1,
-            mode: Mode::Read,
-        },
-    )?;
-    assert!(rt; script.set_name(1) == "second".as_bytes());
-    assert_eq!(rt; script.family(1), 0);
-    assert_eq!(rt; script.set_number("second".as_bytes()), Some(1));
-    assert_eq!(rt; script.client_number("a".as_bytes()), Some(0));
-    assert_eq!(rt; script.home(0), 1);
-    assert_eq!(rt; script.requests().len(), 1);
-    Ok(())
-}
-
-#[test]
-fn reads_no_other_form(rt: HostRuntime) -> Result<(), Fail> {
-    let texts = [
-        "",
-        "nodes 1\nset s",
-        "nodes 2\nset s\n",
-        "nodes  1\nset s\n",
-        "nodes 1\nset s \n",
-        "nodes 1\r\nset s\r\n",
-        "nodes 1\nset 2s\n",
-        "nodes 1\nset s\n\n",
-        "nodes 1\nset version\n",
-        "nodes 1\nset s\nclient s at 0\n",
-        "nodes 1\nset s\nclient a at 1\n",
-        "nodes 1\nset s\nclient a at 0\nb lock s read\n",
-        "nodes 1\nset s\nclient a at 0\na lock s reed\n",
-        "nodes 1\nset s\nclient a at 0\na lock s read\nclient b at 0\n",
-        "nodes 1\nset abcdefghijklmnopqrstuvwxyz.123456\n",
-    ];
-    for text in texts {
-        assert!(rt; read(rt.alloc(), text.as_bytes())?.is_none(), "{text}");
+// The line of a text's first fault and the fault's number, or (0, 0) of a script.
+fn first_fault(alloc: Global, text: &[u8]) -> Result<(u32, u8), Fail> {
+    if text.len() > 65536 {
+        return Err(Fail::from("a long text"));
     }
+    match read(alloc, text) {
+        Ok(_) => Ok((0, 0)),
+        Err(ReadError::Fault(first)) => Ok((first.line, first.fault.number())),
+        Err(ReadError::Memory) => Err(Fail::from("no memory")),
+    }
+}
+
+#[test]
+fn tells_the_first_fault(rt: HostRuntime) -> Result<(), Fail> {
+    let rows = [
+        ("", (1, 5)),
+        ("\n# nothing\n\t\r\n", (4, 5)),
+        ("nodes 2\nset s\nclient a at 0\nclient b at 1\na drop b s\n", (5, 11)),
+        ("nodes 1\r\nset s", (0, 0)),
+        ("nodes 0\n", (1, 4)),
+        ("nodes 17\n", (1, 9)),
+        ("set s\n", (1, 5)),
+        ("nodes 1\nnodes 1\n", (2, 5)),
+        ("nodes 1\nset 9s\n", (2, 6)),
+        ("nodes 1\nset s\nclient s at 0\n", (3, 7)),
+        ("nodes 1\nclient a at 1\n", (2, 4)),
+        ("nodes 1\nset s\na lock s read\n", (3, 8)),
+        ("nodes 1\nset s\nclient a at 0\na lock s reed\n", (4, 10)),
+        ("nodes 1\nset s\nclient a at 0\na grab s read\n", (4, 3)),
+        ("nodes 1\nset s\u{1}\n", (2, 1)),
+        ("# \u{1}\r?\nnodes 1\n", (0, 0)),
+    ];
+    for (text, expected) in rows {
+        let found = first_fault(rt.alloc(), text.as_bytes())?;
+        assert!(rt; found == expected, "{text}");
+    }
+    Ok(())
+}
+
+// The line `nodes 1` and spaces.
+fn nodes_and_spaces(alloc: Global, spaces: u8) -> Result<Vec<u8>, AllocError> {
+    let mut text = Vec::from_slice(alloc, b"nodes 1")?;
+    for _ in 0..spaces {
+        text.push(b' ')?;
+    }
+    Ok(text)
+}
+
+#[test]
+fn tells_long_lines(rt: HostRuntime) -> Result<(), Fail> {
+    let longest = nodes_and_spaces(rt.alloc(), 193)?;
+    assert!(rt; first_fault(rt.alloc(), &longest)? == (0, 0));
+    let longer = nodes_and_spaces(rt.alloc(), 194)?;
+    assert!(rt; first_fault(rt.alloc(), &longer)? == (1, 2));
+    Ok(())
+}
+
+#[test]
+fn tells_one_client_too_many(rt: HostRuntime) -> Result<(), Fail> {
+    let mut text = Vec::from_slice(rt.alloc(), b"nodes 16\n")?;
+    for client in 0..=u32::from(MAX_CLIENTS) {
+        text.extend_from_slice(b"client c")?;
+        push_number(&mut text, client)?;
+        text.extend_from_slice(b" at ")?;
+        push_number(&mut text, client % 16)?;
+        text.push(b'\n')?;
+    }
+    assert!(rt; first_fault(rt.alloc(), &text)? == (66, 9));
     Ok(())
 }

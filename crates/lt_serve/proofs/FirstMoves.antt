@@ -8,7 +8,7 @@ use Rattle.lt_world.specs.OneNode.{World, start, after, after_run, world_after, 
 use Rattle.lt_world.specs.Order.{act_at}
 use Rattle.lt_world.specs.declared.choice.Choice.{Choice}
 use Rattle.lt_world.specs.Choice.{act_choice}
-use Rattle.lt_serve.specs.Serving.{IsFirstMove, AreFirstFrom}
+use Rattle.lt_alone.specs.Laws.{IsFirstMove, AreFirstFrom}
 
 AreFirstFrom-push : (script : ScriptData) (w : World) (run : List Logged) (entry : Logged)
     → AreFirstFrom script w run → IsFirstMove script (after_run script w run) entry → AreFirstFrom script w (run ++ entry ∷ [])

@@ -1,1 +1,3 @@
+mod Endings
 mod FirstMoves
+mod Told

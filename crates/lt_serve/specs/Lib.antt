@@ -1,3 +1,4 @@
-pub mod Words
-pub mod Status
+pub mod Alone
 pub mod Serving
+pub mod Status
+pub mod Words

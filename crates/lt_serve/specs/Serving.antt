@@ -1,18 +1,19 @@
 -- What each answer of the top call means.
-use Rattle.std.specs.Prelude.{◌≡◌, Bool, true, false, not, ℕ, ◌+◌, ◌⊎◌, List, [], ◌∷◌, ◌++◌, Option, Some, None, length, IsTrue}
-use Rattle.std.specs.Io.KnownBytes.{Keeps, Appends}
-use Rattle.lt_io.specs.Counts.{Counts, Rose, RoseBy}
+use Rattle.std.specs.Prelude.{◌≡◌, Bool, true, false, ℕ, ◌+◌, ◌≤◌, List, [], ◌++◌, Option, Some, None, Ok, Err, length, take}
+use Rattle.std.specs.Io.KnownBytes.{Appends}
+use Rattle.lt_io.specs.Counts.{Counts, RoseBy}
 use Rattle.lt_io.specs.Sink.{AppendsPart}
 use Rattle.lt_io.specs.declared.whole.ReadFailure.{ReadFailure}
 use Rattle.lt_io.specs.declared.whole.ReadFailure.TheVariants.{Memory, Failed, TooLong as Long}
-use Rattle.lt_modes.specs.declared.moves.Step.TheVariants.{Act}
 use Rattle.lt_modes.specs.Script.{ScriptData}
 use Rattle.lt_model.specs.Log.{Logged}
-use Rattle.lt_world.specs.OneNode.{World, start, after, world_after, logged, IsRun, is_at_rest, anyone_waits}
-use Rattle.lt_world.specs.Order.{act_at}
+use Rattle.lt_model.specs.World.{world_after, IsRun, is_at_rest, anyone_waits}
+use Rattle.lt_model.specs.Order.{first_run}
+use Rattle.lt_model.specs.Facts.{token_count}
 use Rattle.lt_model.specs.Text.{text_of}
-use Rattle.lt_script.specs.Simple.{simple_script}
-use Rattle.lt_world.specs.Standing.{WorldData, is_lone, full_node}
+use Rattle.lt_script.specs.declared.fault.ScriptFault.{ScriptFault}
+use Rattle.lt_script.specs.Reading.{read_of}
+use Rattle.lt_world.specs.Standing.{is_lone}
 use Rattle.lt_world.specs.declared.limits.TheConstants.{MAX_MOVES}
 use Rattle.lt_serve.specs.declared.limits.TheConstants.{MAX_INPUT}
 use Rattle.lt_serve.specs.declared.status.Status.{Status}
@@ -21,29 +22,23 @@ use Rattle.lt_serve.specs.declared.status.Status.TheVariants.{Done, Stuck, Usage
 -- where the bytes are told, they denote this script
 abbrev pub Denotes : Option (List ℕ) → ScriptData → Type 0
 Denotes None script = Unit {0}
-Denotes (Some bytes) script = simple_script bytes ≡ Some script
+Denotes (Some bytes) script = read_of bytes ≡ Ok script
 
--- where the bytes are told, they denote no script, or one that isn't of one node and one set with locks and unlocks alone
-abbrev pub DenotesUnbuilt : Option (List ℕ) → Type 0
-DenotesUnbuilt None = Unit {0}
-DenotesUnbuilt (Some bytes) =
-    (simple_script bytes ≡ None) ⊎ ((script : ScriptData) × (simple_script bytes ≡ Some script) × (is_lone script ≡ false))
+-- where the bytes are told, this is their first fault
+abbrev pub HasFault : Option (List ℕ) → ScriptFault → Type 0
+HasFault None fault = Unit {0}
+HasFault (Some bytes) fault = read_of bytes ≡ Err fault
 
--- the entry is the first of the enabled moves
-abbrev pub IsFirstMove : ScriptData → World → Logged → Type 0
-IsFirstMove script w entry =
-    (client : ℕ) × (act_at script w 0 ≡ Some client) × (entry ≡ logged script w 0 (Act client))
+-- where the bytes are told, they denote a script that isn't of one node and one set with locks and unlocks alone
+abbrev pub DenotesOther : Option (List ℕ) → Type 0
+DenotesOther None = Unit {0}
+DenotesOther (Some bytes) = (script : ScriptData) × (read_of bytes ≡ Ok script) × (is_lone script ≡ false)
 
--- each entry is the first of the moves that are enabled in its turn, from world w on
-abbrev pub AreFirstFrom : ScriptData → World → List Logged → Type 0
-AreFirstFrom script w [] = Unit {0}
-AreFirstFrom script w (entry ∷ rest) =
-    IsFirstMove script w entry × AreFirstFrom script (after script w entry.made.stamp.node entry.made.step) rest
-
--- the run is one of the script, in the fixed order
-pub record IsFirstRun (script : ScriptData) (run : List Logged) : Type 0 where
-  pub is_run : IsRun script run
-  pub in_order : AreFirstFrom script start run
+-- the node has made as many moves as it may, and a further one is enabled
+pub record IsCutAt (node : ℕ) (script : ScriptData) (run : List Logged) : Type 0 where
+  pub node_is : node ≡ 0
+  pub moves : length run ≡ MAX_MOVES
+  pub going : is_at_rest script (world_after script run) ≡ false
 
 -- the run ended as this status says: at rest with nobody waiting, at rest with somebody waiting, or at a node's limit of moves
 abbrev pub EndsAs : Status → ScriptData → List Logged → Type 0
@@ -51,7 +46,7 @@ EndsAs Done script run =
     (is_at_rest script (world_after script run) ≡ true) × (anyone_waits script (world_after script run) ≡ false)
 EndsAs Stuck script run =
     (is_at_rest script (world_after script run) ≡ true) × (anyone_waits script (world_after script run) ≡ true)
-EndsAs (Cut node) script run = full_node script MAX_MOVES run ≡ Some node
+EndsAs (Cut node) script run = IsCutAt node script run
 EndsAs other script run = ⊥
 
 -- the node at which the run was cut
@@ -59,10 +54,13 @@ abbrev pub cut_of : Status → Option ℕ
 cut_of (Cut node) = Some node
 cut_of other = None
 
--- a run of the script in the fixed order, which ended so
+-- a run of the script by all rules, each move of which is the first enabled one; it ended so,
+-- and there was one token of each set at any time
 pub record RanTo (ending : Status) (script : ScriptData) (run : List Logged) : Type 0 where
-  pub first : IsFirstRun script run
+  pub is_run : IsRun script run
+  pub in_order : run ≡ first_run script (length run)
   pub ends : EndsAs ending script run
+  pub one_token : (k s : ℕ) → token_count script (world_after script (take k run)) s ≡ 1
 
 -- the run of the script that ended so, and its whole journal appended
 pub record TellsAll (ending : Status) (script : ScriptData) (run : List Logged) (old new : Option (List ℕ)) : Type 0 where
@@ -91,45 +89,46 @@ TellsOf other script run old new = ⊥
 abbrev pub OfScript : Status → Option (List ℕ) → List Logged → Option (List ℕ) → Option (List ℕ) → Type 0
 OfScript status left run old new = (script : ScriptData) × Denotes left script × TellsOf status script run old new
 
--- what the status says of the run, and of what the sink held before and after; three answers never come yet
+-- what the status says of the run, and of what the sink held before and after; one answer never comes yet
 abbrev pub Tells : Status → Option (List ℕ) → List Logged → Option (List ℕ) → Option (List ℕ) → Type 0
 Tells Done left run old new = OfScript Done left run old new
 Tells Stuck left run old new = OfScript Stuck left run old new
 Tells (Cut node) left run old new = OfScript (Cut node) left run old new
 Tells WriteFault left run old new = OfScript WriteFault left run old new
 Tells Usage left run old new = TellsNothing run old new
+Tells (Refused fault) left run old new = TellsNothing run old new
+Tells TooLong left run old new = TellsNothing run old new
 Tells ReadFault left run old new = TellsNothing run old new
 Tells NoMemory left run old new = TellsNothing run old new
 Tells NotBuilt left run old new = TellsNothing run old new
-Tells (Refused fault) left run old new = ⊥
-Tells TooLong left run old new = ⊥
 Tells (BadJournal line) left run old new = ⊥
 
--- a run was made
-abbrev pub MadeRun : Status → Type 0
-MadeRun Done = Unit {0}
-MadeRun Stuck = Unit {0}
-MadeRun (Cut node) = Unit {0}
-MadeRun WriteFault = Unit {0}
-MadeRun other = ⊥
+-- the status tells what the bytes are or what came of them
+abbrev pub HasRead : Status → Type 0
+HasRead Done = Unit {0}
+HasRead Stuck = Unit {0}
+HasRead (Cut node) = Unit {0}
+HasRead WriteFault = Unit {0}
+HasRead (Refused fault) = Unit {0}
+HasRead NotBuilt = Unit {0}
+HasRead other = ⊥
 
--- the source gave more bytes than a script may have, or it came to its end and its bytes denote no script that can be run
-abbrev pub IsNotBuilt : Option (List ℕ) → ℕ → ℕ → ℕ → ℕ → Type 0
-IsNotBuilt left given given' ends ends' = RoseBy (MAX_INPUT + 1) given given' ⊎ (Counts 1 ends ends' × DenotesUnbuilt left)
+-- the source came to its end, and gave no more bytes than a script may have
+pub record IsWhole (given given' ends ends' : ℕ) : Type 0 where
+  pub ended : Counts 1 ends ends'
+  pub few : (count : ℕ) × (count ≤ MAX_INPUT) × Counts count given given'
 
 -- the answers of reading alone
 abbrev pub IsReadAnswer : Status → Type 0
+IsReadAnswer (Refused fault) = Unit {0}
+IsReadAnswer TooLong = Unit {0}
 IsReadAnswer ReadFault = Unit {0}
 IsReadAnswer NoMemory = Unit {0}
 IsReadAnswer NotBuilt = Unit {0}
 IsReadAnswer other = ⊥
 
--- no further move is made: none is enabled, or the node has made as many as it may
-abbrev pub IsOver : WorldData → Type 0
-IsOver world = (is_at_rest world.script (world_after world.script world.run) ≡ true) ⊎ (length world.run ≡ world.limit)
-
 -- why a source could not be read, as a status
 abbrev pub status_of : ReadFailure → Status
 status_of Memory = NoMemory
 status_of Failed = ReadFault
-status_of Long = NotBuilt
+status_of Long = TooLong

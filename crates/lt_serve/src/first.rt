@@ -1,22 +1,31 @@
-ghost use Rattle.std.specs.Prelude.{◌≡◌, ◌<◌, ◌⊎◌, [], length, true, IsTrue, IfOk, OnOk};
-ghost use Rattle.lt_world.specs.OneNode.{world_after, is_at_rest, start};
+ghost use Rattle.std.specs.Prelude.{◌≡◌, [], IsTrue, IfOk, OnOk};
+ghost use Rattle.lt_alone.specs.Laws.{AreFirstFrom};
+ghost use Rattle.lt_script.specs.Script.{IsScript};
+ghost use Rattle.lt_world.specs.OneNode.{start};
 ghost use Rattle.lt_world.specs.Standing.{is_lone};
 ghost use Rattle.lt_world.specs.declared.limits.TheConstants.{MAX_MOVES};
-ghost use Rattle.lt_serve.specs.Serving.{AreFirstFrom, IsFirstRun, EndsAs, IsOver};
+ghost use Rattle.lt_serve.specs.Alone.{IsOver, EndsAlone};
+ghost use Rattle.lt_serve.specs.Serving.{RanTo};
 
-use crate::status::Status;
+use std::alloc::{AllocError, Global};
+
+use lt_alone::law_alone;
 use lt_merge::Run;
+use lt_model::law_one_token;
 use lt_script::Script;
 use lt_world::{MAX_MOVES, World};
-use std::alloc::{AllocError, Global};
+
+use crate::status::Status;
 
 /// Makes the moves of a script in their fixed order, until the world is at rest or the node has made as many as
 /// it may.
 pub(crate) fn first_run(alloc: Global, script: &Script) -> Result<(Status, Run), AllocError>
-    requires { IsTrue (is_lone script.now) }
-    ensures first { IfOk result (λ made. IsFirstRun script.now made.1.entries) }
-    ensures ends { IfOk result (λ made. EndsAs made.0 script.now made.1.entries) }
+    requires lone { IsTrue (is_lone script.now) }
+    requires kept { IsScript script.now }
+    ensures { IfOk result (λ made. RanTo made.0 script.now made.1.entries) }
 {
+    law_alone();
+    law_one_token();
     let mut world = World::new(alloc, script, MAX_MOVES)?;
     make_moves(&mut world)?;
     let status = ending(&world);
@@ -43,7 +52,7 @@ fn make_moves(world: &mut World<'_>) -> Result<(), AllocError>
 fn ending(world: &World<'_>) -> Status
     requires over { IsOver world.now }
     requires limit { world.now.limit ≡ MAX_MOVES }
-    ensures { EndsAs result world.now.script world.now.run }
+    ensures { EndsAlone result world.now.script world.now.run }
 {
     if let Some(node) = world.full() {
         return Status::Cut { node };

@@ -1,33 +1,44 @@
-ghost use Rattle.std.specs.Prelude.{◌≡◌, IsTrue, IfOk, OnOk, IfErr};
-ghost use Rattle.lt_io.specs.Counts.{Counts, Rose};
+ghost use Rattle.std.specs.Prelude.{◌≡◌, ◌+◌, IsTrue, IfOk, OnOk, IfErr};
+ghost use Rattle.lt_io.specs.Counts.{Rose, RoseBy};
+ghost use Rattle.lt_modes.specs.Script.{ScriptData};
+ghost use Rattle.lt_script.specs.declared.fault.ScriptFault.{ScriptFault as AnyFault};
+ghost use Rattle.lt_script.specs.Script.{IsScript};
 ghost use Rattle.lt_world.specs.Standing.{is_lone};
+ghost use Rattle.lt_serve.specs.declared.limits.TheConstants.{MAX_INPUT};
 ghost use Rattle.lt_serve.specs.declared.status.Status.TheVariants as status;
-ghost use Rattle.lt_serve.specs.Serving.{Denotes, IsNotBuilt, IsReadAnswer, status_of};
+ghost use Rattle.lt_serve.specs.Serving.{Denotes, HasFault, DenotesOther, HasRead, IsWhole, IsReadAnswer, status_of};
+
+use std::alloc::Global;
+
+use lt_io::{ReadFailure, Source, read_all};
+use lt_script::{ReadError, Script, read};
+use lt_world::is_lone;
 
 use crate::limits::MAX_INPUT;
 use crate::status::Status;
-use lt_io::{ReadFailure, Source, read_all};
-use lt_script::{Script, read};
-use lt_world::is_lone;
-use std::alloc::Global;
 
 /// Reads the source to its end, and the script that its bytes denote.
 pub(crate) fn read_script<S: Source>(alloc: Global, source: &mut S) -> Result<Script, Status>
     ensures script { IfOk result (Denotes (S.left source.old)) }
     ensures lone { IfOk result (λ script. IsTrue (is_lone script)) }
-    ensures ended { OnOk result (Counts 1 (S.ends source.old) (S.ends source.new)) }
+    ensures kept { IfOk result IsScript }
+    ensures whole { OnOk result (IsWhole (S.given source.old) (S.given source.new) (S.ends source.old) (S.ends source.new)) }
+    ensures whole_too { IfErr result (λ answer. HasRead answer → IsWhole (S.given source.old) (S.given source.new) (S.ends source.old) (S.ends source.new)) }
     ensures answer { IfErr result IsReadAnswer }
     ensures read_fault { IfErr result (λ answer. answer ≡ status.ReadFault → Rose (S.faults source.old) (S.faults source.new)) }
-    ensures not_built { IfErr result (λ answer. answer ≡ status.NotBuilt → IsNotBuilt (S.left source.old) (S.given source.old) (S.given source.new) (S.ends source.old) (S.ends source.new)) }
+    ensures too_long { IfErr result (λ answer. answer ≡ status.TooLong → RoseBy (MAX_INPUT + 1) (S.given source.old) (S.given source.new)) }
+    ensures refused { IfErr result (λ answer. (fault : AnyFault) → answer ≡ status.Refused fault → HasFault (S.left source.old) fault) }
+    ensures not_built { IfErr result (λ answer. answer ≡ status.NotBuilt → DenotesOther (S.left source.old)) }
 {
     let bytes = match read_all(alloc, source, MAX_INPUT) {
         Ok(bytes) => bytes,
         Err(failure) => return Err(status_of(failure)),
     };
     match read(alloc, &bytes) {
-        Ok(Some(script)) if is_lone(&script) => Ok(script),
+        Ok(script) if is_lone(&script) => Ok(script),
         Ok(_) => Err(Status::NotBuilt),
-        Err(_) => Err(Status::NoMemory),
+        Err(ReadError::Fault(fault)) => Err(Status::Refused(fault)),
+        Err(ReadError::Memory) => Err(Status::NoMemory),
     }
 }
 
@@ -37,6 +48,6 @@ fn status_of(failure: ReadFailure) -> Status
     match failure {
         ReadFailure::Memory => Status::NoMemory,
         ReadFailure::Failed => Status::ReadFault,
-        ReadFailure::TooLong => Status::NotBuilt,
+        ReadFailure::TooLong => Status::TooLong,
     }
 }

@@ -1,11 +1,13 @@
-ghost use Rattle.std.specs.Prelude.{◌≡◌, ◌↔◌, false, map, []};
+ghost use Rattle.std.specs.Prelude.{◌≡◌, ◌↔◌, ◌+◌, false, map, [], IsTrue};
 ghost use Rattle.std.specs.String.{string_bytes};
-ghost use Rattle.lt_io.specs.Counts.{Counts, Rose};
+ghost use Rattle.lt_io.specs.Counts.{Rose, RoseBy};
+ghost use Rattle.lt_script.specs.declared.fault.ScriptFault.{ScriptFault as AnyFault};
+ghost use Rattle.lt_script.specs.Script.{IsScript};
+ghost use Rattle.lt_world.specs.Standing.{is_lone};
+ghost use Rattle.lt_serve.specs.declared.limits.TheConstants.{MAX_INPUT};
 ghost use Rattle.lt_serve.specs.declared.status.Status.TheVariants as status;
 ghost use Rattle.lt_serve.specs.Words.{is_command};
-ghost use Rattle.lt_serve.specs.Serving.{Tells, TellsOf, MadeRun, IsNotBuilt};
-ghost use Rattle.lt_world.specs.Standing.{is_lone};
-ghost use Rattle.std.specs.Prelude.{IsTrue};
+ghost use Rattle.lt_serve.specs.Serving.{Tells, TellsOf, HasRead, IsWhole, HasFault, DenotesOther};
 
 use crate::first::first_run;
 use crate::gate::Gate;
@@ -41,13 +43,15 @@ pub fn serve<R: Threads + Sync, S: Source, K: Sink, G: Gate>(
 ) -> Served
     // Each answer but want of memory has its cause.
     ensures usage { (result.status ≡ status.Usage) ↔ (is_command (map string_bytes words.now) ≡ false) }
-    ensures not_built { result.status ≡ status.NotBuilt → IsNotBuilt (S.left source.old) (S.given source.old) (S.given source.new) (S.ends source.old) (S.ends source.new) }
     ensures read_fault { result.status ≡ status.ReadFault → Rose (S.faults source.old) (S.faults source.new) }
+    ensures too_long { result.status ≡ status.TooLong → RoseBy (MAX_INPUT + 1) (S.given source.old) (S.given source.new) }
+    ensures refused { (fault : AnyFault) → result.status ≡ status.Refused fault → HasFault (S.left source.old) fault }
+    ensures not_built { result.status ≡ status.NotBuilt → DenotesOther (S.left source.old) }
     ensures write_fault { result.status ≡ status.WriteFault → Rose (K.faults sink.old) (K.faults sink.new) }
 
     // What the run is, how it ended, and what was written.
     ensures tells { Tells result.status (S.left source.old) result.run.entries (K.held sink.old) (K.held sink.new) }
-    ensures read_to_the_end { MadeRun result.status → Counts 1 (S.ends source.old) (S.ends source.new) }
+    ensures read_to_the_end { HasRead result.status → IsWhole (S.given source.old) (S.given source.new) (S.ends source.old) (S.ends source.new) }
     ensures unread { is_command (map string_bytes words.now) ≡ false → source.new ≡ source.old }
 {
     if !is_command(words) {
@@ -74,7 +78,8 @@ impl Served {
 
 // Makes the run and writes its journal.
 fn run_script<K: Sink>(alloc: Global, script: &Script, sink: &mut K) -> Served
-    requires { IsTrue (is_lone script.now) }
+    requires lone { IsTrue (is_lone script.now) }
+    requires kept { IsScript script.now }
     ensures tells { TellsOf result.status script.now result.run.entries (K.held sink.old) (K.held sink.new) }
     ensures cause { result.status ≡ status.WriteFault → Rose (K.faults sink.old) (K.faults sink.new) }
 {

@@ -1,5 +1,6 @@
 ghost use Rattle.std.specs.Prelude.{◌≡◌};
 ghost use Rattle.std.specs.List.{list_all};
+ghost use Rattle.lt_script.specs.Script.{IsScript};
 ghost use Rattle.lt_world.specs.Standing.{is_lone, locks_or_unlocks};
 
 use lt_modes::Command;
@@ -7,7 +8,8 @@ use lt_script::Script;
 
 /// Whether the script has one node and one set, and its clients only lock and unlock.
 pub fn is_lone(script: &Script) -> bool
-    ensures { result ≡ is_lone script.now }
+    ensures lone { result ≡ is_lone script.now }
+    ensures kept { IsScript script.now }
 {
     script.nodes() == 1 && script.sets() == 1 && all_lock_or_unlock(script)
 }

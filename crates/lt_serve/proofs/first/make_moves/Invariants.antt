@@ -1,7 +1,7 @@
 use Rattle.std.proofs.Common.{◌≡◌, ◌≤◌, ◌-◌, length}
 use Rattle.lt_world.specs.OneNode.{start}
 use Rattle.lt_world.specs.declared.limits.TheConstants.{MAX_MOVES}
-use Rattle.lt_serve.specs.Serving.{AreFirstFrom}
+use Rattle.lt_alone.specs.Laws.{AreFirstFrom}
 use Rattle.lt_serve.proofs.first.make_moves.Given as goal
 
 abbrev pub invariant-loop-world : goal.invariant-loop-world

@@ -1,0 +1,10 @@
+mod Modes
+mod Here
+mod Served
+mod Finished
+mod SetMoves
+mod Commands
+mod NodeMoves
+mod Worlds
+mod Runs
+mod Order

@@ -1,0 +1,2 @@
+pub mod LoneSet
+pub mod Laws

@@ -1,0 +1,325 @@
+ghost use Rattle.std.specs.Prelude.{◌≡◌, List, ◌∷◌};
+ghost use Rattle.lt_modes.specs.declared.mode.Mode.{Mode as AnyMode};
+ghost use Rattle.lt_model.specs.Text.{all_modes};
+ghost use Rattle.lt_modes.specs.Modes.{no_modes};
+ghost use Rattle.lt_text.specs.Text.{fields};
+ghost use Rattle.lt_journal.specs.Grammar.{read_line, line_of_two, line_of_four, line_of_five, line_of_freeze, lock_line, lock_and_line, node_of, step_of, lock_of, bool_of, says_none, modes_of, with_words, words_left};
+
+use crate::closing::MODES;
+use crate::line::Line;
+use crate::lock::Lock;
+use lt_modes::{Event, Mode, ModeSet, Step};
+use lt_script::Script;
+use lt_text::{exact_number, is, next_field};
+
+/// What the line says, which stands here without its line end.
+pub fn read_line(script: &Script, line: &[u8]) -> Line
+    ensures { result ≡ read_line script.now line.now }
+{
+    let (word, Some(rest)) = next_field(line) else {
+        return Line::Bad;
+    };
+    let (a, rest) = next_field(rest);
+    let Some(rest) = rest else {
+        return line_of_two(script, word, a);
+    };
+    let (b, Some(rest)) = next_field(rest) else {
+        return Line::Bad;
+    };
+    let (c, rest) = next_field(rest);
+    let Some(rest) = rest else {
+        return line_of_four(script, word, a, b, c);
+    };
+    if is(word, "freeze") {
+        return freeze(script, a, b, c, rest);
+    }
+    let (d, None) = next_field(rest) else {
+        return Line::Bad;
+    };
+    line_of_five(script, word, a, b, c, d)
+}
+
+// A line of two words: `end COUNT` or `cut NODE`.
+fn line_of_two(script: &Script, word: &[u8], a: &[u8]) -> Line
+    ensures { result ≡ line_of_two script.now word.now a.now }
+{
+    if is(word, "end") {
+        let Some(count) = exact_number(a) else {
+            return Line::Bad;
+        };
+        Line::End { count }
+    } else if is(word, "cut") {
+        let Some(node) = node(script, a) else {
+            return Line::Bad;
+        };
+        Line::Cut { node }
+    } else {
+        Line::Bad
+    }
+}
+
+// A line of four words.
+fn line_of_four(script: &Script, word: &[u8], a: &[u8], b: &[u8], c: &[u8]) -> Line
+    ensures { result ≡ line_of_four script.now word.now a.now b.now c.now }
+{
+    if is(word, "busy") {
+        match (
+            script.client_number(a),
+            script.client_number(b),
+            script.set_number(c),
+        ) {
+            (Some(client), Some(other), Some(set)) => {
+                Line::Event(Event::Busy { client, other, set })
+            }
+            _ => Line::Bad,
+        }
+    } else if is(word, "token") {
+        match (script.set_number(a), node(script, b), exact_number(c)) {
+            (Some(set), Some(to), Some(epoch)) => Line::Event(Event::Token {
+                set,
+                to,
+                epoch: u64::from(epoch),
+            }),
+            _ => Line::Bad,
+        }
+    } else if is(word, "owner") {
+        match (script.set_number(a), node(script, b), exact_number(c)) {
+            (Some(set), Some(node), Some(epoch)) => Line::Owner {
+                set,
+                node,
+                epoch: u64::from(epoch),
+            },
+            _ => Line::Bad,
+        }
+    } else {
+        lock_line(word, lock(script, a, b, c))
+    }
+}
+
+// A line of a word and a lock.
+fn lock_line(word: &[u8], lock: Option<Lock>) -> Line
+    ensures { result ≡ lock_line word.now lock }
+{
+    let Some(Lock { client, set, mode }) = lock else {
+        return Line::Bad;
+    };
+    if is(word, "grant") {
+        Line::Event(Event::Grant { client, set, mode })
+    } else if is(word, "wait") {
+        Line::Event(Event::Wait { client, set, mode })
+    } else if is(word, "unlock") {
+        Line::Event(Event::Unlock { client, set, mode })
+    } else if is(word, "not_held") {
+        Line::Event(Event::NotHeld { client, set, mode })
+    } else if is(word, "waiting") {
+        Line::Waiting { client, set, mode }
+    } else {
+        Line::Bad
+    }
+}
+
+// A line of five words, but for a `freeze`.
+fn line_of_five(script: &Script, word: &[u8], a: &[u8], b: &[u8], c: &[u8], d: &[u8]) -> Line
+    ensures { result ≡ line_of_five script.now word.now a.now b.now c.now d.now }
+{
+    if is(word, "move") {
+        match (exact_number(a), node(script, b), step(script, c, d)) {
+            (Some(clock), Some(node), Some(step)) => Line::Move {
+                clock: u64::from(clock),
+                node,
+                step,
+            },
+            _ => Line::Bad,
+        }
+    } else if is(word, "drop") {
+        match (
+            script.client_number(a),
+            script.client_number(b),
+            script.set_number(c),
+            exact_number(d),
+        ) {
+            (Some(client), Some(other), Some(set), Some(count)) => Line::Event(Event::DropAll {
+                client,
+                other,
+                set,
+                count,
+            }),
+            _ => Line::Bad,
+        }
+    } else if is(word, "copy") {
+        match (
+            script.set_number(a),
+            node(script, b),
+            script.client_number(c),
+            Mode::from_word(d),
+        ) {
+            (Some(set), Some(to), Some(client), Some(mode)) => Line::Event(Event::Copy {
+                set,
+                to,
+                client,
+                mode,
+            }),
+            _ => Line::Bad,
+        }
+    } else {
+        lock_and_line(word, lock(script, a, b, c), d)
+    }
+}
+
+// A line of a word, a lock, and what is said of the lock.
+fn lock_and_line(word: &[u8], lock: Option<Lock>, d: &[u8]) -> Line
+    ensures { result ≡ lock_and_line word.now lock d.now }
+{
+    let Some(Lock { client, set, mode }) = lock else {
+        return Line::Bad;
+    };
+    if is(word, "try") {
+        let Some(got) = bool_of(d) else {
+            return Line::Bad;
+        };
+        Line::Event(Event::Try {
+            client,
+            set,
+            mode,
+            got,
+        })
+    } else if is(word, "change") {
+        let Some(to) = Mode::from_word(d) else {
+            return Line::Bad;
+        };
+        Line::Event(Event::Change {
+            client,
+            set,
+            gives_up: mode,
+            mode: to,
+        })
+    } else if is(word, "held") {
+        let Some(count) = exact_number(d) else {
+            return Line::Bad;
+        };
+        Line::Held {
+            client,
+            set,
+            mode,
+            count,
+        }
+    } else {
+        Line::Bad
+    }
+}
+
+// A line `freeze SET TO NUMBER MODES`.
+fn freeze(script: &Script, a: &[u8], b: &[u8], c: &[u8], words: &[u8]) -> Line
+    ensures { result ≡ line_of_freeze script.now a.now b.now c.now (fields words.now) }
+{
+    match (
+        script.set_number(a),
+        node(script, b),
+        exact_number(c),
+        modes(words),
+    ) {
+        (Some(set), Some(to), Some(number), Some(modes)) => Line::Event(Event::Freeze {
+            set,
+            to,
+            number: u64::from(number),
+            modes,
+        }),
+        _ => Line::Bad,
+    }
+}
+
+// The node of the script that the word names.
+fn node(script: &Script, word: &[u8]) -> Option<u8>
+    ensures { result ≡ node_of script.now word.now }
+{
+    let Some(node) = exact_number(word) else {
+        return None;
+    };
+    if node < u32::from(script.nodes()) {
+        Some(node as u8)
+    } else {
+        None
+    }
+}
+
+// What a move does: `act CLIENT` or `take FROM`.
+fn step(script: &Script, verb: &[u8], word: &[u8]) -> Option<Step>
+    ensures { result ≡ step_of script.now verb.now word.now }
+{
+    if is(verb, "act") {
+        script.client_number(word).map(Step::Act)
+    } else if is(verb, "take") {
+        node(script, word).map(Step::Take)
+    } else {
+        None
+    }
+}
+
+// The lock of a client's name, a set's name and a mode's word.
+fn lock(script: &Script, client: &[u8], set: &[u8], mode: &[u8]) -> Option<Lock>
+    ensures { result ≡ lock_of script.now client.now set.now mode.now }
+{
+    match (
+        script.client_number(client),
+        script.set_number(set),
+        Mode::from_word(mode),
+    ) {
+        (Some(client), Some(set), Some(mode)) => Some(Lock { client, set, mode }),
+        _ => None,
+    }
+}
+
+// Whether a `try` got its lock.
+fn bool_of(word: &[u8]) -> Option<bool>
+    ensures { result ≡ bool_of word.now }
+{
+    if is(word, "true") {
+        Some(true)
+    } else if is(word, "false") {
+        Some(false)
+    } else {
+        None
+    }
+}
+
+// The set of modes that these words are: `none`, or the words of its modes in order.
+fn modes(words: &[u8]) -> Option<ModeSet>
+    ensures { result ≡ modes_of (fields words.now) }
+{
+    if says_none(words) {
+        return Some(ModeSet::empty());
+    }
+    let mut found = ModeSet::empty();
+    let mut rest = Some(words);
+    for mode in &MODES {
+        (found, rest) = past_mode(found, rest, *mode);
+    }
+    if rest.is_some() {
+        return None;
+    }
+    Some(found)
+}
+
+// Whether the words are the one word `none`.
+fn says_none(words: &[u8]) -> bool
+    ensures { result ≡ says_none (fields words.now) }
+{
+    let (word, rest) = next_field(words);
+    rest.is_none() && is(word, "none")
+}
+
+// The modes found and the words that are left, after the mode's word if it stands here.
+fn past_mode<'a>(found: ModeSet, words: Option<&'a [u8]>, mode: Mode) -> (ModeSet, Option<&'a [u8]>)
+    ensures { (modes : List AnyMode) → with_words (mode ∷ modes) found (words_left words.entry)
+        ≡ with_words modes result.0 (words_left result.1) }
+{
+    let Some(line) = words else {
+        return (found, None);
+    };
+    let (word, rest) = next_field(line);
+    if is(word, mode.word()) {
+        (found.with(mode), rest)
+    } else {
+        (found, words)
+    }
+}

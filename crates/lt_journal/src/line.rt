@@ -1,0 +1,43 @@
+use lt_modes::{Event, Mode, Step};
+
+/// What a line of a journal says.
+#[derive(Clone, Copy, Debug, PartialEq, Eq)]
+pub enum Line {
+    /// The start of a move.
+    Move {
+        clock: u64,
+        node: u8,
+        step: Step,
+    },
+    /// What a move did.
+    Event(Event),
+    /// How many locks of a mode a client holds in a set at rest.
+    Held {
+        client: u16,
+        set: u8,
+        mode: Mode,
+        count: u32,
+    },
+    /// What a client waits for at rest.
+    Waiting {
+        client: u16,
+        set: u8,
+        mode: Mode,
+    },
+    /// Where the set's token went last, with the epoch of that move.
+    Owner {
+        set: u8,
+        node: u8,
+        epoch: u64,
+    },
+    /// The number of moves of a run that came to rest.
+    End {
+        count: u32,
+    },
+    /// The node at which the run was cut.
+    Cut {
+        node: u8,
+    },
+    /// A line that has none of the forms.
+    Bad,
+}

@@ -1,0 +1,74 @@
+ghost use Rattle.std.specs.Prelude.{◌≡◌, ◌<◌, ◌^◌, length, position};
+ghost use Rattle.lt_text.specs.Text.{is_line_end};
+ghost use Rattle.lt_journal.specs.Split.{is_journal_line, after_line, parts_of};
+
+use lt_text::{is, next_line, next_word};
+
+/// Where an input is cut into a script and a journal.
+///
+/// The script is the first `script` bytes, and the journal is the bytes from place `journal` on. There are
+/// `lines` lines before the journal.
+#[derive(Clone, Copy, Debug, PartialEq, Eq)]
+pub struct Parts {
+    pub script: u32,
+    pub journal: u32,
+    pub lines: u32,
+}
+
+/// Cuts an input at the first line whose only word is `journal`. That line is in neither part, and counts
+/// among the lines before the journal. Without such a line all is script.
+pub fn split(bytes: &[u8]) -> Parts
+    requires { length bytes.now < 2 ^ 32 }
+    ensures { result ≡ parts_of bytes.now }
+{
+    let mut rest = bytes;
+    let mut lines: u32 = 0;
+    while let Some((line, _)) = next_line(rest) {
+        let after = after_line(rest);
+        if is_journal_line(line) {
+            return Parts {
+                script: (bytes.len() - rest.len()) as u32,
+                journal: (bytes.len() - after.len()) as u32,
+                lines: lines + 1,
+            };
+        }
+        lines += 1;
+        rest = after;
+    }
+    let all = bytes.len() as u32;
+    Parts {
+        script: all,
+        journal: all,
+        lines,
+    }
+}
+
+// Whether `journal` is the only word of the line.
+fn is_journal_line(line: &[u8]) -> bool
+    ensures { result ≡ is_journal_line line.now }
+{
+    let Some((word, rest)) = next_word(line) else {
+        return false;
+    };
+    is(word, "journal") && next_word(rest).is_none()
+}
+
+// What stands after the first line with its line end.
+fn after_line(bytes: &[u8]) -> &[u8]
+    ensures { result.now ≡ after_line bytes.now }
+{
+    match line_end(bytes) {
+        Some(end) => {
+            let (_, rest) = bytes.split_at(end + 1);
+            rest
+        }
+        None => &[],
+    }
+}
+
+// The place of the first line feed.
+fn line_end(bytes: &[u8]) -> Option<usize>
+    ensures { result ≡ position is_line_end bytes.now }
+{
+    bytes.iter().position(|byte| *byte == b'\n')
+}

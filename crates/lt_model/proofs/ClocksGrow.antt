@@ -1,0 +1,139 @@
+-- Clocks grow with moves, and letters have the clocks of the moves that sent them.
+use Rattle.std.proofs.Common.{◌≡◌, ℕ, zero, suc, ◌+◌, ◌<◌, ◌≤◌, inl, inr, List, [], ◌∷◌, true, refl, ap, arith, ◌∙◌, take as take_first}
+use Rattle.std.specs.Prelude.{Contains}
+use Rattle.std.specs.List.{AllByRecursion}
+use Rattle.std.proofs.lemmas.Bool.{cases_eq}
+use Rattle.lt_modes.specs.declared.stamp.Stamp.{Stamp}
+use Rattle.lt_modes.specs.declared.moves.Step.{Step}
+use Rattle.lt_modes.specs.declared.moves.Step.TheVariants.{Act, Take}
+use Rattle.lt_modes.specs.Script.{ScriptData}
+use Rattle.lt_modes.specs.State.{Letter}
+use Rattle.lt_modes.specs.Made.{Post}
+use Rattle.lt_modes.specs.SetMove.{take}
+use Rattle.lt_model.specs.Log.{Logged}
+use Rattle.lt_model.specs.NodeMove.{NodeState, NodeMade, next_command, act_stamp, take_stamp, at_clock, one_made, node_act, node_take}
+use Rattle.lt_model.specs.World.{World, start, is_some_letter, opened, front_stamp, take_front, node_move, after_made, after, after_run}
+use Rattle.lt_model.specs.Touches.{AreStamped}
+use Rattle.lt_model.specs.Laws.{ClockMoves, OtherClocksStay, StampsKept, ClocksInRuns}
+use Rattle.lt_model.proofs.Letters.{all_sent, before_take}
+use Rattle.lt_model.proofs.SentInMove.{all_weaker, take-sent}
+use Rattle.lt_model.proofs.StartKept.{none_in}
+use Rattle.lt_model.proofs.PathsWorld.{put-same, put-other}
+use Rattle.lt_model.proofs.PathsMove.{has_mail_parts}
+use Rattle.lt_model.proofs.NodeMoves.{obey-stamped}
+
+-- the node's clock doesn't fall, and its letters have its stamps up to its new clock
+record IsTimed (q : ℕ) (n : NodeState) (made : NodeMade) : Type 0 where
+  grows : n.clock ≤ made.node.clock
+  stamps : AllByRecursion (λ (post : Post). (post.letter.stamp.node ≡ q) × (post.letter.stamp.clock ≤ made.node.clock)) made.posts
+
+by_stamp : (q : ℕ) (stamp : Stamp) (n : NodeState) (made : NodeMade) → stamp.node ≡ q → n.clock ≤ stamp.clock → made.node.clock ≡ stamp.clock
+    → AllByRecursion (λ (post : Post). post.letter.stamp ≡ stamp) made.posts → IsTimed q n made
+by_stamp q stamp n made me later clock stamps = record {
+  grows = omega (arith, later, clock);
+  stamps = all_weaker _ _
+      (λ (post : Post) e. (ap (λ (z : Stamp). z.node) e ∙ me, omega (arith, ap (λ (z : Stamp). z.clock) e, clock))) made.posts stamps;
+}
+
+act-timed : (script : ScriptData) (q client : ℕ) (n : NodeState) → IsTimed q n (node_act script q client n)
+act-timed script q client n =
+    let h = obey-stamped script (act_stamp q n) client (next_command script n client) (one_made client (at_clock (n.clock + 1) n)) in
+    by_stamp q (act_stamp q n) n (node_act script q client n) refl (omega arith) h.clock h.stamps
+
+take-timed : (q : ℕ) (letter : Letter) (n : NodeState) → IsTimed q n (node_take q letter n)
+take-timed q letter n =
+    let stamp = take_stamp q n letter in
+    by_stamp q stamp n (node_take q letter n) refl (omega arith) refl
+    (all_weaker _ _ (λ post from. from.1) (take stamp letter (n.set letter.set)).posts (take-sent stamp letter (n.set letter.set)))
+
+step-timed : (script : ScriptData) (w : World) (q : ℕ) (step : Step) → IsTimed q (w.node q) (node_move script w q step)
+step-timed script w q (Act client) = act-timed script q client (w.node q)
+step-timed script w q (Take p) = by_letters (w.mail p q)
+  where
+    by_letters : (letters : List Letter) → IsTimed q (w.node q) (take_front q (w.node q) letters)
+    by_letters [] = record { grows = omega arith; stamps = tt }
+    by_letters (letter ∷ rest) = take-timed q letter (w.node q)
+
+pub clock_moves : ClockMoves
+clock_moves script w q (Act client) enabled =
+    let n = w.node q in
+    let h = obey-stamped script (act_stamp q n) client (next_command script n client) (one_made client (at_clock (n.clock + 1) n)) in
+    (ap (λ (m : NodeState). m.clock) (put-same w.node q (node_act script q client n).node) ∙ h.clock, omega arith)
+clock_moves script w q (Take p) enabled = by_letters (w.mail p q) (has_mail_parts script w p q enabled).letter
+  where
+    by_letters : (letters : List Letter) → is_some_letter letters ≡ true
+        → (((after_made q (take_front q (w.node q) letters) (opened w q (Take p))).node q).clock ≡ (front_stamp q (w.node q) letters).clock)
+        × ((w.node q).clock < (front_stamp q (w.node q) letters).clock)
+    by_letters [] e = cc
+    by_letters (letter ∷ rest) e = (ap (λ (m : NodeState). m.clock) (put-same w.node q (node_take q letter (w.node q)).node), omega arith)
+
+opened-node : (w : World) (q : ℕ) (step : Step) (x : ℕ) → (opened w q step).node x ≡ w.node x
+opened-node w q (Act client) x = refl
+opened-node w q (Take p) x = refl
+
+pub other_clocks_stay : OtherClocksStay
+other_clocks_stay script w q step x d =
+    ap (λ (m : NodeState). m.clock) (put-other (opened w q step).node q (node_move script w q step).node x d ∙ opened-node w q step x)
+
+-- no clock falls
+pub clocks_grow : (script : ScriptData) (w : World) (q : ℕ) (step : Step) (x : ℕ) → (w.node x).clock ≤ ((after script w q step).node x).clock
+clocks_grow script w q step x = elim (cases_eq x q) [
+  | inl e ↦
+      let made = node_move script w q step in
+      let here = ap (λ (m : NodeState). m.clock) (ap (after script w q step).node e ∙ put-same (opened w q step).node q made.node) in
+      omega (arith, here, (step-timed script w q step).grows, ap (λ (y : ℕ). (w.node y).clock) e)
+  | inr d ↦ omega (arith, other_clocks_stay script w q step x d)
+]
+
+opened-mail : (w : World) (q : ℕ) (step : Step) (a b : ℕ) (letter : Letter) → Contains ((opened w q step).mail a b) letter → Contains (w.mail a b) letter
+opened-mail w q (Act client) a b letter h = h
+opened-mail w q (Take p) a b letter h = before_take w.mail p q a b letter h
+
+pub stamps_kept : StampsKept
+stamps_kept script w q step stamped =
+    let made = node_move script w q step in
+    let later = after script w q step in
+    let here : (later.node q).clock ≡ made.node.clock = ap (λ (m : NodeState). m.clock) (put-same (opened w q step).node q made.node) in
+    all_sent (λ a b l. (l.stamp.node ≡ a) × (l.stamp.clock ≤ (later.node a).clock)) q made.posts (opened w q step).mail
+    (λ a b l old.
+    let before = stamped a b l (opened-mail w q step a b l old) in
+    (before.0, omega (arith, before.1, clocks_grow script w q step a)))
+    (all_weaker _ _ (λ (post : Post) h. (h.0, omega (arith, h.1, here))) made.posts (step-timed script w q step).stamps)
+
+-- a move of a world with clocks up to c has a clock up to c + 1
+move_bound : (script : ScriptData) (w : World) (q c : ℕ) (step : Step) → AreStamped w → ((x : ℕ) → (w.node x).clock ≤ c) → (node_move script w q step).node.clock ≤ c + 1
+move_bound script w q c (Act client) stamped bound =
+    let n = w.node q in
+    let h = obey-stamped script (act_stamp q n) client (next_command script n client) (one_made client (at_clock (n.clock + 1) n)) in
+    omega (arith, h.clock, bound q)
+move_bound script w q c (Take p) stamped bound = by_letters (w.mail p q) (λ letter h. stamped p q letter h)
+  where
+    by_letters : (letters : List Letter) → ((letter : Letter) → Contains letters letter → (letter.stamp.node ≡ p) × (letter.stamp.clock ≤ (w.node p).clock))
+        → (take_front q (w.node q) letters).node.clock ≤ c + 1
+    by_letters [] each = omega (arith, bound q)
+    by_letters (letter ∷ rest) each =
+        let sent = each letter (0, omega arith, refl) in
+        omega (arith, sent.1, bound p, bound q)
+
+run_bound : (script : ScriptData) (run : List Logged) (w : World) (c : ℕ) → AreStamped w → ((x : ℕ) → (w.node x).clock ≤ c) → (k : ℕ)
+    → AreStamped (after_run script w (take_first k run)) × ((x : ℕ) → ((after_run script w (take_first k run)).node x).clock ≤ c + k)
+run_bound script run w c stamped bound zero = (stamped, λ x. omega (arith, bound x))
+run_bound script [] w c stamped bound (suc k) = (stamped, λ x. omega (arith, bound x))
+run_bound script (entry ∷ rest) w c stamped bound (suc k) =
+    let q = entry.made.stamp.node in
+    let step = entry.made.step in
+    let later = after script w q step in
+    let above : (x : ℕ) → (later.node x).clock ≤ c + 1 = λ x. elim (cases_eq x q) [
+      | inl e ↦
+          let made = node_move script w q step in
+          let here = ap (λ (m : NodeState). m.clock) (ap later.node e ∙ put-same (opened w q step).node q made.node) in
+          omega (arith, here, move_bound script w q c step stamped bound)
+      | inr d ↦ omega (arith, other_clocks_stay script w q step x d, bound x)
+    ] in
+    let ends = run_bound script rest later (c + 1) (stamps_kept script w q step stamped) above k in
+    (ends.0, λ x. omega (arith, ends.1 x))
+
+pub clocks_in_runs : ClocksInRuns
+clocks_in_runs script run is_run k =
+    let h = run_bound script run (start script) 0 (λ p q letter none. none_in letter none) (λ x. omega arith) k in
+    (h.0, λ x. omega (arith, h.1 x))

@@ -1,0 +1,7 @@
+use Rattle.std.proofs.Common.{◌≡◌}
+use Rattle.lt_script.specs.Forms.{form_seen}
+use Rattle.lt_script.proofs.Allowed.{form_clean}
+use Rattle.lt_script.proofs.reading.read_line.Goals as goal
+
+pub apply-requires : goal.apply-requires
+apply-requires c = form_clean c.args.script.now c.args.line.now (form_seen c.in-Ok.form) c.in-Ok.ensures.0 c.in-Ok.ensures.1

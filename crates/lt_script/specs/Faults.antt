@@ -1,0 +1,194 @@
+-- Which faults a line has after the lines before it, and what a line without fault adds.
+use Rattle.std.specs.Prelude.{◌≡◌, ℕ, Bool, true, false, ◌||◌, ◌&&◌, not, List, [], ◌∷◌, ◌++◌, length, Option, Some, None, is_some, is_none, unwrap_or, ◌==◌, nat_lt, nat_le, if◌then◌else◌, Result, Ok, Err}
+use Rattle.std.specs.List.{list_all}
+use Rattle.lt_modes.specs.declared.mode.Mode.TheVariants.{IntentionRead}
+use Rattle.lt_modes.specs.declared.mode.Mode.{Mode}
+use Rattle.lt_modes.specs.declared.command.Command.{Command}
+use Rattle.lt_modes.specs.declared.command.Command.TheVariants as commands
+use Rattle.lt_modes.specs.Modes.{mode_of}
+use Rattle.lt_modes.specs.Script.{ScriptData, family_at, home_at}
+use Rattle.lt_text.specs.Text.{words}
+use Rattle.lt_text.specs.Number.{number}
+use Rattle.lt_script.specs.declared.fault.Fault.{Fault}
+use Rattle.lt_script.specs.declared.fault.Fault.TheVariants as faults
+use Rattle.lt_script.specs.declared.form.Form.{Form}
+use Rattle.lt_script.specs.declared.limits.TheConstants.{MAX_NODES, MAX_SETS, MAX_CLIENTS, MAX_CLIENTS_OF_NODE, MAX_COMMANDS, MAX_LINE}
+use Rattle.lt_script.specs.Names.{is_name}
+use Rattle.lt_script.specs.Script.{load_of, set_number, client_number, is_declared}
+use Rattle.lt_script.specs.Forms.{FormData, NodesForm, SetForm, SetWithForm, ClientForm, CommandForm, OrderData, LockOrder, TryOrder, UnlockOrder, ChangeOrder, DropOrder, form_of, form_seen}
+
+-- a script that declares nothing but the number of its nodes
+abbrev pub only_nodes : ℕ → ScriptData
+only_nodes nodes = record { nodes = nodes; sets = []; clients = []; commands = [] }
+
+-- what the lines so far declare; there is no script before the line `nodes`
+abbrev pub declared : Option ScriptData → ScriptData
+declared None = only_nodes 0
+declared (Some s) = s
+
+abbrev pub is_positive : Option ℕ → Bool
+is_positive (Some n) = nat_lt 0 n
+is_positive None = false
+
+abbrev pub is_below : ℕ → Option ℕ → Bool
+is_below bound (Some n) = nat_lt n bound
+is_below bound None = false
+
+-- a tab, or printable ASCII
+abbrev pub is_plain_byte : ℕ → Bool
+is_plain_byte byte = byte == 9 || nat_le 32 byte && nat_le byte 126
+
+-- the number word is no number in range
+abbrev pub has_bad_number : Option ScriptData → FormData → Bool
+has_bad_number st (NodesForm n) = not (is_positive (number n))
+has_bad_number None (ClientForm c n) = is_none (number n)
+has_bad_number (Some s) (ClientForm c n) = not (is_below s.nodes (number n))
+has_bad_number st form = false
+
+-- the line `nodes` is not the first one, or another line is
+abbrev pub has_nodes_misplaced : Option ScriptData → FormData → Bool
+has_nodes_misplaced None (NodesForm n) = false
+has_nodes_misplaced None form = true
+has_nodes_misplaced (Some s) (NodesForm n) = true
+has_nodes_misplaced (Some s) form = false
+
+-- a word is declared that is no name
+abbrev pub declares_no_name : FormData → Bool
+declares_no_name (SetForm s) = not (is_name s)
+declares_no_name (SetWithForm s t) = not (is_name s)
+declares_no_name (ClientForm c n) = not (is_name c)
+declares_no_name form = false
+
+-- a name is declared that was declared before
+abbrev pub declares_again : ScriptData → FormData → Bool
+declares_again s (SetForm name) = is_declared s name
+declares_again s (SetWithForm name t) = is_declared s name
+declares_again s (ClientForm name n) = is_declared s name
+declares_again s form = false
+
+-- the order names a set or a client that wasn't declared before
+abbrev pub names_unknown : ScriptData → OrderData → Bool
+names_unknown s (LockOrder set mode) = is_none (set_number s set)
+names_unknown s (TryOrder set mode) = is_none (set_number s set)
+names_unknown s (UnlockOrder set mode) = is_none (set_number s set)
+names_unknown s (ChangeOrder set gives_up mode) = is_none (set_number s set)
+names_unknown s (DropOrder other set) = is_none (client_number s other) || is_none (set_number s set)
+
+-- a set or a client is used that wasn't declared before
+abbrev pub uses_unknown : ScriptData → FormData → Bool
+uses_unknown s (SetWithForm name t) = is_none (set_number s t)
+uses_unknown s (CommandForm c order) = is_none (client_number s c) || names_unknown s order
+uses_unknown s form = false
+
+-- there are more nodes, sets, clients or commands than a script may have
+abbrev pub exceeds_limit : ScriptData → FormData → Bool
+exceeds_limit s (NodesForm n) = nat_lt MAX_NODES (unwrap_or (number n) 0)
+exceeds_limit s (SetForm name) = nat_le MAX_SETS (length s.sets)
+exceeds_limit s (SetWithForm name t) = nat_le MAX_SETS (length s.sets)
+exceeds_limit s (ClientForm name n) = nat_le MAX_CLIENTS (length s.clients) || nat_le MAX_CLIENTS_OF_NODE (load_of s.clients (unwrap_or (number n) 0))
+exceeds_limit s (CommandForm c order) = nat_le MAX_COMMANDS (length s.commands)
+
+-- a word in a mode's place is no mode
+abbrev pub names_no_mode : OrderData → Bool
+names_no_mode (LockOrder set mode) = is_none (mode_of mode)
+names_no_mode (TryOrder set mode) = is_none (mode_of mode)
+names_no_mode (UnlockOrder set mode) = is_none (mode_of mode)
+names_no_mode (ChangeOrder set gives_up mode) = is_none (mode_of gives_up) || is_none (mode_of mode)
+names_no_mode (DropOrder other set) = false
+
+abbrev pub uses_no_mode : FormData → Bool
+uses_no_mode (CommandForm c order) = names_no_mode order
+uses_no_mode form = false
+
+abbrev pub home_by : ScriptData → Option ℕ → ℕ
+home_by s (Some client) = home_at s.clients client
+home_by s None = 0
+
+-- the node of the client with this name
+abbrev pub home_of : ScriptData → List ℕ → ℕ
+home_of s name = home_by s (client_number s name)
+
+-- locks of a client of another node are dropped
+abbrev pub drops_elsewhere : ScriptData → FormData → Bool
+drops_elsewhere s (CommandForm c (DropOrder other set)) = not (home_of s other == home_of s c)
+drops_elsewhere s form = false
+
+-- the first fault whose test is true
+abbrev pub first_true : List (Bool × Fault) → Option Fault
+first_true [] = None
+first_true (test ∷ tests) = if test.0 then Some test.1 else first_true tests
+
+-- the tests of a line of this form, in the order of the faults' numbers
+abbrev pub tests : Option ScriptData → FormData → List (Bool × Fault)
+tests st form =
+    (has_bad_number st form, faults.Number)
+    ∷ (has_nodes_misplaced st form, faults.Nodes)
+    ∷ (declares_no_name form, faults.Name)
+    ∷ (declares_again (declared st) form, faults.Repeated)
+    ∷ (uses_unknown (declared st) form, faults.Unknown)
+    ∷ (exceeds_limit (declared st) form, faults.Limit)
+    ∷ (uses_no_mode form, faults.Mode)
+    ∷ (drops_elsewhere (declared st) form, faults.Node)
+    ∷ []
+
+-- the first fault of a line of this form
+abbrev pub form_fault : Option ScriptData → FormData → Option Fault
+form_fault st form = first_true (tests st form)
+
+-- the first fault of a line that may have no form
+abbrev pub fault_by_form : Option ScriptData → Option FormData → Option Fault
+fault_by_form st None = Some faults.Form
+fault_by_form st (Some form) = form_fault st form
+
+-- the first fault of a line that isn't skipped
+abbrev pub line_fault : Option ScriptData → List ℕ → Option Fault
+line_fault st line =
+    if not (list_all is_plain_byte line) then Some faults.Bytes
+    else if nat_lt MAX_LINE (length line) then Some faults.Length
+    else fault_by_form st (form_of (words line))
+
+-- what a line without fault adds
+
+abbrev pub set_at : ScriptData → List ℕ → ℕ
+set_at s name = unwrap_or (set_number s name) 0
+
+abbrev pub family_by : ScriptData → Option ℕ → ℕ
+family_by s (Some set) = family_at s.sets set
+family_by s None = 0
+
+-- the family of the set with this name
+abbrev pub family_of : ScriptData → List ℕ → ℕ
+family_of s name = family_by s (set_number s name)
+
+abbrev pub mode_at : List ℕ → Mode
+mode_at word = unwrap_or (mode_of word) IntentionRead
+
+-- the command of an order
+abbrev pub command_of : ScriptData → OrderData → Command
+command_of s (LockOrder set mode) = commands.Lock (set_at s set) (mode_at mode)
+command_of s (TryOrder set mode) = commands.Try (set_at s set) (mode_at mode)
+command_of s (UnlockOrder set mode) = commands.Unlock (set_at s set) (mode_at mode)
+command_of s (ChangeOrder set gives_up mode) = commands.Change (set_at s set) (mode_at gives_up) (mode_at mode)
+command_of s (DropOrder other set) = commands.DropAll (unwrap_or (client_number s other) 0) (set_at s set)
+
+abbrev pub with_set : ScriptData → List ℕ → ℕ → ScriptData
+with_set s name family = record s { sets = s.sets ++ record { name = name; family = family } ∷ [] }
+
+abbrev pub with_client : ScriptData → List ℕ → ℕ → ScriptData
+with_client s name node = record s { clients = s.clients ++ record { name = name; node = node } ∷ [] }
+
+abbrev pub with_command : ScriptData → ℕ → Command → ScriptData
+with_command s client command = record s { commands = s.commands ++ (client, command) ∷ [] }
+
+-- the script with what a line of this form adds
+abbrev pub after_form : ScriptData → FormData → ScriptData
+after_form s (NodesForm n) = only_nodes (unwrap_or (number n) 0)
+after_form s (SetForm name) = with_set s name (length s.sets)
+after_form s (SetWithForm name t) = with_set s name (family_of s t)
+after_form s (ClientForm name n) = with_client s name (unwrap_or (number n) 0)
+after_form s (CommandForm c order) = with_command s (unwrap_or (client_number s c) 0) (command_of s order)
+
+-- what is found out of a line: its form, or its first fault
+abbrev pub Judges : Result Form Fault → Option Fault → Option FormData → Type 0
+Judges (Ok form) fault found = (fault ≡ None) × (found ≡ Some (form_seen form))
+Judges (Err first) fault found = fault ≡ Some first

@@ -1,0 +1,63 @@
+-- The script that a text denotes, or its first fault.
+use Rattle.std.specs.Prelude.{◌≡◌, ℕ, ◌+◌, Bool, true, false, List, [], ◌∷◌, Option, Some, None, ◌==◌, slice_index, Result, Ok, Err, if◌then◌else◌}
+use Rattle.lt_modes.specs.Script.{ScriptData}
+use Rattle.lt_text.specs.Text.{lines, words}
+use Rattle.lt_script.specs.declared.fault.Fault.{Fault}
+use Rattle.lt_script.specs.declared.fault.Fault.TheVariants as faults
+use Rattle.lt_script.specs.declared.fault.ScriptFault.{ScriptFault}
+use Rattle.lt_script.specs.declared.fault.ReadError.{ReadError}
+use Rattle.lt_script.specs.declared.fault.ReadError.TheVariants as errors
+use Rattle.lt_script.specs.Forms.{FormData, form_of}
+use Rattle.lt_script.specs.Faults.{declared, line_fault, after_form}
+
+-- a line with no word says nothing, and so does a comment, whose first word begins with `#`
+abbrev pub says_nothing : List (List ℕ) → Bool
+says_nothing [] = true
+says_nothing (word ∷ rest) = slice_index word 0 == 35
+
+abbrev pub is_skipped : List ℕ → Bool
+is_skipped line = says_nothing (words line)
+
+-- the script after a line of this form
+abbrev pub after_line : Option ScriptData → Option FormData → Option ScriptData
+after_line st (Some form) = Some (after_form (declared st) form)
+after_line st None = st
+
+-- what is so if there is no fault
+abbrev pub unless : Option Fault → Option ScriptData → Result (Option ScriptData) Fault
+unless (Some fault) st = Err fault
+unless None st = Ok st
+
+-- the script after a line, or the line's first fault
+unfoldable pub line_step : Option ScriptData → List ℕ → Result (Option ScriptData) Fault
+line_step st line = if is_skipped line then Ok st else unless (line_fault st line) (after_line st (form_of (words line)))
+
+-- what the rest makes of the script after a line with this number, or the line's fault
+abbrev pub go_on : ℕ → (Option ScriptData → Result ScriptData ScriptFault) → Result (Option ScriptData) Fault → Result ScriptData ScriptFault
+go_on k rest (Ok st) = rest st
+go_on k rest (Err fault) = Err (record { line = k; fault = fault })
+
+-- the script at the end; without a line `nodes` the fault is that of one more line
+abbrev pub at_end : ℕ → Option ScriptData → Result ScriptData ScriptFault
+at_end k (Some s) = Ok s
+at_end k None = Err (record { line = k; fault = faults.Nodes })
+
+-- the script after these lines, the first of which has this number
+unfoldable pub read_from : List (List ℕ) → ℕ → Option ScriptData → Result ScriptData ScriptFault
+read_from [] k st = at_end k st
+read_from (line ∷ rest) k st = go_on k (read_from rest (k + 1)) (line_step st line)
+
+-- the script that the bytes denote, or the first fault
+abbrev pub read_of : List ℕ → Result ScriptData ScriptFault
+read_of bytes = read_from (lines bytes) 1 None
+
+-- what reading a line gives: its fault, or the script after it
+abbrev pub TakesLine : Option Fault → Option ScriptData → Result (Option ScriptData) Fault → Type 0
+TakesLine (Some fault) st step = step ≡ Err fault
+TakesLine None st step = step ≡ Ok st
+
+-- what reading gives but for want of memory: the script, or the first fault
+abbrev pub Reads : Result ScriptData ReadError → Result ScriptData ScriptFault → Type 0
+Reads (Ok s) found = found ≡ Ok s
+Reads (Err (errors.Fault first)) found = found ≡ Err first
+Reads (Err errors.Memory) found = Unit {0}

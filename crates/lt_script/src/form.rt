@@ -1,0 +1,144 @@
+ghost use Rattle.std.specs.Prelude.{◌≡◌, option_map};
+ghost use Rattle.lt_text.specs.Text.{words};
+ghost use Rattle.lt_script.specs.Forms.{form_seen, order_seen, form_of, nodes_form, set_form, client_form, order_of, two_word_order, CommandForm};
+
+use lt_text::{is, next_word};
+
+/// What a client asks for, in the words of its line.
+#[derive(Clone, Copy, Debug)]
+pub enum Order<'a> {
+    Lock { set: &'a [u8], mode: &'a [u8] },
+    Try { set: &'a [u8], mode: &'a [u8] },
+    Unlock { set: &'a [u8], mode: &'a [u8] },
+    Change { set: &'a [u8], gives_up: &'a [u8], mode: &'a [u8] },
+    Drop { client: &'a [u8], set: &'a [u8] },
+}
+
+/// A line of a script by its form, with its words.
+#[derive(Clone, Copy, Debug)]
+pub enum Form<'a> {
+    Nodes { nodes: &'a [u8] },
+    Set { name: &'a [u8] },
+    /// A set in the family of another one.
+    SetWith { name: &'a [u8], relative: &'a [u8] },
+    Client { name: &'a [u8], node: &'a [u8] },
+    Command { client: &'a [u8], order: Order<'a> },
+}
+
+/// The form of a line; none if it has none.
+pub fn form_of<'a>(line: &'a [u8]) -> Option<Form<'a>>
+    ensures { option_map form_seen result ≡ form_of (words line.now) }
+{
+    let Some((word, rest)) = next_word(line) else {
+        return None;
+    };
+    if is(word, "nodes") {
+        nodes_form(rest)
+    } else if is(word, "set") {
+        set_form(rest)
+    } else if is(word, "client") {
+        client_form(rest)
+    } else {
+        command_form(word, rest)
+    }
+}
+
+// The form of a line that begins with `nodes`.
+fn nodes_form<'a>(line: &'a [u8]) -> Option<Form<'a>>
+    ensures { option_map form_seen result ≡ nodes_form (words line.now) }
+{
+    let Some((nodes, rest)) = next_word(line) else {
+        return None;
+    };
+    if next_word(rest).is_some() {
+        return None;
+    }
+    Some(Form::Nodes { nodes })
+}
+
+// The form of a line that begins with `set`.
+fn set_form<'a>(line: &'a [u8]) -> Option<Form<'a>>
+    ensures { option_map form_seen result ≡ set_form (words line.now) }
+{
+    let Some((name, rest)) = next_word(line) else {
+        return None;
+    };
+    let Some((word, rest)) = next_word(rest) else {
+        return Some(Form::Set { name });
+    };
+    let Some((relative, rest)) = next_word(rest) else {
+        return None;
+    };
+    if next_word(rest).is_some() || !is(word, "with") {
+        return None;
+    }
+    Some(Form::SetWith { name, relative })
+}
+
+// The form of a line that begins with `client`.
+fn client_form<'a>(line: &'a [u8]) -> Option<Form<'a>>
+    ensures { option_map form_seen result ≡ client_form (words line.now) }
+{
+    let Some((name, rest)) = next_word(line) else {
+        return None;
+    };
+    let Some((word, rest)) = next_word(rest) else {
+        return None;
+    };
+    let Some((node, rest)) = next_word(rest) else {
+        return None;
+    };
+    if next_word(rest).is_some() || !is(word, "at") {
+        return None;
+    }
+    Some(Form::Client { name, node })
+}
+
+// The form of a command's line, which begins with the client's name.
+fn command_form<'a>(client: &'a [u8], line: &'a [u8]) -> Option<Form<'a>>
+    ensures { option_map form_seen result ≡ option_map (CommandForm client.now) (order_of (words line.now)) }
+{
+    let Some(order) = order_of(line) else {
+        return None;
+    };
+    Some(Form::Command { client, order })
+}
+
+// The order in the line behind the client's name.
+fn order_of<'a>(line: &'a [u8]) -> Option<Order<'a>>
+    ensures { option_map order_seen result ≡ order_of (words line.now) }
+{
+    let Some((verb, rest)) = next_word(line) else {
+        return None;
+    };
+    let Some((first, rest)) = next_word(rest) else {
+        return None;
+    };
+    let Some((second, rest)) = next_word(rest) else {
+        return None;
+    };
+    let Some((third, rest)) = next_word(rest) else {
+        return two_word_order(verb, first, second);
+    };
+    if next_word(rest).is_some() || !is(verb, "change") {
+        return None;
+    }
+    Some(Order::Change { set: first, gives_up: second, mode: third })
+}
+
+// The order of a verb and two words.
+fn two_word_order<'a>(verb: &[u8], first: &'a [u8], second: &'a [u8]) -> Option<Order<'a>>
+    ensures { option_map order_seen result ≡ two_word_order verb.now first.now second.now }
+{
+    if is(verb, "lock") {
+        Some(Order::Lock { set: first, mode: second })
+    } else if is(verb, "try") {
+        Some(Order::Try { set: first, mode: second })
+    } else if is(verb, "unlock") {
+        Some(Order::Unlock { set: first, mode: second })
+    } else if is(verb, "drop") {
+        Some(Order::Drop { client: first, set: second })
+    } else {
+        None
+    }
+}

@@ -1,0 +1,213 @@
+ghost use Rattle.std.specs.Prelude.{◌≡◌, None, Some, OnOk};
+ghost use Rattle.std.specs.List.{list_all};
+ghost use Rattle.lt_text.specs.Text.{words};
+ghost use Rattle.lt_script.specs.Script.{is_declared};
+ghost use Rattle.lt_script.specs.Forms.{FormData, form_of, form_seen, order_seen, NodesForm, SetForm, SetWithForm, ClientForm, CommandForm};
+ghost use Rattle.lt_script.specs.Faults.{Judges, line_fault, form_fault, is_plain_byte, names_unknown, names_no_mode, drops_elsewhere, home_of};
+
+use crate::fault::Fault;
+use crate::form::{Form, Order, form_of};
+use crate::limits::{MAX_CLIENTS, MAX_CLIENTS_OF_NODE, MAX_COMMANDS, MAX_LINE, MAX_NODES, MAX_SETS};
+use crate::name::is_name;
+use crate::script::Script;
+use lt_modes::Mode;
+use lt_text::number;
+
+/// The form of a line that isn't skipped, or its first fault after the lines before it.
+pub fn judge<'a>(script: &Option<Script>, line: &'a [u8]) -> Result<Form<'a>, Fault>
+    ensures { Judges result (line_fault script.now line.now) (form_of (words line.now)) }
+{
+    if !has_plain_bytes(line) {
+        return Err(Fault::Bytes);
+    }
+    if line.len() > MAX_LINE {
+        return Err(Fault::Length);
+    }
+    let Some(form) = form_of(line) else {
+        return Err(Fault::Form);
+    };
+    match form_fault(script, form) {
+        Some(fault) => Err(fault),
+        None => Ok(form),
+    }
+}
+
+// The first fault of a line of this form.
+fn form_fault(script: &Option<Script>, form: Form<'_>) -> Option<Fault>
+    ensures { result ≡ form_fault script.now (form_seen form.entry) }
+{
+    match script {
+        Some(script) => fault_after_nodes(script, form),
+        None => fault_before_nodes(form),
+    }
+}
+
+// The first fault of a line where the line `nodes` was not before it.
+fn fault_before_nodes(form: Form<'_>) -> Option<Fault>
+    ensures { result ≡ form_fault None (form_seen form.entry) }
+{
+    match form {
+        Form::Nodes { nodes } => first_nodes_fault(nodes),
+        Form::Client { node, .. } if number(node).is_none() => Some(Fault::Number),
+        _ => Some(Fault::Nodes),
+    }
+}
+
+fn first_nodes_fault(nodes: &[u8]) -> Option<Fault>
+    ensures { result ≡ form_fault None (NodesForm nodes.now) }
+{
+    match number(nodes) {
+        None | Some(0) => Some(Fault::Number),
+        Some(nodes) if nodes > u32::from(MAX_NODES) => Some(Fault::Limit),
+        Some(_) => None,
+    }
+}
+
+// The first fault of a line where the line `nodes` was before it.
+fn fault_after_nodes(script: &Script, form: Form<'_>) -> Option<Fault>
+    ensures { result ≡ form_fault (Some script.now) (form_seen form.entry) }
+{
+    match form {
+        Form::Nodes { nodes } => later_nodes_fault(script, nodes),
+        Form::Set { name } => set_fault(script, name),
+        Form::SetWith { name, relative } => set_with_fault(script, name, relative),
+        Form::Client { name, node } => client_fault(script, name, node),
+        Form::Command { client, order } => command_fault(script, client, order),
+    }
+}
+
+fn later_nodes_fault(_script: &Script, nodes: &[u8]) -> Option<Fault>
+    ensures { result ≡ form_fault (Some _script.now) (NodesForm nodes.now) }
+{
+    match number(nodes) {
+        None | Some(0) => Some(Fault::Number),
+        Some(_) => Some(Fault::Nodes),
+    }
+}
+
+fn set_fault(script: &Script, name: &[u8]) -> Option<Fault>
+    ensures { result ≡ form_fault (Some script.now) (SetForm name.now) }
+{
+    if !is_name(name) {
+        Some(Fault::Name)
+    } else if script.is_declared(name) {
+        Some(Fault::Repeated)
+    } else if script.sets() >= MAX_SETS {
+        Some(Fault::Limit)
+    } else {
+        None
+    }
+}
+
+fn set_with_fault(script: &Script, name: &[u8], relative: &[u8]) -> Option<Fault>
+    ensures { result ≡ form_fault (Some script.now) (SetWithForm name.now relative.now) }
+{
+    if !is_name(name) {
+        Some(Fault::Name)
+    } else if script.is_declared(name) {
+        Some(Fault::Repeated)
+    } else if script.set_number(relative).is_none() {
+        Some(Fault::Unknown)
+    } else if script.sets() >= MAX_SETS {
+        Some(Fault::Limit)
+    } else {
+        None
+    }
+}
+
+fn client_fault(script: &Script, name: &[u8], node: &[u8]) -> Option<Fault>
+    ensures { result ≡ form_fault (Some script.now) (ClientForm name.now node.now) }
+{
+    let Some(node) = number(node) else {
+        return Some(Fault::Number);
+    };
+    if node >= u32::from(script.nodes()) {
+        Some(Fault::Number)
+    } else if !is_name(name) {
+        Some(Fault::Name)
+    } else if script.is_declared(name) {
+        Some(Fault::Repeated)
+    } else if script.clients() >= MAX_CLIENTS || script.load(node as u8) >= MAX_CLIENTS_OF_NODE {
+        Some(Fault::Limit)
+    } else {
+        None
+    }
+}
+
+fn command_fault(script: &Script, client: &[u8], order: Order<'_>) -> Option<Fault>
+    ensures { result ≡ form_fault (Some script.now) (CommandForm client.now (order_seen order.entry)) }
+{
+    if script.client_number(client).is_none() || names_unknown(script, order) {
+        Some(Fault::Unknown)
+    } else if script.commands() >= MAX_COMMANDS {
+        Some(Fault::Limit)
+    } else if names_no_mode(order) {
+        Some(Fault::Mode)
+    } else if drops_elsewhere(script, client, order) {
+        Some(Fault::Node)
+    } else {
+        None
+    }
+}
+
+// Whether the order names a set or a client that wasn't declared.
+fn names_unknown(script: &Script, order: Order<'_>) -> bool
+    ensures { result ≡ names_unknown script.now (order_seen order.entry) }
+{
+    match order {
+        Order::Lock { set, .. } => script.set_number(set).is_none(),
+        Order::Try { set, .. } => script.set_number(set).is_none(),
+        Order::Unlock { set, .. } => script.set_number(set).is_none(),
+        Order::Change { set, .. } => script.set_number(set).is_none(),
+        Order::Drop { client, set } => {
+            script.client_number(client).is_none() || script.set_number(set).is_none()
+        }
+    }
+}
+
+// Whether a word in a mode's place is no mode.
+fn names_no_mode(order: Order<'_>) -> bool
+    ensures { result ≡ names_no_mode (order_seen order.entry) }
+{
+    match order {
+        Order::Lock { mode, .. } => Mode::from_word(mode).is_none(),
+        Order::Try { mode, .. } => Mode::from_word(mode).is_none(),
+        Order::Unlock { mode, .. } => Mode::from_word(mode).is_none(),
+        Order::Change { gives_up, mode, .. } => {
+            Mode::from_word(gives_up).is_none() || Mode::from_word(mode).is_none()
+        }
+        Order::Drop { .. } => false,
+    }
+}
+
+// Whether the order drops locks of a client of another node than this client's.
+fn drops_elsewhere(script: &Script, client: &[u8], order: Order<'_>) -> bool
+    ensures { result ≡ drops_elsewhere script.now (CommandForm client.now (order_seen order.entry)) }
+{
+    match order {
+        Order::Drop { client: other, .. } => home_of(script, other) != home_of(script, client),
+        _ => false,
+    }
+}
+
+// The node of the client with this name; 0 if there is no such client.
+fn home_of(script: &Script, name: &[u8]) -> u8
+    ensures { result ≡ home_of script.now name.now }
+{
+    match script.client_number(name) {
+        Some(client) => script.home(client),
+        None => 0,
+    }
+}
+
+fn has_plain_bytes(line: &[u8]) -> bool
+    ensures { result ≡ list_all is_plain_byte line.now }
+{
+    line.iter().all(|byte| is_plain_byte(*byte))
+}
+
+fn is_plain_byte(byte: u8) -> bool
+    ensures { result ≡ is_plain_byte byte }
+{
+    byte == b'\t' || b' ' <= byte && byte <= b'~'
+}

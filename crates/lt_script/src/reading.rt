@@ -1,0 +1,185 @@
+ghost use Rattle.std.specs.Prelude.{◌≡◌, ◌<◌, ◌-◌, ◌^◌, None, Some, false, length, IfOk, OnOk};
+ghost use Rattle.lt_text.specs.Text.{words};
+ghost use Rattle.lt_script.specs.Forms.{form_of, form_seen, order_seen, SetWithForm, ClientForm, CommandForm};
+ghost use Rattle.lt_script.specs.Faults.{declared, form_fault, after_form, command_of, set_at, mode_at};
+ghost use Rattle.lt_script.specs.Reading.{TakesLine, Reads, is_skipped, line_step, read_of};
+
+use crate::fault::{Fault, ReadError, ScriptFault};
+use crate::form::{Form, Order};
+use crate::line::judge;
+use crate::script::Script;
+use lt_modes::{Command, Mode};
+use lt_text::{next_line, next_word, number};
+use std::alloc::{AllocError, Global};
+
+/// Reads a script.
+///
+/// Spaces and tabs part the words of a line. Lines without words are skipped, and so are comments, whose first
+/// word begins with `#`. The first line with a fault decides, and on one line the fault with the lowest number.
+pub fn read(alloc: Global, bytes: &[u8]) -> Result<Script, ReadError>
+    requires { length bytes.now < 2 ^ 32 - 1 }
+    ensures { Reads result (read_of bytes.now) }
+{
+    let mut script: Option<Script> = None;
+    let mut rest = bytes;
+    let mut number: u32 = 1;
+    while let Some((line, after)) = next_line(rest) {
+        let Ok(fault) = read_line(alloc, &mut script, line) else {
+            return Err(ReadError::Memory);
+        };
+        if let Some(fault) = fault {
+            return Err(ReadError::Fault(ScriptFault { line: number, fault }));
+        }
+        rest = after;
+        number += 1;
+    }
+    match script {
+        Some(script) => Ok(script),
+        None => Err(ReadError::Fault(ScriptFault { line: number, fault: Fault::Nodes })),
+    }
+}
+
+// Adds what the line says, or tells its first fault.
+#[tactic(auto, unfolding(crate::specs::Reading::line_step))]
+fn read_line(
+    alloc: Global,
+    script: &mut Option<Script>,
+    line: &[u8],
+) -> Result<Option<Fault>, AllocError>
+    ensures { IfOk result (λ fault. TakesLine fault script.new (line_step script.old line.now)) }
+{
+    if is_skipped(line) {
+        return Ok(None);
+    }
+    match judge(script, line) {
+        Ok(form) => {
+            apply(alloc, script, form)?;
+            Ok(None)
+        }
+        Err(fault) => Ok(Some(fault)),
+    }
+}
+
+fn is_skipped(line: &[u8]) -> bool
+    ensures { result ≡ is_skipped line.now }
+{
+    match next_word(line) {
+        Some((word, _)) => !word.is_empty() && word[0] == b'#',
+        None => true,
+    }
+}
+
+// Adds what a line of this form says.
+fn apply(alloc: Global, script: &mut Option<Script>, form: Form<'_>) -> Result<(), AllocError>
+    requires { form_fault script.old (form_seen form) ≡ None }
+    ensures { OnOk result (script.new ≡ Some (after_form (declared script.old) (form_seen form.entry))) }
+{
+    match script {
+        Some(script) => add(script, form),
+        None => {
+            *script = Some(start(alloc, form)?);
+            Ok(())
+        }
+    }
+}
+
+// The script that the line `nodes` begins.
+fn start(alloc: Global, form: Form<'_>) -> Result<Script, AllocError>
+    requires { form_fault None (form_seen form) ≡ None }
+    ensures { IfOk result (λ script. script ≡ after_form (declared None) (form_seen form.entry)) }
+{
+    let Form::Nodes { nodes } = form else {
+        unreachable!();
+    };
+    let nodes = number(nodes).unwrap_or(0);
+    Script::new(alloc, nodes as u8)
+}
+
+// Adds what a line after the line `nodes` says.
+fn add(script: &mut Script, form: Form<'_>) -> Result<(), AllocError>
+    requires { form_fault (Some script.old) (form_seen form) ≡ None }
+    ensures { OnOk result (script.new ≡ after_form script.old (form_seen form.entry)) }
+{
+    match form {
+        Form::Nodes { .. } => unreachable!(),
+        Form::Set { name } => {
+            let family = script.sets();
+            script.add_set(name, family)
+        }
+        Form::SetWith { name, relative } => add_relative(script, name, relative),
+        Form::Client { name, node } => add_client(script, name, node),
+        Form::Command { client, order } => add_command(script, client, order),
+    }
+}
+
+// Adds a set in the family of this one.
+fn add_relative(script: &mut Script, name: &[u8], relative: &[u8]) -> Result<(), AllocError>
+    requires { form_fault (Some script.old) (SetWithForm name.now relative.now) ≡ None }
+    ensures { OnOk result (script.new ≡ after_form script.old (SetWithForm name.now relative.now)) }
+{
+    let Some(set) = script.set_number(relative) else {
+        unreachable!();
+    };
+    let family = script.family(set);
+    script.add_set(name, family)
+}
+
+fn add_client(script: &mut Script, name: &[u8], node: &[u8]) -> Result<(), AllocError>
+    requires { form_fault (Some script.old) (ClientForm name.now node.now) ≡ None }
+    ensures { OnOk result (script.new ≡ after_form script.old (ClientForm name.now node.now)) }
+{
+    let node = number(node).unwrap_or(0);
+    prove!(node < u32::from(script.nodes()));
+    script.add_client(name, node as u8)
+}
+
+fn add_command(script: &mut Script, client: &[u8], order: Order<'_>) -> Result<(), AllocError>
+    requires { form_fault (Some script.old) (CommandForm client.now (order_seen order)) ≡ None }
+    ensures { OnOk result
+        (script.new ≡ after_form script.old (CommandForm client.now (order_seen order.entry))) }
+{
+    let client = script.client_number(client).unwrap_or(0);
+    let command = command_of(script, order);
+    script.add_command(client, command)
+}
+
+// The command of an order that names declared sets and clients, and modes.
+fn command_of(script: &Script, order: Order<'_>) -> Command
+    ensures { result ≡ command_of script.now (order_seen order.entry) }
+{
+    match order {
+        Order::Lock { set, mode } => Command::Lock {
+            set: set_at(script, set),
+            mode: mode_at(mode),
+        },
+        Order::Try { set, mode } => Command::Try {
+            set: set_at(script, set),
+            mode: mode_at(mode),
+        },
+        Order::Unlock { set, mode } => Command::Unlock {
+            set: set_at(script, set),
+            mode: mode_at(mode),
+        },
+        Order::Change { set, gives_up, mode } => Command::Change {
+            set: set_at(script, set),
+            gives_up: mode_at(gives_up),
+            mode: mode_at(mode),
+        },
+        Order::Drop { client, set } => Command::DropAll {
+            client: script.client_number(client).unwrap_or(0),
+            set: set_at(script, set),
+        },
+    }
+}
+
+fn set_at(script: &Script, name: &[u8]) -> u8
+    ensures { result ≡ set_at script.now name.now }
+{
+    script.set_number(name).unwrap_or(0)
+}
+
+fn mode_at(word: &[u8]) -> Mode
+    ensures { result ≡ mode_at word.now }
+{
+    Mode::from_word(word).unwrap_or(Mode::IntentionRead)
+}
