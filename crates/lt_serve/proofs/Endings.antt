@@ -14,7 +14,7 @@ use Rattle.lt_serve.specs.Serving.{EndsAs, IsCutAt}
 
 -- a node that is full has made all its moves, and isn't at rest
 full_parts : (node moves : ℕ) (rest full : Bool) → (moves == MAX_MOVES) ≡ full → (if full && not rest then Some 0 else None) ≡ Some node
-  → (node ≡ 0) × (moves ≡ MAX_MOVES) × (rest ≡ false)
+    → (node ≡ 0) × (moves ≡ MAX_MOVES) × (rest ≡ false)
 full_parts node moves true true e h = cc
 full_parts node moves true false e h = cc
 full_parts node moves false false e h = cc
@@ -23,9 +23,9 @@ full_parts node moves false true e h =
     (zero, eqb-true moves MAX_MOVES e, refl)
 
 pub ends_by_all_rules : (status : Status) (script : ScriptData) (run : List Logged)
-  → is_at_rest script (world_after script run) ≡ one_node.is_at_rest script (one_node.world_after script run)
-  → anyone_waits script (world_after script run) ≡ one_node.anyone_waits script (one_node.world_after script run)
-  → EndsAlone status script run → EndsAs status script run
+    → is_at_rest script (world_after script run) ≡ one_node.is_at_rest script (one_node.world_after script run)
+    → anyone_waits script (world_after script run) ≡ one_node.anyone_waits script (one_node.world_after script run)
+    → EndsAlone status script run → EndsAs status script run
 ends_by_all_rules Done script run rest waits h = (rest ∙ h.0, waits ∙ h.1)
 ends_by_all_rules Stuck script run rest waits h = (rest ∙ h.0, waits ∙ h.1)
 ends_by_all_rules (Cut node) script run rest waits h =

@@ -1,3 +1,4 @@
 mod Endings
 mod FirstMoves
+mod NoMoves
 mod Told

@@ -8,7 +8,7 @@ use Rattle.lt_serve.specs.Serving.{Denotes}
 
 -- all that was left denotes what the bytes that were taken denote
 pub denotes : (left after : Option (List ℕ)) (bytes : List ℕ) (script : ScriptData) → Consumes left after bytes → IsAtEnd after
-  → read_of bytes ≡ Ok script → Denotes left script
+    → read_of bytes ≡ Ok script → Denotes left script
 denotes None after bytes script taken ended read = tt
 denotes (Some all) None bytes script taken ended read = absurd taken
 denotes (Some all) (Some rest) bytes script taken ended read =

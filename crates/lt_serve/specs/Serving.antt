@@ -13,7 +13,7 @@ use Rattle.lt_model.specs.Facts.{token_count}
 use Rattle.lt_model.specs.Text.{text_of}
 use Rattle.lt_script.specs.declared.fault.ScriptFault.{ScriptFault}
 use Rattle.lt_script.specs.Reading.{read_of}
-use Rattle.lt_world.specs.Standing.{is_lone}
+use Rattle.lt_serve.specs.Scripts.{can_run}
 use Rattle.lt_world.specs.declared.limits.TheConstants.{MAX_MOVES}
 use Rattle.lt_serve.specs.declared.limits.TheConstants.{MAX_INPUT}
 use Rattle.lt_serve.specs.declared.status.Status.{Status}
@@ -29,10 +29,11 @@ abbrev pub HasFault : Option (List ℕ) → ScriptFault → Type 0
 HasFault None fault = Unit {0}
 HasFault (Some bytes) fault = read_of bytes ≡ Err fault
 
--- where the bytes are told, they denote a script that isn't of one node and one set with locks and unlocks alone
+-- where the bytes are told, they denote a script that this version can't run: one with more than one node, more than
+-- one set, or a command other than `lock` and `unlock`
 abbrev pub DenotesOther : Option (List ℕ) → Type 0
 DenotesOther None = Unit {0}
-DenotesOther (Some bytes) = (script : ScriptData) × (read_of bytes ≡ Ok script) × (is_lone script ≡ false)
+DenotesOther (Some bytes) = (script : ScriptData) × (read_of bytes ≡ Ok script) × (can_run script ≡ false)
 
 -- the node has made as many moves as it may, and a further one is enabled
 pub record IsCutAt (node : ℕ) (script : ScriptData) (run : List Logged) : Type 0 where

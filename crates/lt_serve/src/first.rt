@@ -4,22 +4,34 @@ ghost use Rattle.lt_script.specs.Script.{IsScript};
 ghost use Rattle.lt_world.specs.OneNode.{start};
 ghost use Rattle.lt_world.specs.Standing.{is_lone};
 ghost use Rattle.lt_world.specs.declared.limits.TheConstants.{MAX_MOVES};
+ghost use Rattle.lt_serve.specs.Scripts.{has_no_set, can_run};
 ghost use Rattle.lt_serve.specs.Alone.{IsOver, EndsAlone};
 ghost use Rattle.lt_serve.specs.Serving.{RanTo};
 
-use std::alloc::{AllocError, Global};
-
+use crate::status::Status;
 use lt_alone::law_alone;
 use lt_merge::Run;
 use lt_model::law_one_token;
 use lt_script::Script;
-use lt_world::{MAX_MOVES, World};
-
-use crate::status::Status;
+use lt_world::{MAX_MOVES, World, is_lone};
+use std::alloc::{AllocError, Global};
 
 /// Makes the moves of a script in their fixed order, until the world is at rest or the node has made as many as
 /// it may.
 pub(crate) fn first_run(alloc: Global, script: &Script) -> Result<(Status, Run), AllocError>
+    requires built { IsTrue (can_run script.now) }
+    requires kept { IsScript script.now }
+    ensures { IfOk result (λ made. RanTo made.0 script.now made.1.entries) }
+{
+    if is_lone(script) {
+        run_of_one_set(alloc, script)
+    } else {
+        Ok((Status::Done, no_moves(alloc, script)))
+    }
+}
+
+// The run of a script with one set.
+fn run_of_one_set(alloc: Global, script: &Script) -> Result<(Status, Run), AllocError>
     requires lone { IsTrue (is_lone script.now) }
     requires kept { IsScript script.now }
     ensures { IfOk result (λ made. RanTo made.0 script.now made.1.entries) }
@@ -30,6 +42,16 @@ pub(crate) fn first_run(alloc: Global, script: &Script) -> Result<(Status, Run),
     make_moves(&mut world)?;
     let status = ending(&world);
     Ok((status, world.into_run()))
+}
+
+// The run of a script with nothing to lock: no client has a command.
+fn no_moves(alloc: Global, script: &Script) -> Run
+    requires none { IsTrue (has_no_set script.now) }
+    requires kept { IsScript script.now }
+    ensures { RanTo Status.Done script.now result.entries }
+{
+    law_one_token();
+    Run::new(alloc)
 }
 
 fn make_moves(world: &mut World<'_>) -> Result<(), AllocError>

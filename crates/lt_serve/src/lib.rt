@@ -5,6 +5,7 @@ mod first;
 mod gate;
 mod limits;
 mod reading;
+mod scripts;
 mod serving;
 mod status;
 #[cfg(test)]

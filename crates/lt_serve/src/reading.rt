@@ -3,24 +3,22 @@ ghost use Rattle.lt_io.specs.Counts.{Rose, RoseBy};
 ghost use Rattle.lt_modes.specs.Script.{ScriptData};
 ghost use Rattle.lt_script.specs.declared.fault.ScriptFault.{ScriptFault as AnyFault};
 ghost use Rattle.lt_script.specs.Script.{IsScript};
-ghost use Rattle.lt_world.specs.Standing.{is_lone};
+ghost use Rattle.lt_serve.specs.Scripts.{can_run};
 ghost use Rattle.lt_serve.specs.declared.limits.TheConstants.{MAX_INPUT};
 ghost use Rattle.lt_serve.specs.declared.status.Status.TheVariants as status;
 ghost use Rattle.lt_serve.specs.Serving.{Denotes, HasFault, DenotesOther, HasRead, IsWhole, IsReadAnswer, status_of};
 
-use std::alloc::Global;
-
+use crate::limits::MAX_INPUT;
+use crate::scripts::can_run;
+use crate::status::Status;
 use lt_io::{ReadFailure, Source, read_all};
 use lt_script::{ReadError, Script, read};
-use lt_world::is_lone;
-
-use crate::limits::MAX_INPUT;
-use crate::status::Status;
+use std::alloc::Global;
 
 /// Reads the source to its end, and the script that its bytes denote.
 pub(crate) fn read_script<S: Source>(alloc: Global, source: &mut S) -> Result<Script, Status>
     ensures script { IfOk result (Denotes (S.left source.old)) }
-    ensures lone { IfOk result (λ script. IsTrue (is_lone script)) }
+    ensures built { IfOk result (λ script. IsTrue (can_run script)) }
     ensures kept { IfOk result IsScript }
     ensures whole { OnOk result (IsWhole (S.given source.old) (S.given source.new) (S.ends source.old) (S.ends source.new)) }
     ensures whole_too { IfErr result (λ answer. HasRead answer → IsWhole (S.given source.old) (S.given source.new) (S.ends source.old) (S.ends source.new)) }
@@ -35,7 +33,7 @@ pub(crate) fn read_script<S: Source>(alloc: Global, source: &mut S) -> Result<Sc
         Err(failure) => return Err(status_of(failure)),
     };
     match read(alloc, &bytes) {
-        Ok(script) if is_lone(&script) => Ok(script),
+        Ok(script) if can_run(&script) => Ok(script),
         Ok(_) => Err(Status::NotBuilt),
         Err(ReadError::Fault(fault)) => Err(Status::Refused(fault)),
         Err(ReadError::Memory) => Err(Status::NoMemory),

@@ -3,7 +3,7 @@ ghost use Rattle.std.specs.String.{string_bytes};
 ghost use Rattle.lt_io.specs.Counts.{Rose, RoseBy};
 ghost use Rattle.lt_script.specs.declared.fault.ScriptFault.{ScriptFault as AnyFault};
 ghost use Rattle.lt_script.specs.Script.{IsScript};
-ghost use Rattle.lt_world.specs.Standing.{is_lone};
+ghost use Rattle.lt_serve.specs.Scripts.{can_run};
 ghost use Rattle.lt_serve.specs.declared.limits.TheConstants.{MAX_INPUT};
 ghost use Rattle.lt_serve.specs.declared.status.Status.TheVariants as status;
 ghost use Rattle.lt_serve.specs.Words.{is_command};
@@ -78,7 +78,7 @@ impl Served {
 
 // Makes the run and writes its journal.
 fn run_script<K: Sink>(alloc: Global, script: &Script, sink: &mut K) -> Served
-    requires lone { IsTrue (is_lone script.now) }
+    requires built { IsTrue (can_run script.now) }
     requires kept { IsScript script.now }
     ensures tells { TellsOf result.status script.now result.run.entries (K.held sink.old) (K.held sink.new) }
     ensures cause { result.status ≡ status.WriteFault → Rose (K.faults sink.old) (K.faults sink.new) }

@@ -1,5 +1,5 @@
 use super::{Gate, Status, serve};
-use lt_io::{MemorySink, MemorySource};
+use lt_io::{MemorySink, MemorySource, SureSource};
 use std::alloc::{AllocError, Global};
 use std::test::Fail;
 
@@ -223,6 +223,98 @@ fn texts(rt: HostRuntime) -> Result<(), Fail> {
     ] {
         assert_eq!(rt; status.code(), code);
         assert_eq!(rt; status.text(alloc)?.as_str(), text);
+    }
+    Ok(())
+}
+
+// Scripts with a fault, and the line that tells it.
+const REFUSED: [(&str, &str); 16] = [
+    ("", "lockrun: line 1: S5"),
+    (
+        "nodes 2\nset s\nclient a at 0\nclient b at 1\na drop b s\n",
+        "lockrun: line 5: S11",
+    ),
+    ("nodes 0\n", "lockrun: line 1: S4"),
+    ("nodes 17\n", "lockrun: line 1: S9"),
+    ("set s\n", "lockrun: line 1: S5"),
+    ("nodes 1\nnodes 1\n", "lockrun: line 2: S5"),
+    ("nodes 1\nset 9s\n", "lockrun: line 2: S6"),
+    ("nodes 1\nset s\nclient s at 0\n", "lockrun: line 3: S7"),
+    ("nodes 1\nclient a at 1\n", "lockrun: line 2: S4"),
+    ("nodes 1\nset s\na lock s read\n", "lockrun: line 3: S8"),
+    (
+        "nodes 1\nset s\nclient a at 0\na lock s reed\n",
+        "lockrun: line 4: S10",
+    ),
+    (
+        "nodes 1\nset s\nclient a at 0\na grab s read\n",
+        "lockrun: line 4: S3",
+    ),
+    ("nodes 1\nset s\u{1}\n", "lockrun: line 2: S1"),
+    ("nodes 1\n\nset s with r\n", "lockrun: line 3: S8"),
+    ("# one\nnodes 1\nclient lock at x\n", "lockrun: line 3: S4"),
+    ("nodes 1\r\nset s\r\nset s\r\n", "lockrun: line 3: S7"),
+];
+
+#[test]
+fn refused(rt: HostRuntime) -> Result<(), Fail> {
+    let alloc = rt.alloc();
+    let words = sim_first(alloc)?;
+    for (script, text) in &REFUSED {
+        let mut source = source_of(alloc, script, &[])?;
+        let mut sink = sink_of(alloc, 1_000, &[])?;
+        let served = serve(&rt, alloc, words.as_slice(), &mut source, &mut sink, &Open);
+        assert_eq!(rt; served.status.text(alloc)?.as_str(), *text, "{script}");
+        assert_eq!(rt; served.status.code(), 2);
+        assert!(rt; sink.bytes.is_empty());
+    }
+    Ok(())
+}
+
+// Scripts of the format that have nothing to lock, or that aren't built yet.
+#[test]
+fn other_scripts(rt: HostRuntime) -> Result<(), Fail> {
+    let alloc = rt.alloc();
+    let words = sim_first(alloc)?;
+    for (script, status, journal) in [
+        ("nodes 1", Status::Done, "end 0\n"),
+        ("nodes 1\r\nset s", Status::Done, "owner s 0 0\nend 0\n"),
+        ("nodes 2\n", Status::NotBuilt, ""),
+        ("nodes 1\nset s\nset r\n", Status::NotBuilt, ""),
+        (
+            "nodes 1\nset s\nclient a at 0\na try s read\n",
+            Status::NotBuilt,
+            "",
+        ),
+    ] {
+        let mut source = source_of(alloc, script, &[])?;
+        let mut sink = sink_of(alloc, 1_000, &[])?;
+        let served = serve(&rt, alloc, words.as_slice(), &mut source, &mut sink, &Open);
+        assert_eq!(rt; served.status, status, "{script}");
+        assert_eq!(rt; sink.bytes.as_slice(), journal.as_bytes());
+    }
+    Ok(())
+}
+
+#[test]
+fn the_longest_input(rt: HostRuntime) -> Result<(), Fail> {
+    let alloc = rt.alloc();
+    let words = sim_first(alloc)?;
+    for (size, status) in [(1_048_576, Status::Done), (1_048_577, Status::TooLong)] {
+        // A line `nodes 1`, and a comment to the end.
+        let mut bytes = vec![in alloc; b'#'; size]?;
+        for (byte, letter) in bytes.iter_mut().zip(b"nodes 1\n".iter()) {
+            *byte = *letter;
+        }
+        let mut source = SureSource {
+            bytes,
+            at: 0,
+            given: 0,
+            ends: 0,
+        };
+        let mut sink = sink_of(alloc, 1_000, &[])?;
+        let served = serve(&rt, alloc, words.as_slice(), &mut source, &mut sink, &Open);
+        assert_eq!(rt; served.status, status);
     }
     Ok(())
 }

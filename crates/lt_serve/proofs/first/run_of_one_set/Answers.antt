@@ -4,7 +4,7 @@ use Rattle.lt_world.specs.OneNode as one_node
 use Rattle.lt_model.specs.World.{IsRun}
 use Rattle.lt_serve.specs.Alone.{EndsAlone}
 use Rattle.lt_serve.proofs.Endings.{ends_by_all_rules}
-use Rattle.lt_serve.proofs.first.first_run.Goals as goal
+use Rattle.lt_serve.proofs.first.run_of_one_set.Goals as goal
 
 pub returns : goal.returns
 returns c =

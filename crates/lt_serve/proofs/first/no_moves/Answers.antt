@@ -1,0 +1,20 @@
+use Rattle.std.proofs.Common.{◌≡◌, [], List, length, sym, subst, refl}
+use Rattle.std.specs.Prelude.{◌==◌}
+use Rattle.std.proofs.lemmas.Bool.{and_parts, eqb-true}
+use Rattle.lt_model.specs.Log.{Logged}
+use Rattle.lt_serve.specs.declared.status.Status.TheVariants.{Done}
+use Rattle.lt_serve.specs.Serving.{RanTo}
+use Rattle.lt_serve.proofs.NoMoves.{at_rest, none_waits}
+use Rattle.lt_serve.proofs.first.no_moves.Goals as goal
+
+pub returns : goal.returns
+returns c =
+    let script = c.args.script.now in
+    let none : length script.sets ≡ 0 = eqb-true (length script.sets) 0 (and_parts (script.nodes == 1) (length script.sets == 0) c.requires.none).1 in
+    subst (λ (run : List Logged). RanTo Done script run) (sym c.new.ensures)
+    (record {
+      is_run = tt;
+      in_order = refl;
+      ends = (at_rest script c.requires.kept none, none_waits script none);
+      one_token = c.law_one_token.ensures script [] c.requires.kept.some_node tt;
+    })
