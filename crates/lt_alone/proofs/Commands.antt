@@ -1,13 +1,13 @@
 -- What a script of one node says of its clients.
-use Rattle.std.proofs.Common.{◌≡◌, ℕ, zero, suc, ◌<◌, ◌≤◌, ◌+◌, List, [], ◌∷◌, Option, Some, None, Bool, true, false, refl, sym, ap, subst, ◌∙◌, inl, inr, length, arith}
-use Rattle.std.specs.Prelude.{◌&&◌, ◌==◌, IsTrue, slice_get, if◌then◌else◌}
+use Rattle.std.proofs.Common.{◌≡◌, ℕ, zero, suc, ◌<◌, List, [], ◌∷◌, Option, Some, None, true, false, refl, ap, subst, inl, inr, length, arith}
+use Rattle.std.specs.Prelude.{◌==◌, IsTrue, slice_get, if◌then◌else◌}
 use Rattle.std.specs.List.{list_all, filter_map, cons_option}
 use Rattle.std.proofs.lemmas.Bool.{and_parts, and_from, eqb-true, cases_lt}
 use Rattle.std.proofs.lemmas.Option.{slice_get_past}
 use Rattle.lt_modes.specs.declared.command.Command.{Command}
-use Rattle.lt_modes.specs.Script.{ScriptData, ClientData, home_at, node_of_client}
+use Rattle.lt_modes.specs.Script.{ScriptData, node_of_client}
 use Rattle.lt_script.specs.Script.{IsScript}
-use Rattle.lt_model.specs.Families.{command_if, commands_of, home, home_of}
+use Rattle.lt_model.specs.Families.{command_if, commands_of, home}
 use Rattle.lt_world.specs.Standing.{is_lone, locks_or_unlocks}
 
 -- there is a command, which locks or unlocks

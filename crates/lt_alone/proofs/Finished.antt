@@ -1,17 +1,18 @@
 -- The end of a move at a node that is alone: services, and then the waiting asks freeze modes at the node itself.
-use Rattle.std.proofs.Common.{◌≡◌, ℕ, zero, suc, ◌+◌, List, [], ◌∷◌, ◌++◌, Option, Some, None, Bool, true, false, refl, sym, ap, subst, ◌∙◌, eq-eqb}
-use Rattle.std.specs.Prelude.{◌==◌, not, ◌&&◌, if◌then◌else◌}
+use Rattle.std.proofs.Common.{◌≡◌, ℕ, ◌+◌, List, [], ◌∷◌, Option, Some, None, Bool, false, refl, sym, ap, subst, ◌∙◌, eq-eqb}
+use Rattle.std.specs.Prelude.{if◌then◌else◌}
 use Rattle.std.proofs.lemmas.List.{append-nil}
 use Rattle.lt_modes.specs.declared.ask.Ask.{Ask}
 use Rattle.lt_modes.specs.Modes.{Modes, no_modes, with_mode}
 use Rattle.lt_modes.specs.State.{SetState, Desk}
 use Rattle.lt_modes.specs.Made.{Made, silent, then_do}
-use Rattle.lt_modes.specs.Serving.{move_from, next_move, may_draw}
+use Rattle.lt_modes.specs.Serving.{move_from, may_draw}
 use Rattle.lt_modes.specs.Freezing.{freeze}
 use Rattle.lt_modes.specs.HandingOver.{hand_over, hand_over_for}
 use Rattle.lt_modes.specs.Telling.{finish}
 use Rattle.lt_core.specs.Serving.{Made as MadeAlone, serve as serve_alone}
-use Rattle.lt_alone.specs.LoneSet.{LoneSet, AreHere, state_of, frozen_told, with_frozen}
+use Rattle.lt_alone.specs.Frozen.{frozen_told, with_frozen}
+use Rattle.lt_alone.proofs.LoneSet.{LoneSet, AreHere, state_of}
 use Rattle.lt_alone.proofs.Served.{SameMade, desk_of, here_at_clock, same_serve}
 
 -- an ask of the desk's node doesn't draw the desk away
@@ -47,8 +48,8 @@ attended set clock frozen told alone made m =
     let freezes : freeze set (here_at_clock clock) made.state ≡ silent t = ap (freeze set (here_at_clock clock)) m.state ∙ freezes_here set clock frozen told m.set in
     let first : Made = record { state = t; posts = made.posts; events = made.events } in
     let both : then_do (then_do made (freeze set (here_at_clock clock))) (hand_over set (here_at_clock clock)) ≡ first =
-        ap (λ (x : Made). then_do x (hand_over set (here_at_clock clock))) (then_silent made (freeze set (here_at_clock clock)) t freezes)
-        ∙ then_silent first (hand_over set (here_at_clock clock)) t (desk_stays set clock m.set m.here) in
+    ap (λ (x : Made). then_do x (hand_over set (here_at_clock clock))) (then_silent made (freeze set (here_at_clock clock)) t freezes)
+    ∙ then_silent first (hand_over set (here_at_clock clock)) t (desk_stays set clock m.set m.here) in
     subst (λ (x : Made). SameMade with_frozen alone x) (sym both) (record {
       set = m.set;
       here = m.here;

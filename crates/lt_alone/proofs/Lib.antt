@@ -1,5 +1,5 @@
 mod Modes
-mod Here
+mod LoneSet
 mod Served
 mod Finished
 mod SetMoves

@@ -1,6 +1,6 @@
 -- What two sets of modes bar together.
-use Rattle.std.proofs.Common.{◌≡◌, Bool, true, false, refl, sym, ◌∙◌, inl, inr}
-use Rattle.std.specs.Prelude.{◌||◌, ◌&&◌, ◌↔◌, not}
+use Rattle.std.proofs.Common.{◌≡◌, Bool, true, false, refl, sym, inl, inr}
+use Rattle.std.specs.Prelude.{◌||◌, ◌&&◌, not}
 use Rattle.std.proofs.lemmas.Bool.{or_cases, or_left, or_right, false≢true}
 use Rattle.lt_modes.specs.declared.mode.Mode.{Mode}
 use Rattle.lt_modes.specs.Modes.{Modes, conflicts, has, union, bars}

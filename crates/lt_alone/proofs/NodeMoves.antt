@@ -1,8 +1,7 @@
 -- A command at a node that is alone, by its own rules and by the full ones.
-use Rattle.std.proofs.Common.{◌≡◌, ℕ, ◌+◌, List, [], Option, Some, None, true, refl, sym, ap, subst}
+use Rattle.std.proofs.Common.{◌≡◌, ℕ, ◌+◌, [], Option, Some, None, true, refl, sym, ap, subst}
 use Rattle.std.specs.Prelude.{slice_get}
 use Rattle.std.proofs.lemmas.Bool.{eqb-true}
-use Rattle.lt_modes.specs.declared.mode.Mode.{Mode}
 use Rattle.lt_modes.specs.declared.command.Command.{Command}
 use Rattle.lt_modes.specs.declared.command.Command.TheVariants.{Lock, Unlock, Try, Change, DropAll}
 use Rattle.lt_modes.specs.declared.moves.Step.TheVariants.{Act}
@@ -17,7 +16,8 @@ use Rattle.lt_model.specs.Families.{commands_of}
 use Rattle.lt_model.specs.NodeMove.{NodeState, NodeMade, act_stamp, at_clock, one_made, touched, obey, node_act}
 use Rattle.lt_world.specs.Standing.{locks_or_unlocks}
 use Rattle.lt_world.specs.OneNode.{NodeState as NodeAlone, NodeMade as NodeMadeAlone, act_stamp as act_stamp_alone, touched as touched_alone, obeyed, node_move as node_move_alone, next_command as next_command_alone}
-use Rattle.lt_alone.specs.LoneSet.{LoneSet, AreHere, state_of, with_frozen}
+use Rattle.lt_alone.specs.Frozen.{with_frozen}
+use Rattle.lt_alone.proofs.LoneSet.{LoneSet, AreHere, state_of}
 use Rattle.lt_alone.proofs.Served.{SameMade, here_at_clock}
 use Rattle.lt_alone.proofs.SetMoves.{same_lock, same_unlock}
 use Rattle.lt_alone.proofs.Commands.{IsLone}
@@ -59,9 +59,9 @@ same_by : (rule_alone : ℕ → SetState → MadeAlone) (rule : ℕ → SetState
     (touched (one_made client (at_clock (full.clock + 1) full)) 0 (rule (full.clock + 1) (full.set 0)))
 same_by rule_alone rule client alone full n same =
     let at_state : SameMade with_frozen (rule_alone (alone.clock + 1) (alone.set 0)) (rule (alone.clock + 1) (full.set 0)) =
-        subst (λ (s : SetState). SameMade with_frozen (rule_alone (alone.clock + 1) s) (rule (alone.clock + 1) (full.set 0))) (sym n.alone_set)
-        (subst (λ (s : SetState). SameMade with_frozen (rule_alone (alone.clock + 1) (state_of n.set)) (rule (alone.clock + 1) s)) (sym n.full_set)
-        (same (alone.clock + 1) n.set n.here)) in
+    subst (λ (s : SetState). SameMade with_frozen (rule_alone (alone.clock + 1) s) (rule (alone.clock + 1) (full.set 0))) (sym n.alone_set)
+    (subst (λ (s : SetState). SameMade with_frozen (rule_alone (alone.clock + 1) (state_of n.set)) (rule (alone.clock + 1) s)) (sym n.full_set)
+    (same (alone.clock + 1) n.set n.here)) in
     subst (λ (clock : ℕ). SameNodeMade (touched_alone (here_at_clock (alone.clock + 1)) client alone 0 (rule_alone (alone.clock + 1) (alone.set 0)))
     (touched (one_made client (at_clock (clock + 1) full)) 0 (rule (clock + 1) (full.set 0)))) (sym n.clock)
     (same_touched (alone.clock + 1) client alone full _ _ n at_state)

@@ -1,20 +1,20 @@
 -- The enabled moves of one node come in the same order.
-use Rattle.std.proofs.Common.{◌≡◌, ℕ, zero, suc, ◌+◌, ◌-◌, ◌<◌, List, [], ◌∷◌, Option, Some, None, Bool, true, false, refl, sym, ap, subst, ◌∙◌, length, arith}
+use Rattle.std.proofs.Common.{◌≡◌, ℕ, zero, suc, ◌-◌, List, [], ◌∷◌, Option, Some, None, Bool, true, false, refl, sym, ap, ◌∙◌, length, arith}
 use Rattle.std.specs.Prelude.{◌&&◌, ◌||◌, ◌==◌, not, nat_lt, slice_get, option_map, option_and_then, if◌then◌else◌}
 use Rattle.std.proofs.lemmas.Bool.Decides.{nat_tests}
 use Rattle.std.proofs.Math.Path.{fun_ext}
 use Rattle.lt_modes.specs.declared.moves.Step.TheVariants.{Act}
 use Rattle.lt_modes.specs.Script.{ScriptData}
 use Rattle.lt_model.specs.Below.{first_below, count_below, any_below}
-use Rattle.lt_model.specs.World.{World, after, logged, made_by, is_runnable, is_waiting, has_mail, is_at_rest, anyone_waits}
+use Rattle.lt_model.specs.World.{World, after, logged, made_by, is_runnable, has_mail, is_at_rest, anyone_waits}
 use Rattle.lt_model.specs.Order.{Turn, act_turn, takes, next_act, act_after, count_acts, count_turns, pick, first_step, first_run_from}
 use Rattle.lt_model.specs.Log.{Logged}
 use Rattle.lt_world.specs.OneNode as one_node
 use Rattle.lt_world.specs.Order as one_order
 use Rattle.lt_alone.specs.Laws.{turn_of, AreFirstFrom}
 use Rattle.lt_alone.proofs.Commands.{LoneScript}
-use Rattle.lt_alone.proofs.Runs.{SameStep, same_step}
-use Rattle.lt_alone.proofs.Worlds.{SameWorld, same_made, same_runnable, same_waiting, no_mail}
+use Rattle.lt_alone.proofs.Runs.{same_step}
+use Rattle.lt_alone.proofs.Worlds.{SameWorld, same_made, same_runnable, same_waiting}
 
 -- no letter can be taken
 no_takes : (script : ScriptData) (full : World) → LoneScript script → takes script full ≡ []
@@ -68,10 +68,6 @@ pick_by script full k turns none =
     let same : k - 0 ≡ k = omega arith in
     rw (none, past, same) refl
 
-
-
-
-
 turns_here : (script : ScriptData) → LoneScript script → act_turn script ≡ turn_of
 turns_here script lone = fun_ext (λ client. ap (λ (q : ℕ). record { node = q; step = Act client }) (lone.homes client))
 
@@ -86,7 +82,7 @@ pub same_count : (script : ScriptData) (alone : one_node.World) (full : World) �
     → count_turns script full ≡ one_order.count_acts script alone
 same_count script alone full lone n =
     let acts : count_acts script full ≡ one_order.count_acts script alone =
-        ap (λ (runnable : ℕ → Bool). count_below (length script.clients) runnable) (same_runnable script alone full lone n) in
+    ap (λ (runnable : ℕ → Bool). count_below (length script.clients) runnable) (same_runnable script alone full lone n) in
     omega (arith, ap length (no_takes script full lone))
 
 no_letter : (script : ScriptData) (full : World) → LoneScript script → any_below script.nodes (λ p. any_below script.nodes (has_mail script full p)) ≡ false
@@ -117,7 +113,7 @@ first_from script alone full (entry ∷ rest) lone n h order =
     let step = entry.made.step in
     let s = same_step script alone full q step lone n h.0.enabled in
     let again : rest ≡ first_run_from (length rest) script (after script full q step) =
-        first_from script (one_node.after script alone q step) (after script full q step) rest lone s.world h.1 order.1 in
+    first_from script (one_node.after script alone q step) (after script full q step) rest lone s.world h.1 order.1 in
     let picked : pick script full 0 ≡ Some (turn_of order.0.0) = same_pick script alone full 0 lone n ∙ ap (option_map turn_of) order.0.1 in
     ap (λ (e : Logged). e ∷ rest) (h.0.made ∙ sym s.entry)
     ∙ ap (λ (run : List Logged). logged script full q step ∷ run) again

@@ -1,9 +1,8 @@
 -- The runs of one node are those of the full rules.
-use Rattle.std.proofs.Common.{◌≡◌, ℕ, ◌+◌, ◌<◌, List, [], ◌∷◌, ◌++◌, Option, Bool, true, false, refl, sym, ap, subst, ◌∙◌, length}
-use Rattle.std.specs.Prelude.{◌&&◌, ◌==◌, nat_lt, ◌↔◌, if◌then◌else◌, filter_map}
+use Rattle.std.proofs.Common.{◌≡◌, ℕ, ◌+◌, ◌<◌, List, [], ◌∷◌, ◌++◌, Bool, true, false, refl, sym, ap, subst, ◌∙◌, length}
+use Rattle.std.specs.Prelude.{◌==◌, nat_lt, ◌↔◌, if◌then◌else◌, filter_map}
 use Rattle.std.proofs.lemmas.Bool.{and_parts, eqb-true, ltb-true, false≢true}
 use Rattle.lt_modes.specs.declared.event.Event.{Event}
-use Rattle.lt_modes.specs.declared.stamp.Stamp.{Stamp}
 use Rattle.lt_modes.specs.declared.moves.Step.{Step}
 use Rattle.lt_modes.specs.declared.moves.Step.TheVariants.{Act, Take}
 use Rattle.lt_modes.specs.Script.{ScriptData}
@@ -11,11 +10,11 @@ use Rattle.lt_modes.specs.State.{Letter}
 use Rattle.lt_modes.specs.Made.{Post}
 use Rattle.lt_model.specs.Families.{home, commands_of}
 use Rattle.lt_model.specs.Log.{Logged}
-use Rattle.lt_model.specs.World.{World, start, sent, token_to, after, after_run, world_after, logged, is_enabled, IsRunFrom, IsRun}
+use Rattle.lt_model.specs.World.{World, start, sent, token_to, after, after_run, world_after, logged, IsRunFrom, IsRun}
 use Rattle.lt_world.specs.OneNode as one_node
-use Rattle.lt_alone.specs.LoneSet.{with_frozen}
+use Rattle.lt_alone.specs.Frozen.{with_frozen}
 use Rattle.lt_alone.proofs.Commands.{LoneScript, IsLone}
-use Rattle.lt_alone.proofs.NodeMoves.{SameNode, SameNodeMade, same_act}
+use Rattle.lt_alone.proofs.NodeMoves.{same_act}
 use Rattle.lt_alone.proofs.Worlds.{SameWorld, same_start, same_enabled, no_mail_alone}
 
 either_empty : (test : Bool) → (let none : List Letter = [] in if test then none else none) ≡ []
@@ -49,7 +48,7 @@ acts script alone q client lone e =
     let second = and_parts (home script client == q) (one_node.is_runnable script alone client) first.1 in
     let left : one_node.made_by script alone client < length (commands_of script client) = ltb-true _ _ (and_parts _ _ second.1).1 in
     let left_here : (alone.node 0).made client < length (commands_of script client) =
-        subst (λ (h : ℕ). (alone.node h).made client < length (commands_of script client)) (lone.homes client) left in
+    subst (λ (h : ℕ). (alone.node h).made client < length (commands_of script client)) (lone.homes client) left in
     record {
       node = sym (eqb-true _ _ second.0) ∙ lone.homes client;
       next = lone.commands client ((alone.node 0).made client) left_here;
@@ -87,9 +86,10 @@ runs_fully : (script : ScriptData) (alone : one_node.World) (full : World) (run 
 runs_fully script alone full [] lone n h = tt
 runs_fully script alone full (entry ∷ rest) lone n h =
     let q = entry.made.stamp.node in
-    let s = same_step script alone full q entry.made.step lone n h.0.enabled in
-    (record { enabled = same_enabled script alone full q entry.made.step lone n ∙ h.0.enabled; made = h.0.made ∙ sym s.entry },
-      runs_fully script (one_node.after script alone q entry.made.step) (after script full q entry.made.step) rest lone s.world h.1)
+    let s = same_step script alone full q entry.made.step lone n h.0.enabled in (
+      record { enabled = same_enabled script alone full q entry.made.step lone n ∙ h.0.enabled; made = h.0.made ∙ sym s.entry },
+      runs_fully script (one_node.after script alone q entry.made.step) (after script full q entry.made.step) rest lone s.world h.1,
+    )
 
 runs_alone : (script : ScriptData) (alone : one_node.World) (full : World) (run : List Logged) → LoneScript script → SameWorld alone full
     → IsRunFrom script full run → one_node.IsRunFrom script alone run
@@ -97,9 +97,10 @@ runs_alone script alone full [] lone n h = tt
 runs_alone script alone full (entry ∷ rest) lone n h =
     let q = entry.made.stamp.node in
     let enabled = sym (same_enabled script alone full q entry.made.step lone n) ∙ h.0.enabled in
-    let s = same_step script alone full q entry.made.step lone n enabled in
-    (record { enabled = enabled; made = h.0.made ∙ s.entry },
-      runs_alone script (one_node.after script alone q entry.made.step) (after script full q entry.made.step) rest lone s.world h.1)
+    let s = same_step script alone full q entry.made.step lone n enabled in (
+      record { enabled = enabled; made = h.0.made ∙ s.entry },
+      runs_alone script (one_node.after script alone q entry.made.step) (after script full q entry.made.step) rest lone s.world h.1,
+    )
 
 leaves_same : (script : ScriptData) (alone : one_node.World) (full : World) (run : List Logged) → LoneScript script → SameWorld alone full
     → one_node.IsRunFrom script alone run → SameWorld (one_node.after_run script alone run) (after_run script full run)

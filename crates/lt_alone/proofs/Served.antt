@@ -1,20 +1,20 @@
 -- Serving at a node that is alone: the full rules serve the same asks.
-use Rattle.std.proofs.Common.{◌≡◌, ℕ, zero, suc, ◌+◌, List, [], ◌∷◌, ◌++◌, Option, Some, None, Bool, true, false, refl, sym, ap, subst, ◌∙◌, eq-eqb}
-use Rattle.std.specs.Prelude.{◌||◌, ◌&&◌, ◌==◌, not, remove, slice_index_or, if◌then◌else◌, length}
+use Rattle.std.proofs.Common.{◌≡◌, ℕ, zero, suc, ◌+◌, List, [], ◌∷◌, Option, Some, None, Bool, true, false, refl, sym, ap, subst, ◌∙◌, eq-eqb}
+use Rattle.std.specs.Prelude.{◌||◌, ◌&&◌, remove, slice_index_or, if◌then◌else◌, length}
 use Rattle.lt_modes.specs.declared.stamp.Stamp.{Stamp}
 use Rattle.lt_modes.specs.declared.mode.Mode.{Mode}
 use Rattle.lt_modes.specs.declared.mode.Mode.TheVariants.{IntentionRead, Read, Upgrade, IntentionWrite, Write}
 use Rattle.lt_modes.specs.declared.ask.Ask.{Ask}
-use Rattle.lt_modes.specs.Modes.{Modes, has, union, bars, no_modes, with_mode}
+use Rattle.lt_modes.specs.Modes.{Modes, has, bars, no_modes, with_mode}
 use Rattle.lt_modes.specs.State.{SetState, Desk}
 use Rattle.lt_modes.specs.Held.{other_modes}
 use Rattle.lt_modes.specs.Queue.{no_ask, without}
 use Rattle.lt_modes.specs.Made.{Made, then_do}
 use Rattle.lt_modes.specs.Serving.{is_served, next_from, next_service, serve, serve_up_to, serve_step, serve_one, serve_local, ask_at, answer_event}
 use Rattle.lt_core.specs.Serving.{Made as MadeAlone, is_served as is_served_alone, next_from as next_from_alone, next_service as next_service_alone, answered as answered_alone, serve as serve_alone, serve_up_to as serve_alone_up_to, serve_step as serve_step_alone}
-use Rattle.lt_alone.specs.LoneSet.{LoneSet, AreHere, state_of, frozen_told, told_entry}
+use Rattle.lt_alone.specs.Frozen.{frozen_told, told_entry}
+use Rattle.lt_alone.proofs.LoneSet.{LoneSet, AreHere, state_of, here-at, here-remove}
 use Rattle.lt_alone.proofs.Modes.{free_of_both}
-use Rattle.lt_alone.proofs.Here.{here-at, here-remove}
 
 -- the desk of the set, whose own entry was told these frozen modes
 abbrev pub desk_of : Modes → LoneSet → Desk

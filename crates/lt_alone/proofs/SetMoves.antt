@@ -1,24 +1,22 @@
 -- A lock and an unlock at a node that is alone are those of the full rules.
-use Rattle.std.proofs.Common.{◌≡◌, ℕ, List, [], ◌∷◌, ◌++◌, Option, Some, None, Bool, true, false, refl, sym, ap, subst, ◌∙◌}
-use Rattle.std.specs.Prelude.{◌||◌, ◌&&◌, ◌==◌, not, insert, take, if◌then◌else◌}
+use Rattle.std.proofs.Common.{◌≡◌, ℕ, [], ◌∷◌, ◌++◌, None, Bool, true, false, refl, sym, ap, subst}
+use Rattle.std.specs.Prelude.{◌==◌, take, if◌then◌else◌}
 use Rattle.lt_modes.specs.declared.mode.Mode.{Mode}
 use Rattle.lt_modes.specs.declared.ask.Ask.{Ask}
 use Rattle.lt_modes.specs.declared.event.Event.{Event}
 use Rattle.lt_modes.specs.declared.event.Event.TheVariants.{Grant, Wait, Unlock, NotHeld}
-use Rattle.lt_modes.specs.Modes.{Modes, has, bars, covers}
-use Rattle.lt_modes.specs.State.{SetState}
-use Rattle.lt_modes.specs.Held.{count_of, add_lock, take_lock, own_modes, other_modes}
+use Rattle.lt_modes.specs.Modes.{Modes}
+use Rattle.lt_modes.specs.Held.{count_of, add_lock, take_lock, other_modes}
 use Rattle.lt_modes.specs.Queue.{place, entered, modes_of_asks}
-use Rattle.lt_modes.specs.Made.{Made, then_do}
+use Rattle.lt_modes.specs.Made.{then_do}
 use Rattle.lt_modes.specs.Granting.{can_grant, is_holder}
 use Rattle.lt_modes.specs.SetMove.{lock, unlock, granted, asked, ask_of, answers}
 use Rattle.lt_modes.specs.Telling.{finish}
-use Rattle.lt_core.specs.Serving.{Made as MadeAlone, serve as serve_alone}
 use Rattle.lt_core.specs.Granting.{can_grant as can_grant_alone}
 use Rattle.lt_core.specs.SetMove.{lock as lock_alone, unlock as unlock_alone, then_serve, granted as granted_alone, asked as asked_alone, lock_ask}
-use Rattle.lt_alone.specs.LoneSet.{LoneSet, AreHere, state_of, frozen_told, with_frozen}
+use Rattle.lt_alone.specs.Frozen.{frozen_told, with_frozen}
+use Rattle.lt_alone.proofs.LoneSet.{LoneSet, AreHere, state_of, here-insert}
 use Rattle.lt_alone.proofs.Modes.{free_of_both}
-use Rattle.lt_alone.proofs.Here.{here-insert}
 use Rattle.lt_alone.proofs.Served.{SameMade, here_at_clock}
 use Rattle.lt_alone.proofs.Finished.{same_finish}
 

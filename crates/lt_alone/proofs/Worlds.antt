@@ -1,7 +1,6 @@
 -- The world of one node, as its own rules and as the full rules see it.
-use Rattle.std.proofs.Common.{◌≡◌, ℕ, zero, suc, ◌+◌, ◌<◌, List, [], ◌∷◌, Option, Some, None, Bool, true, false, refl, sym, ap, subst, ◌∙◌, length, arith}
-use Rattle.std.specs.Prelude.{◌&&◌, ◌||◌, ◌==◌, not, nat_lt, IsTrue}
-use Rattle.std.proofs.lemmas.Bool.{and_parts, eqb-true, ltb-true, false≢true}
+use Rattle.std.proofs.Common.{◌≡◌, ℕ, [], ◌∷◌, Bool, false, refl, sym, ap, subst, ◌∙◌, length, arith}
+use Rattle.std.specs.Prelude.{◌&&◌, ◌==◌, not, nat_lt}
 use Rattle.std.proofs.lemmas.Bool.Decides.{nat_tests}
 use Rattle.std.proofs.Math.Path.{fun_ext}
 use Rattle.lt_modes.specs.declared.moves.Step.{Step}
@@ -9,16 +8,12 @@ use Rattle.lt_modes.specs.declared.moves.Step.TheVariants.{Act, Take}
 use Rattle.lt_modes.specs.Script.{ScriptData}
 use Rattle.lt_modes.specs.State.{SetState}
 use Rattle.lt_modes.specs.Serving.{waits}
-use Rattle.lt_model.specs.Below.{any_below}
 use Rattle.lt_model.specs.Families.{commands_of, home}
-use Rattle.lt_model.specs.NodeMove.{NodeState, node_waits, has_command, act_stamp}
-use Rattle.lt_model.specs.Log.{Logged}
-use Rattle.lt_model.specs.World.{World, start, after, logged, made_by, is_waiting, is_runnable, is_enabled, has_mail, is_at_rest, anyone_waits}
+use Rattle.lt_model.specs.World.{World, start, made_by, is_waiting, is_runnable, is_enabled, has_mail}
 use Rattle.lt_world.specs.OneNode.{NodeState as NodeAlone}
 use Rattle.lt_world.specs.OneNode as one_node
-use Rattle.lt_alone.specs.LoneSet.{LoneSet, AreHere, state_of, with_frozen}
-use Rattle.lt_alone.proofs.Commands.{LoneScript, IsLone}
-use Rattle.lt_alone.proofs.NodeMoves.{SameNode, SameNodeMade, same_act}
+use Rattle.lt_alone.proofs.Commands.{LoneScript}
+use Rattle.lt_alone.proofs.NodeMoves.{SameNode}
 
 -- node 0 is the same in both worlds, no letter is on its way, and node 0 alone had the tokens
 pub record SameWorld (alone : one_node.World) (full : World) : Type 0 where

@@ -1,5 +1,5 @@
 -- A node that is alone, with one set and only locks and unlocks, runs the full rules: the laws, as statements.
-use Rattle.std.specs.Prelude.{◌≡◌, ℕ, List, [], ◌∷◌, ◌↔◌, Option, Some, option_map, IsTrue, length}
+use Rattle.std.specs.Prelude.{◌≡◌, ℕ, List, [], ◌∷◌, ◌↔◌, Some, option_map, IsTrue, length}
 use Rattle.lt_modes.specs.declared.moves.Step.{Step}
 use Rattle.lt_modes.specs.declared.moves.Step.TheVariants.{Act}
 use Rattle.lt_modes.specs.Script.{ScriptData}
@@ -10,7 +10,7 @@ use Rattle.lt_model.specs.Order.{Turn, pick, count_turns, first_run}
 use Rattle.lt_world.specs.OneNode as one_node
 use Rattle.lt_world.specs.Order.{act_at, count_acts}
 use Rattle.lt_world.specs.Standing.{is_lone}
-use Rattle.lt_alone.specs.LoneSet.{with_frozen}
+use Rattle.lt_alone.specs.Frozen.{with_frozen}
 
 -- a run of the one node is a run of the full rules, and the other way round
 abbrev pub SameRuns : Type 0
@@ -26,6 +26,7 @@ AfterEachRun Holds = (script : ScriptData) (run : List Logged) → IsScript scri
 abbrev pub SameSet : ScriptData → List Logged → Type 0
 SameSet script run = ((world_after script run).node 0).set 0 ≡ with_frozen (((one_node.world_after script run).node 0).set 0)
 
+-- the node's clock is the same
 abbrev pub SameClock : ScriptData → List Logged → Type 0
 SameClock script run = ((world_after script run).node 0).clock ≡ ((one_node.world_after script run).node 0).clock
 
@@ -51,9 +52,11 @@ abbrev pub SameEntries : ScriptData → List Logged → Type 0
 SameEntries script run = (q : ℕ) (step : Step) → IsTrue (one_node.is_enabled script (one_node.world_after script run) q step)
     → logged script (world_after script run) q step ≡ one_node.logged script (one_node.world_after script run) q step
 
+-- no move is enabled in the one world where none is in the other
 abbrev pub SameRest : ScriptData → List Logged → Type 0
 SameRest script run = is_at_rest script (world_after script run) ≡ one_node.is_at_rest script (one_node.world_after script run)
 
+-- some client waits in the one world where some client does in the other
 abbrev pub SameWaiting : ScriptData → List Logged → Type 0
 SameWaiting script run = anyone_waits script (world_after script run) ≡ one_node.anyone_waits script (one_node.world_after script run)
 

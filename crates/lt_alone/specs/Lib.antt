@@ -1,2 +1,2 @@
-pub mod LoneSet
+pub mod Frozen
 pub mod Laws

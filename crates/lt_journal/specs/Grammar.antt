@@ -33,6 +33,7 @@ step_of script verb word =
     else if bytes_eq verb (codes "take") then option_map Take (node_of script word)
     else None
 
+-- the lock of these three, if each is known
 abbrev pub lock_by : Option ℕ → Option ℕ → Option Mode → Option Lock
 lock_by (Some client) (Some set) (Some mode) = Some (record { client = client; set = set; mode = mode })
 lock_by _ _ _ = None
@@ -69,34 +70,39 @@ says_none words = false
 abbrev pub modes_of : List (List ℕ) → Option Modes
 modes_of words = if says_none words then Some no_modes else with_words all_modes no_modes words
 
+-- `end COUNT`
 abbrev pub end_line : Option ℕ → Line
 end_line (Some count) = End count
 end_line None = Bad
 
+-- `cut NODE`
 abbrev pub cut_line : Option ℕ → Line
 cut_line (Some node) = Cut node
 cut_line None = Bad
 
--- a line of two words
+-- a line of two words: `end COUNT` or `cut NODE`
 abbrev pub line_of_two : ScriptData → List ℕ → List ℕ → Line
 line_of_two script word a =
     if bytes_eq word (codes "end") then end_line (exact_number a)
     else if bytes_eq word (codes "cut") then cut_line (node_of script a)
     else Bad
 
+-- `busy CLIENT CLIENT SET`
 abbrev pub busy_line : Option ℕ → Option ℕ → Option ℕ → Line
 busy_line (Some client) (Some other) (Some set) = EventLine (Busy client other set)
 busy_line _ _ _ = Bad
 
+-- `token SET TO EPOCH`
 abbrev pub token_line : Option ℕ → Option ℕ → Option ℕ → Line
 token_line (Some set) (Some to) (Some epoch) = EventLine (Token set to epoch)
 token_line _ _ _ = Bad
 
+-- `owner SET NODE EPOCH`
 abbrev pub owner_line : Option ℕ → Option ℕ → Option ℕ → Line
 owner_line (Some set) (Some node) (Some epoch) = Owner set node epoch
 owner_line _ _ _ = Bad
 
--- a line of a word and a lock
+-- `grant`, `wait`, `unlock`, `not_held` or `waiting`, and then `CLIENT SET MODE`
 abbrev pub lock_line : List ℕ → Option Lock → Line
 lock_line word None = Bad
 lock_line word (Some lock) =
@@ -107,7 +113,7 @@ lock_line word (Some lock) =
     else if bytes_eq word (codes "waiting") then Waiting lock.client lock.set lock.mode
     else Bad
 
--- a line of four words
+-- a line of four words: `busy`, `token`, `owner`, or a word and a lock
 abbrev pub line_of_four : ScriptData → List ℕ → List ℕ → List ℕ → List ℕ → Line
 line_of_four script word a b c =
     if bytes_eq word (codes "busy") then busy_line (client_number script a) (client_number script b) (set_number script c)
@@ -115,31 +121,37 @@ line_of_four script word a b c =
     else if bytes_eq word (codes "owner") then owner_line (set_number script a) (node_of script b) (exact_number c)
     else lock_line word (lock_of script a b c)
 
+-- `move CLOCK NODE`, and what the move does
 abbrev pub move_line : Option ℕ → Option ℕ → Option Step → Line
 move_line (Some clock) (Some node) (Some step) = MoveLine clock node step
 move_line _ _ _ = Bad
 
+-- `drop CLIENT CLIENT SET COUNT`
 abbrev pub drop_line : Option ℕ → Option ℕ → Option ℕ → Option ℕ → Line
 drop_line (Some client) (Some other) (Some set) (Some count) = EventLine (DropAll client other set count)
 drop_line _ _ _ _ = Bad
 
+-- `copy SET TO CLIENT MODE`
 abbrev pub copy_line : Option ℕ → Option ℕ → Option ℕ → Option Mode → Line
 copy_line (Some set) (Some to) (Some client) (Some mode) = EventLine (Copy set to client mode)
 copy_line _ _ _ _ = Bad
 
+-- `try CLIENT SET MODE true` or `false`
 abbrev pub try_line : Lock → Option Bool → Line
 try_line lock (Some got) = EventLine (Try lock.client lock.set lock.mode got)
 try_line lock None = Bad
 
+-- `change CLIENT SET MODE MODE`
 abbrev pub change_line : Lock → Option Mode → Line
 change_line lock (Some mode) = EventLine (Change lock.client lock.set lock.mode mode)
 change_line lock None = Bad
 
+-- `held CLIENT SET MODE COUNT`
 abbrev pub held_line : Lock → Option ℕ → Line
 held_line lock (Some count) = Held lock.client lock.set lock.mode count
 held_line lock None = Bad
 
--- a line of a word, a lock, and what is said of the lock
+-- `try`, `change` or `held`, then `CLIENT SET MODE`, and a last word
 abbrev pub lock_and_line : List ℕ → Option Lock → List ℕ → Line
 lock_and_line word None d = Bad
 lock_and_line word (Some lock) d =
@@ -148,7 +160,7 @@ lock_and_line word (Some lock) d =
     else if bytes_eq word (codes "held") then held_line lock (exact_number d)
     else Bad
 
--- a line of five words, but for a `freeze`
+-- a line of five words, but for a `freeze`: `move`, `drop`, `copy`, or a word, a lock and a last word
 abbrev pub line_of_five : ScriptData → List ℕ → List ℕ → List ℕ → List ℕ → List ℕ → Line
 line_of_five script word a b c d =
     if bytes_eq word (codes "move") then move_line (exact_number a) (node_of script b) (step_of script c d)
@@ -156,11 +168,12 @@ line_of_five script word a b c d =
     else if bytes_eq word (codes "copy") then copy_line (set_number script a) (node_of script b) (client_number script c) (mode_of d)
     else lock_and_line word (lock_of script a b c) d
 
+-- `freeze SET TO NUMBER MODES`
 abbrev pub freeze_line : Option ℕ → Option ℕ → Option ℕ → Option Modes → Line
 freeze_line (Some set) (Some to) (Some number) (Some modes) = EventLine (Freeze set to number modes)
 freeze_line _ _ _ _ = Bad
 
--- a line `freeze SET TO NUMBER MODES`
+-- a line `freeze` with these words for the set, the node, the number and the modes
 abbrev pub line_of_freeze : ScriptData → List ℕ → List ℕ → List ℕ → List (List ℕ) → Line
 line_of_freeze script a b c modes = freeze_line (set_number script a) (node_of script b) (exact_number c) (modes_of modes)
 

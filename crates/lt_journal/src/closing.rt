@@ -119,6 +119,7 @@ fn waiting_lines(
     Ok(())
 }
 
+// Writes the line of what the client waits for, if it waits.
 fn waiting_of(
     text: &mut Text,
     script: &Script,

@@ -1,4 +1,4 @@
-//! Journals: the text of a run.
+//! Journals: the text of a run, written and read.
 //!
 //! A line ends with a line feed. Its words have one space between them, and numbers have no zero in
 //! front. Each move has its line, and after it a line for each of its events, in order:
@@ -28,12 +28,17 @@
 //! | `owner SET NODE EPOCH` | for each set in order, from its last token line, or `0 0` |
 //! | `end COUNT` | last, with the number of moves |
 //! | `cut NODE` | in place of the others, for a run that was cut |
+//!
+//! Names are those of the script, numbers are below 2^32, and node numbers are below the script's number of
+//! nodes. A line that has none of these forms is bad. An input may hold a script and its journal, with the
+//! line `journal` between them.
 #![tactic(auto)]
 
 mod closing;
 mod events;
 mod grammar;
 mod journal;
+mod laws;
 mod line;
 mod lock;
 mod names;
@@ -47,6 +52,7 @@ mod tests;
 mod text;
 
 pub use journal::write;
+pub use laws::{law_read_line, law_read_text};
 pub use line::Line;
 pub use reading::{Journal, read};
 pub use splitting::{Parts, split};

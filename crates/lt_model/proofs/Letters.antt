@@ -1,10 +1,10 @@
 -- The letters on their way after some were sent, and after one was taken.
-use Rattle.std.proofs.Common.{◌≡◌, ◌≢◌, ℕ, suc, ◌+◌, ◌<◌, ◌≤◌, inl, inr, List, [], ◌∷◌, ◌++◌, Bool, true, false, refl, sym, subst, arith, ap, ◌∙◌}
-use Rattle.std.specs.Prelude.{◌==◌, if◌then◌else◌, filter_map, sum_by, Contains, drop}
+use Rattle.std.proofs.Common.{◌≡◌, ◌≢◌, ℕ, zero, suc, ◌+◌, ◌<◌, ◌≤◌, inl, inr, List, [], ◌∷◌, ◌++◌, Bool, true, false, refl, sym, subst, arith, ap, ◌∙◌}
+use Rattle.std.specs.Prelude.{◌==◌, if◌then◌else◌, filter_map, sum_by, Contains, drop, ◌⊎◌}
 use Rattle.std.specs.List.{AllByRecursion}
 use Rattle.std.proofs.lemmas.Bool.{cases_eq, eq-eqb, ne_eqb, and_from, and_left, and_right}
 use Rattle.std.proofs.lemmas.List.{append-nil}
-use Rattle.std.proofs.lemmas.List.Elements.{All-contains, All-from_recursion, Contains-append_cases, Contains-append_left}
+use Rattle.std.proofs.lemmas.List.Elements.{All-contains, All-from_recursion, Contains-append_cases, Contains-append_left, Contains-append_right}
 use Rattle.std.proofs.lemmas.List.Sums.{sum_by-append, sum_by-cons, get_or-le-sum_by}
 use Rattle.lt_modes.specs.State.{Letter}
 use Rattle.lt_modes.specs.Made.{Post}
@@ -86,19 +86,38 @@ mail_weight n of_letter mail = sum_below n (λ a. sum_below n (λ b. sum_by of_l
 abbrev pub posts_weight : (Letter → ℕ) → List Post → ℕ
 posts_weight of_letter posts = sum_by (λ (post : Post). of_letter post.letter) posts
 
-letters_weight : (n : ℕ) (of_letter : Letter → ℕ) (posts : List Post) → AllByRecursion (λ (post : Post). post.to < n) posts
+-- the post goes to a node that counts, or weighs nothing
+abbrev pub IsCounted : ℕ → (Letter → ℕ) → Post → Type 0
+IsCounted n of_letter post = (post.to < n) ⊎ (of_letter post.letter ≡ 0)
+
+letters_weight : (n : ℕ) (of_letter : Letter → ℕ) (posts : List Post) → AllByRecursion (IsCounted n of_letter) posts
     → sum_below n (λ b. sum_by of_letter (letters_to b posts)) ≡ posts_weight of_letter posts
 letters_weight n of_letter [] h = sum_below-none n _ (λ b below. refl)
 letters_weight n of_letter (post ∷ rest) h =
     let f : ℕ → ℕ = λ b. sum_by of_letter (letters_to b (post ∷ rest)) in
     let g : ℕ → ℕ = λ b. sum_by of_letter (letters_to b rest) in
-    let change = sum_below-change n post.to f g h.0
-    (λ b below d. ap (sum_by of_letter) (letters_to-other b post rest (λ e. d (sym e)))) in
     let here : f post.to ≡ of_letter post.letter + g post.to =
     ap (sum_by of_letter) (letters_to-same post.to post rest refl) ∙ sum_by-cons of_letter post.letter (letters_to post.to rest) in
-    omega (arith, change, here, letters_weight n of_letter rest h.1, sum_by-cons (λ (p : Post). of_letter p.letter) post rest)
+    let more : sum_below n f ≡ sum_below n g + of_letter post.letter = by_case post.to h.0 f g here
+    (λ b d. ap (sum_by of_letter) (letters_to-other b post rest (λ e. d (sym e)))) (of_letter post.letter) refl in
+    omega (arith, more, letters_weight n of_letter rest h.1, sum_by-cons (λ (p : Post). of_letter p.letter) post rest)
+  where
+    by_case : (to : ℕ) → (to < n) ⊎ (of_letter post.letter ≡ 0) → (f g : ℕ → ℕ) → f to ≡ of_letter post.letter + g to → ((b : ℕ) → b ≢ to → f b ≡ g b)
+        → (k : ℕ) → k ≡ of_letter post.letter → sum_below n f ≡ sum_below n g + k
+    by_case to (inl below) f g here others k e =
+        omega (arith, sum_below-change n to f g below (λ b under d. others b d), here, e)
+    by_case to (inr none) f g here others k e =
+        omega (
+          arith,
+          e,
+          none,
+          sum_below-same n f g (λ b under. elim (cases_eq b to) [
+            | inl same ↦ omega (arith, ap f same, ap g same, here, none)
+            | inr d ↦ others b d
+          ]),
+        )
 
-row_weight : (n p : ℕ) (of_letter : Letter → ℕ) (posts : List Post) (mail : ℕ → ℕ → List Letter) → AllByRecursion (λ (post : Post). post.to < n) posts
+row_weight : (n p : ℕ) (of_letter : Letter → ℕ) (posts : List Post) (mail : ℕ → ℕ → List Letter) → AllByRecursion (IsCounted n of_letter) posts
     → sum_below n (λ b. sum_by of_letter (sent p posts mail p b)) ≡ sum_below n (λ b. sum_by of_letter (mail p b)) + posts_weight of_letter posts
 row_weight n p of_letter posts mail h =
     let each = sum_below-same n (λ b. sum_by of_letter (sent p posts mail p b))
@@ -111,9 +130,28 @@ row_weight n p of_letter posts mail h =
       letters_weight n of_letter posts h,
     )
 
+-- a letter that is sent is among those to its receiver
+pub among_letters : (posts : List Post) (post : Post) → Contains posts post → Contains (letters_to post.to posts) post.letter
+among_letters [] post h = absurd (omega (arith, h.1))
+among_letters (first ∷ rest) post (zero, within, e) =
+    subst (λ (p : Post). Contains (letters_to p.to (first ∷ rest)) p.letter) e
+    (subst (λ (l : List Letter). Contains l first.letter) (sym (letters_to-same first.to first rest refl)) (0, omega arith, refl))
+among_letters (first ∷ rest) post (suc k, within, e) =
+    let found = among_letters rest post (k, omega (arith, within), e) in
+    elim (cases_eq first.to post.to) [
+      | inl same ↦ subst (λ (l : List Letter). Contains l post.letter) (sym (letters_to-same post.to first rest same)) (suc found.0, omega (arith, found.1), found.2)
+      | inr d ↦ subst (λ (l : List Letter). Contains l post.letter) (sym (letters_to-other post.to first rest d)) found
+    ]
+
+-- and so it is on its way
+pub sent_on_way : (p : ℕ) (posts : List Post) (mail : ℕ → ℕ → List Letter) (post : Post) → Contains posts post → Contains (sent p posts mail p post.to) post.letter
+sent_on_way p posts mail post h =
+    subst (λ (t : Bool). Contains (mail p post.to ++ (if t then letters_to post.to posts else [])) post.letter) (sym (eq-eqb p p refl))
+    (Contains-append_right (mail p post.to) (letters_to post.to posts) post.letter (among_letters posts post h))
+
 -- letters that are sent add their weight
 pub mail_weight-sent : (n p : ℕ) (of_letter : Letter → ℕ) (posts : List Post) (mail : ℕ → ℕ → List Letter)
-    → p < n → AllByRecursion (λ (post : Post). post.to < n) posts
+    → p < n → AllByRecursion (IsCounted n of_letter) posts
     → mail_weight n of_letter (sent p posts mail) ≡ mail_weight n of_letter mail + posts_weight of_letter posts
 mail_weight-sent n p of_letter posts mail below h =
     let f : ℕ → ℕ = λ a. sum_below n (λ b. sum_by of_letter (sent p posts mail a b)) in

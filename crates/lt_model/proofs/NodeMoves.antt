@@ -64,7 +64,7 @@ touched-beside s set stamp n m from d = record {
   posts = all_weaker _ _ (λ (post : Post) sent. λ e. d (sym sent.0 ∙ e)) m.posts from;
 }
 
-each-beside : (s : ℕ) (stamp : Stamp) (rule : ℕ → SetState → Made) → ((set : ℕ) (t : SetState) → AreSentIn set stamp (rule set t))
+pub each-beside : (s : ℕ) (stamp : Stamp) (rule : ℕ → SetState → Made) → ((set : ℕ) (t : SetState) → AreSentIn set stamp (rule set t))
     → (sets : List ℕ) → AllByRecursion (λ set. set ≢ s) sets → (n : NodeState) → IsBeside s n (each_touched rule sets n)
 each-beside s stamp rule from [] aside n = record { state = refl; posts = tt }
 each-beside s stamp rule from (set ∷ rest) aside n =

@@ -31,7 +31,7 @@ sent_on-idle set stamp item s away Parks = record { away = away; posts = tt }
 sent_on-idle set stamp item s away (Goes to marked) =
     record { away = reversed_desk stamp.node item s ∙ away; posts = (item_tokens item marked, tt) }
 
-route-idle : (set : ℕ) (stamp : Stamp) (marked : Bool) (item : Parked) (s : SetState) → s.desk ≡ None → Idle (route set stamp marked item s)
+pub route-idle : (set : ℕ) (stamp : Stamp) (marked : Bool) (item : Parked) (s : SetState) → s.desk ≡ None → Idle (route set stamp marked item s)
 route-idle set stamp marked item s away = by_desk s.desk away
   where
     by_desk : (desk : Option Desk) → desk ≡ None → Idle (route_by set stamp marked item s desk)

@@ -233,7 +233,7 @@ put_queue_way nodes went x firm queue None way named = way
 put_queue_way nodes went x firm queue (Some desk) way named =
     (record { epoch = way.0.epoch; node = way.0.node; entries = way.0.entries; queue = named }, way.1, way.2)
 
-put_queue_some : (queue : List Ask) (desk : Option Desk) → is_some (put_queue queue desk) ≡ is_some desk
+pub put_queue_some : (queue : List Ask) (desk : Option Desk) → is_some (put_queue queue desk) ≡ is_some desk
 put_queue_some queue None = refl
 put_queue_some queue (Some desk) = refl
 
@@ -251,7 +251,7 @@ owed_at_way nodes went x firm ask k (Some desk) way = (
   way.2,
 )
 
-owed_at_some : (ask : Ask) (k : ℕ) (desk : Option Desk) → is_some (owed_at ask k desk) ≡ is_some desk
+pub owed_at_some : (ask : Ask) (k : ℕ) (desk : Option Desk) → is_some (owed_at ask k desk) ≡ is_some desk
 owed_at_some ask k None = refl
 owed_at_some ask k (Some desk) = refl
 
@@ -307,7 +307,7 @@ pub serve-quiet : (nodes : ℕ) (went : List ℕ) (k set : ℕ) (stamp : Stamp) 
     → Quiet nodes went stamp.node k (serve set stamp s)
 serve-quiet nodes went k set stamp s g h here = serve-quiet_up_to (length (queue_of s)) nodes went k set stamp s g h here
 
-length-map_from : {X Y : Type 0} (f : ℕ → X → Y) (k : ℕ) (xs : List X) → length (map_from f k xs) ≡ length xs
+pub length-map_from : {X Y : Type 0} (f : ℕ → X → Y) (k : ℕ) (xs : List X) → length (map_from f k xs) ≡ length xs
 length-map_from f k [] = refl
 length-map_from f k (x ∷ xs) = ap suc (length-map_from f (k + 1) xs)
 

@@ -52,7 +52,7 @@ state_later nodes gone x q v t h d none last = record {
     ]
     by_desk (Some desk) way e = absurd (omega (arith, e))
 
-weighs_tokens : (s : ℕ) (letter : Letter) → letter.set ≡ s → token_weight s letter ≡ tokens_in letter.body
+pub weighs_tokens : (s : ℕ) (letter : Letter) → letter.set ≡ s → token_weight s letter ≡ tokens_in letter.body
 weighs_tokens s letter e = rw (eq-eqb letter.set s e) refl
 
 pub put-same : {X : Type 0} (f : ℕ → X) (q : ℕ) (v : X) → put f q v q ≡ v
@@ -108,7 +108,7 @@ after_moved nodes s hand q state mail gone m h hq moved =
     let desks_change = sum_below-change nodes q (λ k. one_if (is_some (put state q m.state k).desk)) (λ k. one_if (is_some (state k).desk)) hq
     (λ k below d. ap (λ (t : SetState). one_if (is_some t.desk)) (put-other state q m.state k d)) in
     let here = ap (λ (t : SetState). one_if (is_some t.desk)) (put-same state q m.state) in
-    let weight = mail_weight-sent nodes q (token_weight s) m.posts mail hq (all_weaker _ _ (λ (post : Post) on. on.to) m.posts moved.posts) in
+    let weight = mail_weight-sent nodes q (token_weight s) m.posts mail hq (all_weaker _ _ (λ (post : Post) on. inl on.to) m.posts moved.posts) in
     subst (λ (l : List ℕ). PathsOf nodes s 0 (put state q m.state) (sent q m.posts mail) l) moved.grown (record {
       ground = others.ground;
       begun = others.begun;

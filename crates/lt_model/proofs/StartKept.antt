@@ -145,7 +145,7 @@ desk_first : (script : ScriptData) (s : ℕ) (place : Option ℕ) (desk : Desk) 
 desk_first script s (Some t) desk h = desk_if script.nodes (t == 0) desk h.1
 desk_first script s None desk h = no_comes script s h.0 _ h.2
 
-served_if : (nodes t : ℕ) (here : Bool) → (next_service t (state_if nodes here) ≡ None) × (next_move t (state_if nodes here) ≡ None)
+pub served_if : (nodes t : ℕ) (here : Bool) → (next_service t (state_if nodes here) ≡ None) × (next_move t (state_if nodes here) ≡ None)
 served_if nodes t true = (refl, refl)
 served_if nodes t false = (refl, refl)
 
@@ -234,7 +234,7 @@ places_if : (ask : Ask) (nodes : ℕ) (here : Bool) → places_in_state ask (sta
 places_if ask nodes true = refl
 places_if ask nodes false = refl
 
-places_start : (script : ScriptData) (s : ℕ) (ask : Ask)
+pub places_start : (script : ScriptData) (s : ℕ) (ask : Ask)
     → place_count script (start script) s ask ≡ sum_below script.nodes (λ x. times_in ask (state_at (start script) s x).pending)
 places_start script s ask = omega (
   arith,

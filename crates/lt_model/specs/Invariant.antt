@@ -25,7 +25,7 @@ BodyKept script clock (FreezeBody number modes) = number ≤ clock
 BodyKept script clock (TokenBody desk) = (desk.epoch ≤ clock) × (desk.number ≤ clock)
 
 -- a letter on its way from p
-pub record LetterKept (script : ScriptData) (w : World) (s p : ℕ) (letter : Letter) : Type 0 where
+pub record LetterKept (script : ScriptData) (w : World) (p : ℕ) (letter : Letter) : Type 0 where
   pub clock : letter.stamp.clock ≤ (w.node p).clock
   pub sender : letter.stamp.node ≡ p
   pub epoch : letter.link.epoch ≤ letter.stamp.clock
@@ -79,16 +79,20 @@ pub record DeskAccounts (script : ScriptData) (w : World) (s : ℕ) (place : Opt
       → AreClear (modes_counted w s place desk x) (modes_counted w s place desk y)
   pub frozen : (x : ℕ) → x < script.nodes → FrozenKept script w s place desk x
 
+-- where the desk is at a node, no ask can be served there and none can draw the desk away
+abbrev pub IsServed : ScriptData → World → ℕ → Type 0
+IsServed script w s = (t : ℕ) (desk : Desk) → DeskIs script w s (Some t) desk
+    → (next_service t (state_at w s t) ≡ None) × (next_move t (state_at w s t) ≡ None)
+
 -- what holds of one set
 pub record SetKept (script : ScriptData) (w : World) (s : ℕ) : Type 0 where
   pub paths : Paths script w s
   pub letters : (p q : ℕ) (letter : Letter) → p < script.nodes → q < script.nodes → OnWay w s p q letter
-      → LetterKept script w s p letter
+      → LetterKept script w p letter
   pub places : PlacesKept script w s
   pub parked : (x : ℕ) → x < script.nodes → All (IsParkedFor script w s x) (state_at w s x).parked
   pub known : (place : Option ℕ) (desk : Desk) → DeskIs script w s place desk → DeskAccounts script w s place desk
-  pub served : (t : ℕ) (desk : Desk) → DeskIs script w s (Some t) desk
-      → (next_service t (state_at w s t) ≡ None) × (next_move t (state_at w s t) ≡ None)
+  pub served : IsServed script w s
 
 -- what holds of every world of a run: each node is sound, letters go to other nodes and are of sets of the script,
 -- and each set is kept

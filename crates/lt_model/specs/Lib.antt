@@ -12,6 +12,8 @@ pub mod Paths
 pub mod Touches
 pub mod Accounts
 pub mod Invariant
+pub mod Timed
+pub mod Standing
 pub mod Laws
 pub mod Worked
 pub mod WorkedOneNode

@@ -1,4 +1,4 @@
-ghost use Rattle.lt_model.specs.Laws.{StartKept, PathsKept, PathsInRuns, OneToken, OthersStay, ClockMoves, OtherClocksStay, StampsKept, ClocksInRuns};
+ghost use Rattle.lt_model.specs.Laws.{StartKept, PathsKept, PathsInRuns, DeskSomewhere, TokenComes, OneToken, OthersStay, ClockMoves, OtherClocksStay, StampsKept, ClocksInRuns, TimedKept, TimedInRuns, StandingKept, StandingInRuns, OnePlace, ServedKept, ServedInRuns, TryIsExact};
 
 /// What holds of every world of a run holds at the start of each script.
 pub fn law_start()
@@ -9,6 +9,8 @@ pub fn law_start()
 pub fn law_paths()
     ensures step { PathsKept }
     ensures run { PathsInRuns }
+    ensures desk { DeskSomewhere }
+    ensures comes { TokenComes }
 {}
 
 /// There is one token of each set at any time of a run.
@@ -27,4 +29,28 @@ pub fn law_clocks()
     ensures others { OtherClocksStay }
     ensures letters { StampsKept }
     ensures run { ClocksInRuns }
+{}
+
+/// Epochs, freeze numbers and stamps that are kept or said are no younger than the clock of who keeps or says them.
+pub fn law_timed()
+    ensures step { TimedKept }
+    ensures run { TimedInRuns }
+{}
+
+/// An unanswered ask stands in exactly one place: parked, in a queue, or in a letter of its own.
+pub fn law_one_place()
+    ensures step { StandingKept }
+    ensures run { StandingInRuns }
+    ensures place { OnePlace }
+{}
+
+/// Where the desk of a set is at a node, no waiting ask can be served there, and none can draw the desk away.
+pub fn law_served()
+    ensures step { ServedKept }
+    ensures run { ServedInRuns }
+{}
+
+/// A `try` is answered with `true` exactly where the client's node can grant the mode.
+pub fn law_exact_try()
+    ensures { TryIsExact }
 {}

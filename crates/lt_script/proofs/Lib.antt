@@ -2,3 +2,6 @@ pub mod ScriptLemmas
 pub mod NameLemmas
 pub mod Allowed
 pub mod ReadLemmas
+pub mod PrintLemmas
+pub mod PrintedLines
+pub mod RoundTrip

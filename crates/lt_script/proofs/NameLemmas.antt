@@ -37,9 +37,40 @@ module _ {X : Type 0} (p : X → Bool) where
     | inr later ↦ from_none_at xs (i + 1) k x (rw later at none) at
   ]
 
+  from_bounds : (xs : List X) (i k : ℕ) → position_from p i xs ≡ Some k → (i ≤ k) × (k < i + length xs)
+  from_bounds [] i k e = absurd (cc)
+  from_bounds (x ∷ xs) i k e = elim (cases_Bool (p x)) [
+    | inl here ↦ let same : i ≡ k = first i k (rw here at e) in (omega arith, omega arith)
+    | inr later ↦ let b = from_bounds xs (i + 1) k (rw later at e) in (omega (arith, b.0), omega (arith, b.1))
+  ]
+    where
+      first : (i k : ℕ) → Some i ≡ Some k → i ≡ k
+      first i k e = cc
+
   -- what is found stays found at its place
   pub found_stays : (xs ys : List X) (k : ℕ) → position p xs ≡ Some k → position p (xs ++ ys) ≡ Some k
   found_stays xs ys k e = position_from-zero p (xs ++ ys) ∙ from_stays xs ys 0 k (sym (position_from-zero p xs) ∙ e)
+
+  found_inside : (xs : List X) (k : ℕ) → position p xs ≡ Some k → k < length xs
+  found_inside xs k e = let b = from_bounds xs 0 k (sym (position_from-zero p xs) ∙ e) in omega (arith, b.1)
+
+  -- what is found in front is found in the front
+  pub found_in_front : (xs ys : List X) (k : ℕ) → position p (xs ++ ys) ≡ Some k → k < length xs → position p xs ≡ Some k
+  found_in_front xs ys k e below = elim (position p xs) as (λ o. position p xs ≡ o → o ≡ Some k) [
+    | Some i ↦ λ found. sym (found_stays xs ys i found) ∙ e
+    | None ↦ λ none.
+        absurd (let b = from_bounds ys (0 + length xs) k (sym (from_goes_on xs ys 0 (sym (position_from-zero p xs) ∙ none)) ∙ sym (position_from-zero p (xs ++ ys)) ∙ e) in omega (arith, b.0))
+  ] refl
+
+  -- what is found first behind the front isn't found in it
+  pub not_in_front : (xs ys : List X) → position p (xs ++ ys) ≡ Some (length xs) → position p xs ≡ None
+  not_in_front xs ys e = elim (position p xs) as (λ o. position p xs ≡ o → o ≡ None) [
+    | Some i ↦ λ found. absurd (let same : i ≡ length xs = one i (length xs) (sym (found_stays xs ys i found) ∙ e) in omega (arith, found_inside xs i found))
+    | None ↦ λ none. refl
+  ] refl
+    where
+      one : (i k : ℕ) → Some i ≡ Some k → i ≡ k
+      one i k e = cc
 
   -- an element that passes is found at the end, if there was none before
   pub found_last : (xs : List X) (y : X) → position p xs ≡ None → p y ≡ true → position p (xs ++ y ∷ []) ≡ Some (length xs)

@@ -90,10 +90,10 @@ set_added s x good named undeclared room fits =
       sets_found = λ set inside. elim (numbers_push s.sets x set inside) [
         | inl below ↦
             rw (set_name_front s.sets x set below)
-              (found_stays (λ (y : SetData). bytes_eq y.name (name_of_set (slice_get s.sets set))) s.sets (x ∷ []) set (good.sets_found set below))
+            (found_stays (λ (y : SetData). bytes_eq y.name (name_of_set (slice_get s.sets set))) s.sets (x ∷ []) set (good.sets_found set below))
         | inr last ↦
             rw (set_name_last s.sets x set last)
-              (found_last (λ (y : SetData). bytes_eq y.name x.name) s.sets x new.no_set (same_name x.name) ∙ ap Some (sym last))
+            (found_last (λ (y : SetData). bytes_eq y.name x.name) s.sets x new.no_set (same_name x.name) ∙ ap Some (sym last))
       ];
       families_not_later = λ set inside. elim (numbers_push s.sets x set inside) [
         | inl below ↦ rw (family_front s.sets x set below) (good.families_not_later set below)
@@ -112,7 +112,7 @@ set_added s x good named undeclared room fits =
       clients_named = good.clients_named;
       clients_found = good.clients_found;
       clients_no_sets = λ client inside.
-        found_never (λ (y : SetData). bytes_eq y.name (name_of_client (slice_get s.clients client))) s.sets x (good.clients_no_sets client inside)
+          found_never (λ (y : SetData). bytes_eq y.name (name_of_client (slice_get s.clients client))) s.sets x (good.clients_no_sets client inside)
           (set_not_client s x.name client inside new.no_client);
       homes = good.homes;
       loads = good.loads;
@@ -135,43 +135,43 @@ load_push clients x node = omega (arith, sum_by-append (λ (y : ClientData). con
 pub client_added : (s : ScriptData) (x : ClientData) → IsScript s → is_name x.name ≡ true → is_declared s x.name ≡ false → length s.clients < MAX_CLIENTS → x.node < s.nodes → load_of s.clients x.node < MAX_CLIENTS_OF_NODE
     → IsScript (record s { clients = s.clients ++ x ∷ [] })
 client_added s x good named undeclared room on_node load =
-  let new = is_new s x.name undeclared in
-  record {
-  some_node = good.some_node;
-  few_nodes = good.few_nodes;
-  few_sets = good.few_sets;
-  sets_named = good.sets_named;
-  sets_found = good.sets_found;
-  families_not_later = good.families_not_later;
-  families_first = good.families_first;
-  few_clients = omega (arith, length_push s.clients x);
-  clients_named = λ client inside. elim (numbers_push s.clients x client inside) [
-    | inl below ↦ rw (client_name_front s.clients x client below) (good.clients_named client below)
-    | inr last ↦ rw (client_name_last s.clients x client last) named
-  ];
-  clients_found = λ client inside. elim (numbers_push s.clients x client inside) [
-    | inl below ↦
-        rw (client_name_front s.clients x client below)
-          (found_stays (λ (y : ClientData). bytes_eq y.name (name_of_client (slice_get s.clients client))) s.clients (x ∷ []) client (good.clients_found client below))
-    | inr last ↦
-        rw (client_name_last s.clients x client last)
-          (found_last (λ (y : ClientData). bytes_eq y.name x.name) s.clients x new.no_client (same_name x.name) ∙ ap Some (sym last))
-  ];
-  clients_no_sets = λ client inside. elim (numbers_push s.clients x client inside) [
-    | inl below ↦ rw (client_name_front s.clients x client below) (good.clients_no_sets client below)
-    | inr last ↦ rw (client_name_last s.clients x client last) new.no_set
-  ];
-  homes = λ client inside. elim (numbers_push s.clients x client inside) [
-    | inl below ↦ rw (home_front s.clients x client below) (good.homes client below)
-    | inr last ↦ rw (home_last s.clients x client last) on_node
-  ];
-  loads = λ node. rw (load_push s.clients x node) (elim (cases_eq x.node node) [
-    | inl same ↦ rw (eq-eqb x.node node same) (omega (arith, subst (λ n. load_of s.clients n < MAX_CLIENTS_OF_NODE) same load))
-    | inr other ↦ rw (ne_eqb x.node node other) (omega (arith, good.loads node))
-  ]);
-  few_commands = good.few_commands;
-  requests = λ k d inside. (
-    omega (arith, (good.requests k d inside).0, length_push s.clients x),
-    more_clients s.sets s.clients x _ _ (good.requests k d inside).0 (good.requests k d inside).1,
-  );
-}
+    let new = is_new s x.name undeclared in
+    record {
+      some_node = good.some_node;
+      few_nodes = good.few_nodes;
+      few_sets = good.few_sets;
+      sets_named = good.sets_named;
+      sets_found = good.sets_found;
+      families_not_later = good.families_not_later;
+      families_first = good.families_first;
+      few_clients = omega (arith, length_push s.clients x);
+      clients_named = λ client inside. elim (numbers_push s.clients x client inside) [
+        | inl below ↦ rw (client_name_front s.clients x client below) (good.clients_named client below)
+        | inr last ↦ rw (client_name_last s.clients x client last) named
+      ];
+      clients_found = λ client inside. elim (numbers_push s.clients x client inside) [
+        | inl below ↦
+            rw (client_name_front s.clients x client below)
+            (found_stays (λ (y : ClientData). bytes_eq y.name (name_of_client (slice_get s.clients client))) s.clients (x ∷ []) client (good.clients_found client below))
+        | inr last ↦
+            rw (client_name_last s.clients x client last)
+            (found_last (λ (y : ClientData). bytes_eq y.name x.name) s.clients x new.no_client (same_name x.name) ∙ ap Some (sym last))
+      ];
+      clients_no_sets = λ client inside. elim (numbers_push s.clients x client inside) [
+        | inl below ↦ rw (client_name_front s.clients x client below) (good.clients_no_sets client below)
+        | inr last ↦ rw (client_name_last s.clients x client last) new.no_set
+      ];
+      homes = λ client inside. elim (numbers_push s.clients x client inside) [
+        | inl below ↦ rw (home_front s.clients x client below) (good.homes client below)
+        | inr last ↦ rw (home_last s.clients x client last) on_node
+      ];
+      loads = λ node. rw (load_push s.clients x node) (elim (cases_eq x.node node) [
+        | inl same ↦ rw (eq-eqb x.node node same) (omega (arith, subst (λ n. load_of s.clients n < MAX_CLIENTS_OF_NODE) same load))
+        | inr other ↦ rw (ne_eqb x.node node other) (omega (arith, good.loads node))
+      ]);
+      few_commands = good.few_commands;
+      requests = λ k d inside. (
+        omega (arith, (good.requests k d inside).0, length_push s.clients x),
+        more_clients s.sets s.clients x _ _ (good.requests k d inside).0 (good.requests k d inside).1,
+      );
+    }

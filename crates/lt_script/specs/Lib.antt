@@ -4,3 +4,4 @@ pub mod Script
 pub mod Forms
 pub mod Faults
 pub mod Reading
+pub mod Printing

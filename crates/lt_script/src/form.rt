@@ -7,11 +7,27 @@ use lt_text::{is, next_word};
 /// What a client asks for, in the words of its line.
 #[derive(Clone, Copy, Debug)]
 pub enum Order<'a> {
-    Lock { set: &'a [u8], mode: &'a [u8] },
-    Try { set: &'a [u8], mode: &'a [u8] },
-    Unlock { set: &'a [u8], mode: &'a [u8] },
-    Change { set: &'a [u8], gives_up: &'a [u8], mode: &'a [u8] },
-    Drop { client: &'a [u8], set: &'a [u8] },
+    Lock {
+        set: &'a [u8],
+        mode: &'a [u8],
+    },
+    Try {
+        set: &'a [u8],
+        mode: &'a [u8],
+    },
+    Unlock {
+        set: &'a [u8],
+        mode: &'a [u8],
+    },
+    Change {
+        set: &'a [u8],
+        gives_up: &'a [u8],
+        mode: &'a [u8],
+    },
+    Drop {
+        client: &'a [u8],
+        set: &'a [u8],
+    },
 }
 
 /// A line of a script by its form, with its words.
@@ -123,7 +139,11 @@ fn order_of<'a>(line: &'a [u8]) -> Option<Order<'a>>
     if next_word(rest).is_some() || !is(verb, "change") {
         return None;
     }
-    Some(Order::Change { set: first, gives_up: second, mode: third })
+    Some(Order::Change {
+        set: first,
+        gives_up: second,
+        mode: third,
+    })
 }
 
 // The order of a verb and two words.
@@ -131,13 +151,25 @@ fn two_word_order<'a>(verb: &[u8], first: &'a [u8], second: &'a [u8]) -> Option<
     ensures { option_map order_seen result ≡ two_word_order verb.now first.now second.now }
 {
     if is(verb, "lock") {
-        Some(Order::Lock { set: first, mode: second })
+        Some(Order::Lock {
+            set: first,
+            mode: second,
+        })
     } else if is(verb, "try") {
-        Some(Order::Try { set: first, mode: second })
+        Some(Order::Try {
+            set: first,
+            mode: second,
+        })
     } else if is(verb, "unlock") {
-        Some(Order::Unlock { set: first, mode: second })
+        Some(Order::Unlock {
+            set: first,
+            mode: second,
+        })
     } else if is(verb, "drop") {
-        Some(Order::Drop { client: first, set: second })
+        Some(Order::Drop {
+            client: first,
+            set: second,
+        })
     } else {
         None
     }

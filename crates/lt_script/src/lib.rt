@@ -4,16 +4,21 @@
 mod declarations;
 mod fault;
 mod form;
+mod laws;
 mod limits;
 mod line;
 mod name;
+mod printing;
 mod reading;
 mod script;
 #[cfg(test)]
 mod tests;
 
 pub use fault::{Fault, ReadError, ScriptFault};
-pub use limits::{MAX_CLIENTS, MAX_CLIENTS_OF_NODE, MAX_COMMANDS, MAX_LINE, MAX_NAME, MAX_NODES, MAX_SETS};
+pub use laws::law_print;
+pub use limits::{
+    MAX_CLIENTS, MAX_CLIENTS_OF_NODE, MAX_COMMANDS, MAX_LINE, MAX_NAME, MAX_NODES, MAX_SETS,
+};
+pub use printing::print;
 pub use reading::read;
 pub use script::Script;
-

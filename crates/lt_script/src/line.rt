@@ -7,7 +7,9 @@ ghost use Rattle.lt_script.specs.Faults.{Judges, line_fault, form_fault, is_plai
 
 use crate::fault::Fault;
 use crate::form::{Form, Order, form_of};
-use crate::limits::{MAX_CLIENTS, MAX_CLIENTS_OF_NODE, MAX_COMMANDS, MAX_LINE, MAX_NODES, MAX_SETS};
+use crate::limits::{
+    MAX_CLIENTS, MAX_CLIENTS_OF_NODE, MAX_COMMANDS, MAX_LINE, MAX_NODES, MAX_SETS,
+};
 use crate::name::is_name;
 use crate::script::Script;
 use lt_modes::Mode;

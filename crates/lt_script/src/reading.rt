@@ -28,14 +28,20 @@ pub fn read(alloc: Global, bytes: &[u8]) -> Result<Script, ReadError>
             return Err(ReadError::Memory);
         };
         if let Some(fault) = fault {
-            return Err(ReadError::Fault(ScriptFault { line: number, fault }));
+            return Err(ReadError::Fault(ScriptFault {
+                line: number,
+                fault,
+            }));
         }
         rest = after;
         number += 1;
     }
     match script {
         Some(script) => Ok(script),
-        None => Err(ReadError::Fault(ScriptFault { line: number, fault: Fault::Nodes })),
+        None => Err(ReadError::Fault(ScriptFault {
+            line: number,
+            fault: Fault::Nodes,
+        })),
     }
 }
 
@@ -160,7 +166,11 @@ fn command_of(script: &Script, order: Order<'_>) -> Command
             set: set_at(script, set),
             mode: mode_at(mode),
         },
-        Order::Change { set, gives_up, mode } => Command::Change {
+        Order::Change {
+            set,
+            gives_up,
+            mode,
+        } => Command::Change {
             set: set_at(script, set),
             gives_up: mode_at(gives_up),
             mode: mode_at(mode),

@@ -25,7 +25,7 @@ pub struct Script {
 impl Model for Script {
     ghost use Rattle.lt_modes.specs.Script.{ScriptData};
     ghost use Rattle.lt_script.specs.Names.{is_name};
-ghost use Rattle.lt_script.specs.Script.{IsScript};
+    ghost use Rattle.lt_script.specs.Script.{IsScript};
 
     ghost Value = { ScriptData };
 
@@ -138,6 +138,21 @@ impl Script {
         &self.commands
     }
 
+    /// The sets in order.
+    pub(crate) fn set_declarations(&self) -> &[SetDecl]
+        ensures sets { result.now ≡ self.now.sets }
+        ensures kept { IsScript self.now }
+    {
+        &self.sets
+    }
+
+    /// The clients in order.
+    pub(crate) fn client_declarations(&self) -> &[ClientDecl]
+        ensures { result.now ≡ self.now.clients }
+    {
+        &self.clients
+    }
+
     /// The set with this name.
     pub fn set_number(&self, name: &[u8]) -> Option<u8>
         ensures number { result ≡ set_number self.now name.now }
@@ -224,7 +239,10 @@ impl Script {
 fn load_of(clients: &[ClientDecl], node: u8) -> usize
     ensures { result ≡ load_of clients.now node }
 {
-    clients.iter().filter(|client| client.node() == node).count()
+    clients
+        .iter()
+        .filter(|client| client.node() == node)
+        .count()
 }
 
 // The place of the first set with this name.

@@ -36,6 +36,9 @@ next_digit word i most digits few inside =
 pub few_digits : (word : List ℕ) (most : ℕ) → are_digits word ≡ true → length word ≤ most → digits_value 10 word < 10 ^ most
 few_digits word most digits few = digits_value_short own word most digits few
 
+pub decimal_are_digits : (n : ℕ) → n < 2 ^ 64 → are_digits (decimal n) ≡ true
+decimal_are_digits n fits = digits_decimal own n fits
+
 pub number_decimal : (n : ℕ) → n < 10 ^ 9 → number (decimal n) ≡ Some n
 number_decimal n small =
     let fits : n < 2 ^ 64 = omega arith in

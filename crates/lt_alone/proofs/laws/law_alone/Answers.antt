@@ -1,11 +1,8 @@
 use Rattle.std.proofs.Common.{List}
-use Rattle.std.specs.Prelude.{IsTrue}
 use Rattle.lt_modes.specs.Script.{ScriptData}
-use Rattle.lt_script.specs.Script.{IsScript}
 use Rattle.lt_model.specs.Log.{Logged}
 use Rattle.lt_model.specs.World.{start, world_after}
 use Rattle.lt_world.specs.OneNode as one_node
-use Rattle.lt_world.specs.Standing.{is_lone}
 use Rattle.lt_alone.specs.Laws.{AfterEachRun}
 use Rattle.lt_alone.proofs.Commands.{LoneScript, lone_script}
 use Rattle.lt_alone.proofs.Worlds.{SameWorld, same_start, same_enabled}

@@ -1,9 +1,7 @@
--- A set at a node that is alone, as its own rules and as the full rules see it.
-use Rattle.std.specs.Prelude.{◌≡◌, ℕ, List, [], ◌∷◌, Option, Some, None}
-use Rattle.lt_modes.specs.declared.ask.Ask.{Ask}
-use Rattle.lt_modes.specs.declared.parts.Row.{Row}
+-- What the full rules keep beside the state of a set at a node that is alone: the frozen modes.
+use Rattle.std.specs.Prelude.{[], ◌∷◌, Option, Some, None}
 use Rattle.lt_modes.specs.Modes.{Modes}
-use Rattle.lt_modes.specs.State.{SetState, Entry, Desk, first_entry, lone_state}
+use Rattle.lt_modes.specs.State.{SetState, Entry, Desk, first_entry}
 use Rattle.lt_modes.specs.Freezing.{frozen_by}
 use Rattle.lt_modes.specs.Serving.{queue_of}
 
@@ -23,17 +21,3 @@ frozen_told frozen told s = record s { frozen = frozen; desk = told_desk told s.
 -- the state as the full rules leave it: the waiting asks freeze the modes that conflict with them
 abbrev pub with_frozen : SetState → SetState
 with_frozen s = frozen_told (frozen_by (queue_of s)) (frozen_by (queue_of s)) s
-
--- the rows, the unanswered asks and the queue
-pub record LoneSet : Type 0 where
-  pub held : List Row
-  pub pending : List Ask
-  pub queue : List Ask
-
-abbrev pub state_of : LoneSet → SetState
-state_of s = lone_state s.held s.pending s.queue
-
--- all asks are of node 0
-abbrev pub AreHere : List Ask → Type 0
-AreHere [] = Unit {0}
-AreHere (ask ∷ rest) = (ask.node ≡ 0) × AreHere rest

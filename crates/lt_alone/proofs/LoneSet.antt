@@ -1,9 +1,24 @@
--- Asks of node 0 stay so in a queue that an ask leaves or enters.
+-- A set at a node that is alone: its rows, its unanswered asks and its queue, in which all asks are of node 0.
 use Rattle.std.proofs.Common.{◌≡◌, ℕ, zero, suc, List, [], ◌∷◌, ◌++◌, refl}
 use Rattle.std.specs.Prelude.{take, drop, insert, remove, slice_index_or}
 use Rattle.lt_modes.specs.declared.ask.Ask.{Ask}
+use Rattle.lt_modes.specs.declared.parts.Row.{Row}
 use Rattle.lt_modes.specs.Queue.{no_ask}
-use Rattle.lt_alone.specs.LoneSet.{AreHere}
+use Rattle.lt_modes.specs.State.{SetState, lone_state}
+
+-- the rows, the unanswered asks and the queue
+pub record LoneSet : Type 0 where
+  pub held : List Row
+  pub pending : List Ask
+  pub queue : List Ask
+
+abbrev pub state_of : LoneSet → SetState
+state_of s = lone_state s.held s.pending s.queue
+
+-- all asks are of node 0
+abbrev pub AreHere : List Ask → Type 0
+AreHere [] = Unit {0}
+AreHere (ask ∷ rest) = (ask.node ≡ 0) × AreHere rest
 
 here-take : (asks : List Ask) (k : ℕ) → AreHere asks → AreHere (take k asks)
 here-take [] zero h = tt

@@ -1,0 +1,113 @@
+-- Plain words: they have no byte that parts words or lines, and so a line of them is read as these words.
+use Rattle.std.proofs.Common.{◌≡◌, ℕ, zero, suc, ◌+◌, ◌-◌, ◌%◌, ◌^◌, ◌<◌, ◌==◌, ◌||◌, not, Bool, true, false, List, [], ◌∷◌, ◌++◌, length, map, get_or, refl, ap, ◌∙◌, arith, append_assoc}
+use Rattle.std.specs.List.{AllByRecursion, flat_map}
+use Rattle.std.specs.Fmt.{decimal}
+use Rattle.std.proofs.lemmas.Bool.{and_parts, ne_eqb, lt-ltb}
+use Rattle.std.proofs.lemmas.Fmt.{decimal_by_steps}
+use Rattle.lt_model.specs.Text.{after_space, spaced, line}
+use Rattle.lt_text.specs.Text as written
+use Rattle.lt_text.specs.Text.{lines, fields, is_line_end, is_space, without_return, HasNone, each_after_space}
+use Rattle.lt_text.proofs.TextLemmas.{cut_piece, fields_spaced}
+use Rattle.lt_journal.specs.RunLines.{is_plain_byte, is_plain}
+
+abbrev is_return : ℕ → Bool
+is_return byte = byte == 13
+
+-- no byte of the word parts words or ends a line
+pub record IsPlain (word : List ℕ) : Type 0 where
+  pub no_space : HasNone is_space word
+  pub no_line_end : HasNone is_line_end word
+  pub no_return : HasNone is_return word
+
+abbrev pub ArePlain : List (List ℕ) → Type 0
+ArePlain words = AllByRecursion IsPlain words
+
+none_of_three : (a b c : Bool) → not (a || b || c) ≡ true → (a ≡ false) × (b ≡ false) × (c ≡ false)
+none_of_three true b c e = absurd (cc)
+none_of_three false true c e = absurd (cc)
+none_of_three false false true e = absurd (cc)
+none_of_three false false false e = (refl, refl, refl)
+
+pub plain : (word : List ℕ) → is_plain word ≡ true → IsPlain word
+plain [] e = record { no_space = tt; no_line_end = tt; no_return = tt }
+plain (byte ∷ word) e =
+    let parts = and_parts (is_plain_byte byte) (is_plain word) e in
+    let here = none_of_three (byte == 32) (byte == 10) (byte == 13) parts.0 in
+    let later = plain word parts.1 in
+    record { no_space = (here.0, later.no_space); no_line_end = (here.1, later.no_line_end); no_return = (here.2, later.no_return) }
+
+plain_append : (front back : List ℕ) → is_plain front ≡ true → is_plain back ≡ true → is_plain (front ++ back) ≡ true
+plain_append [] back e f = f
+plain_append (byte ∷ front) back e f =
+    let parts = and_parts (is_plain_byte byte) (is_plain front) e in
+    rw (parts.0, plain_append front back parts.1 f)
+
+plain_digit : (n : ℕ) → n < 10 → is_plain ((48 + n) ∷ []) ≡ true
+plain_digit n small =
+    rw (ne_eqb (48 + n) 32 (λ e. omega (arith, e)), ne_eqb (48 + n) 10 (λ e. omega (arith, e)), ne_eqb (48 + n) 13 (λ e. omega (arith, e)))
+
+pub plain_decimal : (n : ℕ) → n < 2 ^ 64 → IsPlain (decimal n)
+plain_decimal n fits = plain (decimal n)
+    (decimal_by_steps (λ k digits. is_plain digits ≡ true) plain_digit
+    (λ k digits large e. plain_append digits ((48 + k % 10) ∷ []) e (plain_digit (k % 10) (omega arith))) n fits)
+
+none_append : (ends : ℕ → Bool) (front back : List ℕ) → HasNone ends front → HasNone ends back → HasNone ends (front ++ back)
+none_append ends [] back f b = b
+none_append ends (byte ∷ front) back f b = (f.0, none_append ends front back f.1 b)
+
+none_in_later : (ends : ℕ → Bool) (words : List (List ℕ)) → ends 32 ≡ false → AllByRecursion (HasNone ends) words → HasNone ends (flat_map after_space words)
+none_in_later ends [] e none = tt
+none_in_later ends (word ∷ words) e none =
+    (e, none_append ends word (flat_map after_space words) none.0 (none_in_later ends words e none.1))
+
+none_in_line : (ends : ℕ → Bool) (words : List (List ℕ)) → ends 32 ≡ false → AllByRecursion (HasNone ends) words → HasNone ends (spaced words)
+none_in_line ends [] e none = tt
+none_in_line ends (word ∷ words) e none =
+    none_append ends word (flat_map after_space words) none.0 (none_in_later ends words e none.1)
+
+no_line_ends : (words : List (List ℕ)) → ArePlain words → AllByRecursion (HasNone is_line_end) words
+no_line_ends [] all = tt
+no_line_ends (word ∷ words) all = (all.0.no_line_end, no_line_ends words all.1)
+
+no_returns : (words : List (List ℕ)) → ArePlain words → AllByRecursion (HasNone is_return) words
+no_returns [] all = tt
+no_returns (word ∷ words) all = (all.0.no_return, no_returns words all.1)
+
+no_spaces : (words : List (List ℕ)) → ArePlain words → AllByRecursion (HasNone is_space) words
+no_spaces [] all = tt
+no_spaces (word ∷ words) all = (all.0.no_space, no_spaces words all.1)
+
+none_at : (ends : ℕ → Bool) (bytes : List ℕ) (k : ℕ) → HasNone ends bytes → k < length bytes → ends (get_or bytes k 0) ≡ false
+none_at ends [] k none inside = absurd (omega (arith, inside))
+none_at ends (byte ∷ bytes) zero none inside = none.0
+none_at ends (byte ∷ bytes) (suc k) none inside = none_at ends bytes k none.1 (omega (arith, inside))
+
+stays_whole : (bytes : List ℕ) → HasNone is_return bytes → without_return bytes ≡ bytes
+stays_whole [] none = refl
+stays_whole (byte ∷ bytes) none =
+    let last = none_at is_return (byte ∷ bytes) (length (byte ∷ bytes) - 1) none (omega arith) in
+    rw (lt-ltb 0 (length (byte ∷ bytes)) (omega arith), last)
+
+-- the first line of a text that begins with a line of plain words
+pub lines_line : (words : List (List ℕ)) (rest : List ℕ) → ArePlain words → lines (line words ++ rest) ≡ spaced words ∷ lines rest
+unfolding lines
+lines_line words rest all =
+    let none = none_in_line is_line_end words refl (no_line_ends words all) in
+    let whole = stays_whole (spaced words) (none_in_line is_return words refl (no_returns words all)) in
+    ap lines (append_assoc (spaced words) (10 ∷ []) rest)
+    ∙ (ap (map without_return) (cut_piece is_line_end (spaced words) 10 rest none refl)
+    ∙ ap (λ (first : List ℕ). first ∷ lines rest) whole)
+
+later_same : (words : List (List ℕ)) → flat_map after_space words ≡ each_after_space words
+later_same [] = refl
+later_same (word ∷ words) = ap (λ (t : List ℕ). 32 ∷ word ++ t) (later_same words)
+
+-- the two ways to write words with spaces between them
+pub spaced_same : (words : List (List ℕ)) → spaced words ≡ written.spaced words
+spaced_same [] = refl
+spaced_same (word ∷ words) = ap (λ (t : List ℕ). word ++ t) (later_same words)
+
+-- the fields of a line of plain words
+pub fields_line : (first : List ℕ) (later : List (List ℕ)) → ArePlain (first ∷ later) → fields (spaced (first ∷ later)) ≡ first ∷ later
+fields_line first later all =
+    ap (λ (t : List ℕ). fields (first ++ t)) (later_same later) ∙ fields_spaced first later all.0.no_space (no_spaces later all.1)

@@ -1,0 +1,22 @@
+ghost use Rattle.std.specs.Prelude.{◌≡◌, ℕ, List, Option};
+ghost use Rattle.lt_modes.specs.Script.{ScriptData};
+ghost use Rattle.lt_model.specs.Log.{Logged};
+ghost use Rattle.lt_model.specs.Text.{spaced, text_of};
+ghost use Rattle.lt_journal.specs.declared.line.Line.{Line as AnyLine};
+ghost use Rattle.lt_journal.specs.Grammar.{read_line, journal_of};
+ghost use Rattle.lt_journal.specs.RunLines.{IsNamed, IsAsWritten, FewNodes, FitsLine, FitsRun, line_words, run_lines};
+
+/// What is written of a run is read as the run's lines.
+pub fn law_read_text()
+    ensures { (script : ScriptData) → (entries : List Logged) → (cut : Option ℕ) → IsNamed script
+        → FitsRun script entries cut
+        → journal_of script (text_of script entries cut) ≡ run_lines script entries cut }
+{}
+
+/// A line that is not bad stands there exactly as it is written, and what is written of a line is read as it.
+pub fn law_read_line()
+    ensures written { (script : ScriptData) → (line : List ℕ)
+        → IsAsWritten script line (read_line script line) }
+    ensures read { (script : ScriptData) → (line : AnyLine) → IsNamed script → FewNodes script
+        → FitsLine script line → read_line script (spaced (line_words script line)) ≡ line }
+{}

@@ -1,0 +1,409 @@
+-- The text of a script is read as that script.
+use Rattle.std.proofs.Common.{◌≡◌, ℕ, zero, suc, ◌+◌, ◌<◌, ◌≤◌, ◌==◌, ◌≢◌, Bool, true, false, cond, List, [], ◌∷◌, ◌++◌, length, map, get_or, Option, Some, None, option_map, position, slice_get, Ok, refl, sym, ap, subst, ◌∙◌, inl, inr, arith, append_assoc, append-nil, length-append, codes}
+use Rattle.std.specs.List.{AllByRecursion}
+use Rattle.std.specs.Str.{bytes_eq}
+use Rattle.std.specs.Fmt.{decimal}
+use Rattle.std.proofs.lemmas.Bool.{cases_Bool, cases_eq, eq-eqb, lt-ltb, lt-leb, le-ltb}
+use Rattle.std.proofs.lemmas.List.Sums.{sum_by-append, sum_by-cons}
+use Rattle.std.proofs.lemmas.Slice.Eq.{bytes_eq-Decides}
+use Rattle.lt_modes.specs.declared.mode.Mode.{Mode}
+use Rattle.lt_modes.specs.declared.mode.Mode.TheVariants.{IntentionRead, Read, Upgrade, IntentionWrite, Write}
+use Rattle.lt_modes.specs.declared.command.Command.{Command}
+use Rattle.lt_modes.specs.declared.command.Command.TheVariants.{Lock, Try, Unlock, Change, DropAll}
+use Rattle.lt_modes.specs.Modes.{mode_of, word_of}
+use Rattle.lt_modes.specs.Script.{ScriptData, SetData, ClientData, set_name, client_name, name_of_set, family_of_set, name_of_client, node_of_client, family_at, home_at}
+use Rattle.lt_text.specs.Text.{spaced, text, lines, IsLine}
+use Rattle.lt_text.specs.Number.{number}
+use Rattle.lt_text.proofs.TextLemmas.{lines_text}
+use Rattle.lt_text.proofs.NumberLemmas.{number_decimal}
+use Rattle.lt_script.specs.Names.{is_name}
+use Rattle.lt_script.specs.Script.{IsScript, IsRequest, HasTargets, load_of, set_number, client_number}
+use Rattle.lt_script.specs.Forms.{FormData, NodesForm, SetForm, SetWithForm, ClientForm, CommandForm, OrderData, LockOrder, TryOrder, UnlockOrder, ChangeOrder, DropOrder, form_of, order_of}
+use Rattle.lt_script.specs.Faults.{only_nodes, declared, form_fault, after_form}
+use Rattle.lt_script.specs.Reading.{line_step, read_from, read_of}
+use Rattle.lt_script.specs.Printing.{nodes_words, first_name, set_words, client_words, order_words, command_words, script_words, print_of}
+use Rattle.lt_script.proofs.NameLemmas.{found_in_front, not_in_front, same_name}
+use Rattle.lt_script.proofs.PrintedLines.{ArePrinted, IsPrintedLine, is_printed, line_read, name_printed, number_printed, printed_line, name_begins}
+use Rattle.lt_script.proofs.ReadLemmas.{read_more, read_end}
+
+-- the element behind a front
+get_middle : {X : Type 0} → (front : List X) (x : X) (rest : List X) → slice_get (front ++ x ∷ rest) (length front) ≡ Some x
+get_middle [] x rest = refl
+get_middle (y ∷ front) x rest = get_middle front x rest
+
+get_or_middle : {X : Type 0} → (front : List X) (x : X) (rest : List X) (d : X) → get_or (front ++ x ∷ rest) (length front) d ≡ x
+get_or_middle [] x rest d = refl
+get_or_middle (y ∷ front) x rest d = get_or_middle front x rest d
+
+get_in_front : {X : Type 0} → (front rest : List X) (k : ℕ) → k < length front → slice_get (front ++ rest) k ≡ slice_get front k
+get_in_front [] rest k inside = absurd (omega arith)
+get_in_front (x ∷ front) rest zero inside = refl
+get_in_front (x ∷ front) rest (suc k) inside = get_in_front front rest k (omega arith)
+
+-- the lines make this of that script, whatever follows them
+abbrev Walks : List (List ℕ) → ScriptData → ScriptData → Type 0
+Walks ls s next = (k : ℕ) (after : List (List ℕ)) → (m : ℕ) × (read_from (ls ++ after) k (Some s) ≡ read_from after m (Some next))
+
+walk_none : (s : ScriptData) → Walks [] s s
+walk_none s k after = (k, refl)
+
+walk_more : (line : List ℕ) (ls : List (List ℕ)) (s mid next : ScriptData) → line_step (Some s) line ≡ Ok (Some mid) → Walks ls mid next → Walks (line ∷ ls) s next
+walk_more line ls s mid next step walks k after =
+    let rest = walks (k + 1) after in
+    (rest.0, read_more ((line ∷ ls) ++ after) (ls ++ after) line k (Some s) (Some mid) refl step ∙ rest.1)
+
+walk_both : (ls later : List (List ℕ)) (s mid next : ScriptData) → Walks ls s mid → Walks later mid next → Walks (ls ++ later) s next
+walk_both ls later s mid next first second k after =
+    let one = first k (later ++ after) in
+    let two = second one.0 after in
+    (two.0, ap (λ l. read_from l k (Some s)) (append_assoc ls later after) ∙ one.1 ∙ two.1)
+
+-- the script with the first of its sets alone
+abbrev sets_only : ScriptData → List SetData → ScriptData
+sets_only s done = record { nodes = s.nodes; sets = done; clients = []; commands = [] }
+
+-- with all sets, and the first of its clients
+abbrev clients_only : ScriptData → List ClientData → ScriptData
+clients_only s done = record { nodes = s.nodes; sets = s.sets; clients = done; commands = [] }
+
+-- with all but the last of its commands
+abbrev commands_only : ScriptData → List (ℕ × Command) → ScriptData
+commands_only s done = record { nodes = s.nodes; sets = s.sets; clients = s.clients; commands = done }
+
+-- a set of a script, as the sets before it see it
+record SetFits (s : ScriptData) (done : List SetData) (x : SetData) : Type 0 where
+  pub at : slice_get s.sets (length done) ≡ Some x
+  pub named : is_name x.name ≡ true
+  pub is_new : set_number (sets_only s done) x.name ≡ None
+  pub few : length done < 8
+  pub not_later : x.family ≤ length done
+  pub first_named : is_name (first_name s.sets x) ≡ true
+  pub first_found : set_number s (first_name s.sets x) ≡ Some x.family
+  pub found : set_number s x.name ≡ Some (length done)
+  pub first_first : family_at s.sets x.family ≡ x.family
+
+set_fits : (s : ScriptData) → IsScript s → (done : List SetData) (x : SetData) (rest : List SetData) → done ++ x ∷ rest ≡ s.sets → SetFits s done x
+set_fits s good done x rest e =
+    let j : ℕ = length done in
+    let at : slice_get s.sets j ≡ Some x = subst (λ (l : List SetData). slice_get l j ≡ Some x) e (get_middle done x rest) in
+    let inside : j < length s.sets = omega (arith, length-append done (x ∷ rest), ap length e) in
+    let name_at : set_name s j ≡ x.name = ap name_of_set at in
+    let family_is : family_at s.sets j ≡ x.family = ap family_of_set at in
+    let found : set_number s x.name ≡ Some j = subst (λ w. set_number s w ≡ Some j) name_at (good.sets_found j inside) in
+    let not_later : x.family ≤ j = omega (arith, good.families_not_later j inside, family_is) in
+    record {
+      at = at;
+      named = subst (λ w. is_name w ≡ true) name_at (good.sets_named j inside);
+      is_new = not_in_front (λ (y : SetData). bytes_eq y.name x.name) done (x ∷ rest) (subst (λ (l : List SetData). position (λ (y : SetData). bytes_eq y.name x.name) l ≡ Some j) (sym e) found);
+      few = omega (arith, good.few_sets);
+      not_later = not_later;
+      first_named = good.sets_named x.family (omega arith);
+      first_found = good.sets_found x.family (omega arith);
+      found = found;
+      first_first = subst (λ f. family_at s.sets f ≡ f) family_is (good.families_first j inside);
+    }
+
+one_number : (i k : ℕ) → Some i ≡ Some k → i ≡ k
+one_number i k e = cc
+
+set_printed : (name : List ℕ) → is_name name ≡ true → IsPrintedLine (codes "set" ∷ name ∷ [])
+set_printed name named = record { are_printed = (refl, (name_printed name named, tt)); few = omega arith; says = refl }
+
+set_with_printed : (name first : List ℕ) → is_name name ≡ true → is_name first ≡ true → IsPrintedLine (codes "set" ∷ name ∷ codes "with" ∷ first ∷ [])
+set_with_printed name first named first_named = record { are_printed = (refl, (name_printed name named, (refl, (name_printed first first_named, tt)))); few = omega arith; says = refl }
+
+set_read : (s : ScriptData) → IsScript s → (done : List SetData) (x : SetData) (rest : List SetData) → done ++ x ∷ rest ≡ s.sets
+    → line_step (Some (sets_only s done)) (spaced (set_words s.sets x)) ≡ Ok (Some (sets_only s (done ++ x ∷ [])))
+set_read s good done x rest e =
+    let fits = set_fits s good done x rest e in
+    let st : ScriptData = sets_only s done in
+    let first : List ℕ = first_name s.sets x in
+    elim (cases_Bool (bytes_eq first x.name)) [
+      | inl same ↦
+          let names : first ≡ x.name = (bytes_eq-Decides first x.name).0 same in
+          let own : x.family ≡ length done = one_number x.family (length done) (sym fits.first_found ∙ ap (set_number s) names ∙ fits.found) in
+          rw same
+          (line_read (Some st) (codes "set" ∷ x.name ∷ []) (SetForm x.name) (set_printed x.name fits.named) refl
+          (rw (fits.named, fits.is_new, lt-leb 8 (length done) fits.few))
+          ∙ ap (λ (f : ℕ). Ok (Some (sets_only s (done ++ record { name = x.name; family = f } ∷ [])))) (sym own))
+      | inr other ↦
+          let earlier : x.family < length done = elim (cases_eq x.family (length done)) [
+            | inl own ↦ absurd (let again : first ≡ x.name = ap (λ k. set_name s k) own ∙ ap name_of_set fits.at in let e : bytes_eq first x.name ≡ true = (bytes_eq-Decides first x.name).1 again in cc)
+            | inr not_own ↦ let h = fits.not_later in omega (arith, not_own)
+          ] in
+          let known : set_number st first ≡ Some x.family =
+          found_in_front (λ (y : SetData). bytes_eq y.name first) done (x ∷ rest) x.family
+          (subst (λ (l : List SetData). position (λ (y : SetData). bytes_eq y.name first) l ≡ Some x.family) (sym e) fits.first_found) earlier in
+          let family : family_at done x.family ≡ x.family =
+          ap family_of_set (sym (get_in_front done (x ∷ rest) x.family earlier)) ∙ ap (λ (l : List SetData). family_at l x.family) e ∙ fits.first_first in
+          rw other
+          (line_read (Some st) (codes "set" ∷ x.name ∷ codes "with" ∷ first ∷ []) (SetWithForm x.name first) (set_with_printed x.name first fits.named fits.first_named) refl
+          (rw (fits.named, fits.is_new, known, lt-leb 8 (length done) fits.few))
+          ∙ rw (known, family) refl)
+    ]
+
+sets_walk : (s : ScriptData) → IsScript s → (done rest : List SetData) → done ++ rest ≡ s.sets → Walks (map spaced (map (set_words s.sets) rest)) (sets_only s done) (sets_only s s.sets)
+sets_walk s good done [] e = subst (λ (l : List SetData). Walks [] (sets_only s done) (sets_only s l)) (sym (append-nil done) ∙ e) (walk_none (sets_only s done))
+sets_walk s good done (x ∷ rest) e =
+    walk_more (spaced (set_words s.sets x)) (map spaced (map (set_words s.sets) rest)) (sets_only s done) (sets_only s (done ++ x ∷ [])) (sets_only s s.sets)
+    (set_read s good done x rest e)
+    (sets_walk s good (done ++ x ∷ []) rest (append_assoc done (x ∷ []) rest ∙ e))
+
+-- a client of a script, as the clients before it see it
+record ClientFits (s : ScriptData) (done : List ClientData) (x : ClientData) : Type 0 where
+  pub named : is_name x.name ≡ true
+  pub no_set : set_number s x.name ≡ None
+  pub is_new : client_number (clients_only s done) x.name ≡ None
+  pub few : length done < 64
+  pub on_node : x.node < s.nodes
+  pub few_nodes : x.node < 16
+  pub load : load_of done x.node < 16
+
+client_fits : (s : ScriptData) → IsScript s → (done : List ClientData) (x : ClientData) (rest : List ClientData) → done ++ x ∷ rest ≡ s.clients → ClientFits s done x
+client_fits s good done x rest e =
+    let j : ℕ = length done in
+    let at : slice_get s.clients j ≡ Some x = subst (λ (l : List ClientData). slice_get l j ≡ Some x) e (get_middle done x rest) in
+    let inside : j < length s.clients = omega (arith, length-append done (x ∷ rest), ap length e) in
+    let name_at : client_name s j ≡ x.name = ap name_of_client at in
+    let node_at : home_at s.clients j ≡ x.node = ap node_of_client at in
+    let on_node : x.node < s.nodes = subst (λ n. n < s.nodes) node_at (good.homes j inside) in
+    let found : client_number s x.name ≡ Some j = subst (λ w. client_number s w ≡ Some j) name_at (good.clients_found j inside) in
+    let load : load_of (done ++ x ∷ rest) x.node ≤ 16 = subst (λ (l : List ClientData). load_of l x.node ≤ 16) (sym e) (good.loads x.node) in
+    let here : load_of (x ∷ rest) x.node ≡ 1 + load_of rest x.node =
+    sum_by-cons (λ (y : ClientData). cond (y.node == x.node) 1 0) x rest ∙ ap (λ t. cond t 1 0 + load_of rest x.node) (eq-eqb x.node x.node refl) in
+    record {
+      named = subst (λ w. is_name w ≡ true) name_at (good.clients_named j inside);
+      no_set = subst (λ w. set_number s w ≡ None) name_at (good.clients_no_sets j inside);
+      is_new = not_in_front (λ (y : ClientData). bytes_eq y.name x.name) done (x ∷ rest) (subst (λ (l : List ClientData). position (λ (y : ClientData). bytes_eq y.name x.name) l ≡ Some j) (sym e) found);
+      few = omega (arith, good.few_clients);
+      on_node = on_node;
+      few_nodes = omega (arith, good.few_nodes);
+      load = omega (arith, sum_by-append (λ (y : ClientData). cond (y.node == x.node) 1 0) done (x ∷ rest));
+    }
+
+client_printed : (name : List ℕ) (node : ℕ) → is_name name ≡ true → node < 16 → IsPrintedLine (codes "client" ∷ name ∷ codes "at" ∷ decimal node ∷ [])
+client_printed name node named small = record {
+  are_printed = (refl, (name_printed name named, (refl, (number_printed node (omega arith), tt))));
+  few = omega arith;
+  says = refl;
+}
+
+client_read : (s : ScriptData) → IsScript s → (done : List ClientData) (x : ClientData) (rest : List ClientData) → done ++ x ∷ rest ≡ s.clients
+    → line_step (Some (clients_only s done)) (spaced (client_words x)) ≡ Ok (Some (clients_only s (done ++ x ∷ [])))
+client_read s good done x rest e =
+    let fits = client_fits s good done x rest e in
+    let st : ScriptData = clients_only s done in
+    let number_is : number (decimal x.node) ≡ Some x.node = number_decimal x.node (omega (arith, fits.few_nodes)) in
+    line_read (Some st) (client_words x) (ClientForm x.name (decimal x.node)) (client_printed x.name x.node fits.named fits.few_nodes) refl
+    (rw (number_is, lt-ltb x.node s.nodes fits.on_node, fits.named, fits.no_set, fits.is_new, lt-leb 64 (length done) fits.few, lt-leb 16 (load_of done x.node) fits.load))
+    ∙ rw number_is refl
+
+clients_walk : (s : ScriptData) → IsScript s → (done rest : List ClientData) → done ++ rest ≡ s.clients → Walks (map spaced (map client_words rest)) (clients_only s done) (clients_only s s.clients)
+clients_walk s good done [] e = subst (λ (l : List ClientData). Walks [] (clients_only s done) (clients_only s l)) (sym (append-nil done) ∙ e) (walk_none (clients_only s done))
+clients_walk s good done (x ∷ rest) e =
+    walk_more (spaced (client_words x)) (map spaced (map client_words rest)) (clients_only s done) (clients_only s (done ++ x ∷ [])) (clients_only s s.clients)
+    (client_read s good done x rest e)
+    (clients_walk s good (done ++ x ∷ []) rest (append_assoc done (x ∷ []) rest ∙ e))
+
+-- words of modes
+
+mode_read : (mode : Mode) → mode_of (word_of mode) ≡ Some mode
+mode_read IntentionRead = refl
+mode_read Read = refl
+mode_read Upgrade = refl
+mode_read IntentionWrite = refl
+mode_read Write = refl
+
+mode_printed : (mode : Mode) → is_printed (word_of mode) ≡ true
+mode_printed IntentionRead = refl
+mode_printed Read = refl
+mode_printed Upgrade = refl
+mode_printed IntentionWrite = refl
+mode_printed Write = refl
+
+-- a line that begins with a name is a command's
+command_form : (name : List ℕ) (ws : List (List ℕ)) (order : OrderData) → is_name name ≡ true → order_of ws ≡ Some order → form_of (name ∷ ws) ≡ Some (CommandForm name order)
+command_form name ws order named e =
+    let begins = name_begins name named in
+    rw (begins.not_nodes, begins.not_set, begins.not_client, e)
+
+command_printed : (name : List ℕ) (ws : List (List ℕ)) → is_name name ≡ true → ArePrinted ws → length ws ≤ 4 → IsPrintedLine (name ∷ ws)
+command_printed name ws named good few = record {
+  are_printed = (name_printed name named, good);
+  few = omega arith;
+  says = (name_begins name named).no_comment;
+}
+
+-- what stands behind the client's name
+order_printed : (s : ScriptData) → IsScript s → (client : ℕ) (command : Command) → HasTargets s.sets s.clients client command → ArePrinted (order_words s command)
+order_printed s good client (Lock set mode) targets = (refl, (name_printed (set_name s set) (good.sets_named set targets), (mode_printed mode, tt)))
+order_printed s good client (Try set mode) targets = (refl, (name_printed (set_name s set) (good.sets_named set targets), (mode_printed mode, tt)))
+order_printed s good client (Unlock set mode) targets = (refl, (name_printed (set_name s set) (good.sets_named set targets), (mode_printed mode, tt)))
+order_printed s good client (Change set gives_up mode) targets = (refl, (name_printed (set_name s set) (good.sets_named set targets), (mode_printed gives_up, (mode_printed mode, tt))))
+order_printed s good client (DropAll other set) targets = (refl, (name_printed (client_name s other) (good.clients_named other targets.1), (name_printed (set_name s set) (good.sets_named set targets.0), tt)))
+
+command_read : (s : ScriptData) → IsScript s → (done : List (ℕ × Command)) (client : ℕ) (command : Command) → length done < 4096 → IsRequest s.sets s.clients (client, command)
+    → line_step (Some (commands_only s done)) (spaced (command_words s (client, command))) ≡ Ok (Some (commands_only s (done ++ (client, command) ∷ [])))
+command_read s good done client (Lock set mode) few request =
+    let st : ScriptData = commands_only s done in
+    let name : List ℕ = client_name s client in
+    let named = good.clients_named client request.0 in
+    let own = good.clients_found client request.0 in
+    let found = good.sets_found set request.1 in
+    line_read (Some st) (name ∷ order_words s (Lock set mode)) (CommandForm name (LockOrder (set_name s set) (word_of mode)))
+    (command_printed name (order_words s (Lock set mode)) named (order_printed s good client (Lock set mode) request.1) (omega arith))
+    (command_form name (order_words s (Lock set mode)) (LockOrder (set_name s set) (word_of mode)) named refl)
+    (rw (own, found, lt-leb 4096 (length done) few, mode_read mode))
+    ∙ rw (own, found, mode_read mode) refl
+command_read s good done client (Try set mode) few request =
+    let st : ScriptData = commands_only s done in
+    let name : List ℕ = client_name s client in
+    let named = good.clients_named client request.0 in
+    let own = good.clients_found client request.0 in
+    let found = good.sets_found set request.1 in
+    line_read (Some st) (name ∷ order_words s (Try set mode)) (CommandForm name (TryOrder (set_name s set) (word_of mode)))
+    (command_printed name (order_words s (Try set mode)) named (order_printed s good client (Try set mode) request.1) (omega arith))
+    (command_form name (order_words s (Try set mode)) (TryOrder (set_name s set) (word_of mode)) named refl)
+    (rw (own, found, lt-leb 4096 (length done) few, mode_read mode))
+    ∙ rw (own, found, mode_read mode) refl
+command_read s good done client (Unlock set mode) few request =
+    let st : ScriptData = commands_only s done in
+    let name : List ℕ = client_name s client in
+    let named = good.clients_named client request.0 in
+    let own = good.clients_found client request.0 in
+    let found = good.sets_found set request.1 in
+    line_read (Some st) (name ∷ order_words s (Unlock set mode)) (CommandForm name (UnlockOrder (set_name s set) (word_of mode)))
+    (command_printed name (order_words s (Unlock set mode)) named (order_printed s good client (Unlock set mode) request.1) (omega arith))
+    (command_form name (order_words s (Unlock set mode)) (UnlockOrder (set_name s set) (word_of mode)) named refl)
+    (rw (own, found, lt-leb 4096 (length done) few, mode_read mode))
+    ∙ rw (own, found, mode_read mode) refl
+command_read s good done client (Change set gives_up mode) few request =
+    let st : ScriptData = commands_only s done in
+    let name : List ℕ = client_name s client in
+    let ws : List (List ℕ) = order_words s (Change set gives_up mode) in
+    let order : OrderData = ChangeOrder (set_name s set) (word_of gives_up) (word_of mode) in
+    let named = good.clients_named client request.0 in
+    let own = good.clients_found client request.0 in
+    let found = good.sets_found set request.1 in
+    line_read (Some st) (name ∷ ws) (CommandForm name order)
+    (command_printed name ws named (order_printed s good client (Change set gives_up mode) request.1) (omega arith))
+    (command_form name ws order named refl)
+    (rw (own, found, lt-leb 4096 (length done) few, mode_read gives_up, mode_read mode))
+    ∙ rw (own, found, mode_read gives_up, mode_read mode) refl
+command_read s good done client (DropAll other set) few request =
+    let st : ScriptData = commands_only s done in
+    let name : List ℕ = client_name s client in
+    let ws : List (List ℕ) = order_words s (DropAll other set) in
+    let order : OrderData = DropOrder (client_name s other) (set_name s set) in
+    let named = good.clients_named client request.0 in
+    let own = good.clients_found client request.0 in
+    let other_found = good.clients_found other request.1.1 in
+    let found = good.sets_found set request.1.0 in
+    line_read (Some st) (name ∷ ws) (CommandForm name order)
+    (command_printed name ws named (order_printed s good client (DropAll other set) request.1) (omega arith))
+    (command_form name ws order named refl)
+    (rw (own, other_found, found, lt-leb 4096 (length done) few, eq-eqb (home_at s.clients other) (home_at s.clients client) request.1.2))
+    ∙ rw (own, other_found, found) refl
+
+request_at : (s : ScriptData) → IsScript s → (done : List (ℕ × Command)) (x : ℕ × Command) (rest : List (ℕ × Command)) → done ++ x ∷ rest ≡ s.commands → IsRequest s.sets s.clients x
+request_at s good done x rest e =
+    let inside : length done < length s.commands = omega (arith, length-append done (x ∷ rest), ap length e) in
+    let here : get_or s.commands (length done) x ≡ x = subst (λ (l : List (ℕ × Command)). get_or l (length done) x ≡ x) e (get_or_middle done x rest x) in
+    subst (IsRequest s.sets s.clients) here (good.requests (length done) x inside)
+
+commands_walk : (s : ScriptData) → IsScript s → (done rest : List (ℕ × Command)) → done ++ rest ≡ s.commands → Walks (map spaced (map (command_words s) rest)) (commands_only s done) (commands_only s s.commands)
+commands_walk s good done [] e = subst (λ (l : List (ℕ × Command)). Walks [] (commands_only s done) (commands_only s l)) (sym (append-nil done) ∙ e) (walk_none (commands_only s done))
+commands_walk s good done (x ∷ rest) e =
+    walk_more (spaced (command_words s x)) (map spaced (map (command_words s) rest)) (commands_only s done) (commands_only s (done ++ x ∷ [])) (commands_only s s.commands)
+    (command_read s good done x.0 x.1 (omega (arith, length-append done (x ∷ rest), ap length e, good.few_commands)) (request_at s good done x rest e))
+    (commands_walk s good (done ++ x ∷ []) rest (append_assoc done (x ∷ []) rest ∙ e))
+
+nodes_printed : (nodes : ℕ) → nodes ≤ 16 → IsPrintedLine (nodes_words nodes)
+nodes_printed nodes few = record { are_printed = (refl, (number_printed nodes (omega arith), tt)); few = omega arith; says = refl }
+
+-- the line `nodes` begins the script
+nodes_read : (nodes : ℕ) → 0 < nodes → nodes ≤ 16 → line_step None (spaced (nodes_words nodes)) ≡ Ok (Some (only_nodes nodes))
+nodes_read nodes some few =
+    let number_is : number (decimal nodes) ≡ Some nodes = number_decimal nodes (omega (arith, few)) in
+    line_read None (nodes_words nodes) (NodesForm (decimal nodes)) (nodes_printed nodes few) refl (rw (number_is, lt-ltb 0 nodes some, le-ltb 16 nodes few))
+    ∙ rw number_is refl
+
+-- all lines are lines
+
+sets_printed : (s : ScriptData) → IsScript s → (done rest : List SetData) → done ++ rest ≡ s.sets → AllByRecursion ArePrinted (map (set_words s.sets) rest)
+sets_printed s good done [] e = tt
+sets_printed s good done (x ∷ rest) e = (here, sets_printed s good (done ++ x ∷ []) rest (append_assoc done (x ∷ []) rest ∙ e))
+  where
+    here : ArePrinted (set_words s.sets x)
+    here =
+        let fits = set_fits s good done x rest e in
+        elim (cases_Bool (bytes_eq (first_name s.sets x) x.name)) [
+          | inl same ↦ rw same (set_printed x.name fits.named).are_printed
+          | inr other ↦ rw other (set_with_printed x.name (first_name s.sets x) fits.named fits.first_named).are_printed
+        ]
+
+clients_printed : (s : ScriptData) → IsScript s → (done rest : List ClientData) → done ++ rest ≡ s.clients → AllByRecursion ArePrinted (map client_words rest)
+clients_printed s good done [] e = tt
+clients_printed s good done (x ∷ rest) e =
+    let fits = client_fits s good done x rest e in
+    ((client_printed x.name x.node fits.named fits.few_nodes).are_printed, clients_printed s good (done ++ x ∷ []) rest (append_assoc done (x ∷ []) rest ∙ e))
+
+commands_printed : (s : ScriptData) → IsScript s → (done rest : List (ℕ × Command)) → done ++ rest ≡ s.commands → AllByRecursion ArePrinted (map (command_words s) rest)
+commands_printed s good done [] e = tt
+commands_printed s good done (x ∷ rest) e =
+    let request = request_at s good done x rest e in (
+      (name_printed (client_name s x.0) (good.clients_named x.0 request.0), order_printed s good x.0 x.1 request.1),
+      commands_printed s good (done ++ x ∷ []) rest (append_assoc done (x ∷ []) rest ∙ e),
+    )
+
+all_both : (xs ys : List (List (List ℕ))) → AllByRecursion ArePrinted xs → AllByRecursion ArePrinted ys → AllByRecursion ArePrinted (xs ++ ys)
+all_both [] ys good later = later
+all_both (x ∷ xs) ys good later = (good.0, all_both xs ys good.1 later)
+
+are_lines : (wss : List (List (List ℕ))) → AllByRecursion ArePrinted wss → AllByRecursion IsLine (map spaced wss)
+are_lines [] good = tt
+are_lines (ws ∷ wss) good = (printed_line ws good.0, are_lines wss good.1)
+
+map_both : (xs ys : List (List (List ℕ))) → map spaced (xs ++ ys) ≡ map spaced xs ++ map spaced ys
+map_both [] ys = refl
+map_both (x ∷ xs) ys = ap (λ l. spaced x ∷ l) (map_both xs ys)
+
+-- the lines of the text
+lines_printed : (s : ScriptData) → IsScript s → lines (print_of s) ≡ map spaced (script_words s)
+unfolding print_of
+lines_printed s good =
+    let sets : List (List (List ℕ)) = map (set_words s.sets) s.sets in
+    let clients : List (List (List ℕ)) = map client_words s.clients in
+    let commands : List (List (List ℕ)) = map (command_words s) s.commands in
+    lines_text (map spaced (script_words s))
+    (are_lines (script_words s) (
+      (nodes_printed s.nodes good.few_nodes).are_printed,
+      all_both sets (clients ++ commands) (sets_printed s good [] s.sets refl)
+          (all_both clients commands (clients_printed s good [] s.clients refl) (commands_printed s good [] s.commands refl)),
+    ))
+
+-- the lines behind the line `nodes` make the script
+script_walk : (s : ScriptData) → IsScript s
+    → Walks (map spaced (map (set_words s.sets) s.sets ++ (map client_words s.clients ++ map (command_words s) s.commands))) (only_nodes s.nodes) s
+script_walk s good =
+    let sets : List (List (List ℕ)) = map (set_words s.sets) s.sets in
+    let clients : List (List (List ℕ)) = map client_words s.clients in
+    let commands : List (List (List ℕ)) = map (command_words s) s.commands in
+    let parts : map spaced (sets ++ (clients ++ commands)) ≡ map spaced sets ++ (map spaced clients ++ map spaced commands) =
+    map_both sets (clients ++ commands) ∙ ap (λ l. map spaced sets ++ l) (map_both clients commands) in
+    subst (λ (ls : List (List ℕ)). Walks ls (only_nodes s.nodes) s) (sym parts)
+    (walk_both (map spaced sets) (map spaced clients ++ map spaced commands) (only_nodes s.nodes) (sets_only s s.sets) s
+    (sets_walk s good [] s.sets refl)
+    (walk_both (map spaced clients) (map spaced commands) (sets_only s s.sets) (clients_only s s.clients) s
+    (clients_walk s good [] s.clients refl)
+    (commands_walk s good [] s.commands refl)))
+
+pub read_printed : (s : ScriptData) → IsScript s → read_of (print_of s) ≡ Ok s
+read_printed s good =
+    let rest : List (List ℕ) = map spaced (map (set_words s.sets) s.sets ++ (map client_words s.clients ++ map (command_words s) s.commands)) in
+    let walk = script_walk s good 2 [] in
+    ap (λ ls. read_from ls 1 None) (lines_printed s good)
+    ∙ read_more (map spaced (script_words s)) rest (spaced (nodes_words s.nodes)) 1 None (Some (only_nodes s.nodes)) refl (nodes_read s.nodes good.some_node good.few_nodes)
+    ∙ ap (λ ls. read_from ls 2 (Some (only_nodes s.nodes))) (sym (append-nil rest))
+    ∙ walk.1
+    ∙ read_end [] walk.0 (Some s) refl
