@@ -10,6 +10,7 @@ use Rattle.lt_modes.specs.State.{Letter}
 use Rattle.lt_modes.specs.Made.{Post}
 use Rattle.lt_model.specs.Below.{sum_below}
 use Rattle.lt_model.specs.World.{sent, put_mail, letter_for}
+use Rattle.lt_model.specs.PathEffects.{posts_weight}
 use Rattle.lt_model.proofs.Sums.{sum_below-same, sum_below-none, sum_below-add, sum_below-change, sum_below-at}
 
 -- those of the letters that go to b
@@ -82,9 +83,6 @@ before_take mail p q a b letter h = elim (cases_eq a p) [
 -- what the letters on their way between the nodes weigh together
 abbrev pub mail_weight : ℕ → (Letter → ℕ) → (ℕ → ℕ → List Letter) → ℕ
 mail_weight n of_letter mail = sum_below n (λ a. sum_below n (λ b. sum_by of_letter (mail a b)))
-
-abbrev pub posts_weight : (Letter → ℕ) → List Post → ℕ
-posts_weight of_letter posts = sum_by (λ (post : Post). of_letter post.letter) posts
 
 -- the post goes to a node that counts, or weighs nothing
 abbrev pub IsCounted : ℕ → (Letter → ℕ) → Post → Type 0

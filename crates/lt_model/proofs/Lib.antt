@@ -4,6 +4,7 @@ pub mod Letters
 pub mod SentInMove
 pub mod PathsQuiet
 pub mod PathsHandOver
+pub mod PathsEffects
 pub mod PathsWorld
 pub mod PathsBeyond
 pub mod PathsMove

@@ -27,13 +27,9 @@ use Rattle.lt_modes.specs.SetMove.{answers, given, granted, ask_of, asked, locke
 use Rattle.lt_model.specs.World.{token_by, token_to}
 use Rattle.lt_model.specs.Facts.{one_if, tokens_in}
 use Rattle.lt_model.specs.Paths.{IsTrueLink, DeskOnPath, HasWay, StateOnPath, BodyOnPath, LetterOnPath}
-use Rattle.lt_model.proofs.Letters.{posts_weight}
+use Rattle.lt_model.specs.PathEffects.{Ground, Quiet, token_weight, posts_weight, Moved}
 use Rattle.lt_model.proofs.SentInMove.{all_append, all_weaker}
-use Rattle.lt_model.proofs.PathsQuiet.{Ground, Quiet, quiet_then, ask_at-named, route-quiet, learn_on_path, learn_desk, token_on_path, serve-quiet, freeze-quiet, tell-quiet}
-
--- the tokens of the set that a letter carries
-abbrev pub token_weight : ℕ → Letter → ℕ
-token_weight s letter = if letter.set == s then tokens_in letter.body else 0
+use Rattle.lt_model.proofs.PathsQuiet.{quiet_then, ask_at-named, route-quiet, learn_on_path, learn_desk, token_on_path, serve-quiet, freeze-quiet, tell-quiet}
 
 -- the post carries no token of the set
 abbrev pub HasNoToken : ℕ → Post → Type 0
@@ -67,23 +63,6 @@ pub none_weigh : (s : ℕ) (posts : List Post) → AllByRecursion (HasNoToken s)
 none_weigh s [] h = refl
 none_weigh s (post ∷ rest) h =
     omega (arith, sum_by-cons (λ (p : Post). token_weight s p.letter) post rest, h.0.1, none_weigh s rest h.1)
-
--- the token goes from x, where it was, to another node
-pub record HandsOver (nodes : ℕ) (went : List ℕ) (x k : ℕ) (now : List ℕ) : Type 0 where
-  pub to : ℕ
-  pub grown : now ≡ went ++ to ∷ []
-  pub named : to < nodes
-  pub here : k ≡ 1
-  pub last : (epoch : ℕ) → epoch + 1 ≡ length went → slice_index went epoch ≡ x
-
--- node x and its letters are on the path, with one token where there was one before (k), at x or in hand
-pub record Moved (nodes : ℕ) (went : List ℕ) (set x k : ℕ) (m : Made) : Type 0 where
-  pub now : List ℕ
-  pub grown : now ≡ went ++ filter_map (token_to set) m.posts
-  pub state : StateOnPath nodes now x m.state
-  pub posts : AllByRecursion (λ (post : Post). LetterOnPath nodes now x post.to post.letter) m.posts
-  pub count : one_if (is_some m.state.desk) + posts_weight (token_weight set) m.posts ≡ k
-  pub others : (now ≡ went) ⊎ HandsOver nodes went x k now
 
 quiet-moved : (nodes : ℕ) (went : List ℕ) (set x k : ℕ) (m : Made) → Quiet nodes went x k m → Moved nodes went set x k m
 quiet-moved nodes went set x k m quiet =
@@ -218,7 +197,7 @@ leaves nodes went set stamp s v desk named other h d = record {
           absurd (other (sym (get_or_push went v 0 epoch last) ∙ node))
     ]
 
-hand_over-moved : (nodes : ℕ) (went : List ℕ) (k set : ℕ) (stamp : Stamp) (s : SetState)
+pub hand_over-moved : (nodes : ℕ) (went : List ℕ) (k set : ℕ) (stamp : Stamp) (s : SetState)
     → Ground nodes went → StateOnPath nodes went stamp.node s → one_if (is_some s.desk) ≡ k
     → Moved nodes went set stamp.node k (hand_over set stamp s)
 hand_over-moved nodes went k set stamp s g h here = by_place (next_move stamp.node s) refl

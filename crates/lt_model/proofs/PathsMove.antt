@@ -26,8 +26,8 @@ use Rattle.lt_model.specs.Paths.{StateOnPath, LetterOnPath, Paths}
 use Rattle.lt_model.proofs.Sums.{sum_below-at}
 use Rattle.lt_model.proofs.Letters.{letters_to}
 use Rattle.lt_model.proofs.SentInMove.{IsSentIn, AreSentIn, all_weaker, finish-sent, lock-sent, try-sent, unlock-sent, change-sent, drop-sent, take-sent}
-use Rattle.lt_model.proofs.PathsQuiet.{Ground}
-use Rattle.lt_model.proofs.PathsHandOver.{token_weight, no_token, Moved, finish-moved, lock-moved, try-moved, unlock-moved, change-moved, drop-moved, take-moved}
+use Rattle.lt_model.specs.PathEffects.{Ground, token_weight, Moved}
+use Rattle.lt_model.proofs.PathsHandOver.{no_token, finish-moved, lock-moved, try-moved, unlock-moved, change-moved, drop-moved, take-moved}
 use Rattle.lt_model.proofs.PathsBeyond.{Idle, finish-idle, lock-idle, try-idle, unlock-idle, change-idle, drop-idle}
 use Rattle.lt_model.proofs.PathsWorld.{PathsOf, put-same, put-other, after_moved, after_others, after_beyond, opened_for}
 

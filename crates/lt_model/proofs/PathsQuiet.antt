@@ -14,34 +14,20 @@ use Rattle.lt_modes.specs.Held.{held_modes}
 use Rattle.lt_modes.specs.State.{SetState, Desk, Entry, Parked, ParkedAsk, ParkedTell}
 use Rattle.lt_modes.specs.Queue.{entered, place, no_ask}
 use Rattle.lt_modes.specs.Places.{cons_if, places_from, map_from}
-use Rattle.lt_modes.specs.Made.{Made, Post, silent, then_do}
+use Rattle.lt_modes.specs.Made.{Made, silent, then_do}
 use Rattle.lt_modes.specs.Serving.{queue_of, queue_of_desk, put_queue, owed_at, ask_at, next_service, serve, serve_up_to, serve_step, serve_one, serve_local, serve_copy}
 use Rattle.lt_modes.specs.Freezing.{freeze, freeze_at, frozen_by, frozen_entry, is_target, targets}
 use Rattle.lt_modes.specs.Routing.{Way, Parks, Goes, learn, dealt, is_behind, hoped_way, way, way_onward, body_of, reversed, sent_on, route, route_by}
 use Rattle.lt_modes.specs.Telling.{tell, tell_of, make_tell}
 use Rattle.lt_modes.specs.Taking.{take_token}
 use Rattle.lt_model.specs.Facts.{one_if, tokens_in}
-use Rattle.lt_model.specs.Paths.{IsTrueLink, IsNamed, IsParkedNamed, DeskOnPath, HasWay, StateOnPath, BodyOnPath, LetterOnPath}
+use Rattle.lt_model.specs.Paths.{IsTrueLink, IsNamed, IsParkedNamed, DeskOnPath, HasWay, StateOnPath, BodyOnPath}
+use Rattle.lt_model.specs.PathEffects.{Ground, Quiet}
 use Rattle.lt_model.proofs.StartKept.{all_none}
 use Rattle.lt_model.proofs.SentInMove.{all_append, all_map, all_weaker}
 
--- there are nodes, and the token went to nodes
-pub record Ground (nodes : ℕ) (went : List ℕ) : Type 0 where
-  pub some : 0 < nodes
-  pub known : All (λ x. x < nodes) went
-
 pub link_named : (nodes : ℕ) (went : List ℕ) (link : Link) → Ground nodes went → IsTrueLink went link → link.node < nodes
 link_named nodes went link g true_link = subst (λ (x : ℕ). x < nodes) true_link.node (g.known link.epoch 0 true_link.epoch)
-
--- the letter is on its path and carries no token
-abbrev pub IsQuiet : ℕ → List ℕ → ℕ → Post → Type 0
-IsQuiet nodes went x post = LetterOnPath nodes went x post.to post.letter × (tokens_in post.letter.body ≡ 0)
-
--- node x stays on the path, its letters too, none carries the token, and k says whether the desk is there
-pub record Quiet (nodes : ℕ) (went : List ℕ) (x k : ℕ) (m : Made) : Type 0 where
-  pub state : StateOnPath nodes went x m.state
-  pub posts : AllByRecursion (IsQuiet nodes went x) m.posts
-  pub desk : one_if (is_some m.state.desk) ≡ k
 
 pub quiet_then : (nodes : ℕ) (went : List ℕ) (x k : ℕ) (m : Made) (rule : SetState → Made)
     → Quiet nodes went x k m → Quiet nodes went x k (rule m.state) → Quiet nodes went x k (then_do m rule)

@@ -25,7 +25,7 @@ use Rattle.lt_modes.specs.SetMove.{ask_of, asked, take}
 use Rattle.lt_modes.proofs.ServingLemmas.{queue_of-serve_one}
 use Rattle.lt_model.specs.Facts.{one_if, times_in, times_parked, places_in_state, places_in_body, tokens_in}
 use Rattle.lt_model.specs.Standing.{IsMadeBy}
-use Rattle.lt_model.proofs.Letters.{posts_weight}
+use Rattle.lt_model.specs.PathEffects.{posts_weight}
 use Rattle.lt_model.proofs.SentInMove.{all_append, all_map, all_any}
 use Rattle.lt_model.proofs.Asks.{times_in-some, times_in-found, times_in-push, times_in-entered, times_in-remove, times_in-without, same_ask-itself}
 use Rattle.lt_model.proofs.Effects.{Fact, HoldsOf, EndEffects, ActEffects, ByEffects, route_ways, holds_silent, acts_by_effects, take_by_effects, next_service-within}

@@ -20,7 +20,7 @@ use Rattle.lt_model.proofs.Sums.{sum_below-same, sum_below-none, sum_below-chang
 use Rattle.lt_model.proofs.Letters.{mail_weight, IsCounted, all_sent, before_take, sent_on_way, mail_weight-sent, mail_weight-beyond, mail_weight-taken, mail_weight-at}
 use Rattle.lt_model.specs.Laws.{StandingKept}
 use Rattle.std.proofs.lemmas.List.Sums.{sum_by-append}
-use Rattle.lt_model.proofs.PathsHandOver.{token_weight}
+use Rattle.lt_model.specs.PathEffects.{token_weight}
 use Rattle.lt_model.proofs.SentInMove.{all_append, all_weaker, all_any, take-sent}
 use Rattle.lt_model.proofs.PathsWorld.{put-same, put-other, weighs_tokens}
 use Rattle.lt_model.proofs.PathsMove.{has_mail_parts, move_kept}

@@ -12,7 +12,7 @@ use Rattle.lt_model.specs.OnWay.{Comes, DeskIs}
 use Rattle.lt_model.specs.Paths.{DeskOnPath, HasWay, BodyOnPath, Paths}
 use Rattle.lt_model.specs.Laws.{DeskSomewhere, TokenComes}
 use Rattle.lt_model.proofs.Sums.{sum_below-some}
-use Rattle.lt_model.proofs.PathsHandOver.{token_weight}
+use Rattle.lt_model.specs.PathEffects.{token_weight}
 use Rattle.lt_model.proofs.PathsWorld.{desks}
 
 -- a sum that isn't 0 has an item that isn't 0

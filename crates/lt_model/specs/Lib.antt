@@ -9,6 +9,7 @@ pub mod Holdings
 pub mod Facts
 pub mod OnWay
 pub mod Paths
+pub mod PathEffects
 pub mod Touches
 pub mod Accounts
 pub mod Invariant

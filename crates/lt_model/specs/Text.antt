@@ -1,5 +1,5 @@
 -- The text of a run: the line of each move with the lines of its events, and then the closing lines.
-use Rattle.std.specs.Prelude.{List, [], ◌∷◌, ◌++◌, ℕ, zero, suc, ◌==◌, Bool, true, false, not, ◌&&◌, Option, Some, None, if◌then◌else◌, codes, length, map, filter, count_by, position, replicate, remove, fold, slice_get, slice_set, slice_index_or}
+use Rattle.std.specs.Prelude.{List, [], ◌∷◌, ◌++◌, ℕ, zero, suc, ◌==◌, Bool, true, false, not, ◌&&◌, Option, Some, None, if◌then◌else◌, codes, length, map, filter, count_by, position, replicate, remove, fold, slice_set, slice_index_or}
 use Rattle.std.specs.List.{flat_map}
 use Rattle.std.specs.Fmt.{decimal}
 use Rattle.lt_modes.specs.declared.mode.Mode.{Mode}

@@ -1,3 +1,4 @@
+ghost use Rattle.lt_model.specs.PathEffects.{EffectsOnPath};
 ghost use Rattle.lt_model.specs.Laws.{StartKept, PathsKept, PathsInRuns, DeskSomewhere, TokenComes, OneToken, OthersStay, ClockMoves, OtherClocksStay, StampsKept, ClocksInRuns, TimedKept, TimedInRuns, StandingKept, StandingInRuns, OnePlace, ServedKept, ServedInRuns, TryIsExact};
 
 /// What holds of every world of a run holds at the start of each script.
@@ -7,6 +8,7 @@ pub fn law_start()
 
 /// Links lead to the token of a set, of which there is one, and no enabled move changes that.
 pub fn law_paths()
+    ensures effects { EffectsOnPath }
     ensures step { PathsKept }
     ensures run { PathsInRuns }
     ensures desk { DeskSomewhere }
