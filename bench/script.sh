@@ -1,6 +1,6 @@
 #!/bin/sh
 # Prints how many bytes of script a second the program reads, for 64 KiB and 1 MiB. Both numbers should be near each
-# other. The time that the program takes for the shortest script is taken off.
+# other. The time of as many runs on the shortest script is taken off.
 top=$(cd "$(dirname "$0")/.." && pwd) || exit 1
 program=$top/crates/lockrun/out/lockrun
 [ -x "$program" ] || { echo "bench: run ./build first" >&2; exit 1; }
@@ -21,7 +21,7 @@ runs() {
   start=$(date +%s%N)
   i=0
   while [ $i -lt "$1" ]; do
-    "$program" sim first <"$input" >/dev/null
+    "$program" sim first <"$input" >/dev/null 2>&1 || { echo "bench: the program failed" >&2; exit 1; }
     i=$((i + 1))
   done
   end=$(date +%s%N)
@@ -30,10 +30,12 @@ runs() {
 
 for size in 65536 1048576; do
   rounds=$((67108864 / size))
-  echo "nodes 1" >"$input"
-  idle=$(runs $rounds)
+  printf 'nodes 1\nset page\n' >"$input"
+  idle=$(runs $rounds) || exit 1
   script $size >"$input"
-  busy=$(runs $rounds)
+  busy=$(runs $rounds) || exit 1
   bytes=$(($(wc -c <"$input") * rounds))
-  echo "$size bytes: $((bytes * 1000 / ((busy - idle) / 1000 + 1))) bytes a second"
+  taken=$((busy - idle))
+  if [ $taken -lt 1 ]; then taken=1; fi
+  echo "$size bytes: $((bytes * 1000 / taken * 1000)) bytes a second"
 done
