@@ -8,3 +8,5 @@ mod NodeMoves
 mod Worlds
 mod Runs
 mod Order
+mod Clear
+mod Agree

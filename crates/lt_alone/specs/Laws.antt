@@ -1,7 +1,9 @@
 -- A node that is alone, with one set and only locks and unlocks, runs the full rules: the laws, as statements.
-use Rattle.std.specs.Prelude.{◌≡◌, ℕ, List, [], ◌∷◌, ◌↔◌, Some, option_map, IsTrue, length}
+use Rattle.std.specs.Prelude.{◌≡◌, ◌≢◌, false, ℕ, List, [], ◌∷◌, ◌↔◌, Some, option_map, IsTrue, length, take, Contains}
 use Rattle.lt_modes.specs.declared.moves.Step.{Step}
 use Rattle.lt_modes.specs.declared.moves.Step.TheVariants.{Act}
+use Rattle.lt_modes.specs.declared.parts.Row.{Row}
+use Rattle.lt_modes.specs.Modes.{conflicts}
 use Rattle.lt_modes.specs.Script.{ScriptData}
 use Rattle.lt_script.specs.Script.{IsScript}
 use Rattle.lt_model.specs.Log.{Logged}
@@ -59,6 +61,11 @@ SameRest script run = is_at_rest script (world_after script run) ≡ one_node.is
 -- some client waits in the one world where some client does in the other
 abbrev pub SameWaiting : ScriptData → List Logged → Type 0
 SameWaiting script run = anyone_waits script (world_after script run) ≡ one_node.anyone_waits script (one_node.world_after script run)
+
+-- after each prefix of the run no two clients hold conflicting modes in the set
+abbrev pub ClientsAgree : ScriptData → List Logged → Type 0
+ClientsAgree script run = (k : ℕ) (a b : Row) → Contains (((world_after script (take k run)).node 0).set 0).held a
+    → Contains (((world_after script (take k run)).node 0).set 0).held b → a.client ≢ b.client → conflicts a.mode b.mode ≡ false
 
 -- the turn of a client at node 0
 abbrev pub turn_of : ℕ → Turn

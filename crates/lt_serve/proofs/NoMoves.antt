@@ -1,10 +1,13 @@
 -- A script without a set is at rest from the start.
 use Rattle.std.proofs.Common.{◌≡◌, Bool, true, false, ℕ, zero, suc, ◌<◌, List, [], ◌∷◌, length, refl, sym, ap, subst, ◌∙◌, arith}
 use Rattle.std.specs.Prelude.{◌&&◌, ◌||◌, not, nat_lt, All}
-use Rattle.std.proofs.lemmas.List.Elements.{All-head}
+use Rattle.std.proofs.lemmas.List.Elements.{All-head, All-contains}
 use Rattle.lt_modes.specs.declared.command.Command.{Command}
 use Rattle.lt_modes.specs.declared.command.Command.TheVariants.{Lock, Try, Unlock, Change, DropAll}
 use Rattle.lt_modes.specs.Script.{ScriptData, SetData, ClientData}
+use Rattle.lt_modes.specs.declared.parts.Row.{Row}
+use Rattle.lt_alone.specs.Laws.{ClientsAgree}
+use Rattle.lt_model.proofs.StartKept.{all_none}
 use Rattle.lt_script.specs.Script.{IsScript, IsRequest, HasTargets}
 use Rattle.lt_model.specs.Below.{any_below}
 use Rattle.lt_model.specs.World.{start, is_at_rest, anyone_waits, is_runnable, is_waiting, has_mail}
@@ -53,3 +56,8 @@ at_rest script kept none =
 
 pub none_waits : (script : ScriptData) → length script.sets ≡ 0 → anyone_waits script (start script) ≡ false
 none_waits script none = any_below_none (length script.clients) (is_waiting script (start script)) (nobody_waits script (no_sets script.sets none))
+
+-- nobody holds a lock at the start
+pub none_held : (script : ScriptData) → ClientsAgree script []
+none_held script zero a b first second differ = absurd (All-contains (λ (row : Row). ⊥) [] a (all_none _) first)
+none_held script (suc k) a b first second differ = absurd (All-contains (λ (row : Row). ⊥) [] a (all_none _) first)

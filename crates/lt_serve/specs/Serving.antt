@@ -11,6 +11,7 @@ use Rattle.lt_model.specs.World.{world_after, IsRun, is_at_rest, anyone_waits}
 use Rattle.lt_model.specs.Order.{first_run}
 use Rattle.lt_model.specs.Facts.{token_count}
 use Rattle.lt_model.specs.Text.{text_of}
+use Rattle.lt_alone.specs.Laws.{ClientsAgree}
 use Rattle.lt_script.specs.declared.fault.ScriptFault.{ScriptFault}
 use Rattle.lt_script.specs.Reading.{read_of}
 use Rattle.lt_serve.specs.Scripts.{can_run}
@@ -55,13 +56,14 @@ abbrev pub cut_of : Status → Option ℕ
 cut_of (Cut node) = Some node
 cut_of other = None
 
--- a run of the script by all rules, each move of which is the first enabled one; it ended so,
--- and there was one token of each set at any time
+-- a run of the script by all rules, each move of which is the first enabled one; it ended so, at any time there was
+-- one token of each set, and no two clients held conflicting modes
 pub record RanTo (ending : Status) (script : ScriptData) (run : List Logged) : Type 0 where
   pub is_run : IsRun script run
   pub in_order : run ≡ first_run script (length run)
   pub ends : EndsAs ending script run
   pub one_token : (k s : ℕ) → token_count script (world_after script (take k run)) s ≡ 1
+  pub clear : ClientsAgree script run
 
 -- the run of the script that ended so, and its whole journal appended
 pub record TellsAll (ending : Status) (script : ScriptData) (run : List Logged) (old new : Option (List ℕ)) : Type 0 where

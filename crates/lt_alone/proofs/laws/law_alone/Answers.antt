@@ -8,6 +8,7 @@ use Rattle.lt_alone.proofs.Commands.{LoneScript, lone_script}
 use Rattle.lt_alone.proofs.Worlds.{SameWorld, same_start, same_enabled}
 use Rattle.lt_alone.proofs.Runs.{same_run, same_after, same_set, same_step}
 use Rattle.lt_alone.proofs.Order.{same_pick, same_count, same_rest, same_waits, first_from}
+use Rattle.lt_alone.proofs.Agree.{clients_agree}
 use Rattle.lt_alone.proofs.laws.law_alone.Goals as goal
 
 -- what follows from the two worlds after the run
@@ -56,3 +57,8 @@ pub returns-clause-first : goal.returns-clause-first
 returns-clause-first c script run good lone h order =
     let one = lone_script script good lone in
     first_from script one_node.start (start script) run one (same_start script one) h order
+
+pub returns-clause-clear : goal.returns-clause-clear
+returns-clause-clear c script run good lone h k a b =
+    let one = lone_script script good lone in
+    clients_agree script run k a b one h

@@ -4,7 +4,7 @@ use Rattle.std.proofs.lemmas.Bool.{and_parts, eqb-true}
 use Rattle.lt_model.specs.Log.{Logged}
 use Rattle.lt_serve.specs.declared.status.Status.TheVariants.{Done}
 use Rattle.lt_serve.specs.Serving.{RanTo}
-use Rattle.lt_serve.proofs.NoMoves.{at_rest, none_waits}
+use Rattle.lt_serve.proofs.NoMoves.{at_rest, none_waits, none_held}
 use Rattle.lt_serve.proofs.first.no_moves.Goals as goal
 
 pub returns : goal.returns
@@ -17,4 +17,5 @@ returns c =
       in_order = refl;
       ends = (at_rest script c.requires.kept none, none_waits script none);
       one_token = c.law_one_token.ensures script [] c.requires.kept.some_node tt;
+      clear = none_held script;
     })

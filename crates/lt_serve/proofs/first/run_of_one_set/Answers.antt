@@ -22,4 +22,5 @@ returns c =
       in_order = c.law_alone.ensures.first script run kept lone alone in_order;
       ends = ends_by_all_rules status script run (c.law_alone.ensures.rest script run kept lone alone) (c.law_alone.ensures.waits script run kept lone alone) ends;
       one_token = c.law_one_token.ensures script run kept.some_node is_run;
+      clear = c.law_alone.ensures.clear script run kept lone alone;
     }
