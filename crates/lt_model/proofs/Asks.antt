@@ -13,7 +13,7 @@ use Rattle.lt_modes.proofs.ModeAlgebra.{has-itself}
 use Rattle.lt_modes.specs.Queue.{same_ask, same_choice, same_flag, has_stamp, without, entered, place, no_ask}
 use Rattle.lt_model.specs.Facts.{one_if, times_in}
 
-same_mode-true : (a b : Mode) → same_mode a b ≡ true → a ≡ b
+pub same_mode-true : (a b : Mode) → same_mode a b ≡ true → a ≡ b
 same_mode-true IntentionRead IntentionRead e = refl
 same_mode-true IntentionRead Read e = cc
 same_mode-true IntentionRead Upgrade e = cc

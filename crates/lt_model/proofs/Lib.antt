@@ -25,3 +25,5 @@ pub mod ClocksGrow
 pub mod StartKept
 pub mod PathsInRuns
 pub mod TokenComes
+pub mod Members
+pub mod AccountFacts

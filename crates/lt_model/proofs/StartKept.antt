@@ -49,9 +49,10 @@ state_if nodes here = record {
   desk = if here then Some (first_desk nodes) else None;
 }
 
-sound_if : (numbers : Numbers) (q : ℕ) (here : Bool) → 0 < numbers.nodes → SoundSet numbers q 0 (state_if numbers.nodes here)
+sound_if : (numbers : Numbers) (q : ℕ) (here : Bool) → 0 < numbers.nodes → SoundSet numbers q false 0 (state_if numbers.nodes here)
 sound_if numbers q true h = record {
   rows = all_none _;
+  rows_apart = λ i j d before below. absurd (omega (arith, below));
   pending = all_none _;
   here = all_none _;
   apart = refl;
@@ -64,6 +65,7 @@ sound_if numbers q true h = record {
 }
 sound_if numbers q false h = record {
   rows = all_none _;
+  rows_apart = λ i j d before below. absurd (omega (arith, below));
   pending = all_none _;
   here = all_none _;
   apart = refl;
@@ -187,7 +189,7 @@ frozen_start script s place x h =
       told = λ d some. told;
     }
 
-none_has : {A : Type 0} (mode : Mode) → IsTrue (has mode no_modes) → A
+pub none_has : {A : Type 0} (mode : Mode) → IsTrue (has mode no_modes) → A
 none_has IntentionRead h = cc
 none_has Read h = cc
 none_has Upgrade h = cc

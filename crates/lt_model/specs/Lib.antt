@@ -12,6 +12,9 @@ pub mod Paths
 pub mod PathEffects
 pub mod Touches
 pub mod Accounts
+pub mod Account
+pub mod AccountSteps
+pub mod AccountLaws
 pub mod Invariant
 pub mod Timed
 pub mod Standing

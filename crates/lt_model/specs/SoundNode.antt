@@ -1,5 +1,5 @@
 -- What holds of a node and of the world's numbers.
-use Rattle.std.specs.Prelude.{◌&&◌, ◌==◌, ◌≤◌, ◌<◌, ℕ, ◌+◌, length, map, count_by, is_none}
+use Rattle.std.specs.Prelude.{◌&&◌, ◌==◌, ◌≤◌, ◌<◌, false, ℕ, ◌+◌, length, map, count_by, is_none}
 use Rattle.lt_modes.specs.declared.ask.Ask.{Ask}
 use Rattle.lt_modes.specs.Script.{ScriptData, ClientData}
 use Rattle.lt_modes.specs.Held.{locks_of}
@@ -34,6 +34,6 @@ locks_in_all script n client = sum_below (length script.sets) (λ s. locks_of (n
 -- each set is sound, a client waits for at most one ask,
 -- and each of its locks and of its asks for one more came by a command of its own
 pub record SoundNode (script : ScriptData) (q : ℕ) (n : NodeState) : Type 0 where
-  pub sets : (s : ℕ) → s < length script.sets → SoundSet (numbers_of script) q n.clock (n.set s)
+  pub sets : (s : ℕ) → s < length script.sets → SoundSet (numbers_of script) q false n.clock (n.set s)
   pub one_ask : (client : ℕ) → asks_of script n client ≤ 1
   pub counts : (client : ℕ) → locks_in_all script n client + new_asks_of script n client ≤ n.made client

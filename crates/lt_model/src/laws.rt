@@ -1,3 +1,4 @@
+ghost use Rattle.lt_model.specs.AccountLaws.{Ticks};
 ghost use Rattle.lt_model.specs.PathEffects.{EffectsOnPath};
 ghost use Rattle.lt_model.specs.Laws.{StartKept, PathsKept, PathsInRuns, DeskSomewhere, TokenComes, OneToken, OthersStay, ClockMoves, OtherClocksStay, StampsKept, ClocksInRuns, TimedKept, TimedInRuns, StandingKept, StandingInRuns, OnePlace, ServedKept, ServedInRuns, TryIsExact};
 
@@ -55,4 +56,9 @@ pub fn law_served()
 /// A `try` is answered with `true` exactly where the client's node can grant the mode.
 pub fn law_exact_try()
     ensures { TryIsExact }
+{}
+
+/// What happens to the account of one node keeps it.
+pub fn law_account()
+    ensures ticks { Ticks }
 {}

@@ -1,13 +1,24 @@
 -- What holds of the state that a node keeps for a set, at the start and after each move.
-use Rattle.std.specs.Prelude.{◌≡◌, ◌≢◌, ◌≤◌, ◌<◌, ℕ, List, [], Option, Some, None, IsTrue, IfSome, All, length, slice_index}
+use Rattle.std.specs.Prelude.{◌≡◌, ◌≢◌, ◌⊎◌, ◌≤◌, ◌<◌, Bool, true, false, ℕ, List, [], Option, Some, None, IsTrue, IfSome, All, AllPairs, length, slice_index}
 use Rattle.lt_modes.specs.declared.mode.Mode.{Mode}
 use Rattle.lt_modes.specs.declared.ask.Ask.{Ask}
 use Rattle.lt_modes.specs.declared.parts.Row.{Row}
 use Rattle.lt_modes.specs.declared.parts.Hoped.{Hoped}
-use Rattle.lt_modes.specs.Modes.{bars}
+use Rattle.lt_modes.specs.Modes.{Modes, conflicts, bars}
+use Rattle.lt_modes.specs.ModeLaws.{IsBelowBy}
 use Rattle.lt_modes.specs.State.{SetState, Desk, Parked, ParkedAsk, ParkedTell}
 use Rattle.lt_modes.specs.Held.{count_of, held_modes}
 use Rattle.lt_modes.specs.Fits.{Numbers, is_at_home, is_known, are_apart, asks_here}
+
+-- no later than the clock; in the middle of a move, which has set the clock, before it
+abbrev pub IsNoLater : Bool → ℕ → ℕ → Type 0
+IsNoLater false clock k = k ≤ clock
+IsNoLater true clock k = k < clock
+
+-- the charge bars just what the held modes bar; in the middle of a move it bars that and perhaps more
+abbrev pub ChargeKept : Bool → Modes → Modes → Type 0
+ChargeKept false held charge = bars held ≡ bars charge
+ChargeKept true held charge = IsBelowBy conflicts held charge
 
 -- the row is of a client of node q, and holds some lock
 pub record SoundRow (numbers : Numbers) (q : ℕ) (row : Row) : Type 0 where
@@ -32,12 +43,12 @@ pub record SoundHere (numbers : Numbers) (q : ℕ) (s : SetState) (ask : Ask) : 
   pub home : IsTrue (is_at_home numbers ask)
   pub known : IsTrue (is_known q s ask)
 
--- without the desk the charge bars what the held modes bar; with it nothing is parked,
--- neither its epoch nor its freeze number is above the clock, and it has one entry for each node
-abbrev pub SoundDesk : Numbers → ℕ → SetState → Option Desk → Type 0
-SoundDesk numbers clock s None = bars (held_modes s.held) ≡ bars s.charge
-SoundDesk numbers clock s (Some desk) =
-    (s.parked ≡ []) × (desk.epoch ≤ clock) × (desk.number ≤ clock) × (length desk.entries ≡ numbers.nodes)
+-- without the desk the charge agrees with the held modes; with it nothing is parked,
+-- its epoch and its freeze number are no later than the clock, and it has one entry for each node
+abbrev pub SoundDesk : Numbers → Bool → ℕ → SetState → Option Desk → Type 0
+SoundDesk numbers moving clock s None = ChargeKept moving (held_modes s.held) s.charge
+SoundDesk numbers moving clock s (Some desk) =
+    (s.parked ≡ []) × IsNoLater moving clock desk.epoch × IsNoLater moving clock desk.number × (length desk.entries ≡ numbers.nodes)
 
 -- a hoped link names another node of the script
 abbrev pub SoundHoped : Numbers → ℕ → Option Hoped → Type 0
@@ -48,15 +59,16 @@ abbrev pub SoundParked : Numbers → Parked → Type 0
 SoundParked numbers (ParkedAsk ask) = Unit {0}
 SoundParked numbers (ParkedTell tell) = tell.node < numbers.nodes
 
--- what node q with this clock keeps for a set is sound
-pub record SoundSet (numbers : Numbers) (q clock : ℕ) (s : SetState) : Type 0 where
+-- what node q with this clock keeps for a set is sound, between moves or in the middle of a move of q on the set
+pub record SoundSet (numbers : Numbers) (q : ℕ) (moving : Bool) (clock : ℕ) (s : SetState) : Type 0 where
   pub rows : All (SoundRow numbers q) s.held
+  pub rows_apart : AllPairs (λ (a b : Row). (a.client ≢ b.client) ⊎ (a.mode ≢ b.mode)) s.held
   pub pending : All (SoundPending numbers q s.held) s.pending
   pub here : All (SoundHere numbers q s) (asks_here s)
   pub apart : IsTrue (are_apart (asks_here s))
-  pub desk : SoundDesk numbers clock s s.desk
-  pub epoch : s.firm.epoch ≤ clock
-  pub number : s.number ≤ clock
+  pub desk : SoundDesk numbers moving clock s s.desk
+  pub epoch : IsNoLater moving clock s.firm.epoch
+  pub number : IsNoLater moving clock s.number
   pub firm : s.firm.node < numbers.nodes
   pub hoped : SoundHoped numbers q s.hoped
   pub parked : All (SoundParked numbers) s.parked
