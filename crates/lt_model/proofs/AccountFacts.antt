@@ -16,7 +16,7 @@ use Rattle.lt_modes.specs.Records.{record_of, modes_of_owed, is_unanswered, stil
 use Rattle.lt_modes.specs.Tells.{is_newer, is_open, is_listed, same_stamp, left_owed}
 use Rattle.lt_modes.specs.Sound.{IsNoLater, ChargeKept}
 use Rattle.lt_modes.proofs.ModeAlgebra.{bars_by_table, union_bars_both}
-use Rattle.lt_model.specs.Account.{Account, AccountKept, Covers, CopiesOwed, Bars, IsBelow, owed_and_waiting, now_of}
+use Rattle.lt_model.specs.Account.{Account, AccountKept, Covers, CopiesOwed, Bars, IsBelow, owed_and_waiting, now_modes}
 use Rattle.lt_model.proofs.Asks.{has_stamp-true, has_stamp-own}
 use Rattle.lt_model.proofs.Members.{contains_filter, contains_filtered, list_any-at, list_any-which, mode_which, mode_at, has-left}
 
@@ -72,7 +72,7 @@ still_owed-at pending owed copy ask owes waits same =
     (contains_filter (λ (c : Owed). is_unanswered pending c.stamp) owed copy owes (unanswered-at pending copy.stamp ask waits same))
 
 -- what is owed and unanswered is on its way
-pub waiting_is_copy : (a : Account) → CopiesOwed a → (mode : Mode) → IsTrue (has mode (owed_and_waiting a))
+pub waiting_is_copy : (a : Account) → CopiesOwed a.pending a.entry a.copies → (mode : Mode) → IsTrue (has mode (owed_and_waiting a))
     → (ask : Ask) × Contains a.copies ask × (ask.mode ≡ mode)
 waiting_is_copy a h mode m =
     let w = still_owed-which a.pending a.entry.owed mode m in
@@ -80,7 +80,7 @@ waiting_is_copy a h mode m =
     (w.ask, found.0, found.1 ∙ w.is_mode)
 
 -- and what is on its way is owed and unanswered
-pub copy_is_waiting : (a : Account) → CopiesOwed a → (ask : Ask) → Contains a.copies ask → IsTrue (has ask.mode (owed_and_waiting a))
+pub copy_is_waiting : (a : Account) → CopiesOwed a.pending a.entry a.copies → (ask : Ask) → Contains a.copies ask → IsTrue (has ask.mode (owed_and_waiting a))
 copy_is_waiting a h ask c = still_owed-at a.pending a.entry.owed (record { stamp = ask.stamp; mode = ask.mode }) ask (h.owed ask c) (h.waits ask c) refl
 
 -- modes that bar, of lists of asks
@@ -120,11 +120,11 @@ pub held_below_charge : (moving : Bool) (held charge : Modes) → ChargeKept mov
 held_below_charge false held charge e = below_by_bars held charge e
 held_below_charge true held charge h = h
 
-pub held_below_now : (a : Account) → AccountKept a → a.here ≡ false → IsBelow (held_modes a.held) (now_of a)
+pub held_below_now : (a : Account) → AccountKept a → a.here ≡ false → IsBelow (held_modes a.held) (now_modes a.charge a.copies)
 held_below_now a h away mode bar =
     (union_bars_both conflicts a.charge (modes_of_asks a.copies) mode).1 (inl (held_below_charge a.moving (held_modes a.held) a.charge (h.charge away) mode bar))
 
-pub copies_below_now : (a : Account) → IsBelow (modes_of_asks a.copies) (now_of a)
+pub copies_below_now : (a : Account) → IsBelow (modes_of_asks a.copies) (now_modes a.charge a.copies)
 copies_below_now a mode bar = (union_bars_both conflicts a.charge (modes_of_asks a.copies) mode).1 (inr bar)
 
 -- the record bounds what is held and what copies bring
@@ -186,3 +186,71 @@ left_owed-which tell owed copy h = contains_filtered (λ (c : Owed). is_open tel
 pub left_owed-at : (tell : Tell) (owed : List Owed) (copy : Owed) → Contains owed copy → IsTrue (is_open tell.pending tell.stamp copy.stamp)
     → Contains (left_owed tell owed) copy
 left_owed-at tell owed copy h e = contains_filter (λ (c : Owed). is_open tell.pending tell.stamp c.stamp) owed copy h e
+
+-- more copies bring more
+pub now_with : (charge : Modes) (fewer more : List Ask) → ((ask : Ask) → Contains fewer ask → Contains more ask)
+    → IsBelow (union charge (modes_of_asks fewer)) (union charge (modes_of_asks more))
+now_with charge fewer more within mode bar = (union_bars_both conflicts charge (modes_of_asks more) mode).1
+    (elim ((union_bars_both conflicts charge (modes_of_asks fewer) mode).0 bar) [
+      | inl own ↦ inl own
+      | inr brought ↦
+          let found = asks_bar-which fewer mode brought in
+          inr (asks_bar-at more mode found.0 (within found.0 found.1) found.2)
+    ])
+
+pub newer_in_turn : (x y z : Stamp) → IsTrue (is_newer x y) → IsTrue (is_newer y z) → IsTrue (is_newer x z)
+newer_in_turn x y z xy yz =
+    elim (or_cases (nat_lt y.clock x.clock) (x.clock == y.clock && nat_lt y.node x.node) xy) [
+      | inl later ↦ newer_by_clock x z (let l = ltb-true y.clock x.clock later in omega (arith, l, newer_not_before y z yz))
+      | inr same ↦
+          let parts = and_parts (x.clock == y.clock) (nat_lt y.node x.node) same in
+          let clocks = eqb-true x.clock y.clock parts.0 in
+          let nodes = ltb-true y.node x.node parts.1 in
+          elim (or_cases (nat_lt z.clock y.clock) (y.clock == z.clock && nat_lt z.node y.node) yz) [
+            | inl later ↦ newer_by_clock x z (let l = ltb-true z.clock y.clock later in omega (arith, l, clocks))
+            | inr too ↦
+                let more = and_parts (y.clock == z.clock) (nat_lt z.node y.node) too in
+                let clocks_too = eqb-true y.clock z.clock more.0 in
+                let nodes_too = ltb-true z.node y.node more.1 in
+                or_right (nat_lt z.clock x.clock) (x.clock == z.clock && nat_lt z.node x.node)
+                (and_from (x.clock == z.clock) (nat_lt z.node x.node) (eq-eqb x.clock z.clock (clocks ∙ clocks_too)) (lt-ltb z.node x.node (omega (arith, nodes, nodes_too))))
+          ]
+    ]
+
+pub newer_one_way : (x y : Stamp) → IsTrue (is_newer x y) → IsFalse (is_newer y x)
+newer_one_way x y xy = by_test (is_newer y x) refl
+  where
+    by_test : (t : Bool) → is_newer y x ≡ t → t ≡ false
+    by_test false e = refl
+    by_test true e =
+        elim (or_cases (nat_lt x.clock y.clock) (y.clock == x.clock && nat_lt x.node y.node) e) [
+          | inl later ↦ absurd (omega (arith, ltb-true x.clock y.clock later, newer_not_before x y xy))
+          | inr same ↦
+              let parts = and_parts (y.clock == x.clock) (nat_lt x.node y.node) same in
+              let clocks = eqb-true y.clock x.clock parts.0 in
+              let nodes = ltb-true x.node y.node parts.1 in
+              elim (or_cases (nat_lt y.clock x.clock) (x.clock == y.clock && nat_lt y.node x.node) xy) [
+                | inl earlier ↦ absurd (omega (arith, ltb-true y.clock x.clock earlier, clocks))
+                | inr too ↦ absurd (omega (arith, ltb-true y.node x.node (and_parts (x.clock == y.clock) (nat_lt y.node x.node) too).1, nodes))
+              ]
+        ]
+
+-- one mode more on both sides keeps the order
+pub one_more_below : (x more_x y more_y : Modes) (mode : Mode) → ((m : Mode) → IsTrue (has m more_x) → IsTrue (has m x) ⊎ (m ≡ mode))
+    → ((m : Mode) → IsTrue (has m y) → IsTrue (has m more_y)) → IsTrue (has mode more_y) → IsBelow x y → IsBelow more_x more_y
+one_more_below x more_x y more_y mode cases keeps own below bar_mode bar = elim (cases bar.0 bar.2) [
+  | inl before ↦ let found = below bar_mode (bar.0, bar.1, before) in (found.0, found.1, keeps found.0 found.2)
+  | inr new ↦ (mode, subst (λ (m : Mode). IsTrue (conflicts bar_mode m)) new bar.1, own)
+]
+
+pub not_after_itself : (x : Stamp) → IsTrue (is_newer x x) → ⊥
+not_after_itself x h = both h (newer_one_way x x h)
+  where
+    both : {t : Bool} → t ≡ true → t ≡ false → ⊥
+    both p q = cc
+
+pub asks_which : (asks : List Ask) (mode : Mode) → IsTrue (has mode (modes_of_asks asks)) → (ask : Ask) × Contains asks ask × (ask.mode ≡ mode)
+asks_which asks mode h = mode_which (λ (ask : Ask). ask.mode) asks mode h
+
+pub asks_at : (asks : List Ask) (ask : Ask) → Contains asks ask → IsTrue (has ask.mode (modes_of_asks asks))
+asks_at asks ask h = mode_at (λ (x : Ask). x.mode) asks ask h

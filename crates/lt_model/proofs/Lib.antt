@@ -27,3 +27,6 @@ pub mod PathsInRuns
 pub mod TokenComes
 pub mod Members
 pub mod AccountFacts
+pub mod AccountAsks
+pub mod AccountTells
+pub mod AccountDesk

@@ -1,6 +1,6 @@
 -- What is in the sets of modes that are gathered from rows, asks and owed asks, and in lists that a test leaves.
 use Rattle.std.proofs.Common.{◌≡◌, ℕ, zero, suc, ◌+◌, ◌<◌, inl, inr, List, [], ◌∷◌, ◌++◌, length, Bool, true, false, refl, sym, ap, subst, arith, ◌∙◌}
-use Rattle.std.specs.Prelude.{◌||◌, ◌⊎◌, if◌then◌else◌, Contains, IsTrue, fold, filter, slice_index_or}
+use Rattle.std.specs.Prelude.{◌||◌, ◌⊎◌, if◌then◌else◌, Contains, IsTrue, fold, filter, map, slice_index_or}
 use Rattle.std.specs.List.{list_any}
 use Rattle.std.proofs.lemmas.Bool.{or_cases, or_left, or_right}
 use Rattle.lt_modes.specs.declared.mode.Mode.{Mode}
@@ -134,3 +134,18 @@ mode_which mode_of xs mode h = elim (gathered-which mode_of no_modes xs mode h) 
 pub mode_at : {X : Type 0} (mode_of : X → Mode) (xs : List X) (x : X) → Contains xs x
     → IsTrue (has (mode_of x) (fold (λ modes x. with_mode modes (mode_of x)) no_modes xs))
 mode_at mode_of xs x h = gathered-at mode_of no_modes xs x h
+
+-- a map has what it makes of each item
+pub contains_map : {X Y : Type 0} (f : X → Y) (xs : List X) (x : X) → Contains xs x → Contains (map f xs) (f x)
+contains_map f [] x h = absurd (omega (arith, h.1))
+contains_map f (first ∷ rest) x h = elim (contains_cases first x rest h) [
+  | inl same ↦ contains_first (f first) (f x) (map f rest) (ap f same)
+  | inr later ↦ contains_later (f first) (f x) (map f rest) (contains_map f rest x later)
+]
+
+pub contains_mapped : {X Y : Type 0} (f : X → Y) (xs : List X) (y : Y) → Contains (map f xs) y → (x : X) × Contains xs x × (f x ≡ y)
+contains_mapped f [] y h = absurd (omega (arith, h.1))
+contains_mapped f (first ∷ rest) y h = elim (contains_cases (f first) y (map f rest) h) [
+  | inl same ↦ (first, contains_first first first rest refl, same)
+  | inr later ↦ let found = contains_mapped f rest y later in (found.0, contains_later first found.0 rest found.1, found.2)
+]

@@ -53,70 +53,69 @@ abbrev pub counted : Account → Modes
 counted a = if a.here then own_of a else record_of a.entry
 
 -- what is charged to the node, with what copies bring it
-abbrev pub now_of : Account → Modes
-now_of a = union a.charge (modes_of_asks a.copies)
+abbrev pub now_modes : Modes → List Ask → Modes
+now_modes charge copies = union charge (modes_of_asks copies)
 
 -- what the record of its node would be after the tell
 abbrev pub left_after : Entry → Tell → Modes
 left_after entry tell = union tell.modes (modes_of_owed (left_owed tell entry.owed))
 
--- the tell is on its way and would change the entry
-abbrev pub IsNews : Account → Tell → Type 0
-IsNews a tell = Contains a.tells tell × IsTrue (is_newer tell.stamp a.entry.told_at)
+-- the tell is one of these and would change the entry
+abbrev pub IsNews : Entry → List Tell → Tell → Type 0
+IsNews entry tells tell = Contains tells tell × IsTrue (is_newer tell.stamp entry.told_at)
 
 -- no ask, tell or word of the node is later than its clock, and its asks have different stamps
-pub record ClocksKept (a : Account) : Type 0 where
-  pub asks : (ask : Ask) → Contains a.pending ask → ask.stamp.clock ≤ a.clock
-  pub apart : AllPairs (λ (x y : Ask). x.stamp ≢ y.stamp) a.pending
-  pub tells_made : (tell : Tell) → Contains a.tells tell → IsNoLater a.moving a.clock tell.stamp.clock
-  pub told : IsNoLater a.moving a.clock a.entry.told_at.clock
-  pub owed : (copy : Owed) → Contains a.entry.owed copy → IsNoLater a.moving a.clock copy.stamp.clock
+pub record ClocksKept (moving : Bool) (clock : ℕ) (pending : List Ask) (entry : Entry) (tells : List Tell) : Type 0 where
+  pub asks : (ask : Ask) → Contains pending ask → ask.stamp.clock ≤ clock
+  pub apart : AllPairs (λ (x y : Ask). x.stamp ≢ y.stamp) pending
+  pub tells_made : (tell : Tell) → Contains tells tell → IsNoLater moving clock tell.stamp.clock
+  pub told : IsNoLater moving clock entry.told_at.clock
+  pub owed : (copy : Owed) → Contains entry.owed copy → IsNoLater moving clock copy.stamp.clock
 
 -- an unanswered ask is open in the entry and in each tell; what a later tell lists is open in an older one
-pub record AsksKnown (a : Account) : Type 0 where
-  pub in_entry : (ask : Ask) → Contains a.pending ask → IsTrue (is_open a.entry.pending a.entry.told_at ask.stamp)
-  pub in_tells : (ask : Ask) (tell : Tell) → Contains a.pending ask → Contains a.tells tell
+pub record AsksKnown (pending : List Ask) (entry : Entry) (tells : List Tell) : Type 0 where
+  pub in_entry : (ask : Ask) → Contains pending ask → IsTrue (is_open entry.pending entry.told_at ask.stamp)
+  pub in_tells : (ask : Ask) (tell : Tell) → Contains pending ask → Contains tells tell
       → IsTrue (is_open tell.pending tell.stamp ask.stamp)
-  pub lists : (later older : Tell) → Contains a.tells later → Contains a.tells older
+  pub lists : (later older : Tell) → Contains tells later → Contains tells older
       → IsTrue (is_newer later.stamp older.stamp)
       → (stamp : Stamp) → Contains later.pending stamp → IsTrue (is_open older.pending older.stamp stamp)
-  pub entry_list : (tell : Tell) → IsNews a tell
-      → (stamp : Stamp) → Contains tell.pending stamp → IsTrue (is_open a.entry.pending a.entry.told_at stamp)
+  pub entry_list : (tell : Tell) → IsNews entry tells tell
+      → (stamp : Stamp) → Contains tell.pending stamp → IsTrue (is_open entry.pending entry.told_at stamp)
 
 -- a copy on its way answers an unanswered ask, and it is owed; and an owed ask that is unanswered has a copy on its way,
 -- with its own mode
-pub record CopiesOwed (a : Account) : Type 0 where
-  pub waits : (ask : Ask) → Contains a.copies ask → Contains a.pending ask
-  pub owed : (ask : Ask) → Contains a.copies ask → Contains a.entry.owed (record { stamp = ask.stamp; mode = ask.mode })
-  pub on_way : (copy : Owed) (ask : Ask) → Contains a.entry.owed copy → Contains a.pending ask → ask.stamp ≡ copy.stamp
-      → Contains a.copies ask × (ask.mode ≡ copy.mode)
-  pub open_still : (copy : Owed) → Contains a.entry.owed copy
-      → IsTrue (is_open a.entry.pending a.entry.told_at copy.stamp)
+pub record CopiesOwed (pending : List Ask) (entry : Entry) (copies : List Ask) : Type 0 where
+  pub waits : (ask : Ask) → Contains copies ask → Contains pending ask
+  pub owed : (ask : Ask) → Contains copies ask → Contains entry.owed (record { stamp = ask.stamp; mode = ask.mode })
+  pub on_way : (copy : Owed) (ask : Ask) → Contains entry.owed copy → Contains pending ask → ask.stamp ≡ copy.stamp
+      → Contains copies ask × (ask.mode ≡ copy.mode)
+  pub open_still : (copy : Owed) → Contains entry.owed copy → IsTrue (is_open entry.pending entry.told_at copy.stamp)
 
 -- without the desk: the record, and what each newer tell would leave, bar all that charge and copies bar;
 -- a later one bars no more than an older one; and one of them bars no more than charge and copies
-pub record Covers (a : Account) : Type 0 where
-  pub record_bound : IsBelow (now_of a) (record_of a.entry)
-  pub left_bound : (tell : Tell) → IsNews a tell → IsBelow (now_of a) (left_after a.entry tell)
-  pub record_shrinks : (tell : Tell) → IsNews a tell → IsBelow (left_after a.entry tell) (record_of a.entry)
-  pub left_shrinks : (later older : Tell) → IsNews a later → IsNews a older → IsFalse (is_newer older.stamp later.stamp)
-      → IsBelow (left_after a.entry later) (left_after a.entry older)
-  pub exact : IsBelow (record_of a.entry) (now_of a)
-      ⊎ ((tell : Tell) × IsNews a tell × IsBelow (left_after a.entry tell) (now_of a))
+pub record Covers (charge : Modes) (entry : Entry) (tells : List Tell) (copies : List Ask) : Type 0 where
+  pub record_bound : IsBelow (now_modes charge copies) (record_of entry)
+  pub left_bound : (tell : Tell) → IsNews entry tells tell → IsBelow (now_modes charge copies) (left_after entry tell)
+  pub record_shrinks : (tell : Tell) → IsNews entry tells tell → IsBelow (left_after entry tell) (record_of entry)
+  pub left_shrinks : (later older : Tell) → IsNews entry tells later → IsNews entry tells older
+      → IsFalse (is_newer older.stamp later.stamp) → IsBelow (left_after entry later) (left_after entry older)
+  pub exact : IsBelow (record_of entry) (now_modes charge copies)
+      ⊎ ((tell : Tell) × IsNews entry tells tell × IsBelow (left_after entry tell) (now_modes charge copies))
 
 -- copies on their way to the node conflict neither with each other nor with what is held there,
 -- and no two clients of the node conflict
-pub record NodeClear (a : Account) : Type 0 where
-  pub copies_clear : (x y : Ask) → Contains a.copies x → Contains a.copies y → IsFalse (conflicts x.mode y.mode)
-  pub copy_and_held : (ask : Ask) → Contains a.copies ask → IsFalse (has ask.mode (bars (held_modes a.held)))
-  pub clients : (x y : Row) → Contains a.held x → Contains a.held y → x.client ≢ y.client
+pub record NodeClear (held : List Row) (copies : List Ask) : Type 0 where
+  pub copies_clear : (x y : Ask) → Contains copies x → Contains copies y → IsFalse (conflicts x.mode y.mode)
+  pub copy_and_held : (ask : Ask) → Contains copies ask → IsFalse (has ask.mode (bars (held_modes held)))
+  pub clients : (x y : Row) → Contains held x → Contains held y → x.client ≢ y.client
       → IsFalse (conflicts x.mode y.mode)
 
 -- the account is kept, between moves or in the middle of a move of its node
 pub record AccountKept (a : Account) : Type 0 where
-  pub clocks : ClocksKept a
-  pub known : AsksKnown a
-  pub owed : CopiesOwed a
+  pub clocks : ClocksKept a.moving a.clock a.pending a.entry a.tells
+  pub known : AsksKnown a.pending a.entry a.tells
+  pub owed : CopiesOwed a.pending a.entry a.copies
   pub charge : a.here ≡ false → ChargeKept a.moving (held_modes a.held) a.charge
-  pub cover : a.here ≡ false → Covers a
-  pub clear : NodeClear a
+  pub cover : a.here ≡ false → Covers a.charge a.entry a.tells a.copies
+  pub clear : NodeClear a.held a.copies

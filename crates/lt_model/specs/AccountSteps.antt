@@ -86,6 +86,7 @@ abbrev pub owing_copy : Ask → List Ask → Account → Account
 owing_copy ask copies a = record a { entry = owing ask a.entry; copies = copies }
 
 pub record MayOwe (others : Modes) (ask : Ask) (copies : List Ask) (a : Account) : Type 0 where
+  pub between : a.moving ≡ false
   pub away : a.here ≡ false
   pub waits : Contains a.pending ask
   pub sent : IsGain ask a.copies copies

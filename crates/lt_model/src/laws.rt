@@ -1,4 +1,4 @@
-ghost use Rattle.lt_model.specs.AccountLaws.{Ticks};
+ghost use Rattle.lt_model.specs.AccountLaws.{HoldClear, Owes, Settles, Arrives, Ticks, Ages, Asks, Applies, AppliesStale, Tells, Rests, Reorders};
 ghost use Rattle.lt_model.specs.PathEffects.{EffectsOnPath};
 ghost use Rattle.lt_model.specs.Laws.{StartKept, PathsKept, PathsInRuns, DeskSomewhere, TokenComes, OneToken, OthersStay, ClockMoves, OtherClocksStay, StampsKept, ClocksInRuns, TimedKept, TimedInRuns, StandingKept, StandingInRuns, OnePlace, ServedKept, ServedInRuns, TryIsExact};
 
@@ -61,4 +61,15 @@ pub fn law_exact_try()
 /// What happens to the account of one node keeps it.
 pub fn law_account()
     ensures ticks { Ticks }
+    ensures ages { Ages }
+    ensures asks { Asks }
+    ensures applies { Applies }
+    ensures stale { AppliesStale }
+    ensures tells { Tells }
+    ensures owes { Owes }
+    ensures settles { Settles }
+    ensures arrives { Arrives }
+    ensures rests { Rests }
+    ensures clear { HoldClear }
+    ensures reorders { Reorders }
 {}
