@@ -1,8 +1,9 @@
 -- The start of each script has the invariant.
-use Rattle.std.proofs.Common.{◌≡◌, ◌≢◌, ℕ, zero, suc, ◌<◌, inl, inr, [], ◌∷◌, length, Option, Some, None, Bool, true, false, refl, sym, ap, subst, arith, ◌∙◌}
+use Rattle.std.proofs.Common.{◌≡◌, ◌≢◌, ℕ, zero, suc, ◌<◌, inl, inr, List, [], ◌∷◌, ◌++◌, length, Option, Some, None, Bool, true, false, refl, sym, ap, subst, arith, ◌∙◌}
 use Rattle.std.specs.Prelude.{◌==◌, if◌then◌else◌, IfSome, All, Contains, IsTrue, is_some, slice_index_or, unwrap_or}
 use Rattle.std.proofs.lemmas.Bool.{ne_eqb, eqb-true}
-use Rattle.std.proofs.lemmas.List.{length-replicate, get_or-replicate}
+use Rattle.std.proofs.lemmas.List.{append-nil, length-replicate, get_or-replicate}
+use Rattle.std.specs.List.{filter_map}
 use Rattle.lt_modes.specs.declared.ask.Ask.{Ask}
 use Rattle.lt_modes.specs.declared.mode.Mode.{Mode}
 use Rattle.lt_modes.specs.declared.mode.Mode.TheVariants.{IntentionRead, Read, Upgrade, IntentionWrite, Write}
@@ -14,15 +15,16 @@ use Rattle.lt_modes.specs.Records.{entry_of, record_of, own_part, modes_of_owed,
 use Rattle.lt_modes.specs.Serving.{next_service, next_move}
 use Rattle.lt_modes.specs.Fits.{Numbers}
 use Rattle.lt_modes.specs.Sound.{SoundSet}
-use Rattle.lt_model.specs.Below.{sum_below}
+use Rattle.lt_model.specs.Below.{sum_below, gather_below}
 use Rattle.lt_model.specs.World.{start}
-use Rattle.lt_model.specs.OnWay.{Comes, IsTellOf, IsCopyTo, DeskIs, modes_counted}
+use Rattle.lt_model.specs.OnWay.{Comes, DeskIs, is_at, in_set, tell_in, tell_parked, copy_in, freeze_in, tells_of, copies_to, freezes_to, account_of, news_of}
 use Rattle.lt_model.specs.Facts.{state_at, one_if, times_in, places_in_state, place_count}
-use Rattle.lt_model.specs.Accounts.{ClocksKept, AsksKnown, CopiesOwed, Covers, NodeClear}
-use Rattle.lt_model.specs.Invariant.{AccountKept, FrozenKept, DeskAccounts, SetKept, Kept}
+use Rattle.lt_model.specs.Account.{Account, AccountKept, counted}
+use Rattle.lt_model.specs.News.{News, Word, NewsKept}
+use Rattle.lt_model.specs.Invariant.{DeskKept, SetKept, Kept, LinesKept}
 use Rattle.lt_model.specs.Paths.{HasWay, Paths}
 use Rattle.lt_modes.specs.declared.parts.Hoped.{Hoped}
-use Rattle.lt_model.specs.SoundNode.{SoundNode, numbers_of}
+use Rattle.lt_model.specs.SoundNode.{ClientsKept, numbers_of}
 
 -- nothing is in an empty list
 pub none_in : {X : Type 0} {A : Type 0} (x : X) → Contains [] x → A
@@ -77,9 +79,8 @@ sound_if numbers q false h = record {
   parked = all_none _;
 }
 
-sound_node : (script : ScriptData) (q : ℕ) → 0 < script.nodes → SoundNode script q ((start script).node q)
-sound_node script q h = record {
-  sets = λ s below. sound_if (numbers_of script) q (q == 0) h;
+clients_start : (script : ScriptData) (q : ℕ) → ClientsKept script ((start script).node q)
+clients_start script q = record {
   one_ask = λ client. omega (arith, sum_zero (length script.sets));
   counts = λ client. omega (arith, sum_zero (length script.sets));
 }
@@ -87,52 +88,72 @@ sound_node script q h = record {
 no_comes : {A : Type 0} (script : ScriptData) (s q : ℕ) (body : Body) → Comes script (start script) s q body → A
 no_comes script s q body h = none_in h.1 h.3.among
 
-no_tells : {A : Type 0} (script : ScriptData) (s x : ℕ) (tell : Tell) → IsTellOf script (start script) s x tell → A
-no_tells script s x tell h = elim h.3 [
-  | inl comes ↦ no_comes script s h.1 _ comes
-  | inr parked ↦ none_in _ parked
-]
+-- nothing is gathered from empty lists
+gather_none : {X : Type 0} (n : ℕ) (f : ℕ → List X) → ((k : ℕ) → f k ≡ []) → gather_below n f ≡ []
+gather_none zero f none = refl
+gather_none (suc n) f none = ap (λ xs. xs ++ f n) (gather_none n f none) ∙ none n
 
-record FirstAccount (clock : ℕ) (tells : Tell → Type 0) (copies : Ask → Type 0) : Type 0 where
-  clocks : ClocksKept clock [] first_entry tells
-  known : AsksKnown [] first_entry tells
-  owed : CopiesOwed [] first_entry copies
-  cover : Covers no_modes first_entry tells copies
-  clear : NodeClear [] copies
+no_tells : (script : ScriptData) (s x : ℕ) → tells_of script (start script) s x ≡ []
+no_tells script s x =
+    let parked = gather_none script.nodes (λ q. filter_map (tell_parked x) (state_at (start script) s q).parked) (λ q. refl) in
+    ap (λ (l : List Tell). gather_below script.nodes (λ p. gather_below script.nodes (λ q. filter_map (in_set s (tell_in x)) ((start script).mail p q))) ++ l) parked
+    ∙ append-nil (gather_below script.nodes (λ p. gather_below script.nodes (λ q. filter_map (in_set s (tell_in x)) ((start script).mail p q))))
+    ∙ gather_none script.nodes (λ p. gather_below script.nodes (λ q. filter_map (in_set s (tell_in x)) ((start script).mail p q)))
+    (λ p. gather_none script.nodes (λ q. filter_map (in_set s (tell_in x)) ((start script).mail p q)) (λ q. refl))
 
--- a node and an entry in which nothing is, with nothing on its way
-account_first : (clock : ℕ) (tells : Tell → Type 0) (copies : Ask → Type 0)
-    → ((tell : Tell) → tells tell → ⊥) → ((ask : Ask) → copies ask → ⊥) → FirstAccount clock tells copies
-account_first clock tells copies no_tell no_copy = record {
+no_copies : (script : ScriptData) (s x : ℕ) → copies_to script (start script) s x ≡ []
+no_copies script s x = gather_none script.nodes (λ p. filter_map (in_set s copy_in) ((start script).mail p x)) (λ p. refl)
+
+no_freezes : (script : ScriptData) (s x : ℕ) → freezes_to script (start script) s x ≡ []
+no_freezes script s x = gather_none script.nodes (λ p. filter_map (in_set s freeze_in) ((start script).mail p x)) (λ p. refl)
+
+-- an account in which nothing is
+abbrev first_account : ℕ → Bool → Account
+first_account clock here = record {
+  clock = clock;
+  held = [];
+  charge = no_modes;
+  pending = [];
+  entry = first_entry;
+  tells = [];
+  copies = [];
+  here = here;
+  moving = false;
+}
+
+account_first : (clock : ℕ) (here : Bool) → AccountKept (first_account clock here)
+account_first clock here = record {
   clocks = record {
     asks = λ ask h. none_in ask h;
     apart = λ i j d before below. absurd (omega (arith, below));
-    tells_made = λ tell t. absurd (no_tell tell t);
+    tells_made = λ tell t. none_in tell t;
     told = omega arith;
     owed = λ copy h. none_in copy h;
   };
   known = record {
     in_entry = λ ask h. none_in ask h;
     in_tells = λ ask tell h. none_in ask h;
-    lists = λ later older t. absurd (no_tell later t);
-    entry_list = λ tell t. absurd (no_tell tell t);
+    lists = λ later older t. none_in later t;
+    entry_list = λ tell t. none_in tell t.0;
   };
   owed = record {
-    open_still = λ copy h. none_in copy h;
+    waits = λ ask h. none_in ask h;
+    owed = λ ask h. none_in ask h;
     on_way = λ copy ask h. none_in copy h;
-    owed = λ ask h. absurd (no_copy ask h);
+    open_still = λ copy h. none_in copy h;
   };
-  cover = record {
-    record_bound = λ mode h. elim h [ inl bars ↦ bars | inr copy ↦ absurd (no_copy copy.0 copy.1) ];
-    left_bound = λ tell t. absurd (no_tell tell t);
-    record_shrinks = λ tell t. absurd (no_tell tell t);
-    left_shrinks = λ later older t. absurd (no_tell later t);
-    exact = inl (λ mode h. inl h);
+  charge = λ away. refl;
+  cover = λ away. record {
+    record_bound = λ mode bar. bar;
+    left_bound = λ tell t. none_in tell t.0;
+    record_shrinks = λ tell t. none_in tell t.0;
+    left_shrinks = λ later older t. none_in later t.0;
+    exact = inl (λ mode bar. bar);
   };
   clear = record {
-    copies_clear = λ a b h. absurd (no_copy a h);
-    copy_and_held = λ ask h. absurd (no_copy ask h);
-    clients = λ a b h. none_in a h;
+    copies_clear = λ x y h. none_in x h;
+    copy_and_held = λ ask h. none_in ask h;
+    clients = λ x y h. none_in x h;
   };
 }
 
@@ -151,43 +172,57 @@ pub served_if : (nodes t : ℕ) (here : Bool) → (next_service t (state_if node
 served_if nodes t true = (refl, refl)
 served_if nodes t false = (refl, refl)
 
--- the parts of an account, by its entry
-record AccountOf (script : ScriptData) (s : ℕ) (place : Option ℕ) (x : ℕ) (entry : Entry) : Type 0 where
-  clocks : ClocksKept 0 [] entry (IsTellOf script (start script) s x)
-  known : AsksKnown [] entry (IsTellOf script (start script) s x)
-  owed : CopiesOwed [] entry (IsCopyTo script (start script) s x)
-  cover : place ≢ Some x → Covers no_modes entry (IsTellOf script (start script) s x) (IsCopyTo script (start script) s x)
-  clear : NodeClear [] (IsCopyTo script (start script) s x)
+-- an account by what is gathered for it
+abbrev account_by : ℕ → Bool → Entry → List Tell → List Ask → Account
+account_by clock here entry tells copies = record {
+  clock = clock;
+  held = [];
+  charge = no_modes;
+  pending = [];
+  entry = entry;
+  tells = tells;
+  copies = copies;
+  here = here;
+  moving = false;
+}
 
 account_start : (script : ScriptData) (s : ℕ) (place : Option ℕ) (x : ℕ) → x < script.nodes
-    → AccountKept script (start script) s place (first_desk script.nodes) x
+    → account_of script None (start script) s place (first_desk script.nodes) x ≡ first_account 0 (is_at place x)
 account_start script s place x h =
-    let first = account_first 0 (IsTellOf script (start script) s x) (IsCopyTo script (start script) s x)
-    (λ tell t. no_tells script s x tell t) (λ ask c. no_comes script s x _ c) in
-    let at : AccountOf script s place x (entry_of (first_desk script.nodes) x) =
-    subst (λ (e : Entry). AccountOf script s place x e) (sym (entry_first script.nodes x h)) (record {
-      clocks = first.clocks;
-      known = first.known;
-      owed = first.owed;
-      cover = λ d. first.cover;
-      clear = first.clear;
-    }) in
-    record { clocks = at.clocks; known = at.known; owed = at.owed; cover = at.cover; clear = at.clear }
+    ap (λ (e : Entry). account_by 0 (is_at place x) e (tells_of script (start script) s x) (copies_to script (start script) s x)) (entry_first script.nodes x h)
+    ∙ ap (λ (t : List Tell). account_by 0 (is_at place x) first_entry t (copies_to script (start script) s x)) (no_tells script s x)
+    ∙ ap (λ (c : List Ask). account_by 0 (is_at place x) first_entry [] c) (no_copies script s x)
 
-frozen_start : (script : ScriptData) (s : ℕ) (place : Option ℕ) (x : ℕ) → x < script.nodes
-    → FrozenKept script (start script) s place (first_desk script.nodes) x
-frozen_start script s place x h =
-    let told = ap (λ (e : Entry). e.frozen_told) (entry_first script.nodes x h) in
-    record {
-      kept = omega arith;
-      sent = λ number modes c. no_comes script s x _ c;
-      here = λ e. (refl, refl);
-      last_word = λ d number modes word greatest. elim word [
-        | inl own ↦ own.1 ∙ sym told
-        | inr coming ↦ no_comes script s x _ coming.0
-      ];
-      told = λ d some. told;
-    }
+abbrev news_by : Bool → Entry → List Word → News
+news_by here entry coming = record {
+  number = 0;
+  frozen = no_modes;
+  coming = coming;
+  recorded = record_of entry;
+  told = entry.frozen_told;
+  last = 0;
+  wanted = no_modes;
+  here = here;
+  serving = false;
+}
+
+news_start : (script : ScriptData) (s : ℕ) (place : Option ℕ) (x : ℕ) → x < script.nodes
+    → news_of script None (start script) s place (first_desk script.nodes) x ≡ news_by (is_at place x) first_entry []
+news_start script s place x h =
+    ap (λ (e : Entry). news_by (is_at place x) e (freezes_to script (start script) s x)) (entry_first script.nodes x h)
+    ∙ ap (λ (c : List Word). news_by (is_at place x) first_entry c) (no_freezes script s x)
+
+news_first : (here : Bool) → NewsKept (news_by here first_entry [])
+news_first here = record {
+  kept = omega arith;
+  sent = λ word h. none_in word h;
+  here = λ at between. (refl, refl);
+  last_word = λ away word last. elim last.0 [
+    | inl own ↦ ap (λ (x : Word). x.modes) own
+    | inr coming ↦ none_in word coming.0
+  ];
+  told = λ away between some. refl;
+}
 
 pub none_has : {A : Type 0} (mode : Mode) → IsTrue (has mode no_modes) → A
 none_has IntentionRead h = cc
@@ -196,24 +231,16 @@ none_has Upgrade h = cc
 none_has IntentionWrite h = cc
 none_has Write h = cc
 
-counted_if : (here own : Bool) (nodes x t : ℕ) → x < nodes → t < nodes
-    → (if own then own_part t (state_if nodes here) (first_desk nodes) else record_of (entry_of (first_desk nodes) x)) ≡ no_modes
-counted_if here true nodes x t hx ht =
-    ap (λ (e : Entry). union (held_modes []) (modes_of_owed (still_owed [] e.owed))) (entry_first nodes t ht)
-counted_if here false nodes x t hx ht = ap record_of (entry_first nodes x hx)
+counted_first : (clock : ℕ) (here : Bool) → counted (first_account clock here) ≡ no_modes
+counted_first clock true = refl
+counted_first clock false = refl
 
-counted_start : (script : ScriptData) (s : ℕ) (place : Option ℕ) (desk : Desk) (x : ℕ) → x < script.nodes
-    → DeskIs script (start script) s place desk → modes_counted (start script) s place (first_desk script.nodes) x ≡ no_modes
-counted_start script s (Some t) desk x hx is_desk = counted_if (t == 0) (x == t) script.nodes x t hx is_desk.0
-counted_start script s None desk x hx is_desk = ap record_of (entry_first script.nodes x hx)
-
-desk_accounts : (script : ScriptData) (s : ℕ) (place : Option ℕ) (desk : Desk)
-    → DeskIs script (start script) s place desk → DeskAccounts script (start script) s place (first_desk script.nodes)
-desk_accounts script s place desk is_desk = record {
-  accounts = λ x h. account_start script s place x h;
+desk_kept : (script : ScriptData) (s : ℕ) (place : Option ℕ) → DeskKept script None (start script) s place (first_desk script.nodes)
+desk_kept script s place = record {
+  accounts = λ x h. subst AccountKept (sym (account_start script s place x h)) (account_first 0 (is_at place x));
   clear = λ x y hx hy d mode member.
-      none_has mode (subst (λ (modes : Modes). IsTrue (has mode modes)) (counted_start script s place desk x hx is_desk) member);
-  frozen = λ x h. frozen_start script s place x h;
+      none_has mode (subst (λ (modes : Modes). IsTrue (has mode modes)) (ap counted (account_start script s place x hx) ∙ counted_first 0 (is_at place x)) member);
+  news = λ x h. subst NewsKept (sym (news_start script s place x h)) (news_first (is_at place x));
 }
 
 sum_same : (n : ℕ) (f g : ℕ → ℕ) → ((k : ℕ) → f k ≡ g k) → sum_below n f ≡ sum_below n g
@@ -280,21 +307,29 @@ paths_start script s some = record {
     went_all zero d below = some
     went_all (suc k) d below = absurd (omega (arith, below))
 
-set_start : (script : ScriptData) (s : ℕ) → 0 < script.nodes → SetKept script (start script) s
+set_start : (script : ScriptData) (s : ℕ) → 0 < script.nodes → SetKept script None (start script) s
 set_start script s some = record {
   paths = paths_start script s some;
   letters = λ p q letter hp hq on. none_in letter on.among;
+  states = λ x h. sound_if (numbers_of script) x (x == 0) some;
   places = record { once = λ ask. places_start script s ask; home = λ x ask h c. no_comes script s x _ c };
   parked = λ x h. all_none _;
   known = λ place desk h.
-      subst (λ (d : Desk). DeskAccounts script (start script) s place d) (sym (desk_first script s place desk h)) (desk_accounts script s place desk h);
-  served = λ t desk h. served_if script.nodes t (t == 0);
+      subst (λ (d : Desk). DeskKept script None (start script) s place d) (sym (desk_first script s place desk h)) (desk_kept script s place);
+  served = λ t desk between h. served_if script.nodes t (t == 0);
 }
 
 pub start_kept : (script : ScriptData) → 0 < script.nodes → Kept script (start script)
 start_kept script some = record {
-  nodes = λ q h. sound_node script q some;
+  clients = λ q h. clients_start script q;
   letters = λ p q hp hq. all_none _;
   none_to_itself = λ q h. refl;
   sets = λ s h. set_start script s some;
+}
+
+-- before any line nothing is held, and nobody waits
+pub lines_start : (script : ScriptData) → LinesKept script [] (start script)
+lines_start script = record {
+  held = λ client s mode hc hs. refl;
+  waits = λ client s mode hc hs. ((λ e. cc), (λ waits. none_in waits.0 waits.1));
 }

@@ -1,5 +1,5 @@
 -- Searches among the numbers below a bound.
-use Rattle.std.specs.Prelude.{Bool, false, ◌||◌, ◌==◌, ℕ, zero, suc, ◌+◌, Option, Some, None, if◌then◌else◌}
+use Rattle.std.specs.Prelude.{Bool, false, ◌||◌, ◌==◌, ℕ, zero, suc, ◌+◌, List, [], ◌++◌, Option, Some, None, if◌then◌else◌}
 
 -- f, but v at i
 abbrev pub put : {X : Type 0} → (ℕ → X) → ℕ → X → ℕ → X
@@ -28,3 +28,8 @@ count_below (suc n) test = count_below n test + (if test n then 1 else 0)
 abbrev pub sum_below : ℕ → (ℕ → ℕ) → ℕ
 sum_below zero f = 0
 sum_below (suc n) f = sum_below n f + f n
+
+-- the lists of f at the numbers below n, one after the other
+abbrev pub gather_below : {X : Type 0} → ℕ → (ℕ → List X) → List X
+gather_below zero f = []
+gather_below (suc n) f = gather_below n f ++ f n

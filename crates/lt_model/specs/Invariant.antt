@@ -1,20 +1,25 @@
 -- What holds of every world of a run.
-use Rattle.std.specs.Prelude.{◌≡◌, ◌≢◌, ◌⊎◌, ◌≤◌, ◌<◌, ℕ, [], Option, Some, None, length, IsTrue, IsFalse, All, Contains}
+use Rattle.std.specs.Prelude.{◌≡◌, ◌≢◌, ◌⊎◌, ◌↔◌, ◌≤◌, ◌<◌, false, ℕ, List, [], Option, Some, None, length, IsTrue, All, Contains}
+use Rattle.lt_modes.specs.declared.mode.Mode.{Mode}
 use Rattle.lt_modes.specs.declared.ask.Ask.{Ask}
-use Rattle.lt_modes.specs.Modes.{Modes, has_none, is_taking}
+use Rattle.lt_modes.specs.declared.event.Event.{Event}
+use Rattle.lt_modes.specs.Modes.{is_taking}
 use Rattle.lt_modes.specs.Script.{ScriptData}
 use Rattle.lt_modes.specs.State.{Desk, Body, AskBody, TellBody, CopyBody, TokenBody, FreezeBody, Letter, Parked, ParkedAsk, ParkedTell}
-use Rattle.lt_modes.specs.Records.{entry_of, record_of}
+use Rattle.lt_modes.specs.Held.{count_of}
 use Rattle.lt_modes.specs.Tells.{is_newer}
 use Rattle.lt_modes.specs.Serving.{next_service, next_move}
-use Rattle.lt_modes.specs.Freezing.{frozen_by}
+use Rattle.lt_modes.specs.Sound.{SoundSet}
 use Rattle.lt_model.specs.Below.{sum_below}
 use Rattle.lt_model.specs.World.{World}
-use Rattle.lt_model.specs.SoundNode.{SoundNode}
+use Rattle.lt_model.specs.Families.{home}
+use Rattle.lt_model.specs.Holdings.{holding, holdings, wanted, count_of as times_held}
+use Rattle.lt_model.specs.SoundNode.{ClientsKept, numbers_of}
 use Rattle.lt_model.specs.Facts.{state_at, place_count, times_in}
-use Rattle.lt_model.specs.OnWay.{OnWay, Comes, IsTellOf, IsCopyTo, IsFreezeTo, DeskIs, modes_counted}
+use Rattle.lt_model.specs.OnWay.{OnWay, Comes, IsCopyTo, DeskIs, is_at, account_of, news_of}
 use Rattle.lt_model.specs.Paths.{Paths}
-use Rattle.lt_model.specs.Accounts.{AreClear, ClocksKept, AsksKnown, CopiesOwed, Covers, NodeClear}
+use Rattle.lt_model.specs.Account.{AreClear, AccountKept, counted}
+use Rattle.lt_model.specs.News.{NewsKept}
 
 -- what the letter says is not younger than the letter, and its numbers are the script's
 abbrev pub BodyKept : ScriptData → ℕ → Body → Type 0
@@ -45,60 +50,55 @@ IsParkedFor script w s x (ParkedAsk ask) =
     ⊎ ((older : Ask) × Contains (state_at w s x).pending older × IsTrue (is_taking older.mode)
     × IsTrue (is_newer ask.stamp older.stamp))
 
--- a node and its entry, wherever the desk is
-pub record AccountKept (script : ScriptData) (w : World) (s : ℕ) (place : Option ℕ) (desk : Desk) (x : ℕ) : Type 0 where
-  pub clocks : ClocksKept (w.node x).clock (state_at w s x).pending (entry_of desk x) (IsTellOf script w s x)
-  pub known : AsksKnown (state_at w s x).pending (entry_of desk x) (IsTellOf script w s x)
-  pub owed : CopiesOwed (state_at w s x).pending (entry_of desk x) (IsCopyTo script w s x)
-  pub cover : place ≢ Some x → Covers (state_at w s x).charge (entry_of desk x) (IsTellOf script w s x) (IsCopyTo script w s x)
-  pub clear : NodeClear (state_at w s x).held (IsCopyTo script w s x)
-
--- x keeps these frozen modes with this number, or a freeze on its way there brings them with a greater number
-abbrev pub IsWord : ScriptData → World → ℕ → ℕ → ℕ → Modes → Type 0
-IsWord script w s x number modes =
-    ((number ≡ (state_at w s x).number) × (modes ≡ (state_at w s x).frozen))
-    ⊎ (IsFreezeTo script w s x number modes × ((state_at w s x).number < number))
-
--- no freeze has a number above the desk's; the last word to a node is what the desk told it;
--- a node with a record was told what the queue freezes; and the desk's node keeps it
-pub record FrozenKept (script : ScriptData) (w : World) (s : ℕ) (place : Option ℕ) (desk : Desk) (x : ℕ) : Type 0 where
-  pub kept : (state_at w s x).number ≤ desk.number
-  pub sent : (number : ℕ) (modes : Modes) → IsFreezeTo script w s x number modes → number ≤ desk.number
-  pub here : place ≡ Some x
-      → ((state_at w s x).number ≡ desk.number) × ((state_at w s x).frozen ≡ frozen_by desk.queue)
-  pub last_word : place ≢ Some x → (number : ℕ) (modes : Modes) → IsWord script w s x number modes
-      → ((other : ℕ) (others : Modes) → IsWord script w s x other others → other ≤ number)
-      → modes ≡ (entry_of desk x).frozen_told
-  pub told : place ≢ Some x → IsFalse (has_none (record_of (entry_of desk x)))
-      → (entry_of desk x).frozen_told ≡ frozen_by desk.queue
-
--- what holds of one set, with the desk at this place
-pub record DeskAccounts (script : ScriptData) (w : World) (s : ℕ) (place : Option ℕ) (desk : Desk) : Type 0 where
-  pub accounts : (x : ℕ) → x < script.nodes → AccountKept script w s place desk x
+-- what the desk, at this place, knows of the nodes: each account and each node's news are kept, and what counts of
+-- different nodes is clear of each other
+pub record DeskKept (script : ScriptData) (acting : Option ℕ) (w : World) (s : ℕ) (place : Option ℕ) (desk : Desk) : Type 0 where
+  pub accounts : (x : ℕ) → x < script.nodes → AccountKept (account_of script acting w s place desk x)
   pub clear : (x y : ℕ) → x < script.nodes → y < script.nodes → x ≢ y
-      → AreClear (modes_counted w s place desk x) (modes_counted w s place desk y)
-  pub frozen : (x : ℕ) → x < script.nodes → FrozenKept script w s place desk x
+      → AreClear (counted (account_of script acting w s place desk x)) (counted (account_of script acting w s place desk y))
+  pub news : (x : ℕ) → x < script.nodes → NewsKept (news_of script acting w s place desk x)
 
 -- where the desk is at a node, no ask can be served there and none can draw the desk away
 abbrev pub IsServed : ScriptData → World → ℕ → Type 0
 IsServed script w s = (t : ℕ) (desk : Desk) → DeskIs script w s (Some t) desk
     → (next_service t (state_at w s t) ≡ None) × (next_move t (state_at w s t) ≡ None)
 
--- what holds of one set
-pub record SetKept (script : ScriptData) (w : World) (s : ℕ) : Type 0 where
+-- the same, unless the desk is at the acting node
+abbrev pub IsServedBut : ScriptData → Option ℕ → World → ℕ → Type 0
+IsServedBut script acting w s = (t : ℕ) (desk : Desk) → is_at acting t ≡ false → DeskIs script w s (Some t) desk
+    → (next_service t (state_at w s t) ≡ None) × (next_move t (state_at w s t) ≡ None)
+
+-- what holds of one set: between moves, where no node is acting, or in the middle of a move of the acting node on the set,
+-- after its clock was set. In the middle of a move, what the acting node keeps and has said is before its clock, its charge
+-- may bar more than what it holds, and where the desk is there, serving and freezing are still to come
+pub record SetKept (script : ScriptData) (acting : Option ℕ) (w : World) (s : ℕ) : Type 0 where
   pub paths : Paths script w s
   pub letters : (p q : ℕ) (letter : Letter) → p < script.nodes → q < script.nodes → OnWay w s p q letter
       → LetterKept script w p letter
+  pub states : (x : ℕ) → x < script.nodes → SoundSet (numbers_of script) x (is_at acting x) (w.node x).clock (state_at w s x)
   pub places : PlacesKept script w s
   pub parked : (x : ℕ) → x < script.nodes → All (IsParkedFor script w s x) (state_at w s x).parked
-  pub known : (place : Option ℕ) (desk : Desk) → DeskIs script w s place desk → DeskAccounts script w s place desk
-  pub served : IsServed script w s
+  pub known : (place : Option ℕ) (desk : Desk) → DeskIs script w s place desk → DeskKept script acting w s place desk
+  pub served : IsServedBut script acting w s
 
--- what holds of every world of a run: each node is sound, letters go to other nodes and are of sets of the script,
--- and each set is kept
+-- what holds of every world of a run, between moves: clients wait for one ask at most, letters go to other nodes and are of
+-- sets of the script, and each set is kept
 pub record Kept (script : ScriptData) (w : World) : Type 0 where
-  pub nodes : (q : ℕ) → q < script.nodes → SoundNode script q (w.node q)
+  pub clients : (q : ℕ) → q < script.nodes → ClientsKept script (w.node q)
   pub letters : (p q : ℕ) → p < script.nodes → q < script.nodes
       → All (λ (letter : Letter). letter.set < length script.sets) (w.mail p q)
   pub none_to_itself : (q : ℕ) → q < script.nodes → w.mail q q ≡ []
-  pub sets : (s : ℕ) → s < length script.sets → SetKept script w s
+  pub sets : (s : ℕ) → s < length script.sets → SetKept script None w s
+
+-- the client waits for the mode: an unanswered ask of it wants it
+abbrev pub WaitsFor : ScriptData → World → ℕ → ℕ → Mode → Type 0
+WaitsFor script w client s mode =
+    (ask : Ask) × Contains (state_at w s (home script client)).pending ask × (ask.client ≡ client) × (ask.mode ≡ mode)
+
+-- the lines so far tell what is held and who waits: after them each client holds what its node keeps for it,
+-- and waits exactly for what an unanswered ask of it wants
+pub record LinesKept (script : ScriptData) (lines : List Event) (w : World) : Type 0 where
+  pub held : (client s : ℕ) (mode : Mode) → client < length script.clients → s < length script.sets
+      → times_held (holdings script lines) (holding client s mode) ≡ count_of (state_at w s (home script client)).held client mode
+  pub waits : (client s : ℕ) (mode : Mode) → client < length script.clients → s < length script.sets
+      → (wanted client lines ≡ Some (holding client s mode)) ↔ WaitsFor script w client s mode

@@ -1,5 +1,5 @@
 -- The laws over worlds and runs, as statements.
-use Rattle.std.specs.Prelude.{◌≡◌, ◌≢◌, ◌≤◌, ◌<◌, ℕ, List, ◌∷◌, Option, Some, None, take, IsTrue, Contains}
+use Rattle.std.specs.Prelude.{◌≡◌, ◌≢◌, ◌≤◌, ◌<◌, ℕ, List, [], ◌∷◌, Option, Some, None, take, IsTrue, Contains}
 use Rattle.lt_modes.specs.declared.ask.Ask.{Ask}
 use Rattle.lt_modes.specs.declared.mode.Mode.{Mode}
 use Rattle.lt_modes.specs.declared.command.Command.TheVariants.{Try}
@@ -17,13 +17,17 @@ use Rattle.lt_modes.specs.State.{Desk, TokenBody}
 use Rattle.lt_model.specs.OnWay.{Comes, DeskIs}
 use Rattle.lt_model.specs.Paths.{Paths}
 use Rattle.lt_model.specs.Touches.{IsAside, SameSet, AreStamped}
-use Rattle.lt_model.specs.Invariant.{IsServed, Kept}
+use Rattle.lt_model.specs.Invariant.{IsServed, Kept, LinesKept}
 use Rattle.lt_model.specs.Timed.{Timed}
 use Rattle.lt_model.specs.Standing.{AsksStand}
 
 -- the start of each script has the invariant
 abbrev pub StartKept : Type 0
 StartKept = (script : ScriptData) → 0 < script.nodes → Kept script (start script)
+
+-- before any line nothing is held, and nobody waits
+abbrev pub StartLines : Type 0
+StartLines = (script : ScriptData) → LinesKept script [] (start script)
 
 -- each enabled move keeps the paths of each set
 abbrev pub PathsKept : Type 0

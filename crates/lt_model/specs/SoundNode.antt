@@ -31,9 +31,12 @@ new_asks_of script n client =
 abbrev pub locks_in_all : ScriptData → NodeState → ℕ → ℕ
 locks_in_all script n client = sum_below (length script.sets) (λ s. locks_of (n.set s).held client)
 
--- each set is sound, a client waits for at most one ask,
--- and each of its locks and of its asks for one more came by a command of its own
-pub record SoundNode (script : ScriptData) (q : ℕ) (n : NodeState) : Type 0 where
-  pub sets : (s : ℕ) → s < length script.sets → SoundSet (numbers_of script) q false n.clock (n.set s)
+-- a client waits for at most one ask, and each of its locks and of its asks for one more came by a command of its own
+pub record ClientsKept (script : ScriptData) (n : NodeState) : Type 0 where
   pub one_ask : (client : ℕ) → asks_of script n client ≤ 1
   pub counts : (client : ℕ) → locks_in_all script n client + new_asks_of script n client ≤ n.made client
+
+-- between moves each set is sound, and so is what the clients hold and wait for
+pub record SoundNode (script : ScriptData) (q : ℕ) (n : NodeState) : Type 0 where
+  pub sets : (s : ℕ) → s < length script.sets → SoundSet (numbers_of script) q false n.clock (n.set s)
+  pub clients : ClientsKept script n

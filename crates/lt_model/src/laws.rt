@@ -1,10 +1,11 @@
 ghost use Rattle.lt_model.specs.AccountLaws.{HoldClear, Owes, Settles, Arrives, Ticks, Ages, Asks, Applies, AppliesStale, Tells, Rests, Reorders};
 ghost use Rattle.lt_model.specs.PathEffects.{EffectsOnPath};
-ghost use Rattle.lt_model.specs.Laws.{StartKept, PathsKept, PathsInRuns, DeskSomewhere, TokenComes, OneToken, OthersStay, ClockMoves, OtherClocksStay, StampsKept, ClocksInRuns, TimedKept, TimedInRuns, StandingKept, StandingInRuns, OnePlace, ServedKept, ServedInRuns, TryIsExact};
+ghost use Rattle.lt_model.specs.Laws.{StartKept, StartLines, PathsKept, PathsInRuns, DeskSomewhere, TokenComes, OneToken, OthersStay, ClockMoves, OtherClocksStay, StampsKept, ClocksInRuns, TimedKept, TimedInRuns, StandingKept, StandingInRuns, OnePlace, ServedKept, ServedInRuns, TryIsExact};
 
 /// What holds of every world of a run holds at the start of each script.
 pub fn law_start()
-    ensures { StartKept }
+    ensures world { StartKept }
+    ensures lines { StartLines }
 {}
 
 /// Links lead to the token of a set, of which there is one, and no enabled move changes that.
