@@ -27,3 +27,9 @@ pub mod PathsInRuns
 pub mod TokenComes
 pub mod Members
 pub mod AccountFacts
+pub mod EditedLists
+pub mod Rows
+pub mod Unanswered
+pub mod AccountRows
+pub mod AccountGrants
+pub mod AccountAnswers

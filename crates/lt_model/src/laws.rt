@@ -1,4 +1,4 @@
-ghost use Rattle.lt_model.specs.AccountLaws.{Ticks};
+ghost use Rattle.lt_model.specs.AccountLaws.{Grants, Unlocks, Drops, Answers, Delivers};
 ghost use Rattle.lt_model.specs.PathEffects.{EffectsOnPath};
 ghost use Rattle.lt_model.specs.Laws.{StartKept, PathsKept, PathsInRuns, DeskSomewhere, TokenComes, OneToken, OthersStay, ClockMoves, OtherClocksStay, StampsKept, ClocksInRuns, TimedKept, TimedInRuns, StandingKept, StandingInRuns, OnePlace, ServedKept, ServedInRuns, TryIsExact};
 
@@ -60,5 +60,9 @@ pub fn law_exact_try()
 
 /// What happens to the account of one node keeps it.
 pub fn law_account()
-    ensures ticks { Ticks }
+    ensures grants { Grants }
+    ensures unlocks { Unlocks }
+    ensures drops { Drops }
+    ensures answers { Answers }
+    ensures delivers { Delivers }
 {}
