@@ -1,19 +1,19 @@
 -- An account as the clock of its node goes on, as a client asks, as a move ends, and as letters are elsewhere on their way.
-use Rattle.std.proofs.Common.{◌≡◌, ◌≢◌, ℕ, ◌<◌, ◌≤◌, inl, inr, List, [], ◌∷◌, ◌++◌, Bool, true, false, refl, sym, ap, subst, arith, ◌∙◌}
-use Rattle.std.specs.Prelude.{Contains, IsTrue, AllPairs, if◌then◌else◌, slice_index_or, length}
+use Rattle.std.proofs.Common.{◌≡◌, ◌≢◌, ℕ, ◌<◌, ◌≤◌, inl, inr, [], ◌∷◌, ◌++◌, Bool, true, false, ap, subst, arith}
+use Rattle.std.specs.Prelude.{Contains, IsTrue, if◌then◌else◌, slice_index_or}
 use Rattle.std.proofs.lemmas.List.Elements.{Contains-append_left, Contains-push_cases, Contains-get_or}
 use Rattle.std.proofs.lemmas.List.Quantifiers.{all_pairs_push}
 use Rattle.lt_modes.specs.declared.mode.Mode.{Mode}
 use Rattle.lt_modes.specs.declared.stamp.Stamp.{Stamp}
 use Rattle.lt_modes.specs.declared.ask.Ask.{Ask}
 use Rattle.lt_modes.specs.declared.parts.Owed.{Owed}
-use Rattle.lt_modes.specs.Modes.{Modes, has, union, bars}
+use Rattle.lt_modes.specs.Modes.{Modes, has, union}
 use Rattle.lt_modes.specs.Held.{held_modes}
 use Rattle.lt_modes.specs.Queue.{modes_of_asks}
 use Rattle.lt_modes.specs.Records.{record_of, modes_of_owed, still_owed}
-use Rattle.lt_modes.specs.Sound.{IsNoLater, ChargeKept}
-use Rattle.lt_model.specs.Account.{Account, AccountKept, IsBelow, counted, own_of}
-use Rattle.lt_model.specs.AccountSteps.{ticked, asking, resting, reordering, MayRest}
+use Rattle.lt_modes.specs.Sound.{IsNoLater}
+use Rattle.lt_model.specs.Account.{Account, IsBelow, own_of}
+use Rattle.lt_model.specs.AccountSteps.{asking}
 use Rattle.lt_model.specs.AccountLaws.{Ticks, Ages, Asks, Rests, Reorders}
 use Rattle.lt_model.proofs.Members.{has-union, has-left, has-right}
 use Rattle.lt_model.proofs.AccountFacts.{still_owed-which, still_owed-at, below_by_members, held_below_charge, no_later_at_all, before_in_move, newer_by_clock, open_later, now_with}

@@ -1,12 +1,12 @@
 -- An account as the desk leaves its node, comes to it, or sends a copy there.
-use Rattle.std.proofs.Common.{◌≡◌, ℕ, ◌<◌, ◌≤◌, inl, inr, List, [], ◌∷◌, ◌++◌, Bool, true, false, refl, sym, ap, subst, arith, ◌∙◌}
+use Rattle.std.proofs.Common.{◌≡◌, ℕ, ◌≤◌, inl, inr, List, [], ◌∷◌, ◌++◌, Bool, true, false, refl, sym, ap, subst, arith, ◌∙◌}
 use Rattle.std.specs.Prelude.{◌⊎◌, Contains, IsTrue, IsFalse, if◌then◌else◌}
 use Rattle.std.proofs.lemmas.List.Elements.{Contains-append_left, Contains-push, Contains-push_cases}
 use Rattle.lt_modes.specs.declared.mode.Mode.{Mode}
 use Rattle.lt_modes.specs.declared.stamp.Stamp.{Stamp}
 use Rattle.lt_modes.specs.declared.ask.Ask.{Ask}
 use Rattle.lt_modes.specs.declared.parts.Owed.{Owed}
-use Rattle.lt_modes.specs.Modes.{Modes, conflicts, has, union, with_mode, bars}
+use Rattle.lt_modes.specs.Modes.{Modes, conflicts, has, with_mode, bars}
 use Rattle.lt_modes.specs.State.{Entry, Tell}
 use Rattle.lt_modes.specs.Held.{held_modes}
 use Rattle.lt_modes.specs.Queue.{modes_of_asks}
@@ -16,10 +16,10 @@ use Rattle.lt_modes.specs.Serving.{owing}
 use Rattle.lt_modes.specs.HandingOver.{stamps_of}
 use Rattle.lt_modes.specs.Sound.{IsNoLater}
 use Rattle.lt_modes.proofs.ModeAlgebra.{conflicts-sym, union_below, clear_below, clear_both_ways, covers_by_table, copy_is_not_taking}
-use Rattle.lt_model.specs.Account.{Account, AccountKept, AsksKnown, Covers, Bars, IsBelow, AreClear, IsNews, left_after, now_modes, own_of, owed_and_waiting, counted}
-use Rattle.lt_model.specs.AccountSteps.{IsGain, MaySettle, settling, MayOwe, owing_copy, arriving}
+use Rattle.lt_model.specs.Account.{Account, AccountKept, AsksKnown, Covers, Bars, IsBelow, left_after, now_modes, own_of, owed_and_waiting, counted}
+use Rattle.lt_model.specs.AccountSteps.{IsGain, owing_copy}
 use Rattle.lt_model.specs.AccountLaws.{Settles, Owes, Arrives, HoldClear}
-use Rattle.lt_model.proofs.Members.{contains_filter, contains_filtered, contains_map, has-union, has-left, has-right, has-with_mode, has-kept, has-added}
+use Rattle.lt_model.proofs.Members.{contains_filter, contains_filtered, contains_map, has-union, has-left, has-right, has-kept, has-added}
 use Rattle.lt_model.proofs.AccountFacts.{same_by_stamp, unanswered-which, unanswered-at, still_owed-which, owed_mode-which, owed_mode-at, waiting_is_copy, copy_is_waiting, left_owed-which, left_owed-at, below_by_members, bars_not, not_bars, held_below_record, no_later_at_all, before_in_move, newer_not_before, open_listed, one_more_below, asks_which, asks_at}
 
 pub settles_kept : Settles
@@ -98,8 +98,8 @@ arrives_kept a h away = (
     clear = h.clear;
   },
   subst (λ (here : Bool). IsBelow (own_of a) (if here then own_of a else record_of a.entry)) (sym away)
-  (union_below conflicts (held_modes a.held) (owed_and_waiting a) (record_of a.entry) (held_below_record a h away)
-  (below_by_members (owed_and_waiting a) (record_of a.entry) (λ mode m.
+      (union_below conflicts (held_modes a.held) (owed_and_waiting a) (record_of a.entry) (held_below_record a h away)
+      (below_by_members (owed_and_waiting a) (record_of a.entry) (λ mode m.
       let w = still_owed-which a.pending a.entry.owed mode m in
       has-right mode a.entry.reported (modes_of_owed a.entry.owed)
       (subst (λ (x : Mode). IsTrue (has x (modes_of_owed a.entry.owed))) w.is_mode (owed_mode-at a.entry.owed w.copy w.owes))))),
@@ -229,8 +229,12 @@ covers_owing charge pending entry tells former later ask known waits gain c = re
   exact = elim c.exact [
     | inl e ↦ inl (one_more_below (record_of entry) (record_of (owing ask entry)) (now_modes charge former) (now_modes charge later) ask.mode
         (record_cases ask entry) (now_keeps charge ask former later gain) (now_gains charge ask former later gain) e)
-    | inr e ↦ inr (e.0, e.1, one_more_below (left_after entry e.0) (left_after (owing ask entry) e.0) (now_modes charge former) (now_modes charge later) ask.mode
-        (left_cases ask entry e.0) (now_keeps charge ask former later gain) (now_gains charge ask former later gain) e.2)
+    | inr e ↦ inr (
+      e.0,
+      e.1,
+      one_more_below (left_after entry e.0) (left_after (owing ask entry) e.0) (now_modes charge former) (now_modes charge later) ask.mode
+          (left_cases ask entry e.0) (now_keeps charge ask former later gain) (now_gains charge ask former later gain) e.2,
+    )
   ];
 }
 
@@ -304,11 +308,11 @@ owes_kept a others ask copies h may = (
   },
   inr (
     subst (λ (here : Bool). IsBelow (if here then own_of (owing_copy ask copies a) else record_of (owing ask a.entry)) (with_mode (if here then own_of a else record_of a.entry) ask.mode))
-    (sym may.away)
-    (below_by_members (record_of (owing ask a.entry)) (with_mode (record_of a.entry) ask.mode) (λ mode m. elim (record_cases ask a.entry mode m) [
-      | inl before ↦ has-kept mode ask.mode (record_of a.entry) before
-      | inr new ↦ subst (λ (x : Mode). IsTrue (has x (with_mode (record_of a.entry) ask.mode))) (sym new) (has-added ask.mode (record_of a.entry))
-    ])),
+        (sym may.away)
+        (below_by_members (record_of (owing ask a.entry)) (with_mode (record_of a.entry) ask.mode) (λ mode m. elim (record_cases ask a.entry mode m) [
+          | inl before ↦ has-kept mode ask.mode (record_of a.entry) before
+          | inr new ↦ subst (λ (x : Mode). IsTrue (has x (with_mode (record_of a.entry) ask.mode))) (sym new) (has-added ask.mode (record_of a.entry))
+        ])),
     bars_not others ask.mode may.free,
   ),
 )

@@ -1,6 +1,6 @@
 -- Facts on a kept account that many of its steps use.
 use Rattle.std.proofs.Common.{◌≡◌, ◌≢◌, ℕ, ◌<◌, ◌≤◌, inl, inr, List, Bool, true, false, refl, sym, ap, subst, arith, ◌∙◌}
-use Rattle.std.specs.Prelude.{◌||◌, ◌&&◌, ◌⊎◌, ◌==◌, nat_lt, Contains, IsTrue, IsFalse, AllPairs, fold, slice_index_or, length}
+use Rattle.std.specs.Prelude.{◌&&◌, ◌⊎◌, ◌==◌, nat_lt, Contains, IsTrue, IsFalse, AllPairs, slice_index_or}
 use Rattle.std.proofs.lemmas.Bool.{and_parts, and_from, or_cases, or_left, or_right, eq-eqb, eqb-true, cases_order, ltb-true, lt-ltb}
 use Rattle.std.proofs.lemmas.List.{get_or_default}
 use Rattle.lt_modes.specs.declared.mode.Mode.{Mode}
@@ -8,7 +8,6 @@ use Rattle.lt_modes.specs.declared.stamp.Stamp.{Stamp}
 use Rattle.lt_modes.specs.declared.ask.Ask.{Ask}
 use Rattle.lt_modes.specs.declared.parts.Owed.{Owed}
 use Rattle.lt_modes.specs.Modes.{Modes, conflicts, has, union, bars}
-use Rattle.lt_modes.specs.ModeLaws.{BarsBy}
 use Rattle.lt_modes.specs.State.{Tell}
 use Rattle.lt_modes.specs.Held.{held_modes}
 use Rattle.lt_modes.specs.Queue.{has_stamp, modes_of_asks}
@@ -16,9 +15,9 @@ use Rattle.lt_modes.specs.Records.{record_of, modes_of_owed, is_unanswered, stil
 use Rattle.lt_modes.specs.Tells.{is_newer, is_open, is_listed, same_stamp, left_owed}
 use Rattle.lt_modes.specs.Sound.{IsNoLater, ChargeKept}
 use Rattle.lt_modes.proofs.ModeAlgebra.{bars_by_table, union_bars_both}
-use Rattle.lt_model.specs.Account.{Account, AccountKept, Covers, CopiesOwed, Bars, IsBelow, owed_and_waiting, now_modes}
+use Rattle.lt_model.specs.Account.{Account, AccountKept, CopiesOwed, Bars, IsBelow, owed_and_waiting, now_modes}
 use Rattle.lt_model.proofs.Asks.{has_stamp-true, has_stamp-own}
-use Rattle.lt_model.proofs.Members.{contains_filter, contains_filtered, list_any-at, list_any-which, mode_which, mode_at, has-left}
+use Rattle.lt_model.proofs.Members.{contains_filter, contains_filtered, list_any-at, list_any-which, mode_which, mode_at}
 
 -- asks with different stamps: two that stand there with one stamp are one
 pub same_by_stamp : (asks : List Ask) (a b : Ask) → AllPairs (λ (x y : Ask). x.stamp ≢ y.stamp) asks → Contains asks a → Contains asks b

@@ -1,11 +1,11 @@
 -- An account as the desk takes a tell of its node, and as the node makes one.
-use Rattle.std.proofs.Common.{◌≡◌, ℕ, ◌<◌, ◌≤◌, inl, inr, List, Bool, true, false, refl, sym, ap, subst, arith, ◌∙◌}
+use Rattle.std.proofs.Common.{◌≡◌, ◌<◌, inl, inr, List, Bool, true, false, refl, sym, ap, subst, arith, ◌∙◌}
 use Rattle.std.specs.Prelude.{◌⊎◌, Contains, IsTrue, IsFalse, if◌then◌else◌}
 use Rattle.lt_modes.specs.declared.mode.Mode.{Mode}
 use Rattle.lt_modes.specs.declared.stamp.Stamp.{Stamp}
 use Rattle.lt_modes.specs.declared.ask.Ask.{Ask}
 use Rattle.lt_modes.specs.declared.parts.Owed.{Owed}
-use Rattle.lt_modes.specs.Modes.{Modes, conflicts, has, union}
+use Rattle.lt_modes.specs.Modes.{Modes, conflicts, has}
 use Rattle.lt_modes.specs.State.{Entry, Tell}
 use Rattle.lt_modes.specs.Held.{held_modes}
 use Rattle.lt_modes.specs.Queue.{modes_of_asks}
@@ -14,7 +14,7 @@ use Rattle.lt_modes.specs.Tells.{is_newer, is_open, left_owed, told}
 use Rattle.lt_modes.specs.HandingOver.{stamps_of}
 use Rattle.lt_modes.proofs.ModeAlgebra.{union_bars_both}
 use Rattle.lt_model.specs.Account.{Account, AccountKept, AsksKnown, Covers, IsBelow, IsNews, left_after, now_modes, own_of, counted}
-use Rattle.lt_model.specs.AccountSteps.{IsLoss, MayApply, applying, MayTell, telling, tell_by}
+use Rattle.lt_model.specs.AccountSteps.{IsLoss, MayApply, tell_by}
 use Rattle.lt_model.specs.AccountLaws.{Applies, AppliesStale, Tells, CountsLess}
 use Rattle.lt_model.proofs.Members.{contains_map, contains_mapped, has-union, has-left, has-right}
 use Rattle.lt_model.proofs.AccountFacts.{owed_mode-which, owed_mode-at, still_owed-which, still_owed-at, left_owed-which, left_owed-at, below_by_members, held_below_charge, no_later_at_all, before_in_move, newer_by_clock, newer_not_before, newer_in_turn, newer_one_way, open-cases, open_listed, open_later, not_after_itself, asks_which, asks_at}
@@ -53,8 +53,8 @@ still_within pending fewer more within mode m =
 twice_less : (later older : Tell) (entry : Entry) → IsBelow (left_after (newly older entry) later) (left_after entry later)
 twice_less later older entry = union_members later.modes (modes_of_owed (left_owed later (left_owed older entry.owed))) (modes_of_owed (left_owed later entry.owed))
     (owed_within (left_owed later (left_owed older entry.owed)) (left_owed later entry.owed) (λ copy c.
-        let twice = left_owed-which later (left_owed older entry.owed) copy c in
-        left_owed-at later entry.owed copy (left_owed-which older entry.owed copy twice.0).0 twice.1))
+    let twice = left_owed-which later (left_owed older entry.owed) copy c in
+    left_owed-at later entry.owed copy (left_owed-which older entry.owed copy twice.0).0 twice.1))
 
 -- and no less, since what it lists is open in the older one
 twice_more : (later older : Tell) (entry : Entry) → IsTrue (is_newer later.stamp older.stamp)
@@ -62,12 +62,12 @@ twice_more : (later older : Tell) (entry : Entry) → IsTrue (is_newer later.sta
     → IsBelow (left_after entry later) (left_after (newly older entry) later)
 twice_more later older entry newer lists = union_members later.modes (modes_of_owed (left_owed later entry.owed)) (modes_of_owed (left_owed later (left_owed older entry.owed)))
     (owed_within (left_owed later entry.owed) (left_owed later (left_owed older entry.owed)) (λ copy c.
-        let once = left_owed-which later entry.owed copy c in
-        left_owed-at later (left_owed older entry.owed) copy
-        (left_owed-at older entry.owed copy once.0 (elim (open-cases later.pending later.stamp copy.stamp once.1) [
-          | inl listed ↦ lists copy.stamp listed
-          | inr after ↦ open_later older.pending older.stamp copy.stamp (newer_in_turn copy.stamp later.stamp older.stamp after newer)
-        ])) once.1))
+    let once = left_owed-which later entry.owed copy c in
+    left_owed-at later (left_owed older entry.owed) copy
+    (left_owed-at older entry.owed copy once.0 (elim (open-cases later.pending later.stamp copy.stamp once.1) [
+      | inl listed ↦ lists copy.stamp listed
+      | inr after ↦ open_later older.pending older.stamp copy.stamp (newer_in_turn copy.stamp later.stamp older.stamp after newer)
+    ])) once.1))
 
 -- without the desk the node stays covered
 covers_applied : (charge : Modes) (pending : List Ask) (entry : Entry) (tells left : List Tell) (copies : List Ask) (tell : Tell)
@@ -179,8 +179,10 @@ stale a tell tells h may old = record {
 pub stale_kept : AppliesStale
 stale_kept a tell tells h may old = (
   subst (λ (e : Entry). AccountKept (record a { entry = e; tells = tells })) (sym (told_stale tell a.entry old)) (stale a tell tells h may old),
-  (subst (λ (e : Entry). IsBelow (counted (record a { entry = e })) (counted a)) (sym (told_stale tell a.entry old)) (λ mode b. b),
-  subst (λ (e : Entry). IsBelow (counted a) (counted (record a { entry = e }))) (sym (told_stale tell a.entry old)) (λ mode b. b)),
+  (
+    subst (λ (e : Entry). IsBelow (counted (record a { entry = e })) (counted a)) (sym (told_stale tell a.entry old)) (λ mode b. b),
+    subst (λ (e : Entry). IsBelow (counted a) (counted (record a { entry = e }))) (sym (told_stale tell a.entry old)) (λ mode b. b),
+  ),
 )
 
 -- what a new tell would leave is what is held now, with what copies bring
@@ -282,8 +284,11 @@ tells_kept a stamp tells h may = (
           | inr new ↦ subst (λ (v : Tell). IsBelow (left_after a.entry later) (left_after a.entry v)) (new ∙ sym last) (λ mode bar. bar)
         ]
       ];
-      exact = inr (tell_by stamp a, (may.made.gained, newer_by_clock stamp a.entry.told_at (omega (arith, before_in_move a a.entry.told_at.clock may.moves h.clocks.told, may.now))),
-          left_is_now a stamp h may.moves may.now);
+      exact = inr (
+        tell_by stamp a,
+        (may.made.gained, newer_by_clock stamp a.entry.told_at (omega (arith, before_in_move a a.entry.told_at.clock may.moves h.clocks.told, may.now))),
+        left_is_now a stamp h may.moves may.now,
+      );
     };
     clear = h.clear;
   },

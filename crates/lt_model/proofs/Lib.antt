@@ -27,6 +27,15 @@ pub mod PathsInRuns
 pub mod TokenComes
 pub mod Members
 pub mod AccountFacts
+pub mod EditedLists
+pub mod Rows
+pub mod Unanswered
+pub mod AccountRows
+pub mod AccountGrants
+pub mod AccountAnswers
 pub mod AccountAsks
 pub mod AccountTells
 pub mod AccountDesk
+pub mod AccountPlay
+pub mod NewsLemmas
+pub mod Gathered

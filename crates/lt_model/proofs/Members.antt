@@ -1,6 +1,6 @@
 -- What is in the sets of modes that are gathered from rows, asks and owed asks, and in lists that a test leaves.
-use Rattle.std.proofs.Common.{◌≡◌, ℕ, zero, suc, ◌+◌, ◌<◌, inl, inr, List, [], ◌∷◌, ◌++◌, length, Bool, true, false, refl, sym, ap, subst, arith, ◌∙◌}
-use Rattle.std.specs.Prelude.{◌||◌, ◌⊎◌, if◌then◌else◌, Contains, IsTrue, fold, filter, map, slice_index_or}
+use Rattle.std.proofs.Common.{◌≡◌, ℕ, zero, suc, ◌<◌, inl, inr, List, [], ◌∷◌, length, Bool, true, false, refl, sym, ap, subst, arith, ◌∙◌}
+use Rattle.std.specs.Prelude.{◌⊎◌, if◌then◌else◌, Contains, IsTrue, fold, filter, map, slice_index_or}
 use Rattle.std.specs.List.{list_any}
 use Rattle.std.proofs.lemmas.Bool.{or_cases, or_left, or_right}
 use Rattle.lt_modes.specs.declared.mode.Mode.{Mode}

@@ -37,7 +37,7 @@ pub standing_in_runs : StandingInRuns
 standing_in_runs script run some is_run k s = run_standing script s some run (start script) (paths_start script s some) (standing_start script s) is_run k
 
 -- an unanswered ask of a world in which asks stand once
-one_place_of : (script : ScriptData) (w : World) (s x : ℕ) (ask : Ask) → AsksStand script w s → x < script.nodes
+pub one_place_of : (script : ScriptData) (w : World) (s x : ℕ) (ask : Ask) → AsksStand script w s → x < script.nodes
     → Contains (state_at w s x).pending ask → place_count script w s ask ≡ 1
 one_place_of script w s x ask h below found =
     let own = λ (y : ℕ) (under : y < script.nodes) (there : Contains (state_at w s y).pending ask).

@@ -7,11 +7,10 @@ use Rattle.std.specs.List.{filter_map}
 use Rattle.lt_modes.specs.declared.ask.Ask.{Ask}
 use Rattle.lt_modes.specs.declared.mode.Mode.{Mode}
 use Rattle.lt_modes.specs.declared.mode.Mode.TheVariants.{IntentionRead, Read, Upgrade, IntentionWrite, Write}
-use Rattle.lt_modes.specs.Modes.{Modes, no_modes, has, union}
-use Rattle.lt_modes.specs.Held.{held_modes}
+use Rattle.lt_modes.specs.Modes.{Modes, no_modes, has}
 use Rattle.lt_modes.specs.Script.{ScriptData}
 use Rattle.lt_modes.specs.State.{SetState, Desk, Entry, Tell, Body, first_desk, first_entry}
-use Rattle.lt_modes.specs.Records.{entry_of, record_of, own_part, modes_of_owed, still_owed}
+use Rattle.lt_modes.specs.Records.{entry_of, record_of}
 use Rattle.lt_modes.specs.Serving.{next_service, next_move}
 use Rattle.lt_modes.specs.Fits.{Numbers}
 use Rattle.lt_modes.specs.Sound.{SoundSet}
@@ -121,7 +120,7 @@ first_account clock here = record {
   moving = false;
 }
 
-account_first : (clock : ℕ) (here : Bool) → AccountKept (first_account clock here)
+pub account_first : (clock : ℕ) (here : Bool) → AccountKept (first_account clock here)
 account_first clock here = record {
   clocks = record {
     asks = λ ask h. none_in ask h;

@@ -1,6 +1,6 @@
 -- What can happen to the account of a node: for each thing what changes, and when it may happen.
 -- `others` is what counts of all other nodes.
-use Rattle.std.specs.Prelude.{◌≡◌, ◌≢◌, ◌⊎◌, ◌≤◌, ◌<◌, Bool, true, false, ℕ, List, [], ◌∷◌, ◌++◌, Option, if◌then◌else◌, IsTrue, IsFalse, Contains}
+use Rattle.std.specs.Prelude.{◌≡◌, ◌⊎◌, ◌<◌, Bool, true, false, ℕ, List, [], ◌∷◌, ◌++◌, Option, if◌then◌else◌, IsTrue, IsFalse, Contains}
 use Rattle.lt_modes.specs.declared.mode.Mode.{Mode}
 use Rattle.lt_modes.specs.declared.stamp.Stamp.{Stamp}
 use Rattle.lt_modes.specs.declared.ask.Ask.{Ask}
@@ -9,7 +9,7 @@ use Rattle.lt_modes.specs.State.{Tell}
 use Rattle.lt_modes.specs.Held.{add_lock, take_lock, without_client, own_modes, other_modes, held_modes}
 use Rattle.lt_modes.specs.Queue.{without}
 use Rattle.lt_modes.specs.Records.{record_of, still_owed}
-use Rattle.lt_modes.specs.Tells.{is_newer, told}
+use Rattle.lt_modes.specs.Tells.{told}
 use Rattle.lt_modes.specs.Serving.{give_up, answered, owing}
 use Rattle.lt_modes.specs.HandingOver.{stamps_of}
 use Rattle.lt_model.specs.Account.{Account, owed_and_waiting}

@@ -10,6 +10,7 @@ pub mod Facts
 pub mod Account
 pub mod AccountSteps
 pub mod AccountLaws
+pub mod AccountPlay
 pub mod News
 pub mod NewsSteps
 pub mod NewsLaws
@@ -20,6 +21,8 @@ pub mod Touches
 pub mod Invariant
 pub mod Timed
 pub mod Standing
+pub mod AccountFacts
+pub mod OnWayLaws
 pub mod Laws
 pub mod Worked
 pub mod WorkedOneNode

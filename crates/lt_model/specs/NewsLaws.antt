@@ -1,5 +1,5 @@
 -- What each thing that can happen to the news of a node does to it, as statements.
-use Rattle.std.specs.Prelude.{◌≡◌, ◌⊎◌, true, false, ℕ, List, [], IsFalse, Contains}
+use Rattle.std.specs.Prelude.{◌≡◌, ◌⊎◌, true, false, ℕ, List, [], IsFalse}
 use Rattle.lt_modes.specs.Modes.{Modes, has_none}
 use Rattle.lt_model.specs.News.{News, Word, NewsKept}
 use Rattle.lt_model.specs.NewsSteps.{beginning, changing, MaySend, sending, MaySpare, sparing, MayKeep, keeping, MayTake, taking, MayLeave, leaving, arriving}

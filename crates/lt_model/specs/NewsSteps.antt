@@ -1,8 +1,8 @@
 -- What can happen to the news of a node: for each thing what changes, and when it may happen.
-use Rattle.std.specs.Prelude.{◌≡◌, ◌⊎◌, ◌≤◌, Bool, true, false, nat_lt, ℕ, ◌+◌, List, [], if◌then◌else◌, IsTrue, IsFalse, Contains}
+use Rattle.std.specs.Prelude.{◌≡◌, ◌⊎◌, ◌≤◌, true, false, nat_lt, ℕ, ◌+◌, List, if◌then◌else◌, IsTrue, Contains}
 use Rattle.lt_modes.specs.Modes.{Modes, has_none, same_modes}
-use Rattle.lt_model.specs.News.{News, Word, NewsKept}
-use Rattle.lt_model.specs.AccountSteps.{IsGain, IsLoss, HaveSame}
+use Rattle.lt_model.specs.News.{News, Word}
+use Rattle.lt_model.specs.AccountSteps.{IsGain, IsLoss}
 
 -- begin: the desk's node begins a move
 abbrev pub beginning : News → News

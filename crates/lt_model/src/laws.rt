@@ -1,4 +1,3 @@
-ghost use Rattle.lt_model.specs.AccountLaws.{HoldClear, Owes, Settles, Arrives, Ticks, Ages, Asks, Applies, AppliesStale, Tells, Rests, Reorders};
 ghost use Rattle.lt_model.specs.PathEffects.{EffectsOnPath};
 ghost use Rattle.lt_model.specs.Laws.{StartKept, StartLines, PathsKept, PathsInRuns, DeskSomewhere, TokenComes, OneToken, OthersStay, ClockMoves, OtherClocksStay, StampsKept, ClocksInRuns, TimedKept, TimedInRuns, StandingKept, StandingInRuns, OnePlace, ServedKept, ServedInRuns, TryIsExact};
 
@@ -57,20 +56,4 @@ pub fn law_served()
 /// A `try` is answered with `true` exactly where the client's node can grant the mode.
 pub fn law_exact_try()
     ensures { TryIsExact }
-{}
-
-/// What happens to the account of one node keeps it.
-pub fn law_account()
-    ensures ticks { Ticks }
-    ensures ages { Ages }
-    ensures asks { Asks }
-    ensures applies { Applies }
-    ensures stale { AppliesStale }
-    ensures tells { Tells }
-    ensures owes { Owes }
-    ensures settles { Settles }
-    ensures arrives { Arrives }
-    ensures rests { Rests }
-    ensures clear { HoldClear }
-    ensures reorders { Reorders }
 {}

@@ -4,7 +4,7 @@ use Rattle.std.specs.Prelude.{◌||◌, ◌&&◌, not, IsTrue}
 use Rattle.std.proofs.lemmas.Bool.{and_parts, and_from, or_cases, or_left, or_right, false_from_ne_true}
 use Rattle.lt_modes.specs.declared.mode.Mode.{Mode}
 use Rattle.lt_modes.specs.declared.mode.Mode.TheVariants.{IntentionRead, Read, Upgrade, IntentionWrite, Write}
-use Rattle.lt_modes.specs.Modes.{conflicts, same_mode, has, modes_by, any_mode, every_mode, one, bars}
+use Rattle.lt_modes.specs.Modes.{Modes, conflicts, same_mode, same_modes, is_within, has, modes_by, any_mode, every_mode, one, bars}
 use Rattle.lt_modes.specs.ModeLaws.{IsSymmetric, IsEachBarred, BarsBy, UnionHasBoth, BarsByTable, CoversByTable, UnionBarsBoth, BelowItself, BelowInTurn, UnionBelow, BelowWithMore, ClearBothWays, ClearBelow, CoveredIsClear, CopyIsNotTaking}
 
 pub conflicts-sym : IsSymmetric conflicts
@@ -153,3 +153,25 @@ covered_is_clear table symmetric a b mode covered clear barred =
 
 pub copy_is_not_taking : CopyIsNotTaking
 copy_is_not_taking table a mode covered free = false_from_ne_true _ (λ taking. free (covered mode taking))
+
+-- sets with the same members are one
+pub same_modes-true : (a b : Modes) → same_modes a b ≡ true → a ≡ b
+same_modes-true a b e =
+    let within = and_parts (is_within a b) (is_within b a) e in
+    let same : (mode : Mode) → has mode a ≡ has mode b = λ mode.
+    by_tests (has mode a) (has mode b)
+    (every_mode-at (λ m. not (has m a) || has m b) mode within.0)
+    (every_mode-at (λ m. not (has m b) || has m a) mode within.1) in
+    λ i. record {
+      intention_read = same IntentionRead i;
+      read = same Read i;
+      upgrade = same Upgrade i;
+      intention_write = same IntentionWrite i;
+      write = same Write i;
+    }
+  where
+    by_tests : (x y : Bool) → (not x || y) ≡ true → (not y || x) ≡ true → x ≡ y
+    by_tests true true p q = refl
+    by_tests true false p q = cc
+    by_tests false true p q = cc
+    by_tests false false p q = refl

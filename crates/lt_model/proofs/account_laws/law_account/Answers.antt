@@ -1,14 +1,21 @@
-use Rattle.lt_model.proofs.laws.law_account.Goals as goal
+use Rattle.lt_model.proofs.account_laws.law_account.Goals as goal
 use Rattle.lt_model.proofs.AccountAsks.{ticks_kept, ages_kept, asks_kept, rests_kept, reorders_kept}
+use Rattle.lt_model.proofs.AccountGrants.{grants_kept, unlocks_kept, drops_kept}
+use Rattle.lt_model.proofs.AccountAnswers.{answers_kept, delivers_kept}
 use Rattle.lt_model.proofs.AccountTells.{applies_kept, stale_kept, tells_kept}
-use Rattle.lt_model.proofs.AccountDesk.{owes_kept, settles_kept, arrives_kept, hold_clear}
+use Rattle.lt_model.proofs.AccountDesk.{owes_kept, settles_kept, arrives_kept}
 
 pub returns : goal.returns
 returns c = record {
   ticks = ticks_kept;
   ages = ages_kept;
   asks = asks_kept;
+  grants = grants_kept;
+  unlocks = unlocks_kept;
+  drops = drops_kept;
+  answers = answers_kept;
   owes = owes_kept;
+  delivers = delivers_kept;
   applies = applies_kept;
   stale = stale_kept;
   tells = tells_kept;
@@ -16,5 +23,4 @@ returns c = record {
   arrives = arrives_kept;
   rests = rests_kept;
   reorders = reorders_kept;
-  clear = hold_clear;
 }

@@ -1,0 +1,174 @@
+-- What is gathered from lists is what they have.
+use Rattle.std.proofs.Common.{◌≡◌, ◌≢◌, ℕ, zero, suc, ◌<◌, inl, inr, List, [], ◌∷◌, Option, Some, None, Bool, refl, sym, ap, subst, arith, ◌∙◌}
+use Rattle.std.specs.Prelude.{◌⊎◌, Contains, if◌then◌else◌}
+use Rattle.std.specs.List.{filter_map, cons_option}
+use Rattle.std.proofs.lemmas.Bool.{eq-eqb, ne_eqb, cases_eq}
+use Rattle.std.proofs.lemmas.List.Elements.{Contains-append_left, Contains-append_right, Contains-append_cases}
+use Rattle.lt_modes.specs.declared.ask.Ask.{Ask}
+use Rattle.lt_modes.specs.Script.{ScriptData}
+use Rattle.lt_modes.specs.State.{Tell, Body, AskBody, TellBody, CopyBody, TokenBody, FreezeBody, Letter, Parked, ParkedAsk, ParkedTell}
+use Rattle.lt_model.specs.Below.{gather_below}
+use Rattle.lt_model.specs.World.{World}
+use Rattle.lt_model.specs.Facts.{state_at}
+use Rattle.lt_model.specs.News.{Word}
+use Rattle.lt_model.specs.OnWay.{Comes, IsTellOf, in_set, tell_if, tell_in, tell_parked, copy_in, freeze_in, tells_of}
+use Rattle.lt_model.specs.OnWayLaws.{TellsAreOnWay, CopiesAreOnWay, FreezesAreOnWay}
+use Rattle.lt_model.proofs.Members.{contains_first, contains_later, contains_cases}
+
+some_equal : {X : Type 0} (a b : X) → Some a ≡ Some b → a ≡ b
+some_equal a b e = cc
+
+gathered-which : {X : Type 0} (n : ℕ) (f : ℕ → List X) (x : X) → Contains (gather_below n f) x → (k : ℕ) × (k < n) × Contains (f k) x
+gathered-which zero f x h = absurd (omega (arith, h.1))
+gathered-which (suc n) f x h = elim (Contains-append_cases (gather_below n f) (f n) x h) [
+  | inl before ↦ let found = gathered-which n f x before in (found.0, omega (arith, found.1), found.2)
+  | inr last ↦ (n, omega arith, last)
+]
+
+gathered-at : {X : Type 0} (n : ℕ) (f : ℕ → List X) (k : ℕ) (x : X) → k < n → Contains (f k) x → Contains (gather_below n f) x
+gathered-at zero f k x below h = absurd (omega (arith, below))
+gathered-at (suc n) f k x below h = elim (cases_eq k n) [
+  | inl last ↦ Contains-append_right (gather_below n f) (f n) x (subst (λ (i : ℕ). Contains (f i) x) last h)
+  | inr other ↦ Contains-append_left (gather_below n f) (f n) x (gathered-at n f k x (omega (arith, below, other)) h)
+]
+
+filter_map-which : {X Y : Type 0} (f : X → Option Y) (xs : List X) (y : Y) → Contains (filter_map f xs) y → (x : X) × Contains xs x × (f x ≡ Some y)
+filter_map-which f [] y h = absurd (omega (arith, h.1))
+filter_map-which {X = X} {Y = Y} f (first ∷ rest) y h = by_first (f first) refl h (λ later. filter_map-which f rest y later)
+  where
+    by_first : (o : Option Y) → f first ≡ o → Contains (cons_option o (filter_map f rest)) y
+        → (Contains (filter_map f rest) y → (x : X) × Contains rest x × (f x ≡ Some y)) → (x : X) × Contains (first ∷ rest) x × (f x ≡ Some y)
+    by_first None e found again = let more = again found in (more.0, contains_later first more.0 rest more.1, more.2)
+    by_first (Some made) e found again = elim (contains_cases made y (filter_map f rest) found) [
+      | inl same ↦ (first, contains_first first first rest refl, e ∙ ap Some same)
+      | inr later ↦ let more = again later in (more.0, contains_later first more.0 rest more.1, more.2)
+    ]
+
+filter_map-at : {X Y : Type 0} (f : X → Option Y) (xs : List X) (x : X) (y : Y) → Contains xs x → f x ≡ Some y → Contains (filter_map f xs) y
+filter_map-at f [] x y h e = absurd (omega (arith, h.1))
+filter_map-at {X = X} {Y = Y} f (first ∷ rest) x y h e = by_first (f first) refl (λ later. filter_map-at f rest x y later e)
+  where
+    by_first : (o : Option Y) → f first ≡ o → (Contains rest x → Contains (filter_map f rest) y) → Contains (cons_option o (filter_map f rest)) y
+    by_first None none again = elim (contains_cases first x rest h) [
+      | inl same ↦ let no : None ≡ Some y = sym none ∙ ap f same ∙ e in cc
+      | inr later ↦ again later
+    ]
+    by_first (Some made) some again = elim (contains_cases first x rest h) [
+      | inl same ↦ let one : Some made ≡ Some y = sym some ∙ ap f same ∙ e in contains_first made y (filter_map f rest) (some_equal made y one)
+      | inr later ↦ contains_later made y (filter_map f rest) (again later)
+    ]
+
+-- what a letter of the set says
+in_set-which : {X : Type 0} (s : ℕ) (read : Body → Option X) (letter : Letter) (x : X) → in_set s read letter ≡ Some x → (letter.set ≡ s) × (read letter.body ≡ Some x)
+in_set-which s read letter x e = by_set (cases_eq letter.set s)
+  where
+    by_set : (letter.set ≡ s) ⊎ (letter.set ≢ s) → (letter.set ≡ s) × (read letter.body ≡ Some x)
+    by_set (inl same) = (same, ap (λ (b : Bool). if b then read letter.body else None) (sym (eq-eqb letter.set s same)) ∙ e)
+    by_set (inr other) = let no : None ≡ Some x = ap (λ (b : Bool). if b then read letter.body else None) (sym (ne_eqb letter.set s other)) ∙ e in cc
+
+in_set-at : {X : Type 0} (s : ℕ) (read : Body → Option X) (letter : Letter) (x : X) → letter.set ≡ s → read letter.body ≡ Some x → in_set s read letter ≡ Some x
+in_set-at s read letter x same e = ap (λ (b : Bool). if b then read letter.body else None) (eq-eqb letter.set s same) ∙ e
+
+-- what is read from the letters to x, where each thing is read from one body
+comes-which : {X : Type 0} (script : ScriptData) (w : World) (s x : ℕ) (read : Body → Option X) (item : X) (body : Body) → ((b : Body) → read b ≡ Some item → b ≡ body)
+    → Contains (gather_below script.nodes (λ p. filter_map (in_set s read) (w.mail p x))) item → Comes script w s x body
+comes-which script w s x read item body only h =
+    let at = gathered-which script.nodes (λ p. filter_map (in_set s read) (w.mail p x)) item h in
+    let letter = filter_map-which (in_set s read) (w.mail at.0 x) item at.2 in
+    let says = in_set-which s read letter.0 item letter.2 in
+    (at.0, letter.0, at.1, record { among = letter.1; set = says.0 }, only letter.0.body says.1)
+
+comes-at : {X : Type 0} (script : ScriptData) (w : World) (s x : ℕ) (read : Body → Option X) (item : X) (body : Body) → read body ≡ Some item
+    → Comes script w s x body → Contains (gather_below script.nodes (λ p. filter_map (in_set s read) (w.mail p x))) item
+comes-at script w s x read item body reads comes =
+    gathered-at script.nodes (λ p. filter_map (in_set s read) (w.mail p x)) comes.0 item comes.2
+    (filter_map-at (in_set s read) (w.mail comes.0 x) comes.1 item comes.3.among
+    (in_set-at s read comes.1 item comes.3.set (ap read comes.4 ∙ reads)))
+
+copy_body : (ask : Ask) (b : Body) → copy_in b ≡ Some ask → b ≡ CopyBody ask
+copy_body ask (CopyBody other) e = ap CopyBody (some_equal other ask e)
+copy_body ask (AskBody other marked) e = cc
+copy_body ask (TellBody tell) e = cc
+copy_body ask (TokenBody desk) e = cc
+copy_body ask (FreezeBody number modes) e = cc
+
+pub copies_are_on_way : CopiesAreOnWay
+copies_are_on_way script w s x ask = (
+  comes-which script w s x copy_in ask (CopyBody ask) (copy_body ask),
+  comes-at script w s x copy_in ask (CopyBody ask) refl,
+)
+
+freeze_body : (word : Word) (b : Body) → freeze_in b ≡ Some word → b ≡ FreezeBody word.number word.modes
+freeze_body word (FreezeBody number modes) e =
+    let one : record { number = number; modes = modes } ≡ word = some_equal (record { number = number; modes = modes }) word e in
+    ap (λ (x : Word). FreezeBody x.number x.modes) one
+freeze_body word (CopyBody other) e = cc
+freeze_body word (AskBody other marked) e = cc
+freeze_body word (TellBody tell) e = cc
+freeze_body word (TokenBody desk) e = cc
+
+pub freezes_are_on_way : FreezesAreOnWay
+freezes_are_on_way script w s x word = (
+  comes-which script w s x freeze_in word (FreezeBody word.number word.modes) (freeze_body word),
+  comes-at script w s x freeze_in word (FreezeBody word.number word.modes) refl,
+)
+
+tell_if-which : (x : ℕ) (made tell : Tell) → tell_if x made ≡ Some tell → (made ≡ tell) × (tell.node ≡ x)
+tell_if-which x made tell e = by_node (cases_eq made.node x)
+  where
+    by_node : (made.node ≡ x) ⊎ (made.node ≢ x) → (made ≡ tell) × (tell.node ≡ x)
+    by_node (inl same) =
+        let one = some_equal made tell (ap (λ (b : Bool). if b then Some made else None) (sym (eq-eqb made.node x same)) ∙ e) in
+        (one, ap (λ (t : Tell). t.node) (sym one) ∙ same)
+    by_node (inr other) = let no : None ≡ Some tell = ap (λ (b : Bool). if b then Some made else None) (sym (ne_eqb made.node x other)) ∙ e in cc
+
+tell_if-at : (x : ℕ) (tell : Tell) → tell.node ≡ x → tell_if x tell ≡ Some tell
+tell_if-at x tell same = ap (λ (b : Bool). if b then Some tell else None) (eq-eqb tell.node x same)
+
+tell_body : (x : ℕ) (tell : Tell) (b : Body) → tell_in x b ≡ Some tell → (b ≡ TellBody tell) × (tell.node ≡ x)
+tell_body x tell (TellBody made) e = let found = tell_if-which x made tell e in (ap TellBody found.0, found.1)
+tell_body x tell (CopyBody other) e = cc
+tell_body x tell (AskBody other marked) e = cc
+tell_body x tell (TokenBody desk) e = cc
+tell_body x tell (FreezeBody number modes) e = cc
+
+tell_item : (x : ℕ) (tell : Tell) (item : Parked) → tell_parked x item ≡ Some tell → (item ≡ ParkedTell tell) × (tell.node ≡ x)
+tell_item x tell (ParkedTell made) e = let found = tell_if-which x made tell e in (ap ParkedTell found.0, found.1)
+tell_item x tell (ParkedAsk ask) e = cc
+
+pub tells_are_on_way : TellsAreOnWay
+tells_are_on_way script w s x tell = (found, gathered)
+  where
+    in_mail : List Tell
+    in_mail = gather_below script.nodes (λ p. gather_below script.nodes (λ q. filter_map (in_set s (tell_in x)) (w.mail p q)))
+
+    in_parked : List Tell
+    in_parked = gather_below script.nodes (λ q. filter_map (tell_parked x) (state_at w s q).parked)
+
+    found : Contains (tells_of script w s x) tell → IsTellOf script w s x tell
+    found h = elim (Contains-append_cases in_mail in_parked tell h) [
+      | inl mail ↦
+          let from = gathered-which script.nodes (λ p. gather_below script.nodes (λ q. filter_map (in_set s (tell_in x)) (w.mail p q))) tell mail in
+          let to = gathered-which script.nodes (λ q. filter_map (in_set s (tell_in x)) (w.mail from.0 q)) tell from.2 in
+          let letter = filter_map-which (in_set s (tell_in x)) (w.mail from.0 to.0) tell to.2 in
+          let says = in_set-which s (tell_in x) letter.0 tell letter.2 in
+          let body = tell_body x tell letter.0.body says.1 in
+          (body.1, to.0, to.1, inl (from.0, letter.0, from.1, record { among = letter.1; set = says.0 }, body.0))
+      | inr parked ↦
+          let at = gathered-which script.nodes (λ q. filter_map (tell_parked x) (state_at w s q).parked) tell parked in
+          let item = filter_map-which (tell_parked x) (state_at w s at.0).parked tell at.2 in
+          let body = tell_item x tell item.0 item.2 in
+          (body.1, at.0, at.1, inr (subst (λ (i : Parked). Contains (state_at w s at.0).parked i) body.0 item.1))
+    ]
+
+    gathered : IsTellOf script w s x tell → Contains (tells_of script w s x) tell
+    gathered h = elim h.3 [
+      | inl comes ↦ Contains-append_left in_mail in_parked tell
+          (gathered-at script.nodes (λ p. gather_below script.nodes (λ q. filter_map (in_set s (tell_in x)) (w.mail p q))) comes.0 tell comes.2
+          (gathered-at script.nodes (λ q. filter_map (in_set s (tell_in x)) (w.mail comes.0 q)) h.1 tell h.2
+          (filter_map-at (in_set s (tell_in x)) (w.mail comes.0 h.1) comes.1 tell comes.3.among
+          (in_set-at s (tell_in x) comes.1 tell comes.3.set (ap (tell_in x) comes.4 ∙ tell_if-at x tell h.0)))))
+      | inr parked ↦ Contains-append_right in_mail in_parked tell
+          (gathered-at script.nodes (λ q. filter_map (tell_parked x) (state_at w s q).parked) h.1 tell h.2
+          (filter_map-at (tell_parked x) (state_at w s h.1).parked (ParkedTell tell) tell parked (tell_if-at x tell h.0)))
+    ]

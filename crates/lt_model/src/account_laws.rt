@@ -1,0 +1,66 @@
+ghost use Rattle.lt_model.specs.AccountLaws.{Ticks, Ages, Asks, Grants, Unlocks, Drops, Answers, Owes, Delivers, Applies, AppliesStale, Tells, Settles, Arrives, Rests, Reorders, HoldClear};
+ghost use Rattle.lt_model.specs.AccountFacts.{OwedAreOnWay, OnWayAreOwed, TellKeepsWaiting, TwiceIsOnce, RecordBoundsHeld, StandsOnce};
+ghost use Rattle.lt_model.specs.AccountPlay.{ClearStays, FirstAccounts, AnyOrder};
+ghost use Rattle.lt_model.specs.NewsLaws.{Begins, Changes, Sends, Spares, Keeps, Takes, Leaves, Arrives as NewsArrive, Reorders as NewsReorder, FrozenAtRest};
+ghost use Rattle.lt_model.specs.OnWayLaws.{TellsAreOnWay, CopiesAreOnWay, FreezesAreOnWay};
+
+/// What can happen to the account of a node keeps it. What counts of the node then bars the same, or less, or one mode
+/// more, which no other node bars.
+pub fn law_account()
+    ensures ticks { Ticks }
+    ensures ages { Ages }
+    ensures asks { Asks }
+    ensures grants { Grants }
+    ensures unlocks { Unlocks }
+    ensures drops { Drops }
+    ensures answers { Answers }
+    ensures owes { Owes }
+    ensures delivers { Delivers }
+    ensures applies { Applies }
+    ensures stale { AppliesStale }
+    ensures tells { Tells }
+    ensures settles { Settles }
+    ensures arrives { Arrives }
+    ensures rests { Rests }
+    ensures reorders { Reorders }
+{}
+
+/// What a kept account says of its node, whatever is on its way.
+pub fn law_account_facts()
+    ensures once { StandsOnce }
+    ensures owed { OwedAreOnWay }
+    ensures on_way { OnWayAreOwed }
+    ensures told { TellKeepsWaiting }
+    ensures twice { TwiceIsOnce }
+    ensures bound { RecordBoundsHeld }
+{}
+
+/// Two nodes whose records are clear of each other hold modes that don't conflict, in any order in which tells, copies
+/// and tokens arrive.
+pub fn law_accounts()
+    ensures first { FirstAccounts }
+    ensures held { HoldClear }
+    ensures clear { ClearStays }
+    ensures any_order { AnyOrder }
+{}
+
+/// What can happen to the news of frozen modes of a node keeps it, and what the news are at rest.
+pub fn law_news()
+    ensures begins { Begins }
+    ensures changes { Changes }
+    ensures sends { Sends }
+    ensures spares { Spares }
+    ensures keeps { Keeps }
+    ensures takes { Takes }
+    ensures leaves { Leaves }
+    ensures arrives { NewsArrive }
+    ensures reorders { NewsReorder }
+    ensures rest { FrozenAtRest }
+{}
+
+/// The tells, copies and freezes that are gathered for a node are those in letters on their way and in parked letters.
+pub fn law_on_way()
+    ensures tells { TellsAreOnWay }
+    ensures copies { CopiesAreOnWay }
+    ensures freezes { FreezesAreOnWay }
+{}
