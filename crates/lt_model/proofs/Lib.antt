@@ -39,3 +39,4 @@ pub mod AccountDesk
 pub mod AccountPlay
 pub mod NewsLemmas
 pub mod Gathered
+pub mod AccountRules

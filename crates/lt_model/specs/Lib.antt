@@ -11,6 +11,7 @@ pub mod Account
 pub mod AccountSteps
 pub mod AccountLaws
 pub mod AccountPlay
+pub mod AccountRules
 pub mod News
 pub mod NewsSteps
 pub mod NewsLaws

@@ -1,5 +1,6 @@
 ghost use Rattle.lt_model.specs.AccountLaws.{Ticks, Ages, Asks, Grants, Unlocks, Drops, Answers, Owes, Delivers, Applies, AppliesStale, Tells, Settles, Arrives, Rests, Reorders, HoldClear};
 ghost use Rattle.lt_model.specs.AccountFacts.{OwedAreOnWay, OnWayAreOwed, TellKeepsWaiting, TwiceIsOnce, RecordBoundsHeld, StandsOnce};
+ghost use Rattle.lt_model.specs.AccountRules.{GrantsByRule, FrozenIsNotGranted, CommandsAreSteps, ServesByRule, ServicesAreSteps, CopiesAreDelivered, TellsAreApplied, TellsAreMade, HandingOverSettles, TokensArrive};
 ghost use Rattle.lt_model.specs.AccountPlay.{ClearStays, FirstAccounts, AnyOrder};
 ghost use Rattle.lt_model.specs.NewsLaws.{Begins, Changes, Sends, Spares, Keeps, Takes, Leaves, Arrives as NewsArrive, Reorders as NewsReorder, FrozenAtRest};
 ghost use Rattle.lt_model.specs.OnWayLaws.{TellsAreOnWay, CopiesAreOnWay, FreezesAreOnWay};
@@ -23,6 +24,20 @@ pub fn law_account()
     ensures arrives { Arrives }
     ensures rests { Rests }
     ensures reorders { Reorders }
+{}
+
+/// The rules of a node are steps of accounts: what a rule tests is what its step asks for, and what it changes is the step.
+pub fn law_account_rules()
+    ensures grants { GrantsByRule }
+    ensures frozen { FrozenIsNotGranted }
+    ensures commands { CommandsAreSteps }
+    ensures serves { ServesByRule }
+    ensures services { ServicesAreSteps }
+    ensures delivers { CopiesAreDelivered }
+    ensures applies { TellsAreApplied }
+    ensures tells { TellsAreMade }
+    ensures settles { HandingOverSettles }
+    ensures arrives { TokensArrive }
 {}
 
 /// What a kept account says of its node, whatever is on its way.

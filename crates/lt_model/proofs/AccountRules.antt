@@ -1,0 +1,195 @@
+-- The rules of a node are steps of accounts.
+use Rattle.std.proofs.Common.{◌≡◌, ◌≢◌, ℕ, zero, suc, ◌+◌, ◌<◌, inl, inr, List, [], ◌∷◌, length, Option, Some, None, Bool, true, false, refl, sym, ap, subst, arith, ◌∙◌}
+use Rattle.std.specs.Prelude.{◌⊎◌, ◌||◌, ◌&&◌, ◌==◌, not, IsTrue, IsFalse, if◌then◌else◌, is_some, remove, slice_index_or, slice_set}
+use Rattle.std.proofs.lemmas.Bool.{and_parts, or_cases, not-true, eq-eqb, ne_eqb, eqb-true, cases_eq}
+use Rattle.std.proofs.lemmas.List.{get_or-set_same, get_or-set_other}
+use Rattle.lt_modes.specs.declared.mode.Mode.{Mode}
+use Rattle.lt_modes.specs.declared.stamp.Stamp.{Stamp}
+use Rattle.lt_modes.specs.declared.ask.Ask.{Ask}
+use Rattle.lt_modes.specs.Modes.{Modes, has, union, bars, covers, same_modes, with_mode}
+use Rattle.lt_modes.specs.State.{SetState, Desk, Entry, Tell, first_entry}
+use Rattle.lt_modes.specs.Held.{own_modes, other_modes, held_modes}
+use Rattle.lt_modes.specs.Queue.{no_ask, modes_of_asks}
+use Rattle.lt_modes.specs.Records.{entry_of, record_of, own_owed, own_part, others}
+use Rattle.lt_modes.specs.Tells.{told}
+use Rattle.lt_modes.specs.Granting.{can_grant, may_join, against, asks_before}
+use Rattle.lt_modes.specs.Serving.{ask_at, queue_of, queue_of_desk, next_service, next_at, next_from, is_served, is_free, is_local, is_copy, is_clear_at_home, put_queue, served, serve_copy, owed_at, owing}
+use Rattle.lt_modes.specs.HandingOver.{settled, without_desk}
+use Rattle.lt_modes.proofs.ModeAlgebra.{same_modes-true}
+use Rattle.lt_model.specs.Account.{Account, owed_and_waiting}
+use Rattle.lt_model.specs.AccountSteps.{MayGrant, MayJoin}
+use Rattle.lt_model.specs.AccountRules.{own_account, others_known, GrantsByRule, FrozenIsNotGranted, CommandsAreSteps, IsLocallyFree, IsCopyFree, ServesByRule, ServicesAreSteps, CopiesAreDelivered, TellsAreApplied, TellsAreMade, HandingOverSettles, TokensArrive}
+use Rattle.lt_model.proofs.AccountFacts.{bars_not, not_bars, below_by_members}
+use Rattle.lt_model.proofs.Members.{has-union, has-left, has-right}
+use Rattle.lt_model.proofs.PathsQuiet.{put_queue_some}
+
+-- a test that fails against a union fails against its parts
+fails_within : (mode : Mode) (more fewer : Modes) → ((m : Mode) → IsTrue (has m fewer) → IsTrue (has m more)) → IsFalse (has mode (bars more))
+    → IsFalse (has mode (bars fewer))
+fails_within mode more fewer within fails = not_bars fewer mode (λ bar. bars_not more mode fails (below_by_members fewer more within mode bar))
+
+not_true : (t : Bool) → not t ≡ true → t ≡ false
+not_true true e = cc
+not_true false e = refl
+
+pub grants_by_rule : GrantsByRule
+grants_by_rule me clock client mode s entry tells copies can own charge =
+    elim (or_cases (covers (own_modes s.held client) mode) (not (has mode (bars (other_modes s.held client))) && may_join me s client mode s.desk) can) [
+      | inl covered ↦ inl covered
+      | inr joins ↦
+          let parts = and_parts (not (has mode (bars (other_modes s.held client)))) (may_join me s client mode s.desk) joins in
+          inr (not_true (has mode (bars (other_modes s.held client))) parts.0, by_desk s.desk refl parts.1)
+    ]
+  where
+    by_desk : (o : Option Desk) → s.desk ≡ o → may_join me s client mode o ≡ true
+        → MayJoin (others_known me s o) mode (own_account true clock entry tells copies s) (is_some o)
+    by_desk None away e = (charge away, (and_parts (covers s.charge mode) (not (has mode s.frozen)) e).0)
+    by_desk (Some desk) here e =
+        let fails = not_true (has mode (bars (against me s client desk))) e in
+        let waiting = asks_before s client desk in
+        fails_within mode (against me s client desk) (union (others me s desk me) (owed_and_waiting (own_account true clock entry tells copies s)))
+        (λ m member. elim (has-union m (others me s desk me) (owed_and_waiting (own_account true clock entry tells copies s)) member) [
+          | inl other ↦ has-left m (others me s desk me) (union (own_owed me s desk) (modes_of_asks waiting)) other
+          | inr owed ↦ has-right m (others me s desk me) (union (own_owed me s desk) (modes_of_asks waiting))
+              (has-left m (own_owed me s desk) (modes_of_asks waiting)
+              (subst (λ (x : Entry). IsTrue (has m (owed_and_waiting (own_account true clock x tells copies s)))) (own desk here) owed))
+        ])
+        fails
+
+pub frozen_is_not_granted : FrozenIsNotGranted
+frozen_is_not_granted me client mode s away can =
+    elim (or_cases (covers (own_modes s.held client) mode) (not (has mode (bars (other_modes s.held client))) && may_join me s client mode s.desk) can) [
+      | inl covered ↦ inl covered
+      | inr joins ↦
+          let joined = (and_parts (not (has mode (bars (other_modes s.held client)))) (may_join me s client mode s.desk) joins).1 in
+          let alone : may_join me s client mode None ≡ true = ap (may_join me s client mode) (sym away) ∙ joined in
+          inr (not_true (has mode s.frozen) (and_parts (covers s.charge mode) (not (has mode s.frozen)) alone).1)
+    ]
+
+pub commands_are_steps : CommandsAreSteps
+commands_are_steps = record {
+  gives = λ clock client mode gives_up s entry tells copies. refl;
+  unlocks = λ clock client mode s entry tells copies. refl;
+  drops = λ clock client s entry tells copies. refl;
+}
+
+-- the ask that is next was tested against the asks before it
+next_tested : (me : ℕ) (s : SetState) (desk : Desk) (before : Modes) (first : ℕ) (queue : List Ask) (k : ℕ) → next_from me s desk before first queue ≡ Some k
+    → (i : ℕ) × (k ≡ first + i) × (seen : Modes) × (is_served me s desk seen (slice_index_or queue i no_ask) ≡ true)
+next_tested me s desk before first [] k e = cc
+next_tested me s desk before first (ask ∷ rest) k e =
+    by_test (is_served me s desk before ask) refl e (λ f. next_tested me s desk (with_mode before ask.mode) (first + 1) rest k f)
+  where
+    by_test : (now : Bool) → is_served me s desk before ask ≡ now
+        → (if now then Some first else next_from me s desk (with_mode before ask.mode) (first + 1) rest) ≡ Some k
+        → (next_from me s desk (with_mode before ask.mode) (first + 1) rest ≡ Some k
+            → (i : ℕ) × (k ≡ first + 1 + i) × (seen : Modes) × (is_served me s desk seen (slice_index_or rest i no_ask) ≡ true))
+        → (i : ℕ) × (k ≡ first + i) × (seen : Modes) × (is_served me s desk seen (slice_index_or (ask ∷ rest) i no_ask) ≡ true)
+    by_test true test f again = let same : first ≡ k = cc in (0, omega (arith, same), before, test)
+    by_test false test f again = let found = again f in (suc found.0, omega (arith, found.1), found.2, found.3)
+
+served_by_kind : (me : ℕ) (s : SetState) (desk : Desk) (seen : Modes) (ask : Ask) → is_served me s desk seen ask ≡ true
+    → IsLocallyFree me s desk ask ⊎ IsCopyFree me s desk ask
+served_by_kind me s desk seen ask e =
+    elim (or_cases (is_local me s desk ask) (is_copy me s desk ask) parts.1) [
+      | inl local ↦
+          let tests = and_parts (ask.node == me) (not (has ask.mode (bars (union (other_modes s.held ask.client) (own_owed me s desk))))) local in
+          let same = eqb-true ask.node me tests.0 in
+          inl (record {
+            node = same;
+            free = subst (λ (v : ℕ). IsFalse (has ask.mode (bars (others me s desk v)))) same free;
+            local = not_true (has ask.mode (bars (union (other_modes s.held ask.client) (own_owed me s desk)))) tests.1;
+          })
+      | inr copy ↦
+          let tests = and_parts (not (ask.node == me)) (covers (others me s desk ask.node) ask.mode && is_clear_at_home me s desk ask) copy in
+          let more = and_parts (covers (others me s desk ask.node) ask.mode) (is_clear_at_home me s desk ask) tests.1 in
+          let other : (ask.node == me) ≡ false = not_true (ask.node == me) tests.0 in
+          inr (record {
+            node = λ same. both (ask.node == me) (eq-eqb ask.node me same) other;
+            free = free;
+            covered = more.0;
+            clear = subst (λ (b : Bool). IsFalse (has ask.mode (bars (if b then own_part me s desk else record_of (entry_of desk ask.node))))) other
+                (not_true (has ask.mode (bars (if ask.node == me then own_part me s desk else record_of (entry_of desk ask.node)))) more.1);
+          })
+    ]
+  where
+    both : {A : Type 0} (t : Bool) → t ≡ true → t ≡ false → A
+    both t p q = let no : true ≡ false = sym p ∙ q in cc
+
+    parts : IsTrue (is_free me s desk seen ask) × IsTrue (is_local me s desk ask || is_copy me s desk ask)
+    parts = and_parts (is_free me s desk seen ask) (is_local me s desk ask || is_copy me s desk ask) e
+
+    free : IsFalse (has ask.mode (bars (others me s desk ask.node)))
+    free = fails_within ask.mode (union (others me s desk ask.node) seen) (others me s desk ask.node) (λ m member. has-left m (others me s desk ask.node) seen member)
+        (not_true (has ask.mode (bars (union (others me s desk ask.node) seen))) parts.0)
+
+pub serves_by_rule : ServesByRule
+serves_by_rule me k s desk here e =
+    let at_desk : next_at me s (Some desk) ≡ Some k = ap (next_at me s) (sym here) ∙ e in
+    let found = next_tested me s desk _ 0 desk.queue k at_desk in
+    let place : found.0 ≡ k = omega (arith, found.1) in
+    let queue : desk.queue ≡ queue_of s = ap queue_of_desk (sym here) in
+    let ask : slice_index_or desk.queue found.0 no_ask ≡ ask_at s k =
+    ap (λ (i : ℕ). slice_index_or desk.queue i no_ask) place ∙ ap (λ (l : List Ask). slice_index_or l k no_ask) queue in
+    served_by_kind me s desk found.2 (ask_at s k) (ap (is_served me s desk found.2) (sym ask) ∙ found.3)
+
+-- an entry after one was put
+entry_put : (desk : Desk) (v x : ℕ) (entry : Entry) → v < length desk.entries
+    → slice_index_or (slice_set desk.entries v entry) x first_entry ≡ (if x == v then entry else entry_of desk x)
+entry_put desk v x entry within = by_place (cases_eq x v)
+  where
+    by_place : (x ≡ v) ⊎ (x ≢ v) → slice_index_or (slice_set desk.entries v entry) x first_entry ≡ (if x == v then entry else entry_of desk x)
+    by_place (inl same) =
+        ap (λ (i : ℕ). slice_index_or (slice_set desk.entries v entry) i first_entry) same
+        ∙ get_or-set_same desk.entries v entry first_entry within
+        ∙ ap (λ (b : Bool). if b then entry else entry_of desk x) (sym (eq-eqb x v same))
+    by_place (inr other) =
+        get_or-set_other desk.entries v x entry first_entry other
+        ∙ ap (λ (b : Bool). if b then entry else entry_of desk x) (sym (ne_eqb x v other))
+
+-- the same with an entry that is made of the one before
+entry_made : (desk : Desk) (v x : ℕ) (make : Entry → Entry) → v < length desk.entries
+    → slice_index_or (slice_set desk.entries v (make (entry_of desk v))) x first_entry ≡ (if x == v then make (entry_of desk x) else entry_of desk x)
+entry_made desk v x make within = entry_put desk v x (make (entry_of desk v)) within ∙ by_place (cases_eq x v)
+  where
+    by_place : (x ≡ v) ⊎ (x ≢ v) → (if x == v then make (entry_of desk v) else entry_of desk x) ≡ (if x == v then make (entry_of desk x) else entry_of desk x)
+    by_place (inl same) = ap (λ (i : ℕ). if x == v then make (entry_of desk i) else entry_of desk x) (sym same)
+    by_place (inr other) = rw (ne_eqb x v other) refl
+
+pub services_are_steps : ServicesAreSteps
+services_are_steps = record {
+  answers = λ clock k s entry tells copies.
+      ap (λ (b : Bool). record (own_account true clock entry tells copies (served s k)) { here = b }) (put_queue_some (remove (queue_of s) k) s.desk);
+  owes = λ set k x stamp ask s desk left here there within.
+      let one : owed_at ask k (Some desk) ≡ Some left = ap (owed_at ask k) (sym here) ∙ there in
+      let same = some_desk _ left one in
+      ap (λ (d : Desk). entry_of d x) (sym same) ∙ entry_made desk ask.node x (owing ask) within;
+}
+  where
+    some_desk : (a b : Desk) → Some a ≡ Some b → a ≡ b
+    some_desk a b e = cc
+
+pub copies_are_delivered : CopiesAreDelivered
+copies_are_delivered set clock ask s entry tells copies left = refl
+
+pub tells_are_applied : TellsAreApplied
+tells_are_applied x tell desk within = entry_made desk tell.node x (told tell) within
+
+pub tells_are_made : TellsAreMade
+tells_are_made = record {
+  says = λ clock stamp s entry tells copies. refl;
+  charge = λ clock s entry tells more copies. refl;
+  none = λ clock s entry tells copies same away. same_modes-true (bars (held_modes s.held)) (bars s.charge) same;
+}
+
+pub handing_over_settles : HandingOverSettles
+handing_over_settles = record {
+  settles = λ clock v epoch stamp s desk tells copies within.
+      ap (λ (x : Entry). own_account false clock x tells copies (without_desk s v epoch))
+      (get_or-set_same desk.entries stamp.node (settled stamp s (entry_of desk stamp.node)) first_entry within);
+  others_stay = λ x stamp s desk other.
+      get_or-set_other desk.entries stamp.node x (settled stamp s (entry_of desk stamp.node)) first_entry other;
+}
+
+pub tokens_arrive : TokensArrive
+tokens_arrive me clock desk s entry tells copies = refl
