@@ -1,23 +1,22 @@
 -- The rules of a node are steps of accounts.
-use Rattle.std.proofs.Common.{◌≡◌, ◌≢◌, ℕ, zero, suc, ◌+◌, ◌<◌, inl, inr, List, [], ◌∷◌, length, Option, Some, None, Bool, true, false, refl, sym, ap, subst, arith, ◌∙◌}
+use Rattle.std.proofs.Common.{◌≡◌, ◌≢◌, ℕ, suc, ◌+◌, ◌<◌, inl, inr, List, [], ◌∷◌, length, Option, Some, None, Bool, true, false, refl, sym, ap, subst, arith, ◌∙◌}
 use Rattle.std.specs.Prelude.{◌⊎◌, ◌||◌, ◌&&◌, ◌==◌, not, IsTrue, IsFalse, if◌then◌else◌, is_some, remove, slice_index_or, slice_set}
-use Rattle.std.proofs.lemmas.Bool.{and_parts, or_cases, not-true, eq-eqb, ne_eqb, eqb-true, cases_eq}
+use Rattle.std.proofs.lemmas.Bool.{and_parts, or_cases, eq-eqb, ne_eqb, eqb-true, cases_eq}
 use Rattle.std.proofs.lemmas.List.{get_or-set_same, get_or-set_other}
 use Rattle.lt_modes.specs.declared.mode.Mode.{Mode}
-use Rattle.lt_modes.specs.declared.stamp.Stamp.{Stamp}
 use Rattle.lt_modes.specs.declared.ask.Ask.{Ask}
-use Rattle.lt_modes.specs.Modes.{Modes, has, union, bars, covers, same_modes, with_mode}
-use Rattle.lt_modes.specs.State.{SetState, Desk, Entry, Tell, first_entry}
+use Rattle.lt_modes.specs.Modes.{Modes, has, union, bars, covers, with_mode}
+use Rattle.lt_modes.specs.State.{SetState, Desk, Entry, first_entry}
 use Rattle.lt_modes.specs.Held.{own_modes, other_modes, held_modes}
 use Rattle.lt_modes.specs.Queue.{no_ask, modes_of_asks}
 use Rattle.lt_modes.specs.Records.{entry_of, record_of, own_owed, own_part, others}
 use Rattle.lt_modes.specs.Tells.{told}
-use Rattle.lt_modes.specs.Granting.{can_grant, may_join, against, asks_before}
-use Rattle.lt_modes.specs.Serving.{ask_at, queue_of, queue_of_desk, next_service, next_at, next_from, is_served, is_free, is_local, is_copy, is_clear_at_home, put_queue, served, serve_copy, owed_at, owing}
+use Rattle.lt_modes.specs.Granting.{may_join, against, asks_before}
+use Rattle.lt_modes.specs.Serving.{ask_at, queue_of, queue_of_desk, next_at, next_from, is_served, is_free, is_local, is_copy, is_clear_at_home, served, owed_at, owing}
 use Rattle.lt_modes.specs.HandingOver.{settled, without_desk}
 use Rattle.lt_modes.proofs.ModeAlgebra.{same_modes-true}
-use Rattle.lt_model.specs.Account.{Account, owed_and_waiting}
-use Rattle.lt_model.specs.AccountSteps.{MayGrant, MayJoin}
+use Rattle.lt_model.specs.Account.{owed_and_waiting}
+use Rattle.lt_model.specs.AccountSteps.{MayJoin}
 use Rattle.lt_model.specs.AccountRules.{own_account, others_known, GrantsByRule, FrozenIsNotGranted, CommandsAreSteps, IsLocallyFree, IsCopyFree, ServesByRule, ServicesAreSteps, CopiesAreDelivered, TellsAreApplied, TellsAreMade, HandingOverSettles, TokensArrive}
 use Rattle.lt_model.proofs.AccountFacts.{bars_not, not_bars, below_by_members}
 use Rattle.lt_model.proofs.Members.{has-union, has-left, has-right}
@@ -83,7 +82,7 @@ next_tested me s desk before first (ask ∷ rest) k e =
     by_test : (now : Bool) → is_served me s desk before ask ≡ now
         → (if now then Some first else next_from me s desk (with_mode before ask.mode) (first + 1) rest) ≡ Some k
         → (next_from me s desk (with_mode before ask.mode) (first + 1) rest ≡ Some k
-            → (i : ℕ) × (k ≡ first + 1 + i) × (seen : Modes) × (is_served me s desk seen (slice_index_or rest i no_ask) ≡ true))
+        → (i : ℕ) × (k ≡ first + 1 + i) × (seen : Modes) × (is_served me s desk seen (slice_index_or rest i no_ask) ≡ true))
         → (i : ℕ) × (k ≡ first + i) × (seen : Modes) × (is_served me s desk seen (slice_index_or (ask ∷ rest) i no_ask) ≡ true)
     by_test true test f again = let same : first ≡ k = cc in (0, omega (arith, same), before, test)
     by_test false test f again = let found = again f in (suc found.0, omega (arith, found.1), found.2, found.3)

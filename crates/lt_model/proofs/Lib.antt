@@ -40,3 +40,4 @@ pub mod AccountPlay
 pub mod NewsLemmas
 pub mod Gathered
 pub mod AccountRules
+pub mod Moment

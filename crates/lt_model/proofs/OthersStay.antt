@@ -61,7 +61,7 @@ weigh_of_set s of_body (letter ∷ rest) =
     by_test again false e = omega (arith, e, again)
 
 -- the parts that make a set the same
-same_set : (script : ScriptData) (w later : World) (s : ℕ) → ((x : ℕ) → state_at later s x ≡ state_at w s x)
+pub same_set : (script : ScriptData) (w later : World) (s : ℕ) → ((x : ℕ) → state_at later s x ≡ state_at w s x)
     → ((p q : ℕ) → of_set s (later.mail p q) ≡ of_set s (w.mail p q)) → later.went s ≡ w.went s → SameSet script w later s
 same_set script w later s states letters went = record {
   states = states;

@@ -1,6 +1,6 @@
 -- What each rule of a node does to accounts, as statements: the rule's tests are what the account's step asks for,
 -- and its effect is that step.
-use Rattle.std.specs.Prelude.{◌≡◌, ◌≢◌, ◌⊎◌, ◌==◌, ◌+◌, ◌<◌, Bool, true, false, ℕ, List, Option, Some, None, if◌then◌else◌, is_some, IsTrue, IsFalse, length}
+use Rattle.std.specs.Prelude.{◌≡◌, ◌≢◌, ◌⊎◌, ◌==◌, ◌<◌, Bool, true, false, ℕ, List, Option, Some, None, if◌then◌else◌, is_some, IsTrue, IsFalse, length}
 use Rattle.lt_modes.specs.declared.mode.Mode.{Mode}
 use Rattle.lt_modes.specs.declared.stamp.Stamp.{Stamp}
 use Rattle.lt_modes.specs.declared.ask.Ask.{Ask}
@@ -16,7 +16,7 @@ use Rattle.lt_modes.specs.Telling.{tell_of}
 use Rattle.lt_modes.specs.Taking.{take_copy, take_token}
 use Rattle.lt_modes.specs.SetMove.{given, dropped}
 use Rattle.lt_model.specs.Account.{Account}
-use Rattle.lt_model.specs.AccountSteps.{MayGrant, granting, unlocking, dropping, asking, answering, owing_copy, delivering, tell_by, telling, settling, arriving, MayRest}
+use Rattle.lt_model.specs.AccountSteps.{MayGrant, granting, unlocking, dropping, answering, delivering, tell_by, telling, settling, arriving, MayRest}
 
 -- the account of a node that keeps this for the set
 abbrev pub own_account : Bool → ℕ → Entry → List Tell → List Ask → SetState → Account

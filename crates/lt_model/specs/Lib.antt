@@ -20,6 +20,7 @@ pub mod Paths
 pub mod PathEffects
 pub mod Touches
 pub mod Invariant
+pub mod Moment
 pub mod Timed
 pub mod Standing
 pub mod AccountFacts

@@ -1,3 +1,4 @@
+ghost use Rattle.lt_model.specs.Moment.{MoveBegins, AsideStays};
 ghost use Rattle.lt_model.specs.PathEffects.{EffectsOnPath};
 ghost use Rattle.lt_model.specs.Laws.{StartKept, StartLines, PathsKept, PathsInRuns, DeskSomewhere, TokenComes, OneToken, OthersStay, ClockMoves, OtherClocksStay, StampsKept, ClocksInRuns, TimedKept, TimedInRuns, StandingKept, StandingInRuns, OnePlace, ServedKept, ServedInRuns, TryIsExact};
 
@@ -5,6 +6,12 @@ ghost use Rattle.lt_model.specs.Laws.{StartKept, StartLines, PathsKept, PathsInR
 pub fn law_start()
     ensures world { StartKept }
     ensures lines { StartLines }
+{}
+
+/// What holds of a set holds in its middle form when a move begins, and stays as it is when a move doesn't touch the set.
+pub fn law_moment()
+    ensures begins { MoveBegins }
+    ensures aside { AsideStays }
 {}
 
 /// Links lead to the token of a set, of which there is one, and no enabled move changes that.

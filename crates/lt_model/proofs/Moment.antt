@@ -1,0 +1,269 @@
+-- A set of which nothing changes but that clocks go on: it stays kept, and a node whose clock went on may be in its move.
+use Rattle.std.proofs.Common.{◌≡◌, ℕ, zero, suc, ◌<◌, ◌≤◌, inl, inr, List, [], ◌∷◌, ◌++◌, length, Option, Some, None, Bool, true, false, refl, sym, ap, subst, arith, ◌∙◌}
+use Rattle.std.specs.Prelude.{◌==◌, if◌then◌else◌, is_some, All, Contains}
+use Rattle.std.specs.List.{filter_map, cons_option}
+use Rattle.std.proofs.lemmas.Bool.{eq-eqb, eqb-true}
+use Rattle.std.proofs.lemmas.List.Elements.{All-weaker}
+use Rattle.lt_modes.specs.declared.ask.Ask.{Ask}
+use Rattle.lt_modes.specs.Modes.{Modes}
+use Rattle.lt_modes.specs.Held.{held_modes}
+use Rattle.lt_modes.specs.Script.{ScriptData}
+use Rattle.lt_modes.specs.State.{SetState, Desk, Entry, Tell, Body, Letter, Parked, ParkedAsk, ParkedTell}
+use Rattle.lt_modes.specs.Records.{entry_of, record_of}
+use Rattle.lt_modes.specs.Freezing.{frozen_by}
+use Rattle.lt_modes.specs.Serving.{next_service, next_move}
+use Rattle.lt_modes.specs.Fits.{Numbers}
+use Rattle.lt_modes.specs.Sound.{IsNoLater, ChargeKept, SoundDesk, SoundSet}
+use Rattle.lt_model.specs.Below.{gather_below}
+use Rattle.lt_model.specs.World.{World, after}
+use Rattle.lt_model.specs.Facts.{state_at, one_if, tokens_in, places_in_state, places_in_body, times_in}
+use Rattle.lt_model.specs.OnWay.{OnWay, Comes, DeskIs, is_at, in_set, tell_in, tell_parked, copy_in, freeze_in, tells_of, copies_to, freezes_to, account_of, news_of, is_serving}
+use Rattle.lt_model.specs.Account.{Account, AccountKept, AreClear, counted}
+use Rattle.lt_model.specs.News.{News, NewsKept, Word}
+use Rattle.lt_model.specs.Paths.{Paths, StateOnPath, LetterOnPath}
+use Rattle.lt_model.specs.SoundNode.{numbers_of}
+use Rattle.lt_model.specs.Touches.{of_set, SameSet}
+use Rattle.lt_model.specs.Invariant.{PlacesKept, IsParkedFor, DeskKept, SetKept}
+use Rattle.lt_model.specs.Moment.{begun, MoveBegins, AsideStays}
+use Rattle.lt_model.proofs.Sums.{sum_below-same}
+use Rattle.lt_model.proofs.Members.{contains_filter, contains_filtered}
+use Rattle.lt_model.proofs.OthersStay.{same_set, others_stay}
+use Rattle.lt_model.proofs.ClocksGrow.{clocks_grow}
+use Rattle.lt_model.proofs.AccountFacts.{held_below_charge}
+use Rattle.lt_model.proofs.AccountAsks.{ticks_kept, ages_kept}
+use Rattle.lt_model.proofs.NewsLemmas.{begins_kept}
+
+-- the clock stays or goes on, and goes on where the node is in its move
+abbrev Goes : Bool → ℕ → ℕ → Type 0
+Goes false old new = old ≤ new
+Goes true old new = old < new
+
+goes_on : (moving : Bool) (old new : ℕ) → Goes moving old new → old ≤ new
+goes_on false old new h = h
+goes_on true old new h = omega (arith, h)
+
+no_later : (moving : Bool) (old new k : ℕ) → Goes moving old new → k ≤ old → IsNoLater moving new k
+no_later false old new k goes h = omega (arith, goes, h)
+no_later true old new k goes h = omega (arith, goes, h)
+
+on_way_same : (w later : World) (s p q : ℕ) (letter : Letter) → of_set s (later.mail p q) ≡ of_set s (w.mail p q) → OnWay later s p q letter → OnWay w s p q letter
+on_way_same w later s p q letter same on =
+    let kept = contains_filter (λ (l : Letter). l.set == s) (later.mail p q) letter on.among (eq-eqb letter.set s on.set) in
+    record {
+      among = (contains_filtered (λ (l : Letter). l.set == s) (w.mail p q) letter (subst (λ (ls : List Letter). Contains ls letter) same kept)).0;
+      set = on.set;
+    }
+
+comes_same : (script : ScriptData) (w later : World) (s x : ℕ) (body : Body) → ((p q : ℕ) → of_set s (later.mail p q) ≡ of_set s (w.mail p q))
+    → Comes script later s x body → Comes script w s x body
+comes_same script w later s x body same h = (h.0, h.1, h.2, on_way_same w later s h.0 x h.1 (same h.0 x) h.3, h.4)
+
+-- what is read from the letters of the set is read from them alone
+read_of_set : {X : Type 0} (s : ℕ) (read : Body → Option X) (letters : List Letter)
+    → filter_map (in_set s read) letters ≡ filter_map (λ (letter : Letter). read letter.body) (of_set s letters)
+read_of_set s read [] = refl
+read_of_set {X = X} s read (letter ∷ rest) = by_set (letter.set == s) (read_of_set s read rest)
+  where
+    by_set : (own : Bool) → filter_map (in_set s read) rest ≡ filter_map (λ (l : Letter). read l.body) (of_set s rest)
+        → cons_option (if own then read letter.body else None) (filter_map (in_set s read) rest)
+        ≡ filter_map (λ (l : Letter). read l.body) (if own then letter ∷ of_set s rest else of_set s rest)
+    by_set true again = ap (cons_option (read letter.body)) again
+    by_set false again = again
+
+read_same : {X : Type 0} (s : ℕ) (read : Body → Option X) (letters others : List Letter) → of_set s letters ≡ of_set s others
+    → filter_map (in_set s read) letters ≡ filter_map (in_set s read) others
+read_same s read letters others same =
+    read_of_set s read letters ∙ ap (filter_map (λ (letter : Letter). read letter.body)) same ∙ sym (read_of_set s read others)
+
+gather_same : {X : Type 0} (n : ℕ) (f g : ℕ → List X) → ((k : ℕ) → f k ≡ g k) → gather_below n f ≡ gather_below n g
+gather_same zero f g same = refl
+gather_same (suc n) f g same = ap (λ l. l ++ f n) (gather_same n f g same) ∙ ap (λ l. gather_below n g ++ l) (same n)
+
+tells_same : (script : ScriptData) (w later : World) (s x : ℕ) → SameSet script w later s → tells_of script later s x ≡ tells_of script w s x
+tells_same script w later s x same =
+    ap (λ (l : List Tell). l ++ gather_below script.nodes (λ q. filter_map (tell_parked x) (state_at later s q).parked))
+    (gather_same script.nodes (λ p. gather_below script.nodes (λ q. filter_map (in_set s (tell_in x)) (later.mail p q)))
+    (λ p. gather_below script.nodes (λ q. filter_map (in_set s (tell_in x)) (w.mail p q)))
+    (λ p. gather_same script.nodes (λ q. filter_map (in_set s (tell_in x)) (later.mail p q)) (λ q. filter_map (in_set s (tell_in x)) (w.mail p q))
+    (λ q. read_same s (tell_in x) (later.mail p q) (w.mail p q) (same.letters p q))))
+    ∙ ap (λ (l : List Tell). gather_below script.nodes (λ p. gather_below script.nodes (λ q. filter_map (in_set s (tell_in x)) (w.mail p q))) ++ l)
+    (gather_same script.nodes (λ q. filter_map (tell_parked x) (state_at later s q).parked) (λ q. filter_map (tell_parked x) (state_at w s q).parked)
+    (λ q. ap (λ (t : SetState). filter_map (tell_parked x) t.parked) (same.states q)))
+
+copies_same : (script : ScriptData) (w later : World) (s x : ℕ) → SameSet script w later s → copies_to script later s x ≡ copies_to script w s x
+copies_same script w later s x same = gather_same script.nodes (λ p. filter_map (in_set s copy_in) (later.mail p x)) (λ p. filter_map (in_set s copy_in) (w.mail p x))
+    (λ p. read_same s copy_in (later.mail p x) (w.mail p x) (same.letters p x))
+
+freezes_same : (script : ScriptData) (w later : World) (s x : ℕ) → SameSet script w later s → freezes_to script later s x ≡ freezes_to script w s x
+freezes_same script w later s x same = gather_same script.nodes (λ p. filter_map (in_set s freeze_in) (later.mail p x)) (λ p. filter_map (in_set s freeze_in) (w.mail p x))
+    (λ p. read_same s freeze_in (later.mail p x) (w.mail p x) (same.letters p x))
+
+-- an account and news by what is read for them
+abbrev account_by : ℕ → Bool → Bool → Entry → SetState → List Tell → List Ask → Account
+account_by clock here moving entry t tells copies = record {
+  clock = clock;
+  held = t.held;
+  charge = t.charge;
+  pending = t.pending;
+  entry = entry;
+  tells = tells;
+  copies = copies;
+  here = here;
+  moving = moving;
+}
+
+account_same : (script : ScriptData) (acting : Option ℕ) (w later : World) (s : ℕ) (place : Option ℕ) (desk : Desk) (x : ℕ) → SameSet script w later s
+    → account_of script acting later s place desk x ≡ record (account_of script None w s place desk x) { clock = (later.node x).clock; moving = is_at acting x }
+account_same script acting w later s place desk x same =
+    let clock = (later.node x).clock in
+    let make = account_by clock (is_at place x) (is_at acting x) (entry_of desk x) in
+    ap (λ (t : SetState). make t (tells_of script later s x) (copies_to script later s x)) (same.states x)
+    ∙ ap (λ (l : List Tell). make (state_at w s x) l (copies_to script later s x)) (tells_same script w later s x same)
+    ∙ ap (λ (l : List Ask). make (state_at w s x) (tells_of script w s x) l) (copies_same script w later s x same)
+
+account_goes : (a : Account) (moving : Bool) (clock : ℕ) → AccountKept a → a.moving ≡ false → Goes moving a.clock clock → AccountKept (record a { clock = clock; moving = moving })
+account_goes a true clock h between goes = (ticks_kept a clock h (record { between = between; later = goes })).0
+account_goes a false clock h between goes =
+    subst (λ (m : Bool). AccountKept (record a { clock = clock; moving = m })) between (ages_kept a clock h between goes)
+
+abbrev news_by : SetState → List Word → Entry → Desk → Bool → Bool → News
+news_by t coming entry desk here serving = record {
+  number = t.number;
+  frozen = t.frozen;
+  coming = coming;
+  recorded = record_of entry;
+  told = entry.frozen_told;
+  last = desk.number;
+  wanted = frozen_by desk.queue;
+  here = here;
+  serving = serving;
+}
+
+news_same : (script : ScriptData) (acting : Option ℕ) (w later : World) (s : ℕ) (place : Option ℕ) (desk : Desk) (x : ℕ) → SameSet script w later s
+    → news_of script acting later s place desk x ≡ record (news_of script None w s place desk x) { serving = is_serving acting place }
+news_same script acting w later s place desk x same =
+    ap (λ (t : SetState). news_by t (freezes_to script later s x) (entry_of desk x) desk (is_at place x) (is_serving acting place)) (same.states x)
+    ∙ ap (λ (l : List Word). news_by (state_at w s x) l (entry_of desk x) desk (is_at place x) (is_serving acting place)) (freezes_same script w later s x same)
+
+news_goes : (n : News) (serving : Bool) → NewsKept n → n.serving ≡ false → NewsKept (record n { serving = serving })
+news_goes n true h between = begins_kept n h
+news_goes n false h between = subst (λ (b : Bool). NewsKept (record n { serving = b })) between h
+
+desk_same : (script : ScriptData) (w later : World) (s : ℕ) (place : Option ℕ) (desk : Desk) → SameSet script w later s → DeskIs script later s place desk → DeskIs script w s place desk
+desk_same script w later s (Some t) desk same h = (h.0, ap (λ (u : SetState). u.desk) (sym (same.states t)) ∙ h.1)
+desk_same script w later s None desk same h = (h.0, h.1, comes_same script w later s h.0 _ same.letters h.2)
+
+parked_same : (script : ScriptData) (w later : World) (s x : ℕ) (item : Parked) → SameSet script w later s → IsParkedFor script w s x item → IsParkedFor script later s x item
+parked_same script w later s x (ParkedTell tell) same h = (h.0, comes_same script later w s x _ (λ p q. sym (same.letters p q)) h.1)
+parked_same script w later s x (ParkedAsk ask) same h = elim h [
+  | inl comes ↦ inl (comes.0, comes_same script later w s x _ (λ p q. sym (same.letters p q)) comes.1)
+  | inr behind ↦ inr (behind.0, subst (λ (t : SetState). Contains t.pending behind.0) (sym (same.states x)) behind.1, behind.2, behind.3)
+]
+
+-- what a node keeps stays sound as its clock goes on
+sound_goes : (numbers : Numbers) (x : ℕ) (moving : Bool) (old new : ℕ) (t : SetState) → Goes moving old new → SoundSet numbers x false old t → SoundSet numbers x moving new t
+sound_goes numbers x moving old new t goes h = record {
+  rows = h.rows;
+  rows_apart = h.rows_apart;
+  pending = h.pending;
+  here = h.here;
+  apart = h.apart;
+  desk = by_desk t.desk h.desk;
+  epoch = no_later moving old new t.firm.epoch goes h.epoch;
+  number = no_later moving old new t.number goes h.number;
+  firm = h.firm;
+  hoped = h.hoped;
+  parked = h.parked;
+}
+  where
+    charge : (m : Bool) → ChargeKept false (held_modes t.held) t.charge → ChargeKept m (held_modes t.held) t.charge
+    charge true e = held_below_charge false (held_modes t.held) t.charge e
+    charge false e = e
+
+    by_desk : (o : Option Desk) → SoundDesk numbers false old t o → SoundDesk numbers moving new t o
+    by_desk None e = charge moving e
+    by_desk (Some desk) e = (e.0, no_later moving old new desk.epoch goes e.1, no_later moving old new desk.number goes e.2, e.3)
+
+paths_same : (script : ScriptData) (w later : World) (s : ℕ) → SameSet script w later s → Paths script w s → Paths script later s
+paths_same script w later s same h = record {
+  went = subst (λ (l : List ℕ). All (λ x. x < script.nodes) l) (sym same.went) h.went;
+  some = omega (arith, h.some, ap length same.went);
+  states = λ x below.
+      subst (λ (l : List ℕ). StateOnPath script.nodes l x (state_at later s x)) (sym same.went)
+      (subst (λ (t : SetState). StateOnPath script.nodes (w.went s) x t) (sym (same.states x)) (h.states x below));
+  beyond = λ x above. ap (λ (t : SetState). t.desk) (same.states x) ∙ h.beyond x above;
+  letters = λ p q letter below on.
+      subst (λ (l : List ℕ). LetterOnPath script.nodes l p q letter) (sym same.went)
+      (h.letters p q letter below (on_way_same w later s p q letter (same.letters p q) on));
+  one_token = same.weights (λ t. one_if (is_some t.desk)) tokens_in ∙ h.one_token;
+}
+
+places_same : (script : ScriptData) (w later : World) (s : ℕ) → SameSet script w later s → PlacesKept script w s → PlacesKept script later s
+places_same script w later s same h = record {
+  once = λ ask. same.weights (places_in_state ask) (places_in_body ask) ∙ h.once ask
+      ∙ sum_below-same script.nodes (λ x. times_in ask (state_at w s x).pending) (λ x. times_in ask (state_at later s x).pending)
+      (λ x below. ap (λ (t : SetState). times_in ask t.pending) (sym (same.states x)));
+  home = λ x ask below comes. h.home x ask below (comes_same script w later s x _ same.letters comes);
+}
+
+-- the set stays kept, between moves or at the beginning of one
+stays_kept : (script : ScriptData) (acting : Option ℕ) (w later : World) (s : ℕ) → SameSet script w later s
+    → ((x : ℕ) → Goes (is_at acting x) (w.node x).clock (later.node x).clock) → SetKept script None w s → SetKept script acting later s
+stays_kept script acting w later s same goes h = record {
+  paths = paths_same script w later s same h.paths;
+  letters = λ p q letter hp hq on.
+      let kept = h.letters p q letter hp hq (on_way_same w later s p q letter (same.letters p q) on) in
+      record {
+        clock = omega (arith, kept.clock, goes_on (is_at acting p) (w.node p).clock (later.node p).clock (goes p));
+        sender = kept.sender;
+        epoch = kept.epoch;
+        body = kept.body;
+      };
+  states = λ x below.
+      subst (λ (t : SetState). SoundSet (numbers_of script) x (is_at acting x) (later.node x).clock t) (sym (same.states x))
+      (sound_goes (numbers_of script) x (is_at acting x) (w.node x).clock (later.node x).clock (state_at w s x) (goes x) (h.states x below));
+  places = places_same script w later s same h.places;
+  parked = λ x below.
+      subst (λ (t : SetState). All (IsParkedFor script later s x) t.parked) (sym (same.states x))
+      (All-weaker (IsParkedFor script w s x) (IsParkedFor script later s x) (λ item. parked_same script w later s x item same) (state_at w s x).parked (h.parked x below));
+  known = λ place desk is_desk. known place desk (h.known place desk (desk_same script w later s place desk same is_desk));
+  served = λ t desk idle is_desk.
+      subst (λ (u : SetState). (next_service t u ≡ None) × (next_move t u ≡ None)) (sym (same.states t))
+      (h.served t desk refl (desk_same script w later s (Some t) desk same is_desk));
+}
+  where
+    known : (place : Option ℕ) (desk : Desk) → DeskKept script None w s place desk → DeskKept script acting later s place desk
+    known place desk k = record {
+      accounts = λ x below.
+          subst AccountKept (sym (account_same script acting w later s place desk x same))
+          (account_goes (account_of script None w s place desk x) (is_at acting x) (later.node x).clock (k.accounts x below) refl (goes x));
+      clear = λ x y hx hy d.
+          subst (λ (m : Modes). AreClear m (counted (account_of script acting later s place desk y))) (sym (ap counted (account_same script acting w later s place desk x same)))
+          (subst (λ (m : Modes). AreClear (counted (account_of script None w s place desk x)) m) (sym (ap counted (account_same script acting w later s place desk y same)))
+          (k.clear x y hx hy d));
+      news = λ x below.
+          subst NewsKept (sym (news_same script acting w later s place desk x same))
+          (news_goes (news_of script None w s place desk x) (is_serving acting place) (k.news x below) refl);
+    }
+
+pub move_begins : MoveBegins
+move_begins script w s q clock h later = stays_kept script (Some q) w (begun w q clock) s
+    (same_set script w (begun w q clock) s states (λ a b. refl) refl) goes h
+  where
+    states : (x : ℕ) → state_at (begun w q clock) s x ≡ state_at w s x
+    states x = by_node (x == q) refl
+      where
+        by_node : (own : Bool) → (x == q) ≡ own → (if own then record (w.node q) { clock = clock } else w.node x).set s ≡ state_at w s x
+        by_node true e = ap (λ (y : ℕ). state_at w s y) (sym (eqb-true x q e))
+        by_node false e = refl
+
+    goes : (x : ℕ) → Goes (x == q) (w.node x).clock ((begun w q clock).node x).clock
+    goes x = by_node (x == q) refl
+      where
+        by_node : (own : Bool) → (x == q) ≡ own → Goes own (w.node x).clock (if own then record (w.node q) { clock = clock } else w.node x).clock
+        by_node true e = subst (λ (y : ℕ). (w.node y).clock < clock) (sym (eqb-true x q e)) later
+        by_node false e = omega arith
+
+pub aside_stays : AsideStays
+aside_stays script w s q step h enabled aside =
+    stays_kept script None w (after script w q step) s (others_stay script w s q step aside) (λ x. clocks_grow script w q step x) h
