@@ -25,3 +25,6 @@ pub mod ClocksGrow
 pub mod StartKept
 pub mod PathsInRuns
 pub mod TokenComes
+pub mod RuleEffects
+pub mod HomesEffects
+pub mod HomesMove

@@ -15,7 +15,9 @@ pub mod Accounts
 pub mod Invariant
 pub mod Timed
 pub mod Standing
+pub mod Homes
 pub mod Laws
+pub mod HomeLaws
 pub mod Worked
 pub mod WorkedOneNode
 pub mod WorkedNodes

@@ -1,4 +1,5 @@
 ghost use Rattle.lt_model.specs.PathEffects.{EffectsOnPath};
+ghost use Rattle.lt_model.specs.HomeLaws.{HomesKept, HomesInRuns};
 ghost use Rattle.lt_model.specs.Laws.{StartKept, PathsKept, PathsInRuns, DeskSomewhere, TokenComes, OneToken, OthersStay, ClockMoves, OtherClocksStay, StampsKept, ClocksInRuns, TimedKept, TimedInRuns, StandingKept, StandingInRuns, OnePlace, ServedKept, ServedInRuns, TryIsExact};
 
 /// What holds of every world of a run holds at the start of each script.
@@ -55,4 +56,10 @@ pub fn law_served()
 /// A `try` is answered with `true` exactly where the client's node can grant the mode.
 pub fn law_exact_try()
     ensures { TryIsExact }
+{}
+
+/// A node has locks and unanswered asks of its own clients alone, and letters are of sets of the script.
+pub fn law_homes()
+    ensures step { HomesKept }
+    ensures run { HomesInRuns }
 {}

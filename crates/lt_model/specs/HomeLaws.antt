@@ -1,0 +1,17 @@
+-- Whose locks and asks a node has, as laws over moves and runs.
+use Rattle.std.specs.Prelude.{ℕ, List, take, IsTrue}
+use Rattle.lt_modes.specs.declared.moves.Step.{Step}
+use Rattle.lt_modes.specs.Script.{ScriptData}
+use Rattle.lt_model.specs.Log.{Logged}
+use Rattle.lt_model.specs.World.{World, is_enabled, after, world_after, IsRun}
+use Rattle.lt_model.specs.Homes.{IsWhole, Homes}
+
+-- an enabled move keeps locks and asks at home
+abbrev pub HomesKept : Type 0
+HomesKept = (script : ScriptData) (w : World) → IsWhole script → Homes script w
+    → (q : ℕ) (step : Step) → IsTrue (is_enabled script w q step) → Homes script (after script w q step)
+
+-- and so it is in every run
+abbrev pub HomesInRuns : Type 0
+HomesInRuns = (script : ScriptData) (run : List Logged) → IsWhole script → IsRun script run → (k : ℕ)
+    → Homes script (world_after script (take k run))
