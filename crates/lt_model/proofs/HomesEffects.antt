@@ -1,8 +1,8 @@
 -- The effects of a move leave locks and asks at home, and their lines name what is of the script.
-use Rattle.std.proofs.Common.{◌≡◌, ℕ, suc, ◌+◌, ◌-◌, ◌<◌, ◌≤◌, inl, inr, List, [], ◌∷◌, ◌++◌, length, map, Option, Some, None, Bool, true, false, refl, sym, ap, subst, arith, ◌∙◌, take as take_first, drop as drop_front, set as set_at}
-use Rattle.std.specs.Prelude.{◌==◌, ◌&&◌, not, nat_lt, if◌then◌else◌, All, fold, remove, insert, position, slice_index_or}
+use Rattle.std.proofs.Common.{◌≡◌, ℕ, suc, ◌<◌, ◌≤◌, List, [], ◌∷◌, ◌++◌, length, map, Option, Some, None, Bool, true, false, refl, subst, arith, ◌∙◌, take as take_first, drop as drop_front, set as set_at}
+use Rattle.std.specs.Prelude.{◌==◌, ◌&&◌, not, nat_lt, if◌then◌else◌, All, fold, remove, position, slice_index_or}
 use Rattle.std.specs.List.{AllByRecursion}
-use Rattle.std.proofs.lemmas.Bool.{eqb-true, cases_eq, cases_lt}
+use Rattle.std.proofs.lemmas.Bool.{eqb-true}
 use Rattle.std.proofs.lemmas.List.Elements.{All-push, All-append, All-cons, All-take, All-drop, All-set, All-filter, All-nil, recursion_from_All}
 use Rattle.std.proofs.lemmas.List.Quantifiers.{position-Some}
 use Rattle.lt_modes.specs.declared.mode.Mode.{Mode}
@@ -11,9 +11,9 @@ use Rattle.lt_modes.specs.declared.ask.Ask.{Ask}
 use Rattle.lt_modes.specs.declared.parts.Row.{Row}
 use Rattle.lt_modes.specs.declared.parts.Link.{Link}
 use Rattle.lt_modes.specs.declared.event.Event.{Event}
-use Rattle.lt_modes.specs.declared.event.Event.TheVariants.{Grant, Freeze}
+use Rattle.lt_modes.specs.declared.event.Event.TheVariants.{Freeze}
 use Rattle.lt_modes.specs.Modes.{Modes, is_taking}
-use Rattle.lt_modes.specs.Held.{is_of, is_row_of, row_place, no_row, one_more, one_less, add_at, add_lock, take_at, take_lock, held_modes, without_client}
+use Rattle.lt_modes.specs.Held.{is_of, is_row_of, row_place, no_row, one_more, one_less, add_at, add_lock, take_at, take_lock, held_modes}
 use Rattle.lt_modes.specs.Script.{ScriptData}
 use Rattle.lt_modes.specs.State.{SetState, Desk, Body, AskBody, TellBody, CopyBody, TokenBody, FreezeBody, Letter, Parked, ParkedAsk, ParkedTell}
 use Rattle.lt_modes.specs.Made.{Made, Post, silent, then_do}
@@ -29,7 +29,7 @@ use Rattle.lt_model.specs.Families.{home}
 use Rattle.lt_model.specs.Homes.{IsRowAtHome, IsAskAtHome, IsAskOf, IsParkedAtHome, IsBodyAtHome, IsStateAtHome, IsLineWithin}
 use Rattle.lt_model.proofs.SentInMove.{all_append, all_map, all_any}
 use Rattle.lt_model.proofs.Effects.{route_ways}
-use Rattle.lt_model.proofs.RuleEffects.{Between, EndRules, ActRules, CommandRules, finish_rule, command_rules, take_rule}
+use Rattle.lt_model.proofs.RuleEffects.{Between, EndRules, ActRules, finish_rule, take_rule}
 
 -- the letter goes to a node of the script, and its number isn't above the bound
 abbrev pub IsBodyWithin : ℕ → Body → Type 0

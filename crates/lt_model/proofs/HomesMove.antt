@@ -1,6 +1,6 @@
 -- Each enabled move leaves locks and asks at home, and its lines name what is of the script.
-use Rattle.std.proofs.Common.{◌≡◌, ◌≢◌, ℕ, zero, suc, ◌+◌, ◌<◌, ◌≤◌, inl, inr, List, [], ◌∷◌, ◌++◌, length, Option, Some, None, Bool, true, false, refl, sym, ap, subst, arith, ◌∙◌, take as take_first}
-use Rattle.std.specs.Prelude.{◌==◌, nat_lt, if◌then◌else◌, filter_map, slice_get, All, Contains, IsTrue, drop as drop_rest}
+use Rattle.std.proofs.Common.{◌≡◌, ℕ, zero, suc, ◌+◌, ◌<◌, ◌≤◌, inl, inr, List, [], ◌∷◌, length, Option, Some, None, Bool, true, false, refl, sym, subst, arith, ◌∙◌, take as take_first}
+use Rattle.std.specs.Prelude.{◌==◌, nat_lt, if◌then◌else◌, filter_map, slice_get, Contains, IsTrue}
 use Rattle.std.specs.List.{AllByRecursion}
 use Rattle.std.proofs.lemmas.Bool.{and_parts, eqb-true, ltb-true, cases_eq}
 use Rattle.std.proofs.lemmas.List.Elements.{All-nil, recursion_from_All}
@@ -9,19 +9,18 @@ use Rattle.lt_modes.specs.declared.command.Command.{Command}
 use Rattle.lt_modes.specs.declared.command.Command.TheVariants.{Lock, Unlock, Try, Change, DropAll}
 use Rattle.lt_modes.specs.declared.moves.Step.{Step}
 use Rattle.lt_modes.specs.declared.moves.Step.TheVariants.{Act, Take}
-use Rattle.lt_modes.specs.declared.event.Event.{Event}
 use Rattle.lt_modes.specs.Places.{cons_if, places_from}
 use Rattle.lt_modes.specs.Script.{ScriptData, SetData}
 use Rattle.lt_modes.specs.State.{SetState, Letter, first_state, first_desk}
 use Rattle.lt_modes.specs.Made.{Made, Post}
 use Rattle.lt_modes.specs.Telling.{finish}
-use Rattle.lt_modes.specs.SetMove.{drop, take, lock, try, unlock, change}
+use Rattle.lt_modes.specs.SetMove.{drop, take}
 use Rattle.lt_model.specs.Below.{put}
 use Rattle.lt_model.specs.Families.{command_if, commands_of, home, family, related}
 use Rattle.lt_model.specs.Log.{Logged}
 use Rattle.lt_model.specs.NodeMove.{NodeState, NodeMade, node_waits, next_command, touched, each_touched, drop_all, locks_in_sets, act_stamp, take_stamp, at_clock, one_made, obey, node_act, node_take}
-use Rattle.lt_model.specs.World.{World, start, is_some_letter, is_enabled, opened, put_mail, take_front, node_move, after_made, after, after_run, IsRunFrom}
-use Rattle.lt_model.specs.Homes.{HasTargets, IsWhole, IsStateAtHome, IsLetterAtHome, IsBodyAtHome, IsLineWithin, Homes}
+use Rattle.lt_model.specs.World.{World, start, is_some_letter, is_enabled, opened, take_front, node_move, after, after_run, IsRunFrom}
+use Rattle.lt_model.specs.Homes.{HasTargets, IsWhole, IsStateAtHome, IsLetterAtHome, Homes}
 use Rattle.lt_model.specs.HomeLaws.{HomesKept, HomesInRuns}
 use Rattle.lt_model.proofs.Letters.{all_sent, before_take}
 use Rattle.lt_model.proofs.SentInMove.{AreSentIn, all_append, all_weaker, all_both, finish-sent, lock-sent, try-sent, unlock-sent, change-sent, drop-sent, take-sent}
@@ -29,7 +28,7 @@ use Rattle.lt_model.proofs.StartKept.{none_in}
 use Rattle.lt_model.proofs.PathsWorld.{put-same, put-other}
 use Rattle.lt_model.proofs.PathsMove.{has_mail_parts}
 use Rattle.lt_model.proofs.RuleEffects.{command_rules}
-use Rattle.lt_model.proofs.HomesEffects.{IsPostWithin, AreAtHome, MadeAtHome, at_home, said_both, said_line, said_nothing, home_acts, finish_home, drop_home, take_home}
+use Rattle.lt_model.proofs.HomesEffects.{AreAtHome, MadeAtHome, at_home, said_both, said_nothing, home_acts, finish_home, drop_home, take_home}
 
 abbrev pub IsNodeAtHome : ScriptData → ℕ → NodeState → Type 0
 IsNodeAtHome script q n = (s : ℕ) → IsStateAtHome script q (n.set s)

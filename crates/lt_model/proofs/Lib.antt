@@ -28,3 +28,6 @@ pub mod TokenComes
 pub mod RuleEffects
 pub mod HomesEffects
 pub mod HomesMove
+pub mod CountEffects
+pub mod CountMove
+pub mod LinesInRuns

@@ -16,6 +16,7 @@ pub mod Invariant
 pub mod Timed
 pub mod Standing
 pub mod Homes
+pub mod Counts
 pub mod Laws
 pub mod HomeLaws
 pub mod Worked
