@@ -15,7 +15,8 @@ use Rattle.lt_text.proofs.NumberLemmas.{exact_number_decimal}
 use Rattle.lt_journal.specs.declared.line.Line.{Line}
 use Rattle.lt_journal.specs.declared.line.Line.TheVariants.{Move as MoveLine, Event as EventLine, Held, Waiting, Owner, End, Cut, Bad}
 use Rattle.lt_journal.specs.Grammar.{line_of, node_of, lock_of, modes_of, bool_of, line_of_freeze}
-use Rattle.lt_journal.specs.RunLines.{IsNamed, FewNodes, IsNumber, HasSet, HasClient, HasNode, FitsStep, FitsEvent, FitsLine, line_words}
+use Rattle.lt_journal.specs.RunLines.{IsNumber, HasSet, HasClient, HasNode, FitsStep, FitsEvent, FitsLine, line_words}
+use Rattle.lt_journal.proofs.Conditions.{IsNamed, FewNodes}
 
 mode_of_word : (mode : Mode) → mode_of (word_of mode) ≡ Some mode
 mode_of_word IntentionRead = refl
