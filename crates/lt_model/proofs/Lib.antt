@@ -28,6 +28,7 @@ pub mod TokenComes
 pub mod RuleEffects
 pub mod HomesEffects
 pub mod HomesMove
+pub mod HomesSound
 pub mod CountEffects
 pub mod CountMove
 pub mod LinesInRuns

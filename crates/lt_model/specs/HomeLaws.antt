@@ -6,7 +6,8 @@ use Rattle.lt_model.specs.Log.{Logged}
 use Rattle.lt_model.specs.World.{World, is_enabled, after, world_after, IsRun}
 use Rattle.lt_model.specs.Holdings.{lines_of}
 use Rattle.lt_model.specs.Counts.{added_by}
-use Rattle.lt_model.specs.Homes.{IsWhole, Homes, IsEntryWithin}
+use Rattle.lt_model.specs.Facts.{state_at}
+use Rattle.lt_model.specs.Homes.{IsWhole, Homes, HasSoundHomes, IsEntryWithin}
 
 -- an enabled move keeps locks and asks at home
 abbrev pub HomesKept : Type 0
@@ -26,3 +27,8 @@ LinesInRuns = (script : ScriptData) (run : List Logged) → IsWhole script → I
 -- the lines of a run add no more locks than there are moves
 abbrev pub FewAdded : Type 0
 FewAdded = (script : ScriptData) (run : List Logged) → IsWhole script → IsRun script run → added_by (lines_of run) ≤ length run
+
+-- what is at home is sound, as far as homes go
+abbrev pub HomesSound : Type 0
+HomesSound = (script : ScriptData) (w : World) → IsWhole script → Homes script w
+    → (x s : ℕ) → HasSoundHomes script x (state_at w s x)

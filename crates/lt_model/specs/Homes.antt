@@ -1,5 +1,5 @@
 -- Whose locks and asks a node has, which sets letters are of, and what the lines of a move name.
-use Rattle.std.specs.Prelude.{◌≡◌, ◌≤◌, ◌<◌, ℕ, length, All, Contains}
+use Rattle.std.specs.Prelude.{◌≡◌, ◌≤◌, ◌<◌, ℕ, length, IsTrue, All, Contains}
 use Rattle.lt_modes.specs.declared.ask.Ask.{Ask}
 use Rattle.lt_modes.specs.declared.parts.Row.{Row}
 use Rattle.lt_modes.specs.declared.command.Command.{Command}
@@ -12,6 +12,9 @@ use Rattle.lt_modes.specs.declared.event.Event.TheVariants.{Grant, Wait, Try as 
 use Rattle.lt_modes.specs.Script.{ScriptData}
 use Rattle.lt_modes.specs.State.{SetState, Body, AskBody, TellBody, CopyBody, TokenBody, FreezeBody, Letter, Parked, ParkedAsk, ParkedTell}
 use Rattle.lt_modes.specs.Serving.{queue_of}
+use Rattle.lt_modes.specs.Fits.{is_at_home, asks_here}
+use Rattle.lt_modes.specs.Sound.{SoundRow, SoundParked}
+use Rattle.lt_model.specs.SoundNode.{numbers_of}
 use Rattle.lt_model.specs.Families.{home}
 use Rattle.lt_model.specs.Log.{Logged}
 use Rattle.lt_model.specs.World.{World}
@@ -77,6 +80,17 @@ pub record IsLetterAtHome (script : ScriptData) (q : ℕ) (letter : Letter) : Ty
 pub record Homes (script : ScriptData) (w : World) : Type 0 where
   pub states : (x s : ℕ) → IsStateAtHome script x (state_at w s x)
   pub letters : (p q : ℕ) (letter : Letter) → Contains (w.mail p q) letter → IsLetterAtHome script q letter
+
+-- an unanswered ask of node q was made by a client of it, in a move of it
+abbrev pub IsSoundOwn : ScriptData → ℕ → Ask → Type 0
+IsSoundOwn script q ask = IsTrue (is_at_home (numbers_of script) ask) × (ask.node ≡ q) × (ask.stamp.node ≡ q)
+
+-- the part of a sound state that tells whose its rows and asks are
+pub record HasSoundHomes (script : ScriptData) (q : ℕ) (s : SetState) : Type 0 where
+  pub rows : All (SoundRow (numbers_of script) q) s.held
+  pub pending : All (IsSoundOwn script q) s.pending
+  pub here : All (λ (ask : Ask). IsTrue (is_at_home (numbers_of script) ask)) (asks_here s)
+  pub parked : All (SoundParked (numbers_of script)) s.parked
 
 -- who makes the step is of the script
 abbrev pub HasMaker : ScriptData → Step → Type 0

@@ -1,5 +1,5 @@
 ghost use Rattle.lt_model.specs.PathEffects.{EffectsOnPath};
-ghost use Rattle.lt_model.specs.HomeLaws.{HomesKept, HomesInRuns, LinesInRuns, FewAdded};
+ghost use Rattle.lt_model.specs.HomeLaws.{HomesKept, HomesInRuns, HomesSound, LinesInRuns, FewAdded};
 ghost use Rattle.lt_model.specs.Laws.{StartKept, PathsKept, PathsInRuns, DeskSomewhere, TokenComes, OneToken, OthersStay, ClockMoves, OtherClocksStay, StampsKept, ClocksInRuns, TimedKept, TimedInRuns, StandingKept, StandingInRuns, OnePlace, ServedKept, ServedInRuns, TryIsExact};
 
 /// What holds of every world of a run holds at the start of each script.
@@ -62,6 +62,7 @@ pub fn law_exact_try()
 pub fn law_homes()
     ensures step { HomesKept }
     ensures run { HomesInRuns }
+    ensures sound { HomesSound }
 {}
 
 /// In a run of so many moves each line names what is of the script, no number in it is above the number of moves,
