@@ -10,7 +10,8 @@ use Rattle.lt_model.specs.Log.{Logged}
 use Rattle.lt_model.specs.Text.{all_modes, Holding, Waiting as WaitingFor, Owner as OwnerOf, Outcome, outcome_of, first_outcome, after_event, events_of, same_holding, first_owner}
 use Rattle.lt_journal.specs.declared.line.Line.{Line}
 use Rattle.lt_journal.specs.declared.line.Line.TheVariants.{Event as EventLine, Held}
-use Rattle.lt_journal.specs.RunLines.{entry_lines, lines_below, held_line, held_in_mode, held_in_set, held_by, waiting_line, waiting_of, owner_of, closing_lines, run_lines, HasNode, HasSet, HasClient, IsNumber, FitsEvent, FitsEntry, FitsLine, FitsRun}
+use Rattle.lt_journal.specs.RunLines.{entry_lines, lines_below, held_line, held_in_mode, held_in_set, held_by, waiting_line, waiting_of, owner_of, closing_lines, run_lines, HasNode, HasSet, HasClient, IsNumber, FitsEvent, FitsLine}
+use Rattle.lt_journal.proofs.Conditions.{FitsEntry, FitsRun}
 
 append_fits : {X : Type 0} (P : X → Type 0) (xs ys : List X) → AllByRecursion P xs → AllByRecursion P ys → AllByRecursion P (xs ++ ys)
 append_fits P [] ys f g = g

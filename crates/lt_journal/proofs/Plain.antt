@@ -8,7 +8,7 @@ use Rattle.lt_model.specs.Text.{after_space, spaced, line}
 use Rattle.lt_text.specs.Text as written
 use Rattle.lt_text.specs.Text.{lines, fields, is_line_end, is_space, without_return, HasNone, each_after_space}
 use Rattle.lt_text.proofs.TextLemmas.{cut_piece, fields_spaced}
-use Rattle.lt_journal.specs.RunLines.{is_plain_byte, is_plain}
+use Rattle.lt_journal.proofs.Conditions.{is_plain_byte, is_plain}
 
 abbrev is_return : ℕ → Bool
 is_return byte = byte == 13

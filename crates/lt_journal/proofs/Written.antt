@@ -16,7 +16,8 @@ use Rattle.lt_text.specs.Text.{lines, cut_at, fields}
 use Rattle.lt_journal.specs.declared.line.Line.{Line}
 use Rattle.lt_journal.specs.declared.line.Line.TheVariants.{Move as MoveLine, Event as EventLine, Held, Waiting, Owner, End, Cut, Bad}
 use Rattle.lt_journal.specs.Grammar.{line_of, read_line, journal_of}
-use Rattle.lt_journal.specs.RunLines.{IsNamed, FewNodes, IsNumber, FitsStep, FitsEvent, FitsLine, line_words}
+use Rattle.lt_journal.specs.RunLines.{IsNumber, FitsStep, FitsEvent, FitsLine, line_words}
+use Rattle.lt_journal.proofs.Conditions.{IsNamed, FewNodes}
 use Rattle.lt_journal.proofs.Plain.{IsPlain, ArePlain, plain, plain_decimal, lines_line, fields_line}
 use Rattle.lt_journal.proofs.Spelled.{line_read}
 

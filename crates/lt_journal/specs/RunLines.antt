@@ -1,17 +1,15 @@
 -- The words of each line, the lines of a run's text, and when its names and numbers can be written and read back.
-use Rattle.std.specs.Prelude.{◌≡◌, ◌⊎◌, codes, ◌<◌, ◌^◌, ◌==◌, ◌||◌, not, true, List, [], ◌∷◌, ◌++◌, ℕ, zero, suc, Bool, Option, Some, None, if◌then◌else◌, length, map, count_by, slice_index_or}
-use Rattle.std.specs.List.{AllByRecursion, flat_map, list_all}
+use Rattle.std.specs.Prelude.{◌≡◌, ◌⊎◌, codes, ◌<◌, ◌^◌, ◌==◌, List, [], ◌∷◌, ◌++◌, ℕ, zero, suc, Option, Some, None, if◌then◌else◌, length, map, count_by, slice_index_or}
+use Rattle.std.specs.List.{flat_map}
 use Rattle.std.specs.Fmt.{decimal}
 use Rattle.lt_modes.specs.declared.mode.Mode.{Mode}
-use Rattle.lt_modes.specs.declared.moves.Move.{Move}
 use Rattle.lt_modes.specs.declared.moves.Step.{Step}
 use Rattle.lt_modes.specs.declared.moves.Step.TheVariants.{Act, Take}
 use Rattle.lt_modes.specs.declared.event.Event.{Event}
 use Rattle.lt_modes.specs.declared.event.Event.TheVariants.{Grant, Wait, Try, Unlock, NotHeld, Change, DropAll, Busy, Copy, Freeze, Token}
-use Rattle.lt_modes.specs.Script.{ScriptData, set_name, client_name}
+use Rattle.lt_modes.specs.Script.{ScriptData, set_name}
 use Rattle.lt_model.specs.Log.{Logged}
 use Rattle.lt_model.specs.Text.{step_words, event_words, lock_words, spaced, Holding, Waiting as WaitingFor, Owner as OwnerOf, Outcome, all_modes, same_holding, first_owner, outcome_of}
-use Rattle.lt_script.specs.Script.{set_number, client_number}
 use Rattle.lt_journal.specs.declared.line.Line.{Line}
 use Rattle.lt_journal.specs.declared.line.Line.TheVariants.{Move as MoveLine, Event as EventLine, Held, Waiting, Owner, End, Cut, Bad}
 
@@ -83,21 +81,6 @@ closing_lines script entries (Some node) = Cut node ∷ []
 abbrev pub run_lines : ScriptData → List Logged → Option ℕ → List Line
 run_lines script entries cut = flat_map entry_lines entries ++ closing_lines script entries cut
 
--- no space, line feed or carriage return
-abbrev pub is_plain_byte : ℕ → Bool
-is_plain_byte byte = not (byte == 32 || byte == 10 || byte == 13)
-
--- the word can stand in a line
-abbrev pub is_plain : List ℕ → Bool
-is_plain word = list_all is_plain_byte word
-
--- each name can stand in a line, and is that of this one set or client
-pub record IsNamed (script : ScriptData) : Type 0 where
-  pub plain_sets : (set : ℕ) → set < length script.sets → is_plain (set_name script set) ≡ true
-  pub sets_apart : (set : ℕ) → set < length script.sets → set_number script (set_name script set) ≡ Some set
-  pub plain_clients : (client : ℕ) → client < length script.clients → is_plain (client_name script client) ≡ true
-  pub clients_apart : (client : ℕ) → client < length script.clients → client_number script (client_name script client) ≡ Some client
-
 -- what a number in a line is below
 abbrev pub IsNumber : ℕ → Type 0
 IsNumber n = n < 2 ^ 32
@@ -114,18 +97,10 @@ HasClient script client = client < length script.clients
 abbrev pub HasNode : ScriptData → ℕ → Type 0
 HasNode script node = node < script.nodes
 
--- nodes have numbers of a line
-abbrev pub FewNodes : ScriptData → Type 0
-FewNodes script = script.nodes < 2 ^ 32
-
 -- what the step names is of the script
 abbrev pub FitsStep : ScriptData → Step → Type 0
 FitsStep script (Act client) = HasClient script client
 FitsStep script (Take from) = HasNode script from
-
--- what the move names is of the script, and its clock is a number of a line
-abbrev pub FitsMove : ScriptData → Move → Type 0
-FitsMove script made = IsNumber made.stamp.clock × HasNode script made.stamp.node × FitsStep script made.step
 
 -- what the event names is of the script, and its numbers are those of a line
 abbrev pub FitsEvent : ScriptData → Event → Type 0
@@ -142,10 +117,6 @@ FitsEvent script (Copy set to client mode) = HasSet script set × HasNode script
 FitsEvent script (Freeze set to number modes) = HasSet script set × HasNode script to × IsNumber number
 FitsEvent script (Token set to epoch) = HasSet script set × HasNode script to × IsNumber epoch
 
--- the move fits, and so do its events
-abbrev pub FitsEntry : ScriptData → Logged → Type 0
-FitsEntry script entry = FitsMove script entry.made × AllByRecursion (FitsEvent script) entry.events
-
 -- what the line names is of the script, and its numbers are those of a line
 abbrev pub FitsLine : ScriptData → Line → Type 0
 FitsLine script (MoveLine clock node step) = IsNumber clock × HasNode script node × FitsStep script step
@@ -161,12 +132,3 @@ FitsLine script Bad = ⊥
 abbrev pub FitsCut : ScriptData → Option ℕ → Type 0
 FitsCut script None = Unit {0}
 FitsCut script (Some node) = HasNode script node
-
--- all that the run's text names is of the script, and its numbers are those of a line
-pub record FitsRun (script : ScriptData) (entries : List Logged) (cut : Option ℕ) : Type 0 where
-  pub some_node : 0 < script.nodes
-  pub few_nodes : FewNodes script
-  pub moves : AllByRecursion (FitsEntry script) entries
-  pub few_moves : IsNumber (length entries)
-  pub few_locks : IsNumber (length (outcome_of script entries).held)
-  pub cut_node : FitsCut script cut

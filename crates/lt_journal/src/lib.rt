@@ -36,6 +36,8 @@
 
 mod closing;
 mod events;
+#[cfg(test)]
+mod example_tests;
 mod grammar;
 mod journal;
 mod laws;

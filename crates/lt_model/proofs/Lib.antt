@@ -41,3 +41,10 @@ pub mod NewsLemmas
 pub mod Gathered
 pub mod AccountRules
 pub mod Moment
+pub mod RuleEffects
+pub mod HomesEffects
+pub mod HomesMove
+pub mod HomesSound
+pub mod CountEffects
+pub mod CountMove
+pub mod LinesInRuns

@@ -25,7 +25,10 @@ pub mod Timed
 pub mod Standing
 pub mod AccountFacts
 pub mod OnWayLaws
+pub mod Homes
+pub mod Counts
 pub mod Laws
+pub mod HomeLaws
 pub mod Worked
 pub mod WorkedOneNode
 pub mod WorkedNodes

@@ -1,5 +1,6 @@
 ghost use Rattle.lt_model.specs.Moment.{MoveBegins, AsideStays};
 ghost use Rattle.lt_model.specs.PathEffects.{EffectsOnPath};
+ghost use Rattle.lt_model.specs.HomeLaws.{HomesKept, HomesInRuns, HomesSound, LinesInRuns, FewAdded};
 ghost use Rattle.lt_model.specs.Laws.{StartKept, StartLines, PathsKept, PathsInRuns, DeskSomewhere, TokenComes, OneToken, OthersStay, ClockMoves, OtherClocksStay, StampsKept, ClocksInRuns, TimedKept, TimedInRuns, StandingKept, StandingInRuns, OnePlace, ServedKept, ServedInRuns, TryIsExact};
 
 /// What holds of every world of a run holds at the start of each script.
@@ -63,4 +64,18 @@ pub fn law_served()
 /// A `try` is answered with `true` exactly where the client's node can grant the mode.
 pub fn law_exact_try()
     ensures { TryIsExact }
+{}
+
+/// A node has locks and unanswered asks of its own clients alone, and letters are of sets of the script.
+pub fn law_homes()
+    ensures step { HomesKept }
+    ensures run { HomesInRuns }
+    ensures sound { HomesSound }
+{}
+
+/// In a run of so many moves each line names what is of the script, no number in it is above the number of moves,
+/// and the lines add no more locks than there are moves.
+pub fn law_lines()
+    ensures within { LinesInRuns }
+    ensures added { FewAdded }
 {}

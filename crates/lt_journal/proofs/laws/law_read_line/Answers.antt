@@ -1,4 +1,5 @@
 use Rattle.lt_journal.proofs.Found.{as_written}
+use Rattle.lt_journal.proofs.Named.{named, few_nodes}
 use Rattle.lt_journal.proofs.Written.{line_back}
 use Rattle.lt_journal.proofs.laws.law_read_line.Goals as goal
 
@@ -6,4 +7,4 @@ pub returns-clause-written : goal.returns-clause-written
 returns-clause-written c = as_written
 
 pub returns-clause-read : goal.returns-clause-read
-returns-clause-read c = line_back
+returns-clause-read c = λ script line is_script fits. line_back script line (named script is_script) (few_nodes script is_script) fits

@@ -1,0 +1,321 @@
+-- What the effects of a move do to the number of locks and of asks that wait for an answer.
+use Rattle.std.proofs.Common.{◌≡◌, ℕ, ◌+◌, ◌<◌, ◌≤◌, List, [], ◌∷◌, ◌++◌, length, map, Option, Some, None, Bool, true, false, refl, ap, arith, set as set_at, take as take_first, drop as drop_front, length-append}
+use Rattle.std.specs.Prelude.{◌==◌, ◌&&◌, not, nat_lt, if◌then◌else◌, filter, fold, remove, sum_by, slice_index_or}
+use Rattle.std.proofs.lemmas.List.{take-append-drop}
+use Rattle.std.proofs.lemmas.List.Edits.{length-remove}
+use Rattle.std.proofs.lemmas.List.Quantifiers.{position-Some}
+use Rattle.std.proofs.lemmas.List.Sums.{sum_by-append, sum_by-cons, sum_by_push, sum_by-set, sum_by-remove}
+use Rattle.lt_modes.specs.declared.mode.Mode.{Mode}
+use Rattle.lt_modes.specs.declared.stamp.Stamp.{Stamp}
+use Rattle.lt_modes.specs.declared.ask.Ask.{Ask}
+use Rattle.lt_modes.specs.declared.parts.Row.{Row}
+use Rattle.lt_modes.specs.declared.parts.Link.{Link}
+use Rattle.lt_modes.specs.declared.event.Event.TheVariants.{Wait, Freeze}
+use Rattle.lt_modes.specs.Modes.{Modes, is_taking}
+use Rattle.lt_modes.specs.Held.{is_of, is_row_of, row_place, no_row, one_more, one_less, add_at, add_lock, take_at, take_lock, locks_in, held_modes}
+use Rattle.lt_modes.specs.State.{SetState, Desk, Body, AskBody, TellBody, CopyBody, TokenBody, FreezeBody, Letter, Parked, ParkedAsk, ParkedTell}
+use Rattle.lt_modes.specs.Made.{Made, Post, silent, then_do, post_of}
+use Rattle.lt_modes.specs.Queue.{entered, place}
+use Rattle.lt_modes.specs.Serving.{queue_of, queue_of_desk, give_up, answer_by, answer_event, ask_at, serve_one, serve_local, serve_copy}
+use Rattle.lt_modes.specs.Freezing.{freeze, freeze_at, frozen_by, targets, number_after}
+use Rattle.lt_modes.specs.HandingOver.{hand_over_to}
+use Rattle.lt_modes.specs.Routing.{Way, Parks, Goes, learn, dealt, body_of, reversed, sent_on, route}
+use Rattle.lt_modes.specs.Telling.{tell_of, finish}
+use Rattle.lt_modes.specs.Taking.{take_body, arrive}
+use Rattle.lt_modes.specs.SetMove.{ask_of, asked, dropped, take, drop}
+use Rattle.lt_modes.proofs.ServingLemmas.{queue_of-serve_one}
+use Rattle.lt_model.specs.Counts.{adds, added_by}
+use Rattle.lt_model.proofs.Effects.{route_ways}
+use Rattle.lt_model.proofs.RuleEffects.{Between, EndRules, ActRules, finish_rule, take_rule}
+
+-- whether an ask is parked
+abbrev pub asks_parked : Parked → ℕ
+asks_parked (ParkedAsk ask) = 1
+asks_parked (ParkedTell tell) = 0
+
+-- the asks that are parked, or in the queue of the desk
+abbrev pub asks_in : SetState → ℕ
+asks_in t = sum_by asks_parked t.parked + length (queue_of t)
+
+-- the asks in a letter
+abbrev pub asks_said : Body → ℕ
+asks_said (AskBody ask marked) = 1
+asks_said (TellBody tell) = 0
+asks_said (CopyBody ask) = 1
+asks_said (TokenBody desk) = length desk.queue
+asks_said (FreezeBody number modes) = 0
+
+abbrev pub asks_carried : Letter → ℕ
+asks_carried letter = asks_said letter.body
+
+abbrev pub asks_sent : List Post → ℕ
+asks_sent posts = sum_by (λ (post : Post). asks_carried post.letter) posts
+
+-- each line that adds a lock takes an ask away, but for this many; and each new lock has its line
+pub record Counted (more : ℕ) (t : SetState) (m : Made) : Type 0 where
+  pub asks : added_by m.events + (asks_in m.state + asks_sent m.posts) ≤ asks_in t + more
+  pub locks : locks_in m.state.held ≤ locks_in t.held + added_by m.events
+
+abbrev pub counted : ℕ → Between
+counted more t m = Counted more t m
+
+pub joined_count : (more : ℕ) (t : SetState) (m : Made) (rule : SetState → Made) → Counted more t m → Counted 0 m.state (rule m.state)
+    → Counted more t (then_do m rule)
+joined_count more t m rule first second =
+    let n = rule m.state in
+    let lines = sum_by-append adds m.events n.events in
+    let letters = sum_by-append (λ (post : Post). asks_carried post.letter) m.posts n.posts in
+    record {
+      asks = omega (arith, lines, letters, first.asks, second.asks);
+      locks = omega (arith, lines, first.locks, second.locks);
+    }
+
+-- rows
+
+more_locks : (client : ℕ) (mode : Mode) (rows : List Row) → locks_in (add_lock rows client mode) ≤ locks_in rows + 1
+more_locks client mode rows = by_place (row_place rows client mode) refl
+  where
+    by_place : (o : Option ℕ) → row_place rows client mode ≡ o → locks_in (add_at rows client mode o) ≤ locks_in rows + 1
+    by_place None e = omega (arith, sum_by_push (λ (row : Row). row.count) rows (record { client = client; mode = mode; count = 1 }))
+    by_place (Some k) e =
+        omega (
+          arith,
+          sum_by-set (λ (row : Row). row.count) rows k (one_more (slice_index_or rows k no_row)) no_row
+              (position-Some (is_row_of client mode) rows k no_row e).0,
+        )
+
+less_locks : (client : ℕ) (mode : Mode) (rows : List Row) → locks_in (take_lock rows client mode) ≤ locks_in rows
+less_locks client mode rows = by_place (row_place rows client mode) refl
+  where
+    by_count : (k : ℕ) → k < length rows → (last : Bool)
+        → locks_in (if last then remove rows k else set_at rows k (one_less (slice_index_or rows k no_row))) ≤ locks_in rows
+    by_count k within true = omega (arith, sum_by-remove (λ (row : Row). row.count) rows k no_row within)
+    by_count k within false =
+        omega (arith, sum_by-set (λ (row : Row). row.count) rows k (one_less (slice_index_or rows k no_row)) no_row within)
+
+    by_place : (o : Option ℕ) → row_place rows client mode ≡ o → locks_in (take_at rows o) ≤ locks_in rows
+    by_place None e = omega arith
+    by_place (Some k) e =
+        by_count k (position-Some (is_row_of client mode) rows k no_row e).0 ((slice_index_or rows k no_row).count == 1)
+
+give_up_locks : (client : ℕ) (gives_up : Option Mode) (rows : List Row) → locks_in (give_up rows client gives_up) ≤ locks_in rows
+give_up_locks client None rows = omega arith
+give_up_locks client (Some mode) rows = less_locks client mode rows
+
+pub some_locks : (test : Row → Bool) (rows : List Row) → locks_in (filter test rows) ≤ locks_in rows
+some_locks test [] = omega arith
+some_locks test (row ∷ rest) = by_test (test row) (some_locks test rest)
+  where
+    by_test : (kept : Bool) → locks_in (filter test rest) ≤ locks_in rest
+        → locks_in (if kept then row ∷ filter test rest else filter test rest) ≤ locks_in (row ∷ rest)
+    by_test true h =
+        omega (arith, h, sum_by-cons (λ (r : Row). r.count) row (filter test rest), sum_by-cons (λ (r : Row). r.count) row rest)
+    by_test false h = omega (arith, h, sum_by-cons (λ (r : Row). r.count) row rest)
+
+given_locks : (client : ℕ) (mode : Mode) (gives_up : Option Mode) (rows : List Row)
+    → locks_in (add_lock (give_up rows client gives_up) client mode) ≤ locks_in rows + 1
+given_locks client mode gives_up rows =
+    omega (arith, more_locks client mode (give_up rows client gives_up), give_up_locks client gives_up rows)
+
+answer_adds : (set : ℕ) (ask : Ask) → added_by (answer_event set ask ∷ []) ≡ 1
+answer_adds set ask = by_choice ask.gives_up
+  where
+    by_choice : (gives_up : Option Mode) → added_by (answer_by set ask gives_up ∷ []) ≡ 1
+    by_choice None = refl
+    by_choice (Some mode) = refl
+
+-- asks and tells on their way
+
+dealt_count : (desk : Desk) (item : Parked) → length (dealt desk item).queue ≤ length desk.queue + asks_parked item
+dealt_count desk (ParkedAsk ask) = enters desk.queue
+  where
+    enters : (queue : List Ask) → length (entered queue ask) ≤ length queue + 1
+    enters queue =
+        let k = place queue ask.holder in
+        omega (
+          arith,
+          length-append (take_first k queue) (ask ∷ drop_front k queue),
+          length-append (take_first k queue) (drop_front k queue),
+          ap (λ (l : List Ask). length l) (take-append-drop k queue),
+        )
+dealt_count desk (ParkedTell tell) = omega arith
+
+all_dealt_count : (items : List Parked) (desk : Desk) → length (fold dealt desk items).queue ≤ length desk.queue + sum_by asks_parked items
+all_dealt_count [] desk = omega arith
+all_dealt_count (item ∷ rest) desk =
+    omega (arith, all_dealt_count rest (dealt desk item), dealt_count desk item, sum_by-cons asks_parked item rest)
+
+item_said : (item : Parked) (mark : Bool) → asks_said (body_of item mark) ≡ asks_parked item
+item_said (ParkedAsk ask) mark = refl
+item_said (ParkedTell tell) mark = refl
+
+-- what counts is the same
+pub record SameCounts (t u : SetState) : Type 0 where
+  pub parked : u.parked ≡ t.parked
+  pub queue : queue_of u ≡ queue_of t
+  pub held : u.held ≡ t.held
+
+same_asks : (t u : SetState) → SameCounts t u → asks_in u ≡ asks_in t
+same_asks t u h = omega (arith, ap (λ (l : List Parked). sum_by asks_parked l) h.parked, ap (λ (l : List Ask). length l) h.queue)
+
+reversed_same : (me : ℕ) (item : Parked) (t : SetState) → SameCounts t (reversed me item t)
+reversed_same me (ParkedTell tell) t = record { parked = refl; queue = refl; held = refl }
+reversed_same me (ParkedAsk ask) t = by_test (is_taking ask.mode && not (ask.node == me))
+  where
+    by_test : (other : Bool) → SameCounts t (if other then record t { hoped = Some (record { node = ask.node; stamp = ask.stamp }) } else t)
+    by_test true = record { parked = refl; queue = refl; held = refl }
+    by_test false = record { parked = refl; queue = refl; held = refl }
+
+learn_same : (link : Link) (t : SetState) → SameCounts t (learn link t)
+learn_same link t = by_test (nat_lt t.firm.epoch link.epoch)
+  where
+    by_test : (greater : Bool) → SameCounts t (if greater then record t { firm = link; hoped = None } else t)
+    by_test true = record { parked = refl; queue = refl; held = refl }
+    by_test false = record { parked = refl; queue = refl; held = refl }
+
+route_count : (set : ℕ) (stamp : Stamp) (marked : Bool) (item : Parked) (t : SetState) → Counted (asks_parked item) t (route set stamp marked item t)
+route_count set stamp marked item t =
+    route_ways (Counted (asks_parked item) t) set stamp marked item t
+    (λ desk e. record {
+      asks = omega (arith, dealt_count desk item, ap (λ (o : Option Desk). length (queue_of_desk o)) e);
+      locks = omega arith;
+    })
+    (λ away w e. goes w)
+  where
+    goes : (w : Way) → Counted (asks_parked item) t (sent_on set stamp item t w)
+    goes Parks = record { asks = omega (arith, sum_by_push asks_parked t.parked item); locks = omega arith }
+    goes (Goes to mark) =
+        let same = reversed_same stamp.node item t in
+        record {
+          asks = omega (arith, item_said item mark, same_asks t (reversed stamp.node item t) same);
+          locks = omega (arith, ap locks_in same.held);
+        }
+
+-- the end of a move
+
+serves_count : (set : ℕ) (stamp : Stamp) (t : SetState) (k : ℕ) → k < length (queue_of t) → Counted 0 t (serve_one set stamp k t)
+serves_count set stamp t k within = by_test ((ask_at t k).node == stamp.node) (queue_of-serve_one set stamp k t within)
+  where
+    by_test : (own : Bool) → queue_of (if own then serve_local set k t else serve_copy set stamp k (ask_at t k) t).state ≡ remove (queue_of t) k
+        → Counted 0 t (if own then serve_local set k t else serve_copy set stamp k (ask_at t k) t)
+    by_test true queue = record {
+      asks = omega (arith, answer_adds set (ask_at t k), ap (λ (l : List Ask). length l) queue, length-remove (queue_of t) k within);
+      locks = omega (arith, answer_adds set (ask_at t k), given_locks (ask_at t k).client (ask_at t k).mode (ask_at t k).gives_up t.held);
+    }
+    by_test false queue = record {
+      asks = omega (arith, ap (λ (l : List Ask). length l) queue, length-remove (queue_of t) k within);
+      locks = omega arith;
+    }
+
+freezes_count : (set : ℕ) (stamp : Stamp) (t : SetState) → Counted 0 t (freeze set stamp t)
+freezes_count set stamp t = by_desk t.desk refl
+  where
+    no_lines : (number : ℕ) (modes : Modes) (told : List ℕ) → added_by (map (λ x. Freeze set x number modes) told) ≡ 0
+    no_lines number modes [] = refl
+    no_lines number modes (x ∷ rest) =
+        omega (arith, no_lines number modes rest, sum_by-cons adds (Freeze set x number modes) (map (λ y. Freeze set y number modes) rest))
+
+    no_asks : (to_post : ℕ → Post) → ((x : ℕ) → asks_carried (to_post x).letter ≡ 0) → (told : List ℕ) → asks_sent (map to_post told) ≡ 0
+    no_asks to_post none [] = refl
+    no_asks to_post none (x ∷ rest) =
+        omega (arith, none x, no_asks to_post none rest, sum_by-cons (λ (post : Post). asks_carried post.letter) (to_post x) (map to_post rest))
+
+    by_desk : (desk : Option Desk) → t.desk ≡ desk → Counted 0 t (freeze_at set stamp t desk)
+    by_desk None e = record { asks = omega arith; locks = omega arith }
+    by_desk (Some desk) e =
+        let told = targets stamp.node (frozen_by desk.queue) desk in
+        record {
+          asks = omega (
+            arith,
+            ap (λ (o : Option Desk). length (queue_of_desk o)) e,
+            no_lines (number_after told desk.number) (frozen_by desk.queue) told,
+            no_asks (λ x. post_of set stamp t x (FreezeBody (number_after told desk.number) (frozen_by desk.queue))) (λ x. refl) told,
+          );
+          locks = omega arith;
+        }
+
+leaves_count : (set : ℕ) (stamp : Stamp) (t : SetState) (v : ℕ) → Counted 0 t (hand_over_to set stamp t v t.desk)
+leaves_count set stamp t v = by_desk t.desk refl
+  where
+    by_desk : (desk : Option Desk) → t.desk ≡ desk → Counted 0 t (hand_over_to set stamp t v desk)
+    by_desk None e = record { asks = omega arith; locks = omega arith }
+    by_desk (Some desk) e = record { asks = omega (arith, ap (λ (o : Option Desk). length (queue_of_desk o)) e); locks = omega arith }
+
+pub count_ends : (set : ℕ) (stamp : Stamp) → EndRules set stamp (counted 0)
+count_ends set stamp = record {
+  silent = λ t. record { asks = omega arith; locks = omega arith };
+  joined = λ t m rule first second. joined_count 0 t m rule first second;
+  serves = serves_count set stamp;
+  freezes = freezes_count set stamp;
+  leaves = leaves_count set stamp;
+  tells = λ t.
+      let told = route_count set stamp false (ParkedTell (tell_of stamp t)) (record t { charge = held_modes t.held }) in
+      record { asks = told.asks; locks = told.locks };
+}
+
+pub finish_count : (set : ℕ) (stamp : Stamp) (t : SetState) → Counted 0 t (finish set stamp t)
+finish_count set stamp t = finish_rule set stamp (counted 0) (count_ends set stamp) t
+
+-- commands
+
+asks_count : (set : ℕ) (stamp : Stamp) (client : ℕ) (mode : Mode) (gives_up : Option Mode) (t : SetState)
+    → Counted 1 t (asked set stamp (ask_of stamp client mode gives_up t) t)
+asks_count set stamp client mode gives_up t =
+    let ask = ask_of stamp client mode gives_up t in
+    let more : SetState = record t { pending = t.pending ++ ask ∷ [] } in
+    let routed = route_count set stamp false (ParkedAsk ask) more in
+    let made = route set stamp false (ParkedAsk ask) more in
+    record {
+      asks = omega (arith, routed.asks, sum_by-cons adds (Wait client set mode) made.events);
+      locks = omega (arith, routed.locks, sum_by-cons adds (Wait client set mode) made.events);
+    }
+
+pub count_acts : (set : ℕ) (stamp : Stamp) (client : ℕ) → ActRules set stamp client (counted 1)
+count_acts set stamp client = record {
+  tries_not = λ mode t. record { asks = omega arith; locks = omega arith };
+  holds_not = λ mode t. record { asks = omega arith; locks = omega arith };
+  grants = λ mode t. record { asks = omega arith; locks = omega (arith, given_locks client mode None t.held) };
+  tries = λ mode t. record { asks = omega arith; locks = omega (arith, given_locks client mode None t.held) };
+  changes = λ gives_up mode t. record { asks = omega arith; locks = omega (arith, given_locks client mode (Some gives_up) t.held) };
+  releases = λ mode t. record { asks = omega arith; locks = omega (arith, less_locks client mode t.held) };
+  asks = asks_count set stamp client;
+  ended = λ t m a. joined_count 1 t m (finish set stamp) a (finish_count set stamp m.state);
+}
+
+pub drop_count : (set : ℕ) (stamp : Stamp) (other : ℕ) (t : SetState) → Counted 0 t (drop set stamp other t)
+drop_count set stamp other t =
+    let ended = finish_count set stamp (dropped other t) in
+    record {
+      asks = omega (arith, ended.asks);
+      locks = omega (arith, ended.locks, some_locks (λ row. not (is_of other row)) t.held);
+    }
+
+-- letters
+
+arrives_count : (stamp : Stamp) (letter : Letter) (t : SetState) → Counted (asks_said letter.body) t (arrive stamp letter t)
+arrives_count stamp letter t =
+    let same = learn_same letter.link t in
+    let made = by_body letter.body (learn letter.link t) in
+    record {
+      asks = omega (arith, made.asks, same_asks t (learn letter.link t) same);
+      locks = omega (arith, made.locks, ap locks_in same.held);
+    }
+  where
+    by_body : (body : Body) (u : SetState) → Counted (asks_said body) u (take_body letter.set stamp body u)
+    by_body (AskBody ask marked) u = route_count letter.set stamp marked (ParkedAsk ask) u
+    by_body (TellBody tell) u = route_count letter.set stamp false (ParkedTell tell) u
+    by_body (CopyBody ask) u = record {
+      asks = omega (arith, answer_adds letter.set ask);
+      locks = omega (arith, answer_adds letter.set ask, given_locks ask.client ask.mode ask.gives_up u.held);
+    }
+    by_body (TokenBody desk) u = record { asks = omega (arith, all_dealt_count u.parked desk); locks = omega arith }
+    by_body (FreezeBody number modes) u = by_test (nat_lt u.number number)
+      where
+        by_test : (newer : Bool) → Counted 0 u (silent (if newer then record u { frozen = modes; number = number } else u))
+        by_test true = record { asks = omega arith; locks = omega arith }
+        by_test false = record { asks = omega arith; locks = omega arith }
+
+pub take_count : (stamp : Stamp) (letter : Letter) (t : SetState) → Counted (asks_said letter.body) t (take stamp letter t)
+take_count stamp letter t =
+    take_rule stamp letter (counted (asks_said letter.body)) (counted 0) (λ u m. joined_count (asks_said letter.body) u m (finish letter.set stamp))
+    (count_ends letter.set stamp) t (arrives_count stamp letter t)

@@ -1,0 +1,125 @@
+-- Whose locks and asks a node has, which sets letters are of, and what the lines of a move name.
+use Rattle.std.specs.Prelude.{◌≡◌, ◌≤◌, ◌<◌, ℕ, length, IsTrue, All, Contains}
+use Rattle.lt_modes.specs.declared.ask.Ask.{Ask}
+use Rattle.lt_modes.specs.declared.parts.Row.{Row}
+use Rattle.lt_modes.specs.declared.command.Command.{Command}
+use Rattle.lt_modes.specs.declared.command.Command.TheVariants.{Lock, Try, Unlock, Change, DropAll}
+use Rattle.lt_modes.specs.declared.moves.Move.{Move}
+use Rattle.lt_modes.specs.declared.moves.Step.{Step}
+use Rattle.lt_modes.specs.declared.moves.Step.TheVariants.{Act, Take}
+use Rattle.lt_modes.specs.declared.event.Event.{Event}
+use Rattle.lt_modes.specs.declared.event.Event.TheVariants.{Grant, Wait, Try as TryLine, Unlock as UnlockLine, NotHeld, Change as ChangeLine, DropAll as Dropped, Busy, Copy, Freeze, Token}
+use Rattle.lt_modes.specs.Script.{ScriptData}
+use Rattle.lt_modes.specs.State.{SetState, Body, AskBody, TellBody, CopyBody, TokenBody, FreezeBody, Letter, Parked, ParkedAsk, ParkedTell}
+use Rattle.lt_modes.specs.Serving.{queue_of}
+use Rattle.lt_modes.specs.Fits.{is_at_home, asks_here}
+use Rattle.lt_modes.specs.Sound.{SoundRow, SoundParked}
+use Rattle.lt_model.specs.SoundNode.{numbers_of}
+use Rattle.lt_model.specs.Families.{home}
+use Rattle.lt_model.specs.Log.{Logged}
+use Rattle.lt_model.specs.World.{World}
+use Rattle.lt_model.specs.Facts.{state_at}
+
+-- the command is for a set of the script, and drops the locks of a client on the node of the one that makes it
+abbrev pub HasTargets : ScriptData → ℕ → Command → Type 0
+HasTargets script client (Lock s mode) = s < length script.sets
+HasTargets script client (Try s mode) = s < length script.sets
+HasTargets script client (Unlock s mode) = s < length script.sets
+HasTargets script client (Change s gives_up mode) = s < length script.sets
+HasTargets script client (DropAll other s) =
+    (s < length script.sets) × (other < length script.clients) × (home script other ≡ home script client)
+
+-- the script has a node, clients are on nodes of the script, and what commands name is of the script
+pub record IsWhole (script : ScriptData) : Type 0 where
+  pub some_node : 0 < script.nodes
+  pub homes : (client : ℕ) → client < length script.clients → home script client < script.nodes
+  pub commands : All (λ (request : ℕ × Command). HasTargets script request.0 request.1) script.commands
+
+-- the row is of a client of node q, and holds some lock
+pub record IsRowAtHome (script : ScriptData) (q : ℕ) (row : Row) : Type 0 where
+  pub client : row.client < length script.clients
+  pub home : home script row.client ≡ q
+  pub count : 1 ≤ row.count
+
+-- a client of its node made the ask, in a move of that node
+pub record IsAskAtHome (script : ScriptData) (ask : Ask) : Type 0 where
+  pub client : ask.client < length script.clients
+  pub home : home script ask.client ≡ ask.node
+  pub maker : ask.stamp.node ≡ ask.node
+
+-- node q's own ask
+abbrev pub IsAskOf : ScriptData → ℕ → Ask → Type 0
+IsAskOf script q ask = IsAskAtHome script ask × (ask.node ≡ q)
+
+-- the tell is of a node of the script
+abbrev pub IsParkedAtHome : ScriptData → Parked → Type 0
+IsParkedAtHome script (ParkedAsk ask) = IsAskAtHome script ask
+IsParkedAtHome script (ParkedTell tell) = tell.node < script.nodes
+
+-- a letter to q that says this: a copy goes to the node of its ask
+abbrev pub IsBodyAtHome : ScriptData → ℕ → Body → Type 0
+IsBodyAtHome script q (AskBody ask marked) = IsAskAtHome script ask
+IsBodyAtHome script q (TellBody tell) = tell.node < script.nodes
+IsBodyAtHome script q (CopyBody ask) = IsAskOf script q ask
+IsBodyAtHome script q (TokenBody desk) = All (IsAskAtHome script) desk.queue
+IsBodyAtHome script q (FreezeBody number modes) = Unit {0}
+
+-- node q has rows and unanswered asks of its own clients, and all asks there are at home
+pub record IsStateAtHome (script : ScriptData) (q : ℕ) (s : SetState) : Type 0 where
+  pub rows : All (IsRowAtHome script q) s.held
+  pub pending : All (IsAskOf script q) s.pending
+  pub parked : All (IsParkedAtHome script) s.parked
+  pub queue : All (IsAskAtHome script) (queue_of s)
+
+-- the letter is of a set of the script
+pub record IsLetterAtHome (script : ScriptData) (q : ℕ) (letter : Letter) : Type 0 where
+  pub set : letter.set < length script.sets
+  pub body : IsBodyAtHome script q letter.body
+
+-- so it is at each node, for each set, and of each letter on its way
+pub record Homes (script : ScriptData) (w : World) : Type 0 where
+  pub states : (x s : ℕ) → IsStateAtHome script x (state_at w s x)
+  pub letters : (p q : ℕ) (letter : Letter) → Contains (w.mail p q) letter → IsLetterAtHome script q letter
+
+-- an unanswered ask of node q was made by a client of it, in a move of it
+abbrev pub IsSoundOwn : ScriptData → ℕ → Ask → Type 0
+IsSoundOwn script q ask = IsTrue (is_at_home (numbers_of script) ask) × (ask.node ≡ q) × (ask.stamp.node ≡ q)
+
+-- the part of a sound state that tells whose its rows and asks are
+pub record HasSoundHomes (script : ScriptData) (q : ℕ) (s : SetState) : Type 0 where
+  pub rows : All (SoundRow (numbers_of script) q) s.held
+  pub pending : All (IsSoundOwn script q) s.pending
+  pub here : All (λ (ask : Ask). IsTrue (is_at_home (numbers_of script) ask)) (asks_here s)
+  pub parked : All (SoundParked (numbers_of script)) s.parked
+
+-- who makes the step is of the script
+abbrev pub HasMaker : ScriptData → Step → Type 0
+HasMaker script (Act client) = client < length script.clients
+HasMaker script (Take from) = from < script.nodes
+
+-- what the move names is of the script, and its clock isn't above the bound
+pub record IsMoveWithin (script : ScriptData) (bound : ℕ) (made : Move) : Type 0 where
+  pub clock : made.stamp.clock ≤ bound
+  pub node : made.stamp.node < script.nodes
+  pub maker : HasMaker script made.step
+
+-- what the line names is of the script, and its numbers aren't above the bound
+abbrev pub IsLineWithin : ScriptData → ℕ → Event → Type 0
+IsLineWithin script bound (Grant client s mode) = (client < length script.clients) × (s < length script.sets)
+IsLineWithin script bound (Wait client s mode) = (client < length script.clients) × (s < length script.sets)
+IsLineWithin script bound (TryLine client s mode got) = (client < length script.clients) × (s < length script.sets)
+IsLineWithin script bound (UnlockLine client s mode) = (client < length script.clients) × (s < length script.sets)
+IsLineWithin script bound (NotHeld client s mode) = (client < length script.clients) × (s < length script.sets)
+IsLineWithin script bound (ChangeLine client s gives_up mode) = (client < length script.clients) × (s < length script.sets)
+IsLineWithin script bound (Dropped client other s count) =
+    (client < length script.clients) × (other < length script.clients) × (s < length script.sets) × (count ≤ bound)
+IsLineWithin script bound (Busy client other s) =
+    (client < length script.clients) × (other < length script.clients) × (s < length script.sets)
+IsLineWithin script bound (Copy s to client mode) = (s < length script.sets) × (to < script.nodes) × (client < length script.clients)
+IsLineWithin script bound (Freeze s to number modes) = (s < length script.sets) × (to < script.nodes) × (number ≤ bound)
+IsLineWithin script bound (Token s to epoch) = (s < length script.sets) × (to < script.nodes) × (epoch ≤ bound)
+
+-- the entry of a move and its lines
+pub record IsEntryWithin (script : ScriptData) (bound : ℕ) (entry : Logged) : Type 0 where
+  pub made : IsMoveWithin script bound entry.made
+  pub lines : All (IsLineWithin script bound) entry.events
