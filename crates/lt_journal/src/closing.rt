@@ -1,9 +1,11 @@
-ghost use Rattle.std.specs.Prelude.{◌≡◌, ◌++◌, OnOk, count_by, length};
-ghost use Rattle.lt_model.specs.Text.{Holding as AnyHolding, same_holding, held_line, held_in_mode, held_in_set, held_by, held_text, waiting_line, waiting_of, waiting_text, owner_line, owners_text, outcome_text};
+ghost use Rattle.std.specs.Prelude.{◌≡◌, ◌<◌, ◌++◌, List, OnOk, length};
+ghost use Rattle.lt_journal.specs.Counts.{Counts, Tells};
+ghost use Rattle.lt_model.specs.Text.{Holding as AnyHolding, Outcome as AnyOutcome, held_line, held_in_mode, held_in_set, held_by, held_text, waiting_line, waiting_of, waiting_text, owner_line, owners_text, outcome_text};
 
 use crate::events::lock;
 use crate::names::set_name;
-use crate::outcome::{Holding, Outcome, Owner, Waiting, is_same};
+use crate::outcome::{Owner, Tally, Waiting};
+use crate::table::{Holding, Table};
 use crate::text::Text;
 use lt_modes::Mode;
 use lt_script::Script;
@@ -22,40 +24,42 @@ pub const MODES: [Mode; 5] = [
 pub fn outcome_lines(
     text: &mut Text,
     script: &Script,
-    outcome: &Outcome,
+    tally: &Tally,
     moves: u32,
 ) -> Result<(), AllocError>
-    ensures { OnOk result (text.new ≡ text.old ++ outcome_text script.now outcome.now moves) }
+    ensures { OnOk result ((outcome : AnyOutcome)
+        → Tells script.now tally.now outcome
+        → text.new ≡ text.old ++ outcome_text script.now outcome moves) }
 {
-    held_lines(text, script, &outcome.held)?;
-    waiting_lines(text, script, &outcome.waiting)?;
-    owner_lines(text, script, &outcome.owners)?;
+    held_lines(text, script, &tally.held)?;
+    waiting_lines(text, script, &tally.waiting)?;
+    owner_lines(text, script, &tally.owners)?;
     text.first_word("end")?;
     text.number(u64::from(moves))?;
     text.end_line()
 }
 
 // Writes the lines of all locks, by client.
-fn held_lines(text: &mut Text, script: &Script, held: &[Holding]) -> Result<(), AllocError>
-    ensures { OnOk result (text.new ≡ text.old ++ held_text script.now held.now) }
+fn held_lines(text: &mut Text, script: &Script, table: &Table) -> Result<(), AllocError>
+    ensures { OnOk result ((held : List AnyHolding)
+        → Counts script.now table.now held
+        → text.new ≡ text.old ++ held_text script.now held) }
 {
     for client in 0..script.clients() {
-        held_by(text, script, held, client)?;
+        held_by(text, script, table, client)?;
     }
     Ok(())
 }
 
 // Writes the lines of the client's locks, by set.
-fn held_by(
-    text: &mut Text,
-    script: &Script,
-    held: &[Holding],
-    client: u16,
-) -> Result<(), AllocError>
-    ensures { OnOk result (text.new ≡ text.old ++ held_by script.now held.now client) }
+fn held_by(text: &mut Text, script: &Script, table: &Table, client: u16) -> Result<(), AllocError>
+    requires { client < length script.now.clients }
+    ensures { OnOk result ((held : List AnyHolding)
+        → Counts script.now table.now held
+        → text.new ≡ text.old ++ held_by script.now held client) }
 {
     for set in 0..script.sets() {
-        held_in_set(text, script, held, client, set)?;
+        held_in_set(text, script, table, client, set)?;
     }
     Ok(())
 }
@@ -64,11 +68,15 @@ fn held_by(
 fn held_in_set(
     text: &mut Text,
     script: &Script,
-    held: &[Holding],
+    table: &Table,
     client: u16,
     set: u8,
 ) -> Result<(), AllocError>
-    ensures { OnOk result (text.new ≡ text.old ++ held_in_set script.now held.now client set) }
+    requires client { client < length script.now.clients }
+    requires set { set < length script.now.sets }
+    ensures { OnOk result ((held : List AnyHolding)
+        → Counts script.now table.now held
+        → text.new ≡ text.old ++ held_in_set script.now held client set) }
 {
     for mode in &MODES {
         let lock = Holding {
@@ -76,16 +84,9 @@ fn held_in_set(
             set,
             mode: *mode,
         };
-        held_line(text, script, lock, count_of(held, lock))?;
+        held_line(text, script, lock, table.count(lock))?;
     }
     Ok(())
-}
-
-// How many locks are like this.
-fn count_of(held: &[Holding], lock: Holding) -> usize
-    ensures { result ≡ count_by (λ (other : AnyHolding). same_holding other lock) held.now }
-{
-    held.iter().filter(|other| is_same(**other, lock)).count()
 }
 
 // Writes the line of so many locks, if there are some: `held CLIENT SET MODE COUNT`.

@@ -4,7 +4,7 @@ ghost use Rattle.lt_model.specs.Text.{event_text, moves_text, closing_text, text
 
 use crate::closing::outcome_lines;
 use crate::events::{event_line, move_line};
-use crate::outcome::outcome_of;
+use crate::outcome::tally_of;
 use crate::text::Text;
 use lt_merge::Run;
 use lt_modes::Event;
@@ -59,8 +59,8 @@ fn closing_lines(
     ensures { OnOk result (text.new ≡ text.old ++ closing_text script.now run.now.entries cut) }
 {
     let Some(node) = cut else {
-        let outcome = outcome_of(alloc, script, run)?;
-        return outcome_lines(text, script, &outcome, run.len());
+        let tally = tally_of(alloc, script, run)?;
+        return outcome_lines(text, script, &tally, run.len());
     };
     text.first_word("cut")?;
     text.number(u64::from(node))?;

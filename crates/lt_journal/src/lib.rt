@@ -49,6 +49,7 @@ mod reading;
 #[cfg(test)]
 mod reading_tests;
 mod splitting;
+mod table;
 #[cfg(test)]
 mod tests;
 mod text;

@@ -1,30 +1,13 @@
-ghost use Rattle.std.specs.Prelude.{◌≡◌, ◌<◌, ◌++◌, ◌∷◌, [], Some, IfOk, IfSome, OnOk, length, replicate, position, filter, fold, slice_set};
-ghost use Rattle.lt_model.specs.Text.{Holding as AnyHolding, without, is_kept, same_holding, first_owner, with_lock, less_lock, with_waiting, after_event, first_outcome, outcome_of};
+ghost use Rattle.std.specs.Prelude.{◌≡◌, IfOk, OnOk, fold, slice_set};
+ghost use Rattle.lt_model.specs.Text.{Outcome as AnyOutcome, with_lock, less_lock, with_waiting, after_event, first_outcome, outcome_of};
+ghost use Rattle.lt_journal.specs.Counts.{Tells};
 
-use crate::names::is_related;
+use crate::table::{Holding, Table};
 use lt_merge::Run;
 use lt_modes::{Event, Mode};
 use lt_script::Script;
 use std::alloc::{AllocError, Global};
 use std::marker::Model;
-
-/// One lock that a client holds.
-#[derive(Clone, Copy, Debug)]
-pub struct Holding {
-    pub client: u16,
-    pub set: u8,
-    pub mode: Mode,
-}
-
-impl Model for Holding {
-    ghost use Rattle.lt_model.specs.Text.{Holding as HoldingData};
-
-    ghost Value = { HoldingData };
-
-    ghost view = { λ h. record { client = h.client; set = h.set; mode = h.mode } };
-
-    ghost inverse = { λ h. record { client = h.client; set = h.set; mode = h.mode } };
-}
 
 /// What a client waits for.
 #[derive(Clone, Copy, Debug)]
@@ -60,29 +43,29 @@ impl Model for Owner {
     ghost inverse = { λ o. record { node = o.node; epoch = o.epoch } };
 }
 
-/// What events come to: the locks that are held, what each client waits for, and each set's owner.
+/// What events come to: how many locks are held, what each client waits for, and each set's owner.
 #[derive(Debug, Drop)]
-pub struct Outcome {
-    pub held: Vec<Holding>,
+pub struct Tally {
+    pub held: Table,
     pub waiting: Vec<Option<Waiting>>,
     pub owners: Vec<Owner>,
 }
 
-impl Model for Outcome {
-    ghost use Rattle.lt_model.specs.Text.{Outcome as OutcomeData};
+impl Model for Tally {
+    ghost use Rattle.lt_journal.specs.Counts.{Tally as TallyData};
 
-    ghost Value = { OutcomeData };
+    ghost Value = { TallyData };
 
-    ghost view = { λ o. record { held = o.held.items; waiting = o.waiting.items; owners = o.owners.items } };
+    ghost view = { λ t. record { cells = t.held; waiting = t.waiting.items; owners = t.owners.items } };
 }
 
-impl Outcome {
-    /// The outcome of no events.
-    fn new(alloc: Global, script: &Script) -> Result<Outcome, AllocError>
-        ensures { IfOk result (λ outcome. outcome ≡ first_outcome script.now) }
+impl Tally {
+    /// What no events come to.
+    fn new(alloc: Global, script: &Script) -> Result<Tally, AllocError>
+        ensures { IfOk result (λ tally. Tells script.now tally (first_outcome script.now)) }
     {
-        Ok(Outcome {
-            held: Vec::new(alloc),
+        Ok(Tally {
+            held: Table::new(alloc, script)?,
             waiting: vec![in alloc; None; usize::from(script.clients())]?,
             owners: vec![in alloc; Owner { node: 0, epoch: 0 }; usize::from(script.sets())]?,
         })
@@ -90,13 +73,12 @@ impl Outcome {
 
     /// Takes one event more into account.
     fn apply(&mut self, script: &Script, event: Event) -> Result<(), AllocError>
-        ensures { OnOk result (self.new ≡ after_event script.now self.old event) }
+        ensures { OnOk result ((outcome : AnyOutcome)
+            → Tells script.now self.old outcome
+            → Tells script.now self.new (after_event script.now outcome event)) }
     {
         match event {
-            Event::Grant { client, set, mode } => {
-                self.hold(client, set, mode)?;
-                self.wait(client, None);
-            }
+            Event::Grant { client, set, mode } => self.grant(script, client, set, mode)?,
             Event::Wait { client, set, mode } => self.wait(client, Some(Waiting { set, mode })),
             Event::Try {
                 client,
@@ -105,21 +87,19 @@ impl Outcome {
                 got,
             } => {
                 if got {
-                    self.hold(client, set, mode)?;
+                    self.held.add(script, Holding { client, set, mode })?;
                 }
             }
-            Event::Unlock { client, set, mode } => self.give_up(client, set, mode),
+            Event::Unlock { client, set, mode } => {
+                self.held.take(script, Holding { client, set, mode });
+            }
             Event::Change {
                 client,
                 set,
                 gives_up,
                 mode,
-            } => {
-                self.give_up(client, set, gives_up);
-                self.hold(client, set, mode)?;
-                self.wait(client, None);
-            }
-            Event::DropAll { other, set, .. } => drop_all(&mut self.held, script, other, set),
+            } => self.change(script, client, set, gives_up, mode)?,
+            Event::DropAll { other, set, .. } => self.held.drop_all(script, other, set),
             Event::Token { set, to, epoch } => self.own(set, Owner { node: to, epoch }),
             Event::NotHeld { .. }
             | Event::Busy { .. }
@@ -129,26 +109,43 @@ impl Outcome {
         Ok(())
     }
 
-    // Adds a lock.
-    fn hold(&mut self, client: u16, set: u8, mode: Mode) -> Result<(), AllocError>
-        ensures { OnOk result (self.new ≡ with_lock self.old client set mode) }
+    // Adds a lock, for which its client waits no more.
+    fn grant(&mut self, script: &Script, client: u16, set: u8, mode: Mode) -> Result<(), AllocError>
+        ensures { OnOk result ((outcome : AnyOutcome)
+            → Tells script.now self.old outcome
+            → Tells script.now self.new (with_waiting (with_lock outcome client set mode) client None)) }
     {
-        self.held.push(Holding { client, set, mode })?;
+        self.held.add(script, Holding { client, set, mode })?;
+        self.wait(client, None);
         Ok(())
     }
 
-    // Takes one such lock away, if there is one.
-    fn give_up(&mut self, client: u16, set: u8, mode: Mode)
-        ensures { self.new ≡ less_lock self.old client set mode }
+    // A lock of one mode becomes one of another.
+    fn change(
+        &mut self,
+        script: &Script,
+        client: u16,
+        set: u8,
+        gives_up: Mode,
+        mode: Mode,
+    ) -> Result<(), AllocError>
+        ensures { OnOk result ((outcome : AnyOutcome)
+            → Tells script.now self.old outcome
+            → Tells script.now self.new
+            (with_waiting (with_lock (less_lock outcome client set gives_up) client set mode) client None)) }
     {
-        if let Some(place) = place_of(&self.held, Holding { client, set, mode }) {
-            self.held.remove(place);
-        }
+        let old = Holding {
+            client,
+            set,
+            mode: gives_up,
+        };
+        self.held.take(script, old);
+        self.grant(script, client, set, mode)
     }
 
     // The client now waits for this, or for nothing.
     fn wait(&mut self, client: u16, waiting: Option<Waiting>)
-        ensures { self.new ≡ with_waiting self.old client waiting }
+        ensures { self.new ≡ record self.old { waiting = slice_set self.old.waiting client waiting } }
     {
         let place = usize::from(client);
         if place < self.waiting.len() {
@@ -168,58 +165,24 @@ impl Outcome {
 }
 
 /// What a run comes to.
-pub fn outcome_of(alloc: Global, script: &Script, run: &Run) -> Result<Outcome, AllocError>
-    ensures { IfOk result (λ outcome. outcome ≡ outcome_of script.now run.now.entries) }
+pub fn tally_of(alloc: Global, script: &Script, run: &Run) -> Result<Tally, AllocError>
+    ensures { IfOk result (λ tally. Tells script.now tally (outcome_of script.now run.now.entries)) }
 {
-    let mut outcome = Outcome::new(alloc, script)?;
+    let mut tally = Tally::new(alloc, script)?;
     for k in 0..run.len() {
-        apply_all(&mut outcome, script, run.events(k))?;
+        apply_all(&mut tally, script, run.events(k))?;
     }
-    Ok(outcome)
+    Ok(tally)
 }
 
 // Takes the events into account, in order.
-fn apply_all(outcome: &mut Outcome, script: &Script, events: &[Event]) -> Result<(), AllocError>
-    ensures { OnOk result (outcome.new ≡ fold (after_event script.now) outcome.old events.now) }
+fn apply_all(tally: &mut Tally, script: &Script, events: &[Event]) -> Result<(), AllocError>
+    ensures { OnOk result ((outcome : AnyOutcome)
+        → Tells script.now tally.old outcome
+        → Tells script.now tally.new (fold (after_event script.now) outcome events.now)) }
 {
     for event in events {
-        outcome.apply(script, *event)?;
+        tally.apply(script, *event)?;
     }
     Ok(())
-}
-
-// The place of the first lock that is like this.
-fn place_of(held: &[Holding], lock: Holding) -> Option<usize>
-    ensures place { result ≡ position (λ (other : AnyHolding). same_holding other lock) held.now }
-    ensures inside { IfSome result (λ place. place < length held.now) }
-{
-    held.iter().position(|other| is_same(*other, lock))
-}
-
-/// Whether two locks are of one client, in one set, and of one mode.
-pub fn is_same(a: Holding, b: Holding) -> bool
-    ensures { result ≡ same_holding a b }
-{
-    a.client == b.client && a.set == b.set && a.mode == b.mode
-}
-
-// Drops the client's locks in the set's family.
-fn drop_all(held: &mut Vec<Holding>, script: &Script, client: u16, set: u8)
-    ensures { held.new.items ≡ filter (is_kept script.now client set) held.old.items }
-{
-    let mut place = 0;
-    while place < held.len() {
-        if is_kept(script, client, set, held[place]) {
-            place += 1;
-        } else {
-            held.remove(place);
-        }
-    }
-}
-
-// Whether the lock stays, as the client's locks in the set's family are dropped.
-fn is_kept(script: &Script, client: u16, set: u8, lock: Holding) -> bool
-    ensures { result ≡ is_kept script.now client set lock }
-{
-    !(lock.client == client && is_related(script, lock.set, set))
 }
