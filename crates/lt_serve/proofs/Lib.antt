@@ -1,4 +1,5 @@
 mod Endings
 mod FirstMoves
 mod NoMoves
+mod Seeds
 mod Told

@@ -1,7 +1,7 @@
 -- What each answer of the top call means.
-use Rattle.std.specs.Prelude.{◌≡◌, Bool, true, false, ℕ, ◌+◌, ◌≤◌, List, [], ◌++◌, Option, Some, None, Ok, Err, length, take}
+use Rattle.std.specs.Prelude.{◌≡◌, true, false, ℕ, ◌≤◌, List, [], Option, Some, None, Ok, Err, length, take}
 use Rattle.std.specs.Io.KnownBytes.{Appends}
-use Rattle.lt_io.specs.Counts.{Counts, RoseBy}
+use Rattle.lt_io.specs.Counts.{Counts}
 use Rattle.lt_io.specs.Sink.{AppendsPart}
 use Rattle.lt_io.specs.declared.whole.ReadFailure.{ReadFailure}
 use Rattle.lt_io.specs.declared.whole.ReadFailure.TheVariants.{Memory, Failed, TooLong as Long}
@@ -15,6 +15,7 @@ use Rattle.lt_alone.specs.Laws.{ClientsAgree}
 use Rattle.lt_script.specs.declared.fault.ScriptFault.{ScriptFault}
 use Rattle.lt_script.specs.Reading.{read_of}
 use Rattle.lt_serve.specs.Scripts.{can_run}
+use Rattle.lt_serve.specs.Words.{IsSimFirst}
 use Rattle.lt_world.specs.declared.limits.TheConstants.{MAX_MOVES}
 use Rattle.lt_serve.specs.declared.limits.TheConstants.{MAX_INPUT}
 use Rattle.lt_serve.specs.declared.status.Status.{Status}
@@ -106,15 +107,15 @@ Tells NoMemory left run old new = TellsNothing run old new
 Tells NotBuilt left run old new = TellsNothing run old new
 Tells (BadJournal line) left run old new = ⊥
 
--- the status tells what the bytes are or what came of them
-abbrev pub HasRead : Status → Type 0
-HasRead Done = Unit {0}
-HasRead Stuck = Unit {0}
-HasRead (Cut node) = Unit {0}
-HasRead WriteFault = Unit {0}
-HasRead (Refused fault) = Unit {0}
-HasRead NotBuilt = Unit {0}
-HasRead other = ⊥
+-- after these words the status tells what the bytes are or what came of them
+abbrev pub HasRead : List (List ℕ) → Status → Type 0
+HasRead words Done = Unit {0}
+HasRead words Stuck = Unit {0}
+HasRead words (Cut node) = Unit {0}
+HasRead words WriteFault = Unit {0}
+HasRead words (Refused fault) = Unit {0}
+HasRead words NotBuilt = IsSimFirst words
+HasRead words other = ⊥
 
 -- the source came to its end, and gave no more bytes than a script may have
 pub record IsWhole (given given' ends ends' : ℕ) : Type 0 where
@@ -129,6 +130,12 @@ IsReadAnswer ReadFault = Unit {0}
 IsReadAnswer NoMemory = Unit {0}
 IsReadAnswer NotBuilt = Unit {0}
 IsReadAnswer other = ⊥
+
+-- those of them that tell what the bytes are
+abbrev pub TellsBytes : Status → Type 0
+TellsBytes (Refused fault) = Unit {0}
+TellsBytes NotBuilt = Unit {0}
+TellsBytes other = ⊥
 
 -- why a source could not be read, as a status
 abbrev pub status_of : ReadFailure → Status

@@ -1,6 +1,7 @@
 //! The top call of the lock service: words and a script come in, a journal goes out.
 #![tactic(auto)]
 
+mod command;
 mod first;
 mod gate;
 mod limits;
@@ -10,8 +11,8 @@ mod serving;
 mod status;
 #[cfg(test)]
 mod tests;
-mod words;
 
+pub use command::Command;
 pub use gate::Gate;
 pub use limits::MAX_INPUT;
 pub use serving::{Served, serve};

@@ -6,7 +6,7 @@ ghost use Rattle.lt_script.specs.Script.{IsScript};
 ghost use Rattle.lt_serve.specs.Scripts.{can_run};
 ghost use Rattle.lt_serve.specs.declared.limits.TheConstants.{MAX_INPUT};
 ghost use Rattle.lt_serve.specs.declared.status.Status.TheVariants as status;
-ghost use Rattle.lt_serve.specs.Serving.{Denotes, HasFault, DenotesOther, HasRead, IsWhole, IsReadAnswer, status_of};
+ghost use Rattle.lt_serve.specs.Serving.{Denotes, HasFault, DenotesOther, IsWhole, IsReadAnswer, TellsBytes, status_of};
 
 use crate::limits::MAX_INPUT;
 use crate::scripts::can_run;
@@ -21,7 +21,7 @@ pub(crate) fn read_script<S: Source>(alloc: Global, source: &mut S) -> Result<Sc
     ensures built { IfOk result (λ script. IsTrue (can_run script)) }
     ensures kept { IfOk result IsScript }
     ensures whole { OnOk result (IsWhole (S.given source.old) (S.given source.new) (S.ends source.old) (S.ends source.new)) }
-    ensures whole_too { IfErr result (λ answer. HasRead answer → IsWhole (S.given source.old) (S.given source.new) (S.ends source.old) (S.ends source.new)) }
+    ensures whole_too { IfErr result (λ answer. TellsBytes answer → IsWhole (S.given source.old) (S.given source.new) (S.ends source.old) (S.ends source.new)) }
     ensures answer { IfErr result IsReadAnswer }
     ensures read_fault { IfErr result (λ answer. answer ≡ status.ReadFault → Rose (S.faults source.old) (S.faults source.new)) }
     ensures too_long { IfErr result (λ answer. answer ≡ status.TooLong → RoseBy (MAX_INPUT + 1) (S.given source.old) (S.given source.new)) }

@@ -1,4 +1,4 @@
-ghost use Rattle.std.specs.Prelude.{◌≡◌, ◌↔◌, ◌+◌, false, map, [], IsTrue};
+ghost use Rattle.std.specs.Prelude.{◌≡◌, ◌↔◌, ◌⊎◌, ◌+◌, map, [], None, IsTrue};
 ghost use Rattle.std.specs.String.{string_bytes};
 ghost use Rattle.lt_io.specs.Counts.{Rose, RoseBy};
 ghost use Rattle.lt_script.specs.declared.fault.ScriptFault.{ScriptFault as AnyFault};
@@ -6,14 +6,14 @@ ghost use Rattle.lt_script.specs.Script.{IsScript};
 ghost use Rattle.lt_serve.specs.Scripts.{can_run};
 ghost use Rattle.lt_serve.specs.declared.limits.TheConstants.{MAX_INPUT};
 ghost use Rattle.lt_serve.specs.declared.status.Status.TheVariants as status;
-ghost use Rattle.lt_serve.specs.Words.{is_command};
+ghost use Rattle.lt_serve.specs.Words.{command_of, IsSimFirst, IsUnbuilt};
 ghost use Rattle.lt_serve.specs.Serving.{Tells, TellsOf, HasRead, IsWhole, HasFault, DenotesOther};
 
+use crate::command::Command;
 use crate::first::first_run;
 use crate::gate::Gate;
 use crate::reading::read_script;
 use crate::status::Status;
-use crate::words::is_command;
 use lt_io::{Sink, Source, write_all};
 use lt_journal::write;
 use lt_merge::Run;
@@ -31,8 +31,8 @@ pub struct Served {
 /// Does what the words say, which don't have the program's name: reads the source, makes the run and writes its
 /// journal to the sink. The text is made whole before the first write.
 ///
-/// So far the only words are `sim first`, which makes all moves on the caller's thread; neither the runtime nor the
-/// gate has a part in it.
+/// So far the one command that is built is `sim first`, which makes all moves on the caller's thread; neither the
+/// runtime nor the gate has a part in it. The others leave the source as it was.
 pub fn serve<R: Threads + Sync, S: Source, K: Sink, G: Gate>(
     _rt: &R,
     alloc: Global,
@@ -42,20 +42,24 @@ pub fn serve<R: Threads + Sync, S: Source, K: Sink, G: Gate>(
     _gate: &G,
 ) -> Served
     // Each answer but want of memory has its cause.
-    ensures usage { (result.status ≡ status.Usage) ↔ (is_command (map string_bytes words.now) ≡ false) }
+    ensures usage { (result.status ≡ status.Usage) ↔ (command_of (map string_bytes words.now) ≡ None) }
+    ensures unbuilt { IsUnbuilt (map string_bytes words.now) → result.status ≡ status.NotBuilt }
+    ensures not_built { result.status ≡ status.NotBuilt
+        → IsUnbuilt (map string_bytes words.now) ⊎ (IsSimFirst (map string_bytes words.now) × DenotesOther (S.left source.old)) }
     ensures read_fault { result.status ≡ status.ReadFault → Rose (S.faults source.old) (S.faults source.new) }
     ensures too_long { result.status ≡ status.TooLong → RoseBy (MAX_INPUT + 1) (S.given source.old) (S.given source.new) }
     ensures refused { (fault : AnyFault) → result.status ≡ status.Refused fault → HasFault (S.left source.old) fault }
-    ensures not_built { result.status ≡ status.NotBuilt → DenotesOther (S.left source.old) }
     ensures write_fault { result.status ≡ status.WriteFault → Rose (K.faults sink.old) (K.faults sink.new) }
 
     // What the run is, how it ended, and what was written.
     ensures tells { Tells result.status (S.left source.old) result.run.entries (K.held sink.old) (K.held sink.new) }
-    ensures read_to_the_end { HasRead result.status → IsWhole (S.given source.old) (S.given source.new) (S.ends source.old) (S.ends source.new) }
-    ensures unread { is_command (map string_bytes words.now) ≡ false → source.new ≡ source.old }
+    ensures read_to_the_end { HasRead (map string_bytes words.now) result.status → IsWhole (S.given source.old) (S.given source.new) (S.ends source.old) (S.ends source.new) }
+    ensures unread { ¬ (IsSimFirst (map string_bytes words.now)) → source.new ≡ source.old }
 {
-    if !is_command(words) {
-        return Served::without_run(alloc, Status::Usage);
+    match Command::from_words(words) {
+        Some(Command::SimFirst) => {}
+        Some(_) => return Served::without_run(alloc, Status::NotBuilt),
+        None => return Served::without_run(alloc, Status::Usage),
     }
     match read_script(alloc, source) {
         Ok(script) => run_script(alloc, &script, sink),

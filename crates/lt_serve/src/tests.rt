@@ -1,4 +1,4 @@
-use super::{Gate, Status, serve};
+use super::{Command, Gate, Status, serve};
 use lt_io::{MemorySink, MemorySource, SureSource};
 use std::alloc::{AllocError, Global};
 use std::test::Fail;
@@ -10,11 +10,17 @@ impl Gate for Open {
     fn pass(&self, _node: u8) {}
 }
 
-fn sim_first(alloc: Global) -> Result<Vec<String>, AllocError> {
+// The words of a line, parted by one space.
+fn words_of(alloc: Global, line: &str) -> Result<Vec<String>, AllocError> {
     let mut words = Vec::new(alloc);
-    words.push(String::from_str(alloc, "sim")?)?;
-    words.push(String::from_str(alloc, "first")?)?;
+    for word in line.split(' ') {
+        words.push(String::from_str(alloc, word)?)?;
+    }
     Ok(words)
+}
+
+fn sim_first(alloc: Global) -> Result<Vec<String>, AllocError> {
+    words_of(alloc, "sim first")
 }
 
 // A source whose read of this number fails.
@@ -315,6 +321,132 @@ fn the_longest_input(rt: HostRuntime) -> Result<(), Fail> {
         let mut sink = sink_of(alloc, 1_000, &[])?;
         let served = serve(&rt, alloc, words.as_slice(), &mut source, &mut sink, &Open);
         assert_eq!(rt; served.status, status);
+    }
+    Ok(())
+}
+
+// Words, and what they come to where the script has no set.
+const WORDS: [(&str, Status); 59] = [
+    ("run", Status::NotBuilt),
+    ("check", Status::NotBuilt),
+    ("sim first", Status::Done),
+    ("sim 0", Status::NotBuilt),
+    ("sim 18446744073709551615", Status::NotBuilt),
+    ("sim 18446744073709551616", Status::Usage),
+    ("sim 00000000000000000007", Status::NotBuilt),
+    ("sim 000000000000000000007", Status::Usage),
+    ("sim 99999999999999999999", Status::Usage),
+    ("sim -1", Status::Usage),
+    ("sim +1", Status::Usage),
+    ("sim 1_0", Status::Usage),
+    ("sim ", Status::Usage),
+    ("sim 1 2", Status::Usage),
+    ("sim First", Status::Usage),
+    ("first sim", Status::Usage),
+    ("sim first x", Status::Usage),
+    ("sim", Status::Usage),
+    ("soak 7", Status::NotBuilt),
+    ("soak 18446744073709551615", Status::NotBuilt),
+    ("soak 18446744073709551616", Status::Usage),
+    ("soak first", Status::Usage),
+    ("soak", Status::Usage),
+    ("soak 7 7", Status::Usage),
+    ("make 1 1 1 5", Status::NotBuilt),
+    ("make 16 64 4096 18446744073709551615", Status::NotBuilt),
+    ("make 17 64 4096 0", Status::Usage),
+    ("make 16 65 4096 0", Status::Usage),
+    ("make 16 64 4097 0", Status::Usage),
+    ("make 16 64 4096 18446744073709551616", Status::Usage),
+    ("make 0 1 1 5", Status::Usage),
+    ("make 1 0 1 5", Status::Usage),
+    ("make 1 16 0 0", Status::NotBuilt),
+    ("make 1 17 1 5", Status::Usage),
+    ("make 3 48 1 5", Status::NotBuilt),
+    ("make 3 49 1 5", Status::Usage),
+    ("make 000000001 000000001 000000001 5", Status::NotBuilt),
+    ("make 0000000001 1 1 5", Status::Usage),
+    ("make 1 0000000001 1 5", Status::Usage),
+    ("make 1 1 0000000001 5", Status::Usage),
+    ("make 257 1 1 5", Status::Usage),
+    ("make 1 65537 1 5", Status::Usage),
+    ("make 1 1 4294967297 5", Status::Usage),
+    ("make 1 1 1", Status::Usage),
+    ("make 1 1 1 5 5", Status::Usage),
+    ("make 1 1 1 ", Status::Usage),
+    ("make  1 1 5", Status::Usage),
+    ("make 1 1 1 first", Status::Usage),
+    ("made 1 1 1 5", Status::Usage),
+    ("run x", Status::Usage),
+    ("run run", Status::Usage),
+    (" run", Status::Usage),
+    ("run ", Status::Usage),
+    ("check x", Status::Usage),
+    ("journal", Status::Usage),
+    ("Run", Status::Usage),
+    ("-h", Status::Usage),
+    ("-1", Status::Usage),
+    ("", Status::Usage),
+];
+
+// Only words that are a command which is built read the source.
+#[test]
+fn words(rt: HostRuntime) -> Result<(), Fail> {
+    let alloc = rt.alloc();
+    for (line, status) in &WORDS {
+        let words = words_of(alloc, line)?;
+        let mut source = source_of(alloc, "nodes 1\n", &[])?;
+        let mut sink = sink_of(alloc, 1_000, &[])?;
+        let served = serve(&rt, alloc, words.as_slice(), &mut source, &mut sink, &Open);
+        assert_eq!(rt; served.status, *status, "{line}");
+        assert_eq!(rt; source.calls > 0, *status == Status::Done, "{line}");
+        assert_eq!(rt; sink.bytes.is_empty(), *status != Status::Done, "{line}");
+    }
+    let mut source = source_of(alloc, "nodes 1\n", &[])?;
+    let mut sink = sink_of(alloc, 1_000, &[])?;
+    let served = serve(&rt, alloc, &[], &mut source, &mut sink, &Open);
+    assert_eq!(rt; served.status, Status::Usage);
+    Ok(())
+}
+
+#[test]
+fn commands(rt: HostRuntime) -> Result<(), Fail> {
+    let alloc = rt.alloc();
+    for (line, command) in [
+        ("run", Command::Run),
+        ("check", Command::Check),
+        ("sim first", Command::SimFirst),
+        ("sim 007", Command::Sim { seed: 7 }),
+        (
+            "soak 18446744073709551615",
+            Command::Soak {
+                seed: 18_446_744_073_709_551_615,
+            },
+        ),
+        (
+            "make 000000003 048 09 00000000000000000010",
+            Command::Make {
+                nodes: 3,
+                clients: 48,
+                commands: 9,
+                seed: 10,
+            },
+        ),
+        (
+            "make 16 64 4096 18446744073709551615",
+            Command::Make {
+                nodes: 16,
+                clients: 64,
+                commands: 4096,
+                seed: 18_446_744_073_709_551_615,
+            },
+        ),
+    ] {
+        let words = words_of(alloc, line)?;
+        assert_eq!(rt;
+            Command::from_words(words.as_slice()),
+            Some(command),
+            "{line}"
+        );
     }
     Ok(())
 }

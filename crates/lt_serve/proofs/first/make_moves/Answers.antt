@@ -1,6 +1,5 @@
-use Rattle.std.proofs.Common.{◌≡◌, ◌<◌, ◌∙◌, ◌++◌, ◌∷◌, [], List, length, arith, ap, subst, sym}
+use Rattle.std.proofs.Common.{◌≡◌, ◌∙◌, ◌++◌, ◌∷◌, [], length, arith, ap, subst, sym}
 use Rattle.std.proofs.lemmas.List.{length_push}
-use Rattle.lt_model.specs.Log.{Logged}
 use Rattle.lt_world.specs.OneNode.{start, world_after, logged}
 use Rattle.lt_world.specs.Standing.{WorldData}
 use Rattle.lt_alone.specs.Laws.{AreFirstFrom}

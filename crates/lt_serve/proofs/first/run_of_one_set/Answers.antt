@@ -1,4 +1,4 @@
-use Rattle.std.proofs.Common.{rules, ◌<◌, length}
+use Rattle.std.proofs.Common.{rules}
 use Rattle.lt_alone.specs.Laws.{AreFirstFrom}
 use Rattle.lt_world.specs.OneNode as one_node
 use Rattle.lt_model.specs.World.{IsRun}
