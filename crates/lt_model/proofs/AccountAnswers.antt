@@ -13,7 +13,7 @@ use Rattle.lt_modes.specs.Records.{record_of, still_owed, modes_of_owed}
 use Rattle.lt_modes.specs.Serving.{answered}
 use Rattle.lt_modes.specs.Sound.{ChargeKept}
 use Rattle.lt_modes.proofs.ModeAlgebra.{conflicts-sym, union_bars_both}
-use Rattle.lt_model.specs.Account.{Account, AccountKept, ClocksKept, AsksKnown, CopiesOwed, Covers, IsBelow, own_of, owed_and_waiting, now_modes, left_after, IsNews}
+use Rattle.lt_model.specs.Account.{Account, AccountKept, ClocksKept, AsksKnown, CopiesOwed, Covers, IsBelow, own_of, owed_and_waiting, now_modes, left_after, IsFresh}
 use Rattle.lt_model.specs.AccountSteps.{IsLoss, MayAnswer, answering, MayDeliver, delivering}
 use Rattle.lt_model.specs.AccountLaws.{Answers, Delivers}
 use Rattle.lt_model.proofs.AccountFacts.{same_by_stamp, still_owed-which, still_owed-at, bars_not, below_by_members, copy_is_waiting, held_below_charge}
@@ -39,6 +39,7 @@ clocks_answered a ask h = record {
   asks = λ own c. h.clocks.asks own (without_only a.pending ask.stamp own c);
   apart = without_apart a.pending ask.stamp h.clocks.apart;
   tells_made = h.clocks.tells_made;
+  tells_apart = h.clocks.tells_apart;
   told = h.clocks.told;
   owed = h.clocks.owed;
 }
@@ -180,9 +181,9 @@ cover_delivered a ask copies h came loss = record {
     only : IsBelow (union (with_mode a.charge ask.mode) (modes_of_asks copies)) (now_modes a.charge a.copies)
     only = now_only a ask copies came loss
 
-    still : IsBelow (record_of a.entry) (now_modes a.charge a.copies) ⊎ ((tell : Tell) × IsNews a.entry a.tells tell × IsBelow (left_after a.entry tell) (now_modes a.charge a.copies))
+    still : IsBelow (record_of a.entry) (now_modes a.charge a.copies) ⊎ ((tell : Tell) × IsFresh a.entry a.tells tell × IsBelow (left_after a.entry tell) (now_modes a.charge a.copies))
         → IsBelow (record_of a.entry) (union (with_mode a.charge ask.mode) (modes_of_asks copies))
-        ⊎ ((tell : Tell) × IsNews a.entry a.tells tell × IsBelow (left_after a.entry tell) (union (with_mode a.charge ask.mode) (modes_of_asks copies)))
+        ⊎ ((tell : Tell) × IsFresh a.entry a.tells tell × IsBelow (left_after a.entry tell) (union (with_mode a.charge ask.mode) (modes_of_asks copies)))
     still (inl below) = inl (λ m bar. now_kept a ask copies loss m (below m bar))
     still (inr found) = inr (found.0, found.1, λ m bar. now_kept a ask copies loss m (found.2 m bar))
 

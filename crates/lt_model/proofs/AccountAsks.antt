@@ -14,7 +14,7 @@ use Rattle.lt_modes.specs.Records.{record_of, modes_of_owed, still_owed}
 use Rattle.lt_modes.specs.Sound.{IsNoLater}
 use Rattle.lt_model.specs.Account.{Account, IsBelow, own_of}
 use Rattle.lt_model.specs.AccountSteps.{asking}
-use Rattle.lt_model.specs.AccountLaws.{Ticks, Ages, Asks, Rests, Reorders}
+use Rattle.lt_model.specs.AccountLaws.{Ticks, Ages, Asks, Rests, Freezes, Reorders}
 use Rattle.lt_model.proofs.Members.{has-union, has-left, has-right}
 use Rattle.lt_model.proofs.AccountFacts.{still_owed-which, still_owed-at, below_by_members, held_below_charge, no_later_at_all, before_in_move, newer_by_clock, open_later, now_with}
 
@@ -28,6 +28,7 @@ ticks_kept a clock h may = (
       asks = λ ask c. omega (arith, h.clocks.asks ask c, may.later);
       apart = h.clocks.apart;
       tells_made = λ tell c. later_still a.moving a.clock clock tell.stamp.clock may.later (h.clocks.tells_made tell c);
+      tells_apart = h.clocks.tells_apart;
       told = later_still a.moving a.clock clock a.entry.told_at.clock may.later h.clocks.told;
       owed = λ copy c. later_still a.moving a.clock clock copy.stamp.clock may.later (h.clocks.owed copy c);
     };
@@ -50,6 +51,7 @@ ages_kept a clock h between later = record {
     asks = λ ask c. omega (arith, h.clocks.asks ask c, later);
     apart = h.clocks.apart;
     tells_made = λ tell c. no_later_on a.moving a.clock clock tell.stamp.clock between later (h.clocks.tells_made tell c);
+    tells_apart = h.clocks.tells_apart;
     told = no_later_on a.moving a.clock clock a.entry.told_at.clock between later h.clocks.told;
     owed = λ copy c. no_later_on a.moving a.clock clock copy.stamp.clock between later (h.clocks.owed copy c);
   };
@@ -96,6 +98,7 @@ asks_kept a ask h may = (
       apart = all_pairs_push (λ (x y : Ask). x.stamp ≢ y.stamp) a.pending ask h.clocks.apart
           (λ k d below same. omega (arith, may.first (slice_index_or a.pending k d) (Contains-get_or a.pending k d below), ap (λ (z : Stamp). z.clock) same, may.now));
       tells_made = h.clocks.tells_made;
+      tells_apart = h.clocks.tells_apart;
       told = h.clocks.told;
       owed = h.clocks.owed;
     };
@@ -147,6 +150,7 @@ rests_kept a h may = (
       asks = h.clocks.asks;
       apart = h.clocks.apart;
       tells_made = λ tell c. no_later_at_all a.moving a.clock tell.stamp.clock (h.clocks.tells_made tell c);
+      tells_apart = h.clocks.tells_apart;
       told = no_later_at_all a.moving a.clock a.entry.told_at.clock h.clocks.told;
       owed = λ copy c. no_later_at_all a.moving a.clock copy.stamp.clock (h.clocks.owed copy c);
     };
@@ -166,6 +170,7 @@ reorders_kept a tells copies h may = (
       asks = h.clocks.asks;
       apart = h.clocks.apart;
       tells_made = λ tell c. h.clocks.tells_made tell (may.tells_same.only tell c);
+      tells_apart = λ x y cx cy. h.clocks.tells_apart x y (may.tells_same.only x cx) (may.tells_same.only y cy);
       told = h.clocks.told;
       owed = h.clocks.owed;
     };
@@ -206,3 +211,30 @@ reorders_kept a tells copies h may = (
 
     now_more : IsBelow (union a.charge (modes_of_asks a.copies)) (union a.charge (modes_of_asks copies))
     now_more mode b = now_with a.charge a.copies copies may.copies_same.kept mode b
+
+-- the frozen modes that an entry says were told are read by no part
+pub freezes_kept : Freezes
+freezes_kept a frozen h = (
+  record {
+    clocks = record {
+      asks = h.clocks.asks;
+      apart = h.clocks.apart;
+      tells_made = h.clocks.tells_made;
+      tells_apart = h.clocks.tells_apart;
+      told = h.clocks.told;
+      owed = h.clocks.owed;
+    };
+    known = record { in_entry = h.known.in_entry; in_tells = h.known.in_tells; lists = h.known.lists; entry_list = h.known.entry_list };
+    owed = record { waits = h.owed.waits; owed = h.owed.owed; on_way = h.owed.on_way; open_still = h.owed.open_still };
+    charge = h.charge;
+    cover = λ away. let c = h.cover away in record {
+      record_bound = c.record_bound;
+      left_bound = c.left_bound;
+      record_shrinks = c.record_shrinks;
+      left_shrinks = c.left_shrinks;
+      exact = c.exact;
+    };
+    clear = h.clear;
+  },
+  ((λ mode b. b), (λ mode b. b)),
+)

@@ -29,6 +29,7 @@ settles_kept a stamp h may = (
       asks = h.clocks.asks;
       apart = h.clocks.apart;
       tells_made = λ tell c. no_later_at_all a.moving a.clock tell.stamp.clock (h.clocks.tells_made tell c);
+      tells_apart = h.clocks.tells_apart;
       told = omega (arith, may.now);
       owed = λ copy c. no_later_at_all a.moving a.clock copy.stamp.clock (h.clocks.owed copy (still copy c).0);
     };
@@ -253,6 +254,7 @@ owes_kept a others ask copies h may = (
       asks = h.clocks.asks;
       apart = h.clocks.apart;
       tells_made = h.clocks.tells_made;
+      tells_apart = h.clocks.tells_apart;
       told = h.clocks.told;
       owed = λ copy c. elim (Contains-push_cases a.entry.owed (copy_for ask) copy c) [
         | inl before ↦ h.clocks.owed copy before

@@ -1,8 +1,7 @@
 -- Accounts to which things happen in any order stay kept and clear of each other.
 use Rattle.std.proofs.Common.{◌≡◌, ◌≢◌, ℕ, zero, suc, ◌<◌, inl, inr, List, [], ◌∷◌, Bool, true, false, refl, sym, ap, subst, arith, ◌∙◌}
 use Rattle.std.specs.Prelude.{◌⊎◌, ◌==◌, Contains, IsTrue, if◌then◌else◌}
-use Rattle.std.proofs.lemmas.Bool.{eq-eqb, ne_eqb, cases_eq}
-use Rattle.std.proofs.lemmas.List.Elements.{All-contains}
+use Rattle.std.proofs.lemmas.Bool.{eq-eqb, ne_eqb, cases_eq, false_from_ne_true}
 use Rattle.lt_modes.specs.declared.mode.Mode.{Mode}
 use Rattle.lt_modes.specs.declared.parts.Owed.{Owed}
 use Rattle.lt_modes.specs.Modes.{Modes, conflicts, has, no_modes, with_mode}
@@ -11,19 +10,15 @@ use Rattle.lt_modes.specs.Queue.{modes_of_asks}
 use Rattle.lt_modes.specs.Tells.{is_newer, is_open, left_owed}
 use Rattle.lt_modes.proofs.ModeAlgebra.{conflicts-sym, union_bars_both, clear_below, clear_both_ways}
 use Rattle.lt_model.specs.Below.{put}
-use Rattle.lt_model.specs.Facts.{state_at, times_in}
-use Rattle.lt_model.specs.Standing.{IsMadeBy}
 use Rattle.lt_model.specs.Account.{Account, AccountKept, Bars, AreClear, counted, owed_and_waiting}
 use Rattle.lt_model.specs.AccountLaws.{CountsSame, CountsLess, CountsOneMore}
-use Rattle.lt_model.specs.AccountPlay.{AccountStep, Tick, Wait, Grant, Unlock, Drop, Answer, Owe, Deliver, Apply, Say, Settle, Arrive, Rest, Reorder, after_step, MayStep, others_counted, after_one, AllClear, AllKept, CountsOn, ClearStays, first_account, FirstAccounts, AnyOrder}
-use Rattle.lt_model.specs.AccountFacts.{OwedAreOnWay, OnWayAreOwed, TellKeepsWaiting, TwiceIsOnce, RecordBoundsHeld, StandsOnce}
+use Rattle.lt_model.specs.AccountPlay.{AccountStep, Tick, Wait, Grant, Unlock, Drop, Answer, Owe, Deliver, Apply, Say, Settle, Arrive, Rest, Freeze, Reorder, after_step, MayStep, others_counted, after_one, AllClear, AllKept, CountsOn, ClearStays, first_account, FirstAccounts, LocksAgree, AnyOrder, FromTheStart}
+use Rattle.lt_model.specs.AccountFacts.{OwedAreOnWay, OnWayAreOwed, TellKeepsWaiting, TwiceIsOnce, RecordBoundsHeld}
 use Rattle.lt_model.proofs.Members.{has-with_mode}
 use Rattle.lt_model.proofs.StartKept.{none_has, account_first}
-use Rattle.lt_model.proofs.Sums.{sum_below-some}
-use Rattle.lt_model.proofs.Asks.{times_in-found}
-use Rattle.lt_model.proofs.StandingInRuns.{one_place_of}
 use Rattle.lt_model.proofs.AccountFacts.{waiting_is_copy, copy_is_waiting, asks_which, asks_at, left_owed-at, held_below_now, newer_in_turn, open-cases, open_later}
-use Rattle.lt_model.proofs.AccountAsks.{ticks_kept, asks_kept, rests_kept, reorders_kept}
+use Rattle.lt_model.proofs.AccountAsks.{ticks_kept, asks_kept, rests_kept, freezes_kept, reorders_kept}
+use Rattle.lt_model.proofs.Rows.{held-at}
 use Rattle.lt_model.proofs.AccountGrants.{grants_kept, unlocks_kept, drops_kept}
 use Rattle.lt_model.proofs.AccountAnswers.{answers_kept, delivers_kept}
 use Rattle.lt_model.proofs.AccountTells.{applies_kept, stale_kept, tells_kept}
@@ -127,6 +122,7 @@ one_step n accounts x here h (Say stamp tells) may = steps_same n accounts x _ (
 one_step n accounts x here h (Settle stamp) may = steps_same n accounts x _ (settles_kept (accounts x) stamp (h.kept x here) may)
 one_step n accounts x here h Arrive may = steps_less n accounts x _ (arrives_kept (accounts x) (h.kept x here) may)
 one_step n accounts x here h Rest may = steps_same n accounts x _ (rests_kept (accounts x) (h.kept x here) may)
+one_step n accounts x here h (Freeze frozen) may = steps_same n accounts x _ (freezes_kept (accounts x) frozen (h.kept x here))
 one_step n accounts x here h (Reorder tells copies) may = steps_same n accounts x _ (reorders_kept (accounts x) tells copies (h.kept x here) may)
 
 counted_put : (accounts : ℕ → Account) (x : ℕ) (now : Account) (k : ℕ) → put (λ i. counted (accounts i)) x (counted now) k ≡ counted (put accounts x now k)
@@ -149,11 +145,19 @@ put_kept n accounts x now here h s = record {
     by_test y below true = s.kept
     by_test y below false = h.kept y below
 
-all_held_clear : (n : ℕ) (accounts : ℕ → Account) → AllKept n accounts → AllClear n (λ x. held_modes (accounts x).held)
-all_held_clear n accounts h x y hx hy d = hold_clear (accounts x) (accounts y) (h.kept x hx) (h.kept y hy) (h.clear x y hx hy d)
+locks_agree : (n : ℕ) (accounts : ℕ → Account) → AllKept n accounts → LocksAgree n accounts
+locks_agree n accounts h x y a b hx hy here there differ = elim (cases_eq x y) [
+  | inl same ↦ elim differ [
+    | inl other ↦ absurd (other same)
+    | inr clients ↦ (h.kept x hx).clear.clients a b here (subst (λ (k : ℕ). Contains (accounts k).held b) (sym same) there) clients
+  ]
+  | inr other ↦ false_from_ne_true (conflicts a.mode b.mode) (λ conflict.
+      hold_clear (accounts x) (accounts y) (h.kept x hx) (h.kept y hy) (h.clear x y hx hy other) a.mode (held-at (accounts x).held a here)
+      (b.mode, conflict, held-at (accounts y).held b there))
+]
 
 pub any_order : AnyOrder
-any_order n accounts [] h may = (h, all_held_clear n accounts h)
+any_order n accounts [] h may = (h, locks_agree n accounts h)
 any_order n accounts (first ∷ rest) h may =
     any_order n (after_one accounts first) rest
     (put_kept n accounts first.node (after_step first.step (accounts first.node)) may.0 h (one_step n accounts first.node may.0 h first.step may.1)) may.2
@@ -167,6 +171,9 @@ first_accounts n desk = record {
     by_test : {A : Type 0} (here : Bool) (mode : Mode) → IsTrue (has mode (counted (record (first_account desk 0) { here = here }))) → A
     by_test true mode member = none_has mode member
     by_test false mode member = none_has mode member
+
+pub from_the_start : FromTheStart
+from_the_start n desk happenings may = (any_order n (first_account desk) happenings (first_accounts n desk) may).1
 
 pub owed_are_on_way : OwedAreOnWay
 owed_are_on_way a mode h m =
@@ -210,16 +217,3 @@ twice_is_once later older (copy ∷ rest) newer lists =
         ] in
         let no : true ≡ false = sym open_too ∙ eo in cc
     by_tests false false eo el again = again
-
-pub stands_once : StandsOnce
-stands_once script w s ask h some =
-    let found = sum_below-some script.nodes (λ x. times_in ask (state_at w s x).pending) (omega (arith, h.places.once ask, some)) in
-    let there = times_in-found ask (state_at w s found.0).pending (omega (arith, found.2)) in
-    let own = (elements found.0 found.1 there).0 in (
-      omega (arith, own, found.1),
-      subst (λ (x : ℕ). Contains (state_at w s x).pending ask) (sym own) there,
-      one_place_of script w s found.0 ask h found.1 there,
-    )
-  where
-    elements : (x : ℕ) → x < script.nodes → Contains (state_at w s x).pending ask → IsMadeBy x (w.node x).clock ask
-    elements x below c = All-contains (IsMadeBy x (w.node x).clock) (state_at w s x).pending ask (h.own x below) c

@@ -1,23 +1,33 @@
 -- The rules of a node are steps of accounts.
-use Rattle.std.proofs.Common.{◌≡◌, ◌≢◌, ℕ, suc, ◌+◌, ◌<◌, inl, inr, List, [], ◌∷◌, length, Option, Some, None, Bool, true, false, refl, sym, ap, subst, arith, ◌∙◌}
-use Rattle.std.specs.Prelude.{◌⊎◌, ◌||◌, ◌&&◌, ◌==◌, not, IsTrue, IsFalse, if◌then◌else◌, is_some, remove, slice_index_or, slice_set}
+use Rattle.std.proofs.Common.{◌≡◌, ◌≢◌, ℕ, zero, suc, ◌+◌, ◌<◌, inl, inr, List, [], ◌∷◌, length, Option, Some, None, Bool, true, false, refl, sym, ap, subst, arith, ◌∙◌}
+use Rattle.std.specs.Prelude.{◌⊎◌, ◌||◌, ◌&&◌, ◌==◌, not, IsTrue, IsFalse, if◌then◌else◌, nat_lt, fold, is_some, remove, slice_index_or, slice_set}
 use Rattle.std.proofs.lemmas.Bool.{and_parts, or_cases, eq-eqb, ne_eqb, eqb-true, cases_eq}
-use Rattle.std.proofs.lemmas.List.{get_or-set_same, get_or-set_other}
+use Rattle.std.specs.List.{AllByRecursion, filter_map, cons_option}
+use Rattle.std.proofs.lemmas.List.{get_or-set_same, get_or-set_other, length-set}
 use Rattle.lt_modes.specs.declared.mode.Mode.{Mode}
 use Rattle.lt_modes.specs.declared.ask.Ask.{Ask}
-use Rattle.lt_modes.specs.Modes.{Modes, has, union, bars, covers, with_mode}
-use Rattle.lt_modes.specs.State.{SetState, Desk, Entry, first_entry}
+use Rattle.lt_modes.specs.Modes.{is_taking, no_modes, Modes, has, union, bars, covers, with_mode}
+use Rattle.lt_modes.specs.State.{SetState, Desk, Entry, Tell, Parked, ParkedAsk, ParkedTell, first_entry}
 use Rattle.lt_modes.specs.Held.{own_modes, other_modes, held_modes}
 use Rattle.lt_modes.specs.Queue.{no_ask, modes_of_asks}
-use Rattle.lt_modes.specs.Records.{entry_of, record_of, own_owed, own_part, others}
+use Rattle.lt_modes.specs.Records.{entry_of, record_of, own_owed, own_part, modes_at, others_below, others}
 use Rattle.lt_modes.specs.Tells.{told}
 use Rattle.lt_modes.specs.Granting.{may_join, against, asks_before}
 use Rattle.lt_modes.specs.Serving.{ask_at, queue_of, queue_of_desk, next_at, next_from, is_served, is_free, is_local, is_copy, is_clear_at_home, served, owed_at, owing}
 use Rattle.lt_modes.specs.HandingOver.{settled, without_desk}
 use Rattle.lt_modes.proofs.ModeAlgebra.{same_modes-true}
-use Rattle.lt_model.specs.Account.{owed_and_waiting}
+use Rattle.lt_modes.specs.Routing.{dealt, reversed}
+use Rattle.lt_modes.specs.Script.{ScriptData}
+use Rattle.lt_modes.specs.declared.parts.Link.{Link}
+use Rattle.lt_modes.specs.declared.parts.Hoped.{Hoped}
+use Rattle.lt_model.specs.World.{World}
+use Rattle.lt_model.specs.Facts.{state_at}
+use Rattle.lt_model.specs.Moments.{Moment}
+use Rattle.lt_model.specs.OnWay.{tell_parked, account_of}
+use Rattle.lt_model.specs.AccountPlay.{others_counted}
+use Rattle.lt_model.specs.Account.{counted, owed_and_waiting}
 use Rattle.lt_model.specs.AccountSteps.{MayJoin}
-use Rattle.lt_model.specs.AccountRules.{own_account, others_known, GrantsByRule, FrozenIsNotGranted, CommandsAreSteps, IsLocallyFree, IsCopyFree, ServesByRule, ServicesAreSteps, CopiesAreDelivered, TellsAreApplied, TellsAreMade, HandingOverSettles, TokensArrive}
+use Rattle.lt_model.specs.AccountRules.{own_account, GrantsByRule, FrozenIsNotGranted, CommandsAreSteps, IsLocallyFree, IsCopyFree, ServesByRule, ServicesAreSteps, CopiesAreDelivered, TellsAreApplied, TellsAreMade, HandingOverSettles, IsParkedOf, told_by_parked, TokensArrive, OthersChangeNothing, RulesCount}
 use Rattle.lt_model.proofs.AccountFacts.{bars_not, not_bars, below_by_members}
 use Rattle.lt_model.proofs.Members.{has-union, has-left, has-right}
 use Rattle.lt_model.proofs.PathsQuiet.{put_queue_some}
@@ -32,7 +42,7 @@ not_true true e = cc
 not_true false e = refl
 
 pub grants_by_rule : GrantsByRule
-grants_by_rule me clock client mode s entry tells copies can own charge =
+grants_by_rule me clock client mode s entry tells copies against_all can own charge =
     elim (or_cases (covers (own_modes s.held client) mode) (not (has mode (bars (other_modes s.held client))) && may_join me s client mode s.desk) can) [
       | inl covered ↦ inl covered
       | inr joins ↦
@@ -41,17 +51,18 @@ grants_by_rule me clock client mode s entry tells copies can own charge =
     ]
   where
     by_desk : (o : Option Desk) → s.desk ≡ o → may_join me s client mode o ≡ true
-        → MayJoin (others_known me s o) mode (own_account true clock entry tells copies s) (is_some o)
+        → MayJoin against_all mode (own_account true clock entry tells copies s) (is_some o)
     by_desk None away e = (charge away, (and_parts (covers s.charge mode) (not (has mode s.frozen)) e).0)
     by_desk (Some desk) here e =
         let fails = not_true (has mode (bars (against me s client desk))) e in
         let waiting = asks_before s client desk in
-        fails_within mode (against me s client desk) (union (others me s desk me) (owed_and_waiting (own_account true clock entry tells copies s)))
-        (λ m member. elim (has-union m (others me s desk me) (owed_and_waiting (own_account true clock entry tells copies s)) member) [
-          | inl other ↦ has-left m (others me s desk me) (union (own_owed me s desk) (modes_of_asks waiting)) other
+        fails_within mode (against me s client desk) (union against_all (owed_and_waiting (own_account true clock entry tells copies s)))
+        (λ m member. elim (has-union m against_all (owed_and_waiting (own_account true clock entry tells copies s)) member) [
+          | inl other ↦ has-left m (others me s desk me) (union (own_owed me s desk) (modes_of_asks waiting))
+              (subst (λ (x : Modes). IsTrue (has m x)) (own desk here).1 other)
           | inr owed ↦ has-right m (others me s desk me) (union (own_owed me s desk) (modes_of_asks waiting))
               (has-left m (own_owed me s desk) (modes_of_asks waiting)
-              (subst (λ (x : Entry). IsTrue (has m (owed_and_waiting (own_account true clock x tells copies s)))) (own desk here) owed))
+              (subst (λ (x : Entry). IsTrue (has m (owed_and_waiting (own_account true clock x tells copies s)))) (own desk here).0 owed))
         ])
         fails
 
@@ -70,6 +81,7 @@ commands_are_steps = record {
   gives = λ clock client mode gives_up s entry tells copies. refl;
   unlocks = λ clock client mode s entry tells copies. refl;
   drops = λ clock client s entry tells copies. refl;
+  asks = λ clock ask s entry tells copies. refl;
 }
 
 -- the ask that is next was tested against the asks before it
@@ -190,5 +202,89 @@ handing_over_settles = record {
       get_or-set_other desk.entries stamp.node x (settled stamp s (entry_of desk stamp.node)) first_entry other;
 }
 
+dealt_length : (desk : Desk) (item : Parked) → length (dealt desk item).entries ≡ length desk.entries
+dealt_length desk (ParkedAsk ask) = refl
+dealt_length desk (ParkedTell tell) = length-set desk.entries tell.node (told tell (entry_of desk tell.node))
+
+-- one parked letter, and then the rest
+parked_tells : (x : ℕ) (items : List Parked) (desk : Desk) → AllByRecursion (IsParkedOf (length desk.entries)) items
+    → entry_of (fold dealt desk items) x ≡ told_by_parked x items (entry_of desk x)
+parked_tells x [] desk h = refl
+parked_tells x (ParkedAsk ask ∷ rest) desk h = parked_tells x rest (dealt desk (ParkedAsk ask)) h.1
+parked_tells x (ParkedTell tell ∷ rest) desk h =
+    parked_tells x rest (dealt desk (ParkedTell tell)) (subst (λ (n : ℕ). AllByRecursion (IsParkedOf n) rest) (sym (dealt_length desk (ParkedTell tell))) h.1)
+    ∙ by_node (cases_eq x tell.node)
+  where
+    later : Entry → Entry
+    later entry = told_by_parked x rest entry
+
+    by_node : (x ≡ tell.node) ⊎ (x ≢ tell.node)
+        → later (entry_of (dealt desk (ParkedTell tell)) x) ≡ told_by_parked x (ParkedTell tell ∷ rest) (entry_of desk x)
+    by_node (inl same) =
+        ap later (tells_are_applied x tell desk h.0 ∙ ap (λ (b : Bool). if b then told tell (entry_of desk x) else entry_of desk x) (eq-eqb x tell.node same))
+        ∙ ap (λ (b : Bool). fold (λ e t. told t e) (entry_of desk x) (cons_option (if b then Some tell else None) (filter_map (tell_parked x) rest)))
+        (sym (eq-eqb tell.node x (sym same)))
+    by_node (inr other) =
+        ap later (tells_are_applied x tell desk h.0 ∙ ap (λ (b : Bool). if b then told tell (entry_of desk x) else entry_of desk x) (ne_eqb x tell.node other))
+        ∙ ap (λ (b : Bool). fold (λ e t. told t e) (entry_of desk x) (cons_option (if b then Some tell else None) (filter_map (tell_parked x) rest)))
+        (sym (ne_eqb tell.node x (λ e. other (sym e))))
+
 pub tokens_arrive : TokensArrive
-tokens_arrive me clock desk s entry tells copies = refl
+tokens_arrive = record {
+  arrives = λ me clock desk s entry tells copies. refl;
+  parked = parked_tells;
+}
+
+pub others_change_nothing : OthersChangeNothing
+others_change_nothing = record {
+  learns = λ clock link s entry tells copies. by_epoch clock link s entry tells copies (nat_lt s.firm.epoch link.epoch);
+  parks = λ clock items s entry tells copies. refl;
+  reverses = λ me clock item s entry tells copies. by_item me clock item s entry tells copies;
+  keeps_freeze = λ clock number frozen s entry tells copies. by_number clock number frozen s entry tells copies (nat_lt s.number number);
+}
+  where
+    by_epoch : (clock : ℕ) (link : Link) (s : SetState) (entry : Entry) (tells : List Tell) (copies : List Ask) (newer : Bool)
+        → own_account true clock entry tells copies (if newer then record s { firm = link; hoped = None } else s) ≡ own_account true clock entry tells copies s
+    by_epoch clock link s entry tells copies true = refl
+    by_epoch clock link s entry tells copies false = refl
+
+    by_test : (clock : ℕ) (hoped : Option Hoped) (s : SetState) (entry : Entry) (tells : List Tell) (copies : List Ask) (turns : Bool)
+        → own_account true clock entry tells copies (if turns then record s { hoped = hoped } else s) ≡ own_account true clock entry tells copies s
+    by_test clock hoped s entry tells copies true = refl
+    by_test clock hoped s entry tells copies false = refl
+
+    by_item : (me clock : ℕ) (item : Parked) (s : SetState) (entry : Entry) (tells : List Tell) (copies : List Ask)
+        → own_account true clock entry tells copies (reversed me item s) ≡ own_account true clock entry tells copies s
+    by_item me clock (ParkedTell tell) s entry tells copies = refl
+    by_item me clock (ParkedAsk ask) s entry tells copies =
+        by_test clock (Some (record { node = ask.node; stamp = ask.stamp })) s entry tells copies (is_taking ask.mode && not (ask.node == me))
+
+    by_number : (clock number : ℕ) (frozen : Modes) (s : SetState) (entry : Entry) (tells : List Tell) (copies : List Ask) (newer : Bool)
+        → own_account true clock entry tells copies (if newer then record s { frozen = frozen; number = number } else s) ≡ own_account true clock entry tells copies s
+    by_number clock number frozen s entry tells copies true = refl
+    by_number clock number frozen s entry tells copies false = refl
+
+-- what the desk's node counts of a node, its account counts
+modes_counted : (script : ScriptData) (moment : Moment) (w : World) (s t x : ℕ) (desk : Desk)
+    → modes_at t (state_at w s t) desk x ≡ counted (account_of script moment w s (Some t) desk x)
+modes_counted script moment w s t x desk = by_node (x == t) refl
+  where
+    by_node : (own : Bool) → (x == t) ≡ own
+        → (if own then own_part t (state_at w s t) desk else record_of (entry_of desk x))
+        ≡ (if own then own_part x (state_at w s x) desk else record_of (entry_of desk x))
+    by_node true e = ap (λ (y : ℕ). own_part y (state_at w s y) desk) (sym (eqb-true x t e))
+    by_node false e = refl
+
+others_counted_below : (script : ScriptData) (moment : Moment) (w : World) (s t v : ℕ) (desk : Desk) (n : ℕ)
+    → others_below n t (state_at w s t) desk v ≡ others_counted n (account_of script moment w s (Some t) desk) v
+others_counted_below script moment w s t v desk zero = refl
+others_counted_below script moment w s t v desk (suc n) =
+    ap (λ (m : Modes). union m (if n == v then no_modes else modes_at t (state_at w s t) desk n)) (others_counted_below script moment w s t v desk n)
+    ∙ ap (λ (m : Modes). union (others_counted n (account_of script moment w s (Some t) desk) v) (if n == v then no_modes else m)) (modes_counted script moment w s t n desk)
+
+pub rules_count : RulesCount
+rules_count = record {
+  modes = modes_counted;
+  others = λ script moment w s t v desk entries.
+      ap (λ (n : ℕ). others_below n t (state_at w s t) desk v) entries ∙ others_counted_below script moment w s t v desk script.nodes;
+}

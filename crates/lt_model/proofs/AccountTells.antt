@@ -13,7 +13,7 @@ use Rattle.lt_modes.specs.Records.{record_of, modes_of_owed, still_owed}
 use Rattle.lt_modes.specs.Tells.{is_newer, is_open, left_owed, told}
 use Rattle.lt_modes.specs.HandingOver.{stamps_of}
 use Rattle.lt_modes.proofs.ModeAlgebra.{union_bars_both}
-use Rattle.lt_model.specs.Account.{Account, AccountKept, AsksKnown, Covers, IsBelow, IsNews, left_after, now_modes, own_of, counted}
+use Rattle.lt_model.specs.Account.{Account, AccountKept, AsksKnown, Covers, IsBelow, IsFresh, left_after, now_modes, own_of, counted}
 use Rattle.lt_model.specs.AccountSteps.{IsLoss, MayApply, tell_by}
 use Rattle.lt_model.specs.AccountLaws.{Applies, AppliesStale, Tells, CountsLess}
 use Rattle.lt_model.proofs.Members.{contains_map, contains_mapped, has-union, has-left, has-right}
@@ -88,15 +88,15 @@ covers_applied charge pending entry tells left copies tell known c came newer lo
   ];
 }
   where
-    was : (u : Tell) → IsNews (newly tell entry) left u → IsNews entry tells u
+    was : (u : Tell) → IsFresh (newly tell entry) left u → IsFresh entry tells u
     was u n = (loss.only u n.0, newer_in_turn u.stamp tell.stamp entry.told_at n.1 newer)
 
-    more : (u : Tell) → IsNews (newly tell entry) left u → IsBelow (left_after entry u) (left_after (newly tell entry) u)
+    more : (u : Tell) → IsFresh (newly tell entry) left u → IsBelow (left_after entry u) (left_after (newly tell entry) u)
     more u n = twice_more u tell entry n.1 (known.lists u tell (loss.only u n.0) came n.1)
 
-    by_order : (u : Tell) → Contains left u → IsNews entry tells u → IsBelow (left_after entry u) (now_modes charge copies) → (t : Bool) → is_newer u.stamp tell.stamp ≡ t
+    by_order : (u : Tell) → Contains left u → IsFresh entry tells u → IsBelow (left_after entry u) (now_modes charge copies) → (t : Bool) → is_newer u.stamp tell.stamp ≡ t
         → IsBelow (record_of (newly tell entry)) (now_modes charge copies)
-        ⊎ ((v : Tell) × IsNews (newly tell entry) left v × IsBelow (left_after (newly tell entry) v) (now_modes charge copies))
+        ⊎ ((v : Tell) × IsFresh (newly tell entry) left v × IsBelow (left_after (newly tell entry) v) (now_modes charge copies))
     by_order u still news below true after = inr (u, (still, after), λ mode bar. below mode (twice_less u tell entry mode bar))
     by_order u still news below false before = inl (λ mode bar. below mode (c.left_shrinks tell u (came, newer) news before mode bar))
 
@@ -108,6 +108,7 @@ applied a tell tells h may newer = (
       asks = h.clocks.asks;
       apart = h.clocks.apart;
       tells_made = λ u c. h.clocks.tells_made u (may.left.only u c);
+      tells_apart = λ x y cx cy. h.clocks.tells_apart x y (may.left.only x cx) (may.left.only y cy);
       told = h.clocks.tells_made tell may.came;
       owed = λ copy c. h.clocks.owed copy (left_owed-which tell a.entry.owed copy c).0;
     };
@@ -149,6 +150,7 @@ stale a tell tells h may old = record {
     asks = h.clocks.asks;
     apart = h.clocks.apart;
     tells_made = λ u c. h.clocks.tells_made u (may.left.only u c);
+    tells_apart = λ x y cx cy. h.clocks.tells_apart x y (may.left.only x cx) (may.left.only y cy);
     told = h.clocks.told;
     owed = h.clocks.owed;
   };
@@ -227,6 +229,16 @@ tells_kept a stamp tells h may = (
       tells_made = λ u c. elim (may.made.only u c) [
         | inl before ↦ no_later_at_all a.moving a.clock u.stamp.clock (h.clocks.tells_made u before)
         | inr new ↦ omega (arith, may.now, ap (λ (t : Tell). t.stamp.clock) new)
+      ];
+      tells_apart = λ x y cx cy same. elim (may.made.only x cx) [
+        | inl x_before ↦ elim (may.made.only y cy) [
+          | inl y_before ↦ h.clocks.tells_apart x y x_before y_before same
+          | inr y_new ↦ absurd (omega (arith, made x x_before, ap (λ (t : Tell). t.stamp.clock) y_new, ap (λ (z : Stamp). z.clock) same, may.now))
+        ]
+        | inr x_new ↦ elim (may.made.only y cy) [
+          | inl y_before ↦ absurd (omega (arith, made y y_before, ap (λ (t : Tell). t.stamp.clock) x_new, ap (λ (z : Stamp). z.clock) same, may.now))
+          | inr y_new ↦ x_new ∙ sym y_new
+        ]
       ];
       told = no_later_at_all a.moving a.clock a.entry.told_at.clock h.clocks.told;
       owed = λ copy c. no_later_at_all a.moving a.clock copy.stamp.clock (h.clocks.owed copy c);

@@ -10,7 +10,7 @@ use Rattle.lt_modes.specs.State.{Tell, Body, AskBody, TellBody, CopyBody, TokenB
 use Rattle.lt_model.specs.Below.{gather_below}
 use Rattle.lt_model.specs.World.{World}
 use Rattle.lt_model.specs.Facts.{state_at}
-use Rattle.lt_model.specs.News.{Word}
+use Rattle.lt_model.specs.News.{Notice}
 use Rattle.lt_model.specs.OnWay.{Comes, IsTellOf, in_set, tell_if, tell_in, tell_parked, copy_in, freeze_in, tells_of}
 use Rattle.lt_model.specs.OnWayLaws.{TellsAreOnWay, CopiesAreOnWay, FreezesAreOnWay}
 use Rattle.lt_model.proofs.Members.{contains_first, contains_later, contains_cases}
@@ -98,19 +98,19 @@ copies_are_on_way script w s x ask = (
   comes-at script w s x copy_in ask (CopyBody ask) refl,
 )
 
-freeze_body : (word : Word) (b : Body) → freeze_in b ≡ Some word → b ≡ FreezeBody word.number word.modes
-freeze_body word (FreezeBody number modes) e =
-    let one : record { number = number; modes = modes } ≡ word = some_equal (record { number = number; modes = modes }) word e in
-    ap (λ (x : Word). FreezeBody x.number x.modes) one
-freeze_body word (CopyBody other) e = cc
-freeze_body word (AskBody other marked) e = cc
-freeze_body word (TellBody tell) e = cc
-freeze_body word (TokenBody desk) e = cc
+freeze_body : (notice : Notice) (b : Body) → freeze_in b ≡ Some notice → b ≡ FreezeBody notice.number notice.modes
+freeze_body notice (FreezeBody number modes) e =
+    let one : record { number = number; modes = modes } ≡ notice = some_equal (record { number = number; modes = modes }) notice e in
+    ap (λ (x : Notice). FreezeBody x.number x.modes) one
+freeze_body notice (CopyBody other) e = cc
+freeze_body notice (AskBody other marked) e = cc
+freeze_body notice (TellBody tell) e = cc
+freeze_body notice (TokenBody desk) e = cc
 
 pub freezes_are_on_way : FreezesAreOnWay
-freezes_are_on_way script w s x word = (
-  comes-which script w s x freeze_in word (FreezeBody word.number word.modes) (freeze_body word),
-  comes-at script w s x freeze_in word (FreezeBody word.number word.modes) refl,
+freezes_are_on_way script w s x notice = (
+  comes-which script w s x freeze_in notice (FreezeBody notice.number notice.modes) (freeze_body notice),
+  comes-at script w s x freeze_in notice (FreezeBody notice.number notice.modes) refl,
 )
 
 tell_if-which : (x : ℕ) (made tell : Tell) → tell_if x made ≡ Some tell → (made ≡ tell) × (tell.node ≡ x)

@@ -40,7 +40,7 @@ pub mod AccountPlay
 pub mod NewsLemmas
 pub mod Gathered
 pub mod AccountRules
-pub mod Moment
+pub mod BeginsMove
 pub mod RuleEffects
 pub mod HomesEffects
 pub mod HomesMove

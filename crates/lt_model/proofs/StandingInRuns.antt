@@ -1,5 +1,5 @@
 -- In each world of a run each unanswered ask stands in one place.
-use Rattle.std.proofs.Common.{◌≡◌, ℕ, zero, suc, ◌<◌, List, [], ◌∷◌, arith, sym, take, ◌∙◌}
+use Rattle.std.proofs.Common.{subst, ◌≡◌, ℕ, zero, suc, ◌<◌, List, [], ◌∷◌, arith, sym, take, ◌∙◌}
 use Rattle.std.specs.Prelude.{Contains}
 use Rattle.std.proofs.lemmas.List.Elements.{All-contains}
 use Rattle.lt_modes.specs.declared.ask.Ask.{Ask}
@@ -9,11 +9,11 @@ use Rattle.lt_model.specs.World.{World, start, after, after_run, world_after, Is
 use Rattle.lt_model.specs.Facts.{state_at, times_in, place_count}
 use Rattle.lt_model.specs.Paths.{Paths}
 use Rattle.lt_model.specs.Standing.{IsMadeBy, AsksStand}
-use Rattle.lt_model.specs.Laws.{StandingInRuns, OnePlace}
-use Rattle.lt_model.proofs.Sums.{sum_below-change, sum_below-none}
+use Rattle.lt_model.specs.Laws.{StandingInRuns, StandsOnce, OnePlace}
+use Rattle.lt_model.proofs.Sums.{sum_below-some, sum_below-change, sum_below-none}
 use Rattle.lt_model.proofs.StartKept.{all_none, none_in, places_start, paths_start}
 use Rattle.lt_model.proofs.PathsMove.{move_kept}
-use Rattle.lt_model.proofs.Asks.{times_in-some, times_in-none, times_in-once}
+use Rattle.lt_model.proofs.Asks.{times_in-some, times_in-found, times_in-none, times_in-once}
 use Rattle.lt_model.proofs.StandingMove.{standing_kept}
 
 standing_start : (script : ScriptData) (s : ℕ) → AsksStand script (start script) s
@@ -56,3 +56,16 @@ one_place_of script w s x ask h below found =
 pub one_place : OnePlace
 one_place script run some is_run k s x ask below found =
     one_place_of script (world_after script (take k run)) s x ask (standing_in_runs script run some is_run k s) below found
+
+pub stands_once : StandsOnce
+stands_once script w s ask h some =
+    let found = sum_below-some script.nodes (λ x. times_in ask (state_at w s x).pending) (omega (arith, h.places.once ask, some)) in
+    let there = times_in-found ask (state_at w s found.0).pending (omega (arith, found.2)) in
+    let own = (elements found.0 found.1 there).0 in (
+      omega (arith, own, found.1),
+      subst (λ (x : ℕ). Contains (state_at w s x).pending ask) (sym own) there,
+      one_place_of script w s found.0 ask h found.1 there,
+    )
+  where
+    elements : (x : ℕ) → x < script.nodes → Contains (state_at w s x).pending ask → IsMadeBy x (w.node x).clock ask
+    elements x below c = All-contains (IsMadeBy x (w.node x).clock) (state_at w s x).pending ask (h.own x below) c

@@ -16,10 +16,11 @@ use Rattle.lt_modes.specs.Fits.{Numbers}
 use Rattle.lt_modes.specs.Sound.{SoundSet}
 use Rattle.lt_model.specs.Below.{sum_below, gather_below}
 use Rattle.lt_model.specs.World.{start}
-use Rattle.lt_model.specs.OnWay.{Comes, DeskIs, is_at, in_set, tell_in, tell_parked, copy_in, freeze_in, tells_of, copies_to, freezes_to, account_of, news_of}
+use Rattle.lt_model.specs.Moments.{Between, is_at}
+use Rattle.lt_model.specs.OnWay.{Comes, DeskIs, in_set, tell_in, tell_parked, copy_in, freeze_in, tells_of, copies_to, freezes_to, account_of, news_of}
 use Rattle.lt_model.specs.Facts.{state_at, one_if, times_in, places_in_state, place_count}
 use Rattle.lt_model.specs.Account.{Account, AccountKept, counted}
-use Rattle.lt_model.specs.News.{News, Word, NewsKept}
+use Rattle.lt_model.specs.News.{News, Notice, NewsKept}
 use Rattle.lt_model.specs.Invariant.{DeskKept, SetKept, Kept, LinesKept}
 use Rattle.lt_model.specs.Paths.{HasWay, Paths}
 use Rattle.lt_modes.specs.declared.parts.Hoped.{Hoped}
@@ -50,11 +51,12 @@ state_if nodes here = record {
   desk = if here then Some (first_desk nodes) else None;
 }
 
-sound_if : (numbers : Numbers) (q : ℕ) (here : Bool) → 0 < numbers.nodes → SoundSet numbers q false 0 (state_if numbers.nodes here)
+sound_if : (numbers : Numbers) (q : ℕ) (here : Bool) → 0 < numbers.nodes → SoundSet numbers q false false 0 (state_if numbers.nodes here)
 sound_if numbers q true h = record {
   rows = all_none _;
   rows_apart = λ i j d before below. absurd (omega (arith, below));
   pending = all_none _;
+  one_ask = λ i j d before below. absurd (omega (arith, below));
   here = all_none _;
   apart = refl;
   desk = (refl, omega arith, omega arith, length-replicate numbers.nodes _);
@@ -68,6 +70,7 @@ sound_if numbers q false h = record {
   rows = all_none _;
   rows_apart = λ i j d before below. absurd (omega (arith, below));
   pending = all_none _;
+  one_ask = λ i j d before below. absurd (omega (arith, below));
   here = all_none _;
   apart = refl;
   desk = refl;
@@ -126,6 +129,7 @@ account_first clock here = record {
     asks = λ ask h. none_in ask h;
     apart = λ i j d before below. absurd (omega (arith, below));
     tells_made = λ tell t. none_in tell t;
+    tells_apart = λ x y h. none_in x h;
     told = omega arith;
     owed = λ copy h. none_in copy h;
   };
@@ -186,13 +190,13 @@ account_by clock here entry tells copies = record {
 }
 
 account_start : (script : ScriptData) (s : ℕ) (place : Option ℕ) (x : ℕ) → x < script.nodes
-    → account_of script None (start script) s place (first_desk script.nodes) x ≡ first_account 0 (is_at place x)
+    → account_of script Between (start script) s place (first_desk script.nodes) x ≡ first_account 0 (is_at place x)
 account_start script s place x h =
     ap (λ (e : Entry). account_by 0 (is_at place x) e (tells_of script (start script) s x) (copies_to script (start script) s x)) (entry_first script.nodes x h)
     ∙ ap (λ (t : List Tell). account_by 0 (is_at place x) first_entry t (copies_to script (start script) s x)) (no_tells script s x)
     ∙ ap (λ (c : List Ask). account_by 0 (is_at place x) first_entry [] c) (no_copies script s x)
 
-abbrev news_by : Bool → Entry → List Word → News
+abbrev news_by : Bool → Entry → List Notice → News
 news_by here entry coming = record {
   number = 0;
   frozen = no_modes;
@@ -206,19 +210,19 @@ news_by here entry coming = record {
 }
 
 news_start : (script : ScriptData) (s : ℕ) (place : Option ℕ) (x : ℕ) → x < script.nodes
-    → news_of script None (start script) s place (first_desk script.nodes) x ≡ news_by (is_at place x) first_entry []
+    → news_of script Between (start script) s place (first_desk script.nodes) x ≡ news_by (is_at place x) first_entry []
 news_start script s place x h =
     ap (λ (e : Entry). news_by (is_at place x) e (freezes_to script (start script) s x)) (entry_first script.nodes x h)
-    ∙ ap (λ (c : List Word). news_by (is_at place x) first_entry c) (no_freezes script s x)
+    ∙ ap (λ (c : List Notice). news_by (is_at place x) first_entry c) (no_freezes script s x)
 
 news_first : (here : Bool) → NewsKept (news_by here first_entry [])
 news_first here = record {
   kept = omega arith;
-  sent = λ word h. none_in word h;
+  sent = λ notice h. none_in notice h;
   here = λ at between. (refl, refl);
-  last_word = λ away word last. elim last.0 [
-    | inl own ↦ ap (λ (x : Word). x.modes) own
-    | inr coming ↦ none_in word coming.0
+  last_notice = λ away notice last. elim last.0 [
+    | inl own ↦ ap (λ (x : Notice). x.modes) own
+    | inr coming ↦ none_in notice coming.0
   ];
   told = λ away between some. refl;
 }
@@ -234,7 +238,7 @@ counted_first : (clock : ℕ) (here : Bool) → counted (first_account clock her
 counted_first clock true = refl
 counted_first clock false = refl
 
-desk_kept : (script : ScriptData) (s : ℕ) (place : Option ℕ) → DeskKept script None (start script) s place (first_desk script.nodes)
+desk_kept : (script : ScriptData) (s : ℕ) (place : Option ℕ) → DeskKept script Between (start script) s place (first_desk script.nodes)
 desk_kept script s place = record {
   accounts = λ x h. subst AccountKept (sym (account_start script s place x h)) (account_first 0 (is_at place x));
   clear = λ x y hx hy d mode member.
@@ -306,7 +310,7 @@ paths_start script s some = record {
     went_all zero d below = some
     went_all (suc k) d below = absurd (omega (arith, below))
 
-set_start : (script : ScriptData) (s : ℕ) → 0 < script.nodes → SetKept script None (start script) s
+set_start : (script : ScriptData) (s : ℕ) → 0 < script.nodes → SetKept script Between (start script) s
 set_start script s some = record {
   paths = paths_start script s some;
   letters = λ p q letter hp hq on. none_in letter on.among;
@@ -314,7 +318,7 @@ set_start script s some = record {
   places = record { once = λ ask. places_start script s ask; home = λ x ask h c. no_comes script s x _ c };
   parked = λ x h. all_none _;
   known = λ place desk h.
-      subst (λ (d : Desk). DeskKept script None (start script) s place d) (sym (desk_first script s place desk h)) (desk_kept script s place);
+      subst (λ (d : Desk). DeskKept script Between (start script) s place d) (sym (desk_first script s place desk h)) (desk_kept script s place);
   served = λ t desk between h. served_if script.nodes t (t == 0);
 }
 
@@ -329,6 +333,7 @@ start_kept script some = record {
 -- before any line nothing is held, and nobody waits
 pub lines_start : (script : ScriptData) → LinesKept script [] (start script)
 lines_start script = record {
+  named = λ lock h. none_in lock h;
   held = λ client s mode hc hs. refl;
   waits = λ client s mode hc hs. ((λ e. cc), (λ waits. none_in waits.0 waits.1));
 }

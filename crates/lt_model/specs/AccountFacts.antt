@@ -1,32 +1,23 @@
 -- What a kept account says of its node, as statements.
-use Rattle.std.specs.Prelude.{◌≡◌, ◌≤◌, ◌<◌, false, ℕ, List, IsTrue, Contains}
+use Rattle.std.specs.Prelude.{◌≡◌, false, List, IsTrue, Contains}
 use Rattle.lt_modes.specs.declared.mode.Mode.{Mode}
 use Rattle.lt_modes.specs.declared.stamp.Stamp.{Stamp}
 use Rattle.lt_modes.specs.declared.ask.Ask.{Ask}
 use Rattle.lt_modes.specs.declared.parts.Owed.{Owed}
 use Rattle.lt_modes.specs.Modes.{has, union}
-use Rattle.lt_modes.specs.Script.{ScriptData}
 use Rattle.lt_modes.specs.State.{Tell}
 use Rattle.lt_modes.specs.Held.{held_modes}
 use Rattle.lt_modes.specs.Queue.{modes_of_asks}
 use Rattle.lt_modes.specs.Records.{record_of}
 use Rattle.lt_modes.specs.Tells.{is_newer, is_open, left_owed}
-use Rattle.lt_model.specs.World.{World}
-use Rattle.lt_model.specs.Facts.{state_at, place_count}
-use Rattle.lt_model.specs.Standing.{AsksStand}
 use Rattle.lt_model.specs.Account.{Account, AccountKept, IsBelow, owed_and_waiting}
 
--- an ask that stands anywhere is unanswered at a node of the script, its own, and stands nowhere else
-abbrev pub StandsOnce : Type 0
-StandsOnce = (script : ScriptData) (w : World) (s : ℕ) (ask : Ask) → AsksStand script w s → 1 ≤ place_count script w s ask
-    → (ask.node < script.nodes) × Contains (state_at w s ask.node).pending ask × (place_count script w s ask ≡ 1)
-
--- what is owed and unanswered is on its way, with its own mode
+-- the modes that are owed and unanswered are on their way
 abbrev pub OwedAreOnWay : Type 0
 OwedAreOnWay = (a : Account) (mode : Mode) → AccountKept a → IsTrue (has mode (owed_and_waiting a))
     → IsTrue (has mode (modes_of_asks a.copies))
 
--- and what is on its way is owed and unanswered
+-- and the modes that are on their way are owed and unanswered
 abbrev pub OnWayAreOwed : Type 0
 OnWayAreOwed = (a : Account) (mode : Mode) → AccountKept a → IsTrue (has mode (modes_of_asks a.copies))
     → IsTrue (has mode (owed_and_waiting a))

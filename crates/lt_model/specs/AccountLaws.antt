@@ -8,7 +8,7 @@ use Rattle.lt_modes.specs.State.{Tell}
 use Rattle.lt_modes.specs.Held.{held_modes}
 use Rattle.lt_modes.specs.Tells.{is_newer}
 use Rattle.lt_model.specs.Account.{Account, AccountKept, Bars, IsBelow, AreClear, counted}
-use Rattle.lt_model.specs.AccountSteps.{MayTick, ticked, MayAsk, asking, MayGrant, granting, unlocking, dropping, MayAnswer, answering, MayOwe, owing_copy, MayDeliver, delivering, MayApply, applying, MayTell, telling, MaySettle, settling, arriving, MayRest, resting, MayReorder, reordering}
+use Rattle.lt_model.specs.AccountSteps.{MayTick, ticked, MayAsk, asking, MayGrant, granting, unlocking, dropping, MayAnswer, answering, MayOwe, owing_copy, MayDeliver, delivering, MayApply, applying, MayTell, telling, MaySettle, settling, arriving, MayRest, resting, freezing, MayReorder, reordering}
 
 -- what counts bars the same as before
 abbrev pub CountsSame : Account → Account → Type 0
@@ -28,7 +28,7 @@ abbrev pub Ticks : Type 0
 Ticks = (a : Account) (clock : ℕ) → AccountKept a → MayTick clock a
     → AccountKept (ticked clock a) × CountsSame a (ticked clock a)
 
--- the clock of a node may grow while the set isn't touched
+-- the clock of a node may grow while the set isn't touched; nothing else changes
 abbrev pub Ages : Type 0
 Ages = (a : Account) (clock : ℕ) → AccountKept a → a.moving ≡ false → a.clock ≤ clock → AccountKept (record a { clock = clock })
 
@@ -83,6 +83,9 @@ Arrives = (a : Account) → AccountKept a → a.here ≡ false → AccountKept (
 
 abbrev pub Rests : Type 0
 Rests = (a : Account) → AccountKept a → MayRest a → AccountKept (resting a) × CountsSame a (resting a)
+
+abbrev pub Freezes : Type 0
+Freezes = (a : Account) (frozen : Modes) → AccountKept a → AccountKept (freezing frozen a) × CountsSame a (freezing frozen a)
 
 abbrev pub Reorders : Type 0
 Reorders = (a : Account) (tells : List Tell) (copies : List Ask) → AccountKept a → MayReorder tells copies a

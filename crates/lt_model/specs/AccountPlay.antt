@@ -1,14 +1,15 @@
--- Accounts of several nodes, to which things happen in any order.
-use Rattle.std.specs.Prelude.{◌≡◌, ◌≢◌, ◌⊎◌, ◌==◌, ◌<◌, true, false, ℕ, zero, suc, List, [], ◌∷◌, Option, if◌then◌else◌}
+-- Accounts of several nodes, to which things happen in any order. A clock that goes on without a move is a tick and a rest.
+-- That there is one desk is not asked: what counts of all other nodes is what each step is tested against.
+use Rattle.std.specs.Prelude.{◌≡◌, ◌≢◌, ◌⊎◌, IsFalse, Contains, ◌==◌, ◌<◌, true, false, ℕ, zero, suc, List, [], ◌∷◌, Option, if◌then◌else◌}
 use Rattle.lt_modes.specs.declared.mode.Mode.{Mode}
 use Rattle.lt_modes.specs.declared.stamp.Stamp.{Stamp}
 use Rattle.lt_modes.specs.declared.ask.Ask.{Ask}
-use Rattle.lt_modes.specs.Modes.{Modes, no_modes, union, with_mode}
+use Rattle.lt_modes.specs.Modes.{Modes, conflicts, no_modes, union, with_mode}
 use Rattle.lt_modes.specs.State.{Tell, first_entry}
-use Rattle.lt_modes.specs.Held.{held_modes}
+use Rattle.lt_modes.specs.declared.parts.Row.{Row}
 use Rattle.lt_model.specs.Below.{put}
 use Rattle.lt_model.specs.Account.{Account, AccountKept, Bars, IsBelow, AreClear, counted}
-use Rattle.lt_model.specs.AccountSteps.{MayTick, ticked, MayAsk, asking, MayGrant, granting, unlocking, dropping, MayAnswer, answering, MayOwe, owing_copy, MayDeliver, delivering, MayApply, applying, MayTell, telling, MaySettle, settling, arriving, MayRest, resting, MayReorder, reordering}
+use Rattle.lt_model.specs.AccountSteps.{MayTick, ticked, MayAsk, asking, MayGrant, granting, unlocking, dropping, MayAnswer, answering, MayOwe, owing_copy, MayDeliver, delivering, MayApply, applying, MayTell, telling, MaySettle, settling, arriving, MayRest, resting, freezing, MayReorder, reordering}
 
 -- one thing that happens to an account
 pub data AccountStep : Type 0 where
@@ -25,6 +26,7 @@ pub data AccountStep : Type 0 where
   Settle : Stamp → AccountStep
   Arrive : AccountStep
   Rest : AccountStep
+  Freeze : Modes → AccountStep
   Reorder : List Tell → List Ask → AccountStep
 
 abbrev pub after_step : AccountStep → Account → Account
@@ -41,6 +43,7 @@ after_step (Say stamp tells) a = telling tells a
 after_step (Settle stamp) a = settling stamp a
 after_step Arrive a = arriving a
 after_step Rest a = resting a
+after_step (Freeze frozen) a = freezing frozen a
 after_step (Reorder tells copies) a = reordering tells copies a
 
 -- it may happen, where this counts of all other nodes
@@ -58,6 +61,7 @@ MayStep others (Say stamp tells) a = MayTell stamp tells a
 MayStep others (Settle stamp) a = MaySettle stamp a
 MayStep others Arrive a = a.here ≡ false
 MayStep others Rest a = MayRest a
+MayStep others (Freeze frozen) a = Unit {0}
 MayStep others (Reorder tells copies) a = MayReorder tells copies a
 
 -- what counts of the nodes below n, without node v
@@ -121,9 +125,18 @@ first_account desk x = record {
 abbrev pub FirstAccounts : Type 0
 FirstAccounts = (n desk : ℕ) → AllKept n (first_account desk)
 
+-- locks of different clients don't conflict, whether of one node or of two
+abbrev pub LocksAgree : ℕ → (ℕ → Account) → Type 0
+LocksAgree n accounts = (x y : ℕ) (a b : Row) → x < n → y < n → Contains (accounts x).held a → Contains (accounts y).held b
+    → (x ≢ y) ⊎ (a.client ≢ b.client) → IsFalse (conflicts a.mode b.mode)
+
 -- whatever happens, in any order in which it may: the accounts are kept, what counts of different nodes is clear of each
--- other, and so is what they hold
+-- other, and locks of different clients don't conflict
 abbrev pub AnyOrder : Type 0
 AnyOrder = (n : ℕ) (accounts : ℕ → Account) (happenings : List Happening) → AllKept n accounts → MayHappen n accounts happenings
-    → AllKept n (after_all accounts happenings)
-    × AllClear n (λ x. held_modes (after_all accounts happenings x).held)
+    → AllKept n (after_all accounts happenings) × LocksAgree n (after_all accounts happenings)
+
+-- so it is from the start on
+abbrev pub FromTheStart : Type 0
+FromTheStart = (n desk : ℕ) (happenings : List Happening) → MayHappen n (first_account desk) happenings
+    → LocksAgree n (after_all (first_account desk) happenings)

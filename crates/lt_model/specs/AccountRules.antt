@@ -1,22 +1,31 @@
 -- What each rule of a node does to accounts, as statements: the rule's tests are what the account's step asks for,
 -- and its effect is that step.
-use Rattle.std.specs.Prelude.{◌≡◌, ◌≢◌, ◌⊎◌, ◌==◌, ◌<◌, Bool, true, false, ℕ, List, Option, Some, None, if◌then◌else◌, is_some, IsTrue, IsFalse, length}
+use Rattle.std.specs.Prelude.{◌≡◌, ◌≢◌, ◌⊎◌, ◌==◌, ◌<◌, Bool, true, false, ℕ, List, [], ◌∷◌, ◌++◌, Option, Some, None, fold, if◌then◌else◌, is_some, IsTrue, IsFalse, length}
+use Rattle.std.specs.List.{AllByRecursion, filter_map}
 use Rattle.lt_modes.specs.declared.mode.Mode.{Mode}
 use Rattle.lt_modes.specs.declared.stamp.Stamp.{Stamp}
 use Rattle.lt_modes.specs.declared.ask.Ask.{Ask}
-use Rattle.lt_modes.specs.Modes.{Modes, no_modes, has, union, bars, covers, same_modes}
-use Rattle.lt_modes.specs.State.{SetState, Desk, Entry, Tell}
+use Rattle.lt_modes.specs.Modes.{Modes, has, union, bars, covers, same_modes}
+use Rattle.lt_modes.specs.declared.parts.Link.{Link}
+use Rattle.lt_modes.specs.Script.{ScriptData}
+use Rattle.lt_modes.specs.State.{SetState, Desk, Entry, Tell, Parked, ParkedAsk, ParkedTell}
 use Rattle.lt_modes.specs.Held.{own_modes, other_modes, held_modes, take_lock}
-use Rattle.lt_modes.specs.Records.{entry_of, record_of, own_owed, others}
+use Rattle.lt_modes.specs.Records.{entry_of, record_of, own_owed, modes_at, others}
 use Rattle.lt_modes.specs.Tells.{told, tell_applied}
 use Rattle.lt_modes.specs.Granting.{can_grant}
 use Rattle.lt_modes.specs.Serving.{ask_at, next_service, served, serve_copy, owing}
 use Rattle.lt_modes.specs.HandingOver.{leaving, without_desk}
 use Rattle.lt_modes.specs.Telling.{tell_of}
-use Rattle.lt_modes.specs.Taking.{take_copy, take_token}
+use Rattle.lt_modes.specs.Taking.{take_copy, take_freeze, take_token}
+use Rattle.lt_modes.specs.Routing.{learn, dealt, reversed}
 use Rattle.lt_modes.specs.SetMove.{given, dropped}
-use Rattle.lt_model.specs.Account.{Account}
-use Rattle.lt_model.specs.AccountSteps.{MayGrant, granting, unlocking, dropping, answering, delivering, tell_by, telling, settling, arriving, MayRest}
+use Rattle.lt_model.specs.World.{World}
+use Rattle.lt_model.specs.Facts.{state_at}
+use Rattle.lt_model.specs.Moments.{Moment}
+use Rattle.lt_model.specs.OnWay.{tell_parked, account_of}
+use Rattle.lt_model.specs.Account.{Account, counted}
+use Rattle.lt_model.specs.AccountPlay.{others_counted}
+use Rattle.lt_model.specs.AccountSteps.{MayGrant, granting, unlocking, dropping, asking, answering, delivering, tell_by, telling, settling, arriving, MayRest}
 
 -- the account of a node that keeps this for the set
 abbrev pub own_account : Bool → ℕ → Entry → List Tell → List Ask → SetState → Account
@@ -32,17 +41,14 @@ own_account moving clock entry tells copies s = record {
   moving = moving;
 }
 
--- what counts of all other nodes, which only the desk's node knows
-abbrev pub others_known : ℕ → SetState → Option Desk → Modes
-others_known me s None = no_modes
-others_known me s (Some desk) = others me s desk me
-
--- where the node can grant the mode, a grant may happen, as long as the charge is what is held
+-- where the node can grant the mode, a grant may happen, as long as the charge bars what is held;
+-- at the desk, against what counts of all other nodes there
 abbrev pub GrantsByRule : Type 0
-GrantsByRule = (me clock client : ℕ) (mode : Mode) (s : SetState) (entry : Entry) (tells : List Tell) (copies : List Ask)
-    → IsTrue (can_grant me s client mode) → ((desk : Desk) → s.desk ≡ Some desk → entry ≡ entry_of desk me)
+GrantsByRule = (me clock client : ℕ) (mode : Mode) (s : SetState) (entry : Entry) (tells : List Tell) (copies : List Ask) (against : Modes)
+    → IsTrue (can_grant me s client mode)
+    → ((desk : Desk) → s.desk ≡ Some desk → (entry ≡ entry_of desk me) × (against ≡ others me s desk me))
     → (s.desk ≡ None → bars (held_modes s.held) ≡ bars s.charge)
-    → MayGrant (others_known me s s.desk) client mode (own_account true clock entry tells copies s)
+    → MayGrant against client mode (own_account true clock entry tells copies s)
 
 -- without the desk no frozen mode is granted, unless the client's own modes cover it
 abbrev pub FrozenIsNotGranted : Type 0
@@ -55,21 +61,25 @@ pub record CommandsAreSteps : Type 0 where
       → own_account true clock entry tells copies (given client mode gives_up s) ≡ granting client mode gives_up (own_account true clock entry tells copies s)
   pub unlocks : (clock client : ℕ) (mode : Mode) (s : SetState) (entry : Entry) (tells : List Tell) (copies : List Ask)
       → own_account true clock entry tells copies (record s { held = take_lock s.held client mode }) ≡ unlocking client mode (own_account true clock entry tells copies s)
+  pub asks : (clock : ℕ) (ask : Ask) (s : SetState) (entry : Entry) (tells : List Tell) (copies : List Ask)
+      → own_account true clock entry tells copies (record s { pending = s.pending ++ ask ∷ [] }) ≡ asking ask (own_account true clock entry tells copies s)
   pub drops : (clock client : ℕ) (s : SetState) (entry : Entry) (tells : List Tell) (copies : List Ask)
       → own_account true clock entry tells copies (dropped client s) ≡ dropping client (own_account true clock entry tells copies s)
 
--- the next ask that is served here is free, and is local or a copy
+-- an ask of node `me` with the desk: no other node, no lock of another client here and no copy on its way here conflicts
 pub record IsLocallyFree (me : ℕ) (s : SetState) (desk : Desk) (ask : Ask) : Type 0 where
   pub node : ask.node ≡ me
   pub free : IsFalse (has ask.mode (bars (others me s desk me)))
   pub local : IsFalse (has ask.mode (bars (union (other_modes s.held ask.client) (own_owed me s desk))))
 
+-- an ask of another node: all other nodes cover it, and neither they nor its own node's record bar it
 pub record IsCopyFree (me : ℕ) (s : SetState) (desk : Desk) (ask : Ask) : Type 0 where
   pub node : ask.node ≢ me
   pub free : IsFalse (has ask.mode (bars (others me s desk ask.node)))
   pub covered : IsTrue (covers (others me s desk ask.node) ask.mode)
   pub clear : IsFalse (has ask.mode (bars (record_of (entry_of desk ask.node))))
 
+-- the next ask that is served is the one or the other
 abbrev pub ServesByRule : Type 0
 ServesByRule = (me k : ℕ) (s : SetState) (desk : Desk) → s.desk ≡ Some desk → next_service me s ≡ Some k
     → IsLocallyFree me s desk (ask_at s k) ⊎ IsCopyFree me s desk (ask_at s k)
@@ -92,7 +102,7 @@ abbrev pub TellsAreApplied : Type 0
 TellsAreApplied = (x : ℕ) (tell : Tell) (desk : Desk) → tell.node < length desk.entries
     → entry_of (tell_applied tell desk) x ≡ (if x == tell.node then told tell (entry_of desk x) else entry_of desk x)
 
--- a tell says what is held and waited for, and the charge is what is held; it is made where the charge bars anything else
+-- a tell says what is held and waited for, and the charge is what is held; where none is due, the move may end
 pub record TellsAreMade : Type 0 where
   pub says : (clock : ℕ) (stamp : Stamp) (s : SetState) (entry : Entry) (tells : List Tell) (copies : List Ask)
       → tell_of stamp s ≡ tell_by stamp (own_account true clock entry tells copies s)
@@ -110,7 +120,37 @@ pub record HandingOverSettles : Type 0 where
   pub others_stay : (x : ℕ) (stamp : Stamp) (s : SetState) (desk : Desk) → x ≢ stamp.node
       → entry_of (leaving stamp s desk) x ≡ entry_of desk x
 
--- a token that is taken arrives
-abbrev pub TokensArrive : Type 0
-TokensArrive = (me clock : ℕ) (desk : Desk) (s : SetState) (entry : Entry) (tells : List Tell) (copies : List Ask)
-    → own_account true clock entry tells copies (take_token me desk s) ≡ arriving (own_account true clock entry tells copies s)
+-- the tells of node x among parked letters, applied in order
+abbrev pub told_by_parked : ℕ → List Parked → Entry → Entry
+told_by_parked x items entry = fold (λ e tell. told tell e) entry (filter_map (tell_parked x) items)
+
+-- a parked tell is of one of the first nodes
+abbrev pub IsParkedOf : ℕ → Parked → Type 0
+IsParkedOf nodes (ParkedTell tell) = tell.node < nodes
+IsParkedOf nodes (ParkedAsk ask) = Unit {0}
+
+-- a token that is taken arrives; its desk takes the parked tells in order
+pub record TokensArrive : Type 0 where
+  pub arrives : (me clock : ℕ) (desk : Desk) (s : SetState) (entry : Entry) (tells : List Tell) (copies : List Ask)
+      → own_account true clock entry tells copies (take_token me desk s) ≡ arriving (own_account true clock entry tells copies s)
+  pub parked : (x : ℕ) (items : List Parked) (desk : Desk) → AllByRecursion (IsParkedOf (length desk.entries)) items
+      → entry_of (fold dealt desk items) x ≡ told_by_parked x items (entry_of desk x)
+
+-- links, parked letters and freezes that are taken change no account
+pub record OthersChangeNothing : Type 0 where
+  pub learns : (clock : ℕ) (link : Link) (s : SetState) (entry : Entry) (tells : List Tell) (copies : List Ask)
+      → own_account true clock entry tells copies (learn link s) ≡ own_account true clock entry tells copies s
+  pub parks : (clock : ℕ) (items : List Parked) (s : SetState) (entry : Entry) (tells : List Tell) (copies : List Ask)
+      → own_account true clock entry tells copies (record s { parked = items }) ≡ own_account true clock entry tells copies s
+  pub reverses : (me clock : ℕ) (item : Parked) (s : SetState) (entry : Entry) (tells : List Tell) (copies : List Ask)
+      → own_account true clock entry tells copies (reversed me item s) ≡ own_account true clock entry tells copies s
+  pub keeps_freeze : (clock number : ℕ) (frozen : Modes) (s : SetState) (entry : Entry) (tells : List Tell) (copies : List Ask)
+      → own_account true clock entry tells copies (take_freeze number frozen s) ≡ own_account true clock entry tells copies s
+
+-- what the rules count of a node is what its account counts, and what they count of all others is what the accounts of all
+-- others count
+pub record RulesCount : Type 0 where
+  pub modes : (script : ScriptData) (moment : Moment) (w : World) (s t x : ℕ) (desk : Desk)
+      → modes_at t (state_at w s t) desk x ≡ counted (account_of script moment w s (Some t) desk x)
+  pub others : (script : ScriptData) (moment : Moment) (w : World) (s t v : ℕ) (desk : Desk) → length desk.entries ≡ script.nodes
+      → others t (state_at w s t) desk v ≡ others_counted script.nodes (account_of script moment w s (Some t) desk) v

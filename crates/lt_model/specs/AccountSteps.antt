@@ -1,5 +1,5 @@
 -- What can happen to the account of a node: for each thing what changes, and when it may happen.
--- `others` is what counts of all other nodes.
+-- `others` stands for what counts of all other nodes. Moves are atomic, so a node that is sent a copy is between its own moves.
 use Rattle.std.specs.Prelude.{◌≡◌, ◌⊎◌, ◌<◌, Bool, true, false, ℕ, List, [], ◌∷◌, ◌++◌, Option, if◌then◌else◌, IsTrue, IsFalse, Contains}
 use Rattle.lt_modes.specs.declared.mode.Mode.{Mode}
 use Rattle.lt_modes.specs.declared.stamp.Stamp.{Stamp}
@@ -51,7 +51,7 @@ pub record MayAsk (ask : Ask) (a : Account) : Type 0 where
 abbrev pub granting : ℕ → Mode → Option Mode → Account → Account
 granting client mode gives_up a = record a { held = add_lock (give_up a.held client gives_up) client mode }
 
--- without the desk the charge, which still is what is held, covers the mode;
+-- without the desk the charge, which still bars what is held, covers the mode;
 -- at the desk neither another node nor a copy on its way here conflicts
 abbrev pub MayJoin : Modes → Mode → Account → Bool → Type 0
 MayJoin others mode a false = (bars (held_modes a.held) ≡ bars a.charge) × IsTrue (covers a.charge mode)
@@ -159,6 +159,10 @@ resting a = record a { moving = false }
 
 abbrev pub MayRest : Account → Type 0
 MayRest a = a.here ≡ false → bars (held_modes a.held) ≡ bars a.charge
+
+-- freeze: the desk's node has told this node these frozen modes, or keeps them itself
+abbrev pub freezing : Modes → Account → Account
+freezing frozen a = record a { entry = record a.entry { frozen_told = frozen } }
 
 -- reorder: tells and copies are elsewhere on their way
 abbrev pub reordering : List Tell → List Ask → Account → Account

@@ -13,15 +13,16 @@ use Rattle.lt_modes.specs.Sound.{SoundSet}
 use Rattle.lt_model.specs.Below.{sum_below}
 use Rattle.lt_model.specs.World.{World}
 use Rattle.lt_model.specs.Families.{home}
-use Rattle.lt_model.specs.Holdings.{holding, holdings, wanted, count_of as times_held}
+use Rattle.lt_model.specs.Holdings.{Holding, holding, holdings, wanted, count_of as times_held}
 use Rattle.lt_model.specs.SoundNode.{ClientsKept, numbers_of}
 use Rattle.lt_model.specs.Facts.{state_at, place_count, times_in}
-use Rattle.lt_model.specs.OnWay.{OnWay, Comes, IsCopyTo, DeskIs, is_at, account_of, news_of}
+use Rattle.lt_model.specs.Moments.{Moment, Between, is_moving, is_unfrozen}
+use Rattle.lt_model.specs.OnWay.{OnWay, Comes, IsCopyTo, DeskIs, account_of, news_of}
 use Rattle.lt_model.specs.Paths.{Paths}
 use Rattle.lt_model.specs.Account.{AreClear, AccountKept, counted}
 use Rattle.lt_model.specs.News.{NewsKept}
 
--- what the letter says is not younger than the letter, and its numbers are the script's
+-- what the letter says is not younger than the letter, and a tell is of a node of the script
 abbrev pub BodyKept : ScriptData → ℕ → Body → Type 0
 BodyKept script clock (AskBody ask marked) = Unit {0}
 BodyKept script clock (CopyBody ask) = Unit {0}
@@ -50,36 +51,35 @@ IsParkedFor script w s x (ParkedAsk ask) =
     ⊎ ((older : Ask) × Contains (state_at w s x).pending older × IsTrue (is_taking older.mode)
     × IsTrue (is_newer ask.stamp older.stamp))
 
--- what the desk, at this place, knows of the nodes: each account and each node's news are kept, and what counts of
--- different nodes is clear of each other
-pub record DeskKept (script : ScriptData) (acting : Option ℕ) (w : World) (s : ℕ) (place : Option ℕ) (desk : Desk) : Type 0 where
-  pub accounts : (x : ℕ) → x < script.nodes → AccountKept (account_of script acting w s place desk x)
+-- with the desk at this place each node's account and news are kept, and what counts of different nodes is clear of each other
+pub record DeskKept (script : ScriptData) (moment : Moment) (w : World) (s : ℕ) (place : Option ℕ) (desk : Desk) : Type 0 where
+  pub accounts : (x : ℕ) → x < script.nodes → AccountKept (account_of script moment w s place desk x)
   pub clear : (x y : ℕ) → x < script.nodes → y < script.nodes → x ≢ y
-      → AreClear (counted (account_of script acting w s place desk x)) (counted (account_of script acting w s place desk y))
-  pub news : (x : ℕ) → x < script.nodes → NewsKept (news_of script acting w s place desk x)
+      → AreClear (counted (account_of script moment w s place desk x)) (counted (account_of script moment w s place desk y))
+  pub news : (x : ℕ) → x < script.nodes → NewsKept (news_of script moment w s place desk x)
 
 -- where the desk is at a node, no ask can be served there and none can draw the desk away
 abbrev pub IsServed : ScriptData → World → ℕ → Type 0
 IsServed script w s = (t : ℕ) (desk : Desk) → DeskIs script w s (Some t) desk
     → (next_service t (state_at w s t) ≡ None) × (next_move t (state_at w s t) ≡ None)
 
--- the same, unless the desk is at the acting node
-abbrev pub IsServedBut : ScriptData → Option ℕ → World → ℕ → Type 0
-IsServedBut script acting w s = (t : ℕ) (desk : Desk) → is_at acting t ≡ false → DeskIs script w s (Some t) desk
+-- the same, unless the desk's node is in the middle of its move
+abbrev pub IsServedBut : ScriptData → Moment → World → ℕ → Type 0
+IsServedBut script moment w s = (t : ℕ) (desk : Desk) → is_moving moment t ≡ false → DeskIs script w s (Some t) desk
     → (next_service t (state_at w s t) ≡ None) × (next_move t (state_at w s t) ≡ None)
 
--- what holds of one set: between moves, where no node is acting, or in the middle of a move of the acting node on the set,
--- after its clock was set. In the middle of a move, what the acting node keeps and has said is before its clock, its charge
--- may bar more than what it holds, and where the desk is there, serving and freezing are still to come
-pub record SetKept (script : ScriptData) (acting : Option ℕ) (w : World) (s : ℕ) : Type 0 where
+-- what holds of one set at a moment. In the middle of a move, what its node keeps and has said (but for an ask that it made in
+-- this move) is before its clock, its charge may bar more than what it holds, and where the desk is there services may be left;
+-- until it has frozen, its freeze number is before its clock too, and nodes may not yet have been told what the queue freezes
+pub record SetKept (script : ScriptData) (moment : Moment) (w : World) (s : ℕ) : Type 0 where
   pub paths : Paths script w s
   pub letters : (p q : ℕ) (letter : Letter) → p < script.nodes → q < script.nodes → OnWay w s p q letter
       → LetterKept script w p letter
-  pub states : (x : ℕ) → x < script.nodes → SoundSet (numbers_of script) x (is_at acting x) (w.node x).clock (state_at w s x)
+  pub states : (x : ℕ) → x < script.nodes → SoundSet (numbers_of script) x (is_moving moment x) (is_unfrozen moment x) (w.node x).clock (state_at w s x)
   pub places : PlacesKept script w s
   pub parked : (x : ℕ) → x < script.nodes → All (IsParkedFor script w s x) (state_at w s x).parked
-  pub known : (place : Option ℕ) (desk : Desk) → DeskIs script w s place desk → DeskKept script acting w s place desk
-  pub served : IsServedBut script acting w s
+  pub known : (place : Option ℕ) (desk : Desk) → DeskIs script w s place desk → DeskKept script moment w s place desk
+  pub served : IsServedBut script moment w s
 
 -- what holds of every world of a run, between moves: clients wait for one ask at most, letters go to other nodes and are of
 -- sets of the script, and each set is kept
@@ -88,16 +88,17 @@ pub record Kept (script : ScriptData) (w : World) : Type 0 where
   pub letters : (p q : ℕ) → p < script.nodes → q < script.nodes
       → All (λ (letter : Letter). letter.set < length script.sets) (w.mail p q)
   pub none_to_itself : (q : ℕ) → q < script.nodes → w.mail q q ≡ []
-  pub sets : (s : ℕ) → s < length script.sets → SetKept script None w s
+  pub sets : (s : ℕ) → s < length script.sets → SetKept script Between w s
 
 -- the client waits for the mode: an unanswered ask of it wants it
 abbrev pub WaitsFor : ScriptData → World → ℕ → ℕ → Mode → Type 0
 WaitsFor script w client s mode =
     (ask : Ask) × Contains (state_at w s (home script client)).pending ask × (ask.client ≡ client) × (ask.mode ≡ mode)
 
--- the lines so far tell what is held and who waits: after them each client holds what its node keeps for it,
--- and waits exactly for what an unanswered ask of it wants
+-- the lines so far tell what is held and who waits: after them clients of the script hold locks in sets of it, each as many as
+-- its node keeps for it, and each waits exactly for what an unanswered ask of it wants
 pub record LinesKept (script : ScriptData) (lines : List Event) (w : World) : Type 0 where
+  pub named : (lock : Holding) → Contains (holdings script lines) lock → (lock.client < length script.clients) × (lock.set < length script.sets)
   pub held : (client s : ℕ) (mode : Mode) → client < length script.clients → s < length script.sets
       → times_held (holdings script lines) (holding client s mode) ≡ count_of (state_at w s (home script client)).held client mode
   pub waits : (client s : ℕ) (mode : Mode) → client < length script.clients → s < length script.sets

@@ -101,6 +101,11 @@ abbrev pub OnePlace : Type 0
 OnePlace = (script : ScriptData) (run : List Logged) → 0 < script.nodes → IsRun script run → (k s x : ℕ) (ask : Ask) → x < script.nodes
     → Contains (state_at (world_after script (take k run)) s x).pending ask → place_count script (world_after script (take k run)) s ask ≡ 1
 
+-- an ask that stands anywhere is unanswered at a node of the script, its own, and stands nowhere else
+abbrev pub StandsOnce : Type 0
+StandsOnce = (script : ScriptData) (w : World) (s : ℕ) (ask : Ask) → AsksStand script w s → 1 ≤ place_count script w s ask
+    → (ask.node < script.nodes) × Contains (state_at w s ask.node).pending ask × (place_count script w s ask ≡ 1)
+
 -- an enabled move keeps that no service of a set is left
 abbrev pub ServedKept : Type 0
 ServedKept = (script : ScriptData) (w : World) (s : ℕ) → IsServed script w s

@@ -7,11 +7,11 @@ pub mod Order
 pub mod SoundNode
 pub mod Holdings
 pub mod Facts
+pub mod Moments
 pub mod Account
 pub mod AccountSteps
 pub mod AccountLaws
 pub mod AccountPlay
-pub mod AccountRules
 pub mod News
 pub mod NewsSteps
 pub mod NewsLaws
@@ -20,10 +20,11 @@ pub mod Paths
 pub mod PathEffects
 pub mod Touches
 pub mod Invariant
-pub mod Moment
+pub mod MomentLaws
 pub mod Timed
 pub mod Standing
 pub mod AccountFacts
+pub mod AccountRules
 pub mod OnWayLaws
 pub mod Homes
 pub mod Counts

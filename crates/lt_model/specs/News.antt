@@ -3,7 +3,7 @@ use Rattle.std.specs.Prelude.{◌≡◌, ◌⊎◌, ◌≤◌, ◌<◌, Bool, tr
 use Rattle.lt_modes.specs.Modes.{Modes, has_none}
 
 -- frozen modes, with the number of the freeze that says so
-pub record Word : Type 0 where
+pub record Notice : Type 0 where
   pub number : ℕ
   pub modes : Modes
 
@@ -13,7 +13,7 @@ pub record Word : Type 0 where
 pub record News : Type 0 where
   pub number : ℕ
   pub frozen : Modes
-  pub coming : List Word
+  pub coming : List Notice
   pub recorded : Modes
   pub told : Modes
   pub last : ℕ
@@ -21,20 +21,20 @@ pub record News : Type 0 where
   pub here : Bool
   pub serving : Bool
 
--- what the node keeps, or a freeze on its way with a greater number
-abbrev pub IsWord : News → Word → Type 0
-IsWord n word =
-    (word ≡ record { number = n.number; modes = n.frozen }) ⊎ (Contains n.coming word × (n.number < word.number))
+-- what the node keeps, or a freeze on its way to it with a greater number
+abbrev pub IsNotice : News → Notice → Type 0
+IsNotice n notice =
+    (notice ≡ record { number = n.number; modes = n.frozen }) ⊎ (Contains n.coming notice × (n.number < notice.number))
 
--- no other word to the node has a greater number
-abbrev pub IsLastWord : News → Word → Type 0
-IsLastWord n word = IsWord n word × ((other : Word) → IsWord n other → other.number ≤ word.number)
+-- no other notice to the node has a greater number
+abbrev pub IsLastNotice : News → Notice → Type 0
+IsLastNotice n notice = IsNotice n notice × ((other : Notice) → IsNotice n other → other.number ≤ notice.number)
 
--- no freeze has a number above the desk's; the last word to a node is what the desk told it; and between moves of the desk's
+-- neither what a node keeps nor a freeze has a number above the desk's; the last notice to a node is what the desk told it; and between moves of the desk's
 -- node, a node with a record was told what the queue freezes, and the desk's node keeps it
 pub record NewsKept (n : News) : Type 0 where
   pub kept : n.number ≤ n.last
-  pub sent : (word : Word) → Contains n.coming word → word.number ≤ n.last
+  pub sent : (notice : Notice) → Contains n.coming notice → notice.number ≤ n.last
   pub here : n.here ≡ true → n.serving ≡ false → (n.number ≡ n.last) × (n.frozen ≡ n.wanted)
-  pub last_word : n.here ≡ false → (word : Word) → IsLastWord n word → word.modes ≡ n.told
+  pub last_notice : n.here ≡ false → (notice : Notice) → IsLastNotice n notice → notice.modes ≡ n.told
   pub told : n.here ≡ false → n.serving ≡ false → IsFalse (has_none n.recorded) → n.told ≡ n.wanted

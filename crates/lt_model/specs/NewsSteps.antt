@@ -1,7 +1,7 @@
 -- What can happen to the news of a node: for each thing what changes, and when it may happen.
 use Rattle.std.specs.Prelude.{◌≡◌, ◌⊎◌, ◌≤◌, true, false, nat_lt, ℕ, ◌+◌, List, if◌then◌else◌, IsTrue, Contains}
 use Rattle.lt_modes.specs.Modes.{Modes, has_none, same_modes}
-use Rattle.lt_model.specs.News.{News, Word}
+use Rattle.lt_model.specs.News.{News, Notice}
 use Rattle.lt_model.specs.AccountSteps.{IsGain, IsLoss}
 
 -- begin: the desk's node begins a move
@@ -13,10 +13,10 @@ abbrev pub changing : Modes → Modes → News → News
 changing recorded wanted n = record n { recorded = recorded; wanted = wanted }
 
 -- send: the desk's node freezes, and the node is told, with the next number
-abbrev pub sending : List Word → News → News
+abbrev pub sending : List Notice → News → News
 sending coming n = record n { coming = coming; told = n.wanted; last = n.last + 1; serving = false }
 
-pub record MaySend (coming : List Word) (n : News) : Type 0 where
+pub record MaySend (coming : List Notice) (n : News) : Type 0 where
   pub away : n.here ≡ false
   pub sent : IsGain (record { number = n.last + 1; modes = n.wanted }) n.coming coming
 
@@ -39,20 +39,20 @@ pub record MayKeep (last : ℕ) (n : News) : Type 0 where
   pub later : n.last ≤ last
 
 -- take: a freeze comes, and is kept where its number is greater
-abbrev pub taking : Word → List Word → News → News
-taking word coming n = record n {
-  number = if nat_lt n.number word.number then word.number else n.number;
-  frozen = if nat_lt n.number word.number then word.modes else n.frozen;
+abbrev pub taking : Notice → List Notice → News → News
+taking notice coming n = record n {
+  number = if nat_lt n.number notice.number then notice.number else n.number;
+  frozen = if nat_lt n.number notice.number then notice.modes else n.frozen;
   coming = coming;
 }
 
-pub record MayTake (word : Word) (coming : List Word) (n : News) : Type 0 where
-  pub came : Contains n.coming word
-  pub left : IsLoss word n.coming coming
+pub record MayTake (notice : Notice) (coming : List Notice) (n : News) : Type 0 where
+  pub came : Contains n.coming notice
+  pub left : IsLoss notice n.coming coming
 
--- leave: the desk leaves, after freezing
-abbrev pub leaving : News → News
-leaving n = record n { here = false }
+-- leave: the desk leaves, after freezing, with this record of the node
+abbrev pub leaving : Modes → News → News
+leaving recorded n = record n { recorded = recorded; here = false }
 
 pub record MayLeave (n : News) : Type 0 where
   pub here : n.here ≡ true

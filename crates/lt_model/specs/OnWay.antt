@@ -1,5 +1,5 @@
 -- Where the desk of a set is, and which letters are on their way.
-use Rattle.std.specs.Prelude.{◌≡◌, ◌⊎◌, ◌==◌, ◌<◌, Bool, false, ℕ, List, ◌++◌, Option, Some, None, if◌then◌else◌, Contains}
+use Rattle.std.specs.Prelude.{◌≡◌, ◌⊎◌, ◌==◌, ◌<◌, ℕ, List, ◌++◌, Option, Some, None, if◌then◌else◌, Contains}
 use Rattle.std.specs.List.{filter_map}
 use Rattle.lt_modes.specs.declared.ask.Ask.{Ask}
 use Rattle.lt_modes.specs.Modes.{Modes}
@@ -8,8 +8,9 @@ use Rattle.lt_modes.specs.State.{Desk, Tell, Body, AskBody, TellBody, CopyBody, 
 use Rattle.lt_modes.specs.Records.{entry_of, record_of}
 use Rattle.lt_modes.specs.Freezing.{frozen_by}
 use Rattle.lt_model.specs.Below.{gather_below}
+use Rattle.lt_model.specs.Moments.{Moment, is_at, is_moving, is_serving}
 use Rattle.lt_model.specs.Account.{Account}
-use Rattle.lt_model.specs.News.{News, Word}
+use Rattle.lt_model.specs.News.{News, Notice}
 use Rattle.lt_model.specs.World.{World}
 use Rattle.lt_model.specs.Facts.{state_at}
 
@@ -44,11 +45,6 @@ IsFreezeTo script w s x number modes = Comes script w s x (FreezeBody number mod
 abbrev pub DeskIs : ScriptData → World → ℕ → Option ℕ → Desk → Type 0
 DeskIs script w s (Some t) desk = (t < script.nodes) × ((state_at w s t).desk ≡ Some desk)
 DeskIs script w s None desk = (q : ℕ) × (q < script.nodes) × Comes script w s q (TokenBody desk)
-
--- the desk's node, or the acting one, is x
-abbrev pub is_at : Option ℕ → ℕ → Bool
-is_at None x = false
-is_at (Some t) x = x == t
 
 -- what this reads from letters of the set
 abbrev pub in_set : {X : Type 0} → ℕ → (Body → Option X) → Letter → Option X
@@ -86,7 +82,7 @@ copy_in (FreezeBody number modes) = None
 abbrev pub copies_to : ScriptData → World → ℕ → ℕ → List Ask
 copies_to script w s x = gather_below script.nodes (λ p. filter_map (in_set s copy_in) (w.mail p x))
 
-abbrev pub freeze_in : Body → Option Word
+abbrev pub freeze_in : Body → Option Notice
 freeze_in (FreezeBody number modes) = Some (record { number = number; modes = modes })
 freeze_in (AskBody ask marked) = None
 freeze_in (TellBody tell) = None
@@ -94,12 +90,12 @@ freeze_in (CopyBody ask) = None
 freeze_in (TokenBody desk) = None
 
 -- the freezes that are on their way to x
-abbrev pub freezes_to : ScriptData → World → ℕ → ℕ → List Word
+abbrev pub freezes_to : ScriptData → World → ℕ → ℕ → List Notice
 freezes_to script w s x = gather_below script.nodes (λ p. filter_map (in_set s freeze_in) (w.mail p x))
 
--- the account of node x, with the desk at this place, and perhaps in the middle of a move of the acting node
-abbrev pub account_of : ScriptData → Option ℕ → World → ℕ → Option ℕ → Desk → ℕ → Account
-account_of script acting w s place desk x = record {
+-- the account of node x at this moment, with the desk at this place
+abbrev pub account_of : ScriptData → Moment → World → ℕ → Option ℕ → Desk → ℕ → Account
+account_of script moment w s place desk x = record {
   clock = (w.node x).clock;
   held = (state_at w s x).held;
   charge = (state_at w s x).charge;
@@ -108,17 +104,12 @@ account_of script acting w s place desk x = record {
   tells = tells_of script w s x;
   copies = copies_to script w s x;
   here = is_at place x;
-  moving = is_at acting x;
+  moving = is_moving moment x;
 }
 
--- the desk is at the acting node
-abbrev pub is_serving : Option ℕ → Option ℕ → Bool
-is_serving None place = false
-is_serving (Some q) place = is_at place q
-
 -- what node x is told of frozen modes
-abbrev pub news_of : ScriptData → Option ℕ → World → ℕ → Option ℕ → Desk → ℕ → News
-news_of script acting w s place desk x = record {
+abbrev pub news_of : ScriptData → Moment → World → ℕ → Option ℕ → Desk → ℕ → News
+news_of script moment w s place desk x = record {
   number = (state_at w s x).number;
   frozen = (state_at w s x).frozen;
   coming = freezes_to script w s x;
@@ -127,5 +118,5 @@ news_of script acting w s place desk x = record {
   last = desk.number;
   wanted = frozen_by desk.queue;
   here = is_at place x;
-  serving = is_serving acting place;
+  serving = is_serving moment place;
 }

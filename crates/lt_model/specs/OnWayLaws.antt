@@ -4,7 +4,7 @@ use Rattle.lt_modes.specs.declared.ask.Ask.{Ask}
 use Rattle.lt_modes.specs.Script.{ScriptData}
 use Rattle.lt_modes.specs.State.{Tell, FreezeBody}
 use Rattle.lt_model.specs.World.{World}
-use Rattle.lt_model.specs.News.{Word}
+use Rattle.lt_model.specs.News.{Notice}
 use Rattle.lt_model.specs.OnWay.{Comes, IsTellOf, IsCopyTo, tells_of, copies_to, freezes_to}
 
 -- the tells of a node are in letters on their way between nodes of the script, or parked at one
@@ -15,5 +15,5 @@ abbrev pub CopiesAreOnWay : Type 0
 CopiesAreOnWay = (script : ScriptData) (w : World) (s x : ℕ) (ask : Ask) → Contains (copies_to script w s x) ask ↔ IsCopyTo script w s x ask
 
 abbrev pub FreezesAreOnWay : Type 0
-FreezesAreOnWay = (script : ScriptData) (w : World) (s x : ℕ) (word : Word)
-    → Contains (freezes_to script w s x) word ↔ Comes script w s x (FreezeBody word.number word.modes)
+FreezesAreOnWay = (script : ScriptData) (w : World) (s x : ℕ) (notice : Notice)
+    → Contains (freezes_to script w s x) notice ↔ Comes script w s x (FreezeBody notice.number notice.modes)

@@ -38,5 +38,5 @@ pub record ClientsKept (script : ScriptData) (n : NodeState) : Type 0 where
 
 -- between moves each set is sound, and so is what the clients hold and wait for
 pub record SoundNode (script : ScriptData) (q : ℕ) (n : NodeState) : Type 0 where
-  pub sets : (s : ℕ) → s < length script.sets → SoundSet (numbers_of script) q false n.clock (n.set s)
+  pub sets : (s : ℕ) → s < length script.sets → SoundSet (numbers_of script) q false false n.clock (n.set s)
   pub clients : ClientsKept script n

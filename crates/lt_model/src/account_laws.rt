@@ -1,7 +1,7 @@
-ghost use Rattle.lt_model.specs.AccountLaws.{Ticks, Ages, Asks, Grants, Unlocks, Drops, Answers, Owes, Delivers, Applies, AppliesStale, Tells, Settles, Arrives, Rests, Reorders, HoldClear};
-ghost use Rattle.lt_model.specs.AccountFacts.{OwedAreOnWay, OnWayAreOwed, TellKeepsWaiting, TwiceIsOnce, RecordBoundsHeld, StandsOnce};
-ghost use Rattle.lt_model.specs.AccountRules.{GrantsByRule, FrozenIsNotGranted, CommandsAreSteps, ServesByRule, ServicesAreSteps, CopiesAreDelivered, TellsAreApplied, TellsAreMade, HandingOverSettles, TokensArrive};
-ghost use Rattle.lt_model.specs.AccountPlay.{ClearStays, FirstAccounts, AnyOrder};
+ghost use Rattle.lt_model.specs.AccountLaws.{Ticks, Ages, Asks, Grants, Unlocks, Drops, Answers, Owes, Delivers, Applies, AppliesStale, Tells, Settles, Arrives, Rests, Freezes, Reorders, HoldClear};
+ghost use Rattle.lt_model.specs.AccountFacts.{OwedAreOnWay, OnWayAreOwed, TellKeepsWaiting, TwiceIsOnce, RecordBoundsHeld};
+ghost use Rattle.lt_model.specs.AccountRules.{GrantsByRule, FrozenIsNotGranted, CommandsAreSteps, ServesByRule, ServicesAreSteps, CopiesAreDelivered, TellsAreApplied, TellsAreMade, HandingOverSettles, TokensArrive, OthersChangeNothing, RulesCount};
+ghost use Rattle.lt_model.specs.AccountPlay.{ClearStays, FirstAccounts, AnyOrder, FromTheStart};
 ghost use Rattle.lt_model.specs.NewsLaws.{Begins, Changes, Sends, Spares, Keeps, Takes, Leaves, Arrives as NewsArrive, Reorders as NewsReorder, FrozenAtRest};
 ghost use Rattle.lt_model.specs.OnWayLaws.{TellsAreOnWay, CopiesAreOnWay, FreezesAreOnWay};
 
@@ -23,6 +23,7 @@ pub fn law_account()
     ensures settles { Settles }
     ensures arrives { Arrives }
     ensures rests { Rests }
+    ensures freezes { Freezes }
     ensures reorders { Reorders }
 {}
 
@@ -38,11 +39,13 @@ pub fn law_account_rules()
     ensures tells { TellsAreMade }
     ensures settles { HandingOverSettles }
     ensures arrives { TokensArrive }
+    ensures nothing { OthersChangeNothing }
+    ensures counts { RulesCount }
 {}
 
-/// What a kept account says of its node, whatever is on its way.
+/// What a kept account says of its node, whatever is on its way; and that a tell after an older one leaves what it would
+/// have left alone.
 pub fn law_account_facts()
-    ensures once { StandsOnce }
     ensures owed { OwedAreOnWay }
     ensures on_way { OnWayAreOwed }
     ensures told { TellKeepsWaiting }
@@ -50,13 +53,14 @@ pub fn law_account_facts()
     ensures bound { RecordBoundsHeld }
 {}
 
-/// Two nodes whose records are clear of each other hold modes that don't conflict, in any order in which tells, copies
-/// and tokens arrive.
+/// Two nodes whose records are clear of each other hold modes that don't conflict; and so it stays, in any order in which
+/// tells, copies and tokens arrive.
 pub fn law_accounts()
     ensures first { FirstAccounts }
     ensures held { HoldClear }
     ensures clear { ClearStays }
     ensures any_order { AnyOrder }
+    ensures from_the_start { FromTheStart }
 {}
 
 /// What can happen to the news of frozen modes of a node keeps it, and what the news are at rest.

@@ -1,7 +1,7 @@
-ghost use Rattle.lt_model.specs.Moment.{MoveBegins, AsideStays};
+ghost use Rattle.lt_model.specs.MomentLaws.{MoveBegins, AsideStays};
 ghost use Rattle.lt_model.specs.PathEffects.{EffectsOnPath};
 ghost use Rattle.lt_model.specs.HomeLaws.{HomesKept, HomesInRuns, HomesSound, LinesInRuns, FewAdded};
-ghost use Rattle.lt_model.specs.Laws.{StartKept, StartLines, PathsKept, PathsInRuns, DeskSomewhere, TokenComes, OneToken, OthersStay, ClockMoves, OtherClocksStay, StampsKept, ClocksInRuns, TimedKept, TimedInRuns, StandingKept, StandingInRuns, OnePlace, ServedKept, ServedInRuns, TryIsExact};
+ghost use Rattle.lt_model.specs.Laws.{StartKept, StartLines, PathsKept, PathsInRuns, DeskSomewhere, TokenComes, OneToken, OthersStay, ClockMoves, OtherClocksStay, StampsKept, ClocksInRuns, TimedKept, TimedInRuns, StandingKept, StandingInRuns, StandsOnce, OnePlace, ServedKept, ServedInRuns, TryIsExact};
 
 /// What holds of every world of a run holds at the start of each script.
 pub fn law_start()
@@ -52,6 +52,7 @@ pub fn law_timed()
 pub fn law_one_place()
     ensures step { StandingKept }
     ensures run { StandingInRuns }
+    ensures stands { StandsOnce }
     ensures place { OnePlace }
 {}
 

@@ -15,7 +15,7 @@ abbrev pub IsNoLater : Bool → ℕ → ℕ → Type 0
 IsNoLater false clock k = k ≤ clock
 IsNoLater true clock k = k < clock
 
--- the charge bars just what the held modes bar; in the middle of a move it bars that and perhaps more
+-- the charge bars just what the held modes bar; in the middle of a move it bars that, and perhaps more
 abbrev pub ChargeKept : Bool → Modes → Modes → Type 0
 ChargeKept false held charge = bars held ≡ bars charge
 ChargeKept true held charge = IsBelowBy conflicts held charge
@@ -45,10 +45,10 @@ pub record SoundHere (numbers : Numbers) (q : ℕ) (s : SetState) (ask : Ask) : 
 
 -- without the desk the charge agrees with the held modes; with it nothing is parked,
 -- its epoch and its freeze number are no later than the clock, and it has one entry for each node
-abbrev pub SoundDesk : Numbers → Bool → ℕ → SetState → Option Desk → Type 0
-SoundDesk numbers moving clock s None = ChargeKept moving (held_modes s.held) s.charge
-SoundDesk numbers moving clock s (Some desk) =
-    (s.parked ≡ []) × IsNoLater moving clock desk.epoch × IsNoLater moving clock desk.number × (length desk.entries ≡ numbers.nodes)
+abbrev pub SoundDesk : Numbers → Bool → Bool → ℕ → SetState → Option Desk → Type 0
+SoundDesk numbers moving unfrozen clock s None = ChargeKept moving (held_modes s.held) s.charge
+SoundDesk numbers moving unfrozen clock s (Some desk) =
+    (s.parked ≡ []) × IsNoLater moving clock desk.epoch × IsNoLater unfrozen clock desk.number × (length desk.entries ≡ numbers.nodes)
 
 -- a hoped link names another node of the script
 abbrev pub SoundHoped : Numbers → ℕ → Option Hoped → Type 0
@@ -59,16 +59,18 @@ abbrev pub SoundParked : Numbers → Parked → Type 0
 SoundParked numbers (ParkedAsk ask) = Unit {0}
 SoundParked numbers (ParkedTell tell) = tell.node < numbers.nodes
 
--- what node q with this clock keeps for a set is sound, between moves or in the middle of a move of q on the set
-pub record SoundSet (numbers : Numbers) (q : ℕ) (moving : Bool) (clock : ℕ) (s : SetState) : Type 0 where
+-- what node q with this clock keeps for a set is sound: between moves, or in the middle of a move of q on the set (`moving`),
+-- in which it hasn't frozen yet (`unfrozen`)
+pub record SoundSet (numbers : Numbers) (q : ℕ) (moving unfrozen : Bool) (clock : ℕ) (s : SetState) : Type 0 where
   pub rows : All (SoundRow numbers q) s.held
   pub rows_apart : AllPairs (λ (a b : Row). (a.client ≢ b.client) ⊎ (a.mode ≢ b.mode)) s.held
   pub pending : All (SoundPending numbers q s.held) s.pending
+  pub one_ask : AllPairs (λ (a b : Ask). a.client ≢ b.client) s.pending
   pub here : All (SoundHere numbers q s) (asks_here s)
   pub apart : IsTrue (are_apart (asks_here s))
-  pub desk : SoundDesk numbers moving clock s s.desk
+  pub desk : SoundDesk numbers moving unfrozen clock s s.desk
   pub epoch : IsNoLater moving clock s.firm.epoch
-  pub number : IsNoLater moving clock s.number
+  pub number : IsNoLater unfrozen clock s.number
   pub firm : s.firm.node < numbers.nodes
   pub hoped : SoundHoped numbers q s.hoped
   pub parked : All (SoundParked numbers) s.parked

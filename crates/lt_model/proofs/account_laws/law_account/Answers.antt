@@ -1,5 +1,5 @@
 use Rattle.lt_model.proofs.account_laws.law_account.Goals as goal
-use Rattle.lt_model.proofs.AccountAsks.{ticks_kept, ages_kept, asks_kept, rests_kept, reorders_kept}
+use Rattle.lt_model.proofs.AccountAsks.{ticks_kept, ages_kept, asks_kept, rests_kept, freezes_kept, reorders_kept}
 use Rattle.lt_model.proofs.AccountGrants.{grants_kept, unlocks_kept, drops_kept}
 use Rattle.lt_model.proofs.AccountAnswers.{answers_kept, delivers_kept}
 use Rattle.lt_model.proofs.AccountTells.{applies_kept, stale_kept, tells_kept}
@@ -22,5 +22,6 @@ returns c = record {
   settles = settles_kept;
   arrives = arrives_kept;
   rests = rests_kept;
+  freezes = freezes_kept;
   reorders = reorders_kept;
 }

@@ -1,9 +1,8 @@
 use Rattle.lt_model.proofs.account_laws.law_account_facts.Goals as goal
-use Rattle.lt_model.proofs.AccountPlay.{stands_once, owed_are_on_way, on_way_are_owed, tell_keeps_waiting, twice_is_once, record_bounds_held}
+use Rattle.lt_model.proofs.AccountPlay.{owed_are_on_way, on_way_are_owed, tell_keeps_waiting, twice_is_once, record_bounds_held}
 
 pub returns : goal.returns
 returns c = record {
-  once = stands_once;
   owed = owed_are_on_way;
   on_way = on_way_are_owed;
   told = tell_keeps_waiting;

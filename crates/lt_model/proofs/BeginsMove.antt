@@ -5,7 +5,7 @@ use Rattle.std.specs.List.{filter_map, cons_option}
 use Rattle.std.proofs.lemmas.Bool.{eq-eqb, eqb-true}
 use Rattle.std.proofs.lemmas.List.Elements.{All-weaker}
 use Rattle.lt_modes.specs.declared.ask.Ask.{Ask}
-use Rattle.lt_modes.specs.Modes.{Modes}
+use Rattle.lt_modes.specs.Modes.{Modes, bars}
 use Rattle.lt_modes.specs.Held.{held_modes}
 use Rattle.lt_modes.specs.Script.{ScriptData}
 use Rattle.lt_modes.specs.State.{SetState, Desk, Entry, Tell, Body, Letter, Parked, ParkedAsk, ParkedTell}
@@ -17,17 +17,19 @@ use Rattle.lt_modes.specs.Sound.{IsNoLater, ChargeKept, SoundDesk, SoundSet}
 use Rattle.lt_model.specs.Below.{gather_below}
 use Rattle.lt_model.specs.World.{World, after}
 use Rattle.lt_model.specs.Facts.{state_at, one_if, tokens_in, places_in_state, places_in_body, times_in}
-use Rattle.lt_model.specs.OnWay.{OnWay, Comes, DeskIs, is_at, in_set, tell_in, tell_parked, copy_in, freeze_in, tells_of, copies_to, freezes_to, account_of, news_of, is_serving}
+use Rattle.lt_model.specs.OnWay.{OnWay, Comes, DeskIs, in_set, tell_in, tell_parked, copy_in, freeze_in, tells_of, copies_to, freezes_to, account_of, news_of}
+use Rattle.lt_model.specs.Moments.{Moment, Between, Acting, Frozen, is_at, is_moving, is_unfrozen, is_serving}
 use Rattle.lt_model.specs.Account.{Account, AccountKept, AreClear, counted}
-use Rattle.lt_model.specs.News.{News, NewsKept, Word}
+use Rattle.lt_model.specs.News.{News, NewsKept, Notice}
 use Rattle.lt_model.specs.Paths.{Paths, StateOnPath, LetterOnPath}
 use Rattle.lt_model.specs.SoundNode.{numbers_of}
 use Rattle.lt_model.specs.Touches.{of_set, SameSet}
 use Rattle.lt_model.specs.Invariant.{PlacesKept, IsParkedFor, DeskKept, SetKept}
-use Rattle.lt_model.specs.Moment.{begun, MoveBegins, AsideStays}
+use Rattle.lt_model.specs.MomentLaws.{begun, MoveBegins, AsideStays}
 use Rattle.lt_model.proofs.Sums.{sum_below-same}
 use Rattle.lt_model.proofs.Members.{contains_filter, contains_filtered}
 use Rattle.lt_model.proofs.OthersStay.{same_set, others_stay}
+use Rattle.lt_model.proofs.TokenComes.{desk_somewhere}
 use Rattle.lt_model.proofs.ClocksGrow.{clocks_grow}
 use Rattle.lt_model.proofs.AccountFacts.{held_below_charge}
 use Rattle.lt_model.proofs.AccountAsks.{ticks_kept, ages_kept}
@@ -112,11 +114,11 @@ account_by clock here moving entry t tells copies = record {
   moving = moving;
 }
 
-account_same : (script : ScriptData) (acting : Option ℕ) (w later : World) (s : ℕ) (place : Option ℕ) (desk : Desk) (x : ℕ) → SameSet script w later s
-    → account_of script acting later s place desk x ≡ record (account_of script None w s place desk x) { clock = (later.node x).clock; moving = is_at acting x }
-account_same script acting w later s place desk x same =
+account_same : (script : ScriptData) (moment : Moment) (w later : World) (s : ℕ) (place : Option ℕ) (desk : Desk) (x : ℕ) → SameSet script w later s
+    → account_of script moment later s place desk x ≡ record (account_of script Between w s place desk x) { clock = (later.node x).clock; moving = is_moving moment x }
+account_same script moment w later s place desk x same =
     let clock = (later.node x).clock in
-    let make = account_by clock (is_at place x) (is_at acting x) (entry_of desk x) in
+    let make = account_by clock (is_at place x) (is_moving moment x) (entry_of desk x) in
     ap (λ (t : SetState). make t (tells_of script later s x) (copies_to script later s x)) (same.states x)
     ∙ ap (λ (l : List Tell). make (state_at w s x) l (copies_to script later s x)) (tells_same script w later s x same)
     ∙ ap (λ (l : List Ask). make (state_at w s x) (tells_of script w s x) l) (copies_same script w later s x same)
@@ -126,7 +128,7 @@ account_goes a true clock h between goes = (ticks_kept a clock h (record { betwe
 account_goes a false clock h between goes =
     subst (λ (m : Bool). AccountKept (record a { clock = clock; moving = m })) between (ages_kept a clock h between goes)
 
-abbrev news_by : SetState → List Word → Entry → Desk → Bool → Bool → News
+abbrev news_by : SetState → List Notice → Entry → Desk → Bool → Bool → News
 news_by t coming entry desk here serving = record {
   number = t.number;
   frozen = t.frozen;
@@ -139,11 +141,11 @@ news_by t coming entry desk here serving = record {
   serving = serving;
 }
 
-news_same : (script : ScriptData) (acting : Option ℕ) (w later : World) (s : ℕ) (place : Option ℕ) (desk : Desk) (x : ℕ) → SameSet script w later s
-    → news_of script acting later s place desk x ≡ record (news_of script None w s place desk x) { serving = is_serving acting place }
-news_same script acting w later s place desk x same =
-    ap (λ (t : SetState). news_by t (freezes_to script later s x) (entry_of desk x) desk (is_at place x) (is_serving acting place)) (same.states x)
-    ∙ ap (λ (l : List Word). news_by (state_at w s x) l (entry_of desk x) desk (is_at place x) (is_serving acting place)) (freezes_same script w later s x same)
+news_same : (script : ScriptData) (moment : Moment) (w later : World) (s : ℕ) (place : Option ℕ) (desk : Desk) (x : ℕ) → SameSet script w later s
+    → news_of script moment later s place desk x ≡ record (news_of script Between w s place desk x) { serving = is_serving moment place }
+news_same script moment w later s place desk x same =
+    ap (λ (t : SetState). news_by t (freezes_to script later s x) (entry_of desk x) desk (is_at place x) (is_serving moment place)) (same.states x)
+    ∙ ap (λ (l : List Notice). news_by (state_at w s x) l (entry_of desk x) desk (is_at place x) (is_serving moment place)) (freezes_same script w later s x same)
 
 news_goes : (n : News) (serving : Bool) → NewsKept n → n.serving ≡ false → NewsKept (record n { serving = serving })
 news_goes n true h between = begins_kept n h
@@ -160,17 +162,24 @@ parked_same script w later s x (ParkedAsk ask) same h = elim h [
   | inr behind ↦ inr (behind.0, subst (λ (t : SetState). Contains t.pending behind.0) (sym (same.states x)) behind.1, behind.2, behind.3)
 ]
 
+goes_unfrozen : (moment : Moment) (x old new : ℕ) → Goes (is_moving moment x) old new → Goes (is_unfrozen moment x) old new
+goes_unfrozen Between x old new h = h
+goes_unfrozen (Acting q) x old new h = h
+goes_unfrozen (Frozen q) x old new h = goes_on (x == q) old new h
+
 -- what a node keeps stays sound as its clock goes on
-sound_goes : (numbers : Numbers) (x : ℕ) (moving : Bool) (old new : ℕ) (t : SetState) → Goes moving old new → SoundSet numbers x false old t → SoundSet numbers x moving new t
-sound_goes numbers x moving old new t goes h = record {
+sound_goes : (numbers : Numbers) (x : ℕ) (moving unfrozen : Bool) (old new : ℕ) (t : SetState) → Goes moving old new → Goes unfrozen old new
+    → SoundSet numbers x false false old t → SoundSet numbers x moving unfrozen new t
+sound_goes numbers x moving unfrozen old new t goes too h = record {
   rows = h.rows;
   rows_apart = h.rows_apart;
   pending = h.pending;
+  one_ask = h.one_ask;
   here = h.here;
   apart = h.apart;
   desk = by_desk t.desk h.desk;
   epoch = no_later moving old new t.firm.epoch goes h.epoch;
-  number = no_later moving old new t.number goes h.number;
+  number = no_later unfrozen old new t.number too h.number;
   firm = h.firm;
   hoped = h.hoped;
   parked = h.parked;
@@ -180,9 +189,9 @@ sound_goes numbers x moving old new t goes h = record {
     charge true e = held_below_charge false (held_modes t.held) t.charge e
     charge false e = e
 
-    by_desk : (o : Option Desk) → SoundDesk numbers false old t o → SoundDesk numbers moving new t o
+    by_desk : (o : Option Desk) → SoundDesk numbers false false old t o → SoundDesk numbers moving unfrozen new t o
     by_desk None e = charge moving e
-    by_desk (Some desk) e = (e.0, no_later moving old new desk.epoch goes e.1, no_later moving old new desk.number goes e.2, e.3)
+    by_desk (Some desk) e = (e.0, no_later moving old new desk.epoch goes e.1, no_later unfrozen old new desk.number too e.2, e.3)
 
 paths_same : (script : ScriptData) (w later : World) (s : ℕ) → SameSet script w later s → Paths script w s → Paths script later s
 paths_same script w later s same h = record {
@@ -207,21 +216,22 @@ places_same script w later s same h = record {
 }
 
 -- the set stays kept, between moves or at the beginning of one
-stays_kept : (script : ScriptData) (acting : Option ℕ) (w later : World) (s : ℕ) → SameSet script w later s
-    → ((x : ℕ) → Goes (is_at acting x) (w.node x).clock (later.node x).clock) → SetKept script None w s → SetKept script acting later s
-stays_kept script acting w later s same goes h = record {
+stays_kept : (script : ScriptData) (moment : Moment) (w later : World) (s : ℕ) → SameSet script w later s
+    → ((x : ℕ) → Goes (is_moving moment x) (w.node x).clock (later.node x).clock) → SetKept script Between w s → SetKept script moment later s
+stays_kept script moment w later s same goes h = record {
   paths = paths_same script w later s same h.paths;
   letters = λ p q letter hp hq on.
       let kept = h.letters p q letter hp hq (on_way_same w later s p q letter (same.letters p q) on) in
       record {
-        clock = omega (arith, kept.clock, goes_on (is_at acting p) (w.node p).clock (later.node p).clock (goes p));
+        clock = omega (arith, kept.clock, goes_on (is_moving moment p) (w.node p).clock (later.node p).clock (goes p));
         sender = kept.sender;
         epoch = kept.epoch;
         body = kept.body;
       };
   states = λ x below.
-      subst (λ (t : SetState). SoundSet (numbers_of script) x (is_at acting x) (later.node x).clock t) (sym (same.states x))
-      (sound_goes (numbers_of script) x (is_at acting x) (w.node x).clock (later.node x).clock (state_at w s x) (goes x) (h.states x below));
+      subst (λ (t : SetState). SoundSet (numbers_of script) x (is_moving moment x) (is_unfrozen moment x) (later.node x).clock t) (sym (same.states x))
+      (sound_goes (numbers_of script) x (is_moving moment x) (is_unfrozen moment x) (w.node x).clock (later.node x).clock (state_at w s x) (goes x)
+      (goes_unfrozen moment x (w.node x).clock (later.node x).clock (goes x)) (h.states x below));
   places = places_same script w later s same h.places;
   parked = λ x below.
       subst (λ (t : SetState). All (IsParkedFor script later s x) t.parked) (sym (same.states x))
@@ -232,24 +242,37 @@ stays_kept script acting w later s same goes h = record {
       (h.served t desk refl (desk_same script w later s (Some t) desk same is_desk));
 }
   where
-    known : (place : Option ℕ) (desk : Desk) → DeskKept script None w s place desk → DeskKept script acting later s place desk
+    known : (place : Option ℕ) (desk : Desk) → DeskKept script Between w s place desk → DeskKept script moment later s place desk
     known place desk k = record {
       accounts = λ x below.
-          subst AccountKept (sym (account_same script acting w later s place desk x same))
-          (account_goes (account_of script None w s place desk x) (is_at acting x) (later.node x).clock (k.accounts x below) refl (goes x));
+          subst AccountKept (sym (account_same script moment w later s place desk x same))
+          (account_goes (account_of script Between w s place desk x) (is_moving moment x) (later.node x).clock (k.accounts x below) refl (goes x));
       clear = λ x y hx hy d.
-          subst (λ (m : Modes). AreClear m (counted (account_of script acting later s place desk y))) (sym (ap counted (account_same script acting w later s place desk x same)))
-          (subst (λ (m : Modes). AreClear (counted (account_of script None w s place desk x)) m) (sym (ap counted (account_same script acting w later s place desk y same)))
+          subst (λ (m : Modes). AreClear m (counted (account_of script moment later s place desk y))) (sym (ap counted (account_same script moment w later s place desk x same)))
+          (subst (λ (m : Modes). AreClear (counted (account_of script Between w s place desk x)) m) (sym (ap counted (account_same script moment w later s place desk y same)))
           (k.clear x y hx hy d));
       news = λ x below.
-          subst NewsKept (sym (news_same script acting w later s place desk x same))
-          (news_goes (news_of script None w s place desk x) (is_serving acting place) (k.news x below) refl);
+          subst NewsKept (sym (news_same script moment w later s place desk x same))
+          (news_goes (news_of script Between w s place desk x) (is_serving moment place) (k.news x below) refl);
     }
 
 pub move_begins : MoveBegins
-move_begins script w s q clock h later = stays_kept script (Some q) w (begun w q clock) s
-    (same_set script w (begun w q clock) s states (λ a b. refl) refl) goes h
+move_begins script w s q clock h below later = (
+  stays_kept script (Acting q) w (begun w q clock) s (same_set script w (begun w q clock) s states (λ a b. refl) refl) goes h,
+  record {
+    asks = λ ask found. omega (arith, later, asked_by (desk_somewhere script w s h.paths) ask found);
+    charge = λ away. charge_of (state_at w s q).desk away (h.states q below).desk;
+  },
+)
   where
+    asked_by : (place : Option ℕ) × (desk : Desk) × DeskIs script w s place desk → (ask : Ask) → Contains (state_at w s q).pending ask → ask.stamp.clock ≤ (w.node q).clock
+    asked_by found ask there = ((h.known found.0 found.1 found.2).accounts q below).clocks.asks ask there
+
+    charge_of : (o : Option Desk) → o ≡ None → SoundDesk (numbers_of script) false false (w.node q).clock (state_at w s q) o
+        → bars (held_modes (state_at w s q).held) ≡ bars (state_at w s q).charge
+    charge_of None e sound = sound
+    charge_of (Some desk) e sound = cc
+
     states : (x : ℕ) → state_at (begun w q clock) s x ≡ state_at w s x
     states x = by_node (x == q) refl
       where
@@ -266,4 +289,4 @@ move_begins script w s q clock h later = stays_kept script (Some q) w (begun w q
 
 pub aside_stays : AsideStays
 aside_stays script w s q step h enabled aside =
-    stays_kept script None w (after script w q step) s (others_stay script w s q step aside) (λ x. clocks_grow script w q step x) h
+    stays_kept script Between w (after script w q step) s (others_stay script w s q step aside) (λ x. clocks_grow script w q step x) h
