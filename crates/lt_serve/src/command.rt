@@ -1,6 +1,6 @@
 ghost use Rattle.std.specs.Prelude.{◌≡◌, map, Some};
 ghost use Rattle.std.specs.String.{string_bytes};
-ghost use Rattle.lt_text.specs.Number.{are_digits};
+ghost use Rattle.lt_text.specs.Number.{are_digits, is_numeral};
 ghost use Rattle.lt_serve.specs.Words.{seed_of, one_word, sim_of, two_words, can_make, make_of, five_words, command_of};
 
 use lt_script::{MAX_CLIENTS, MAX_CLIENTS_OF_NODE, MAX_COMMANDS, MAX_NODES};
@@ -123,10 +123,17 @@ fn can_make(nodes: u32, clients: u32, commands: u32) -> bool
 fn seed_of(word: &str) -> Option<u64>
     ensures { result ≡ seed_of word.now }
 {
-    if word.len() > 20 || !are_digits(word) {
+    if !is_numeral(word, 20) {
         return None;
     }
     word.parse::<u64>().ok()
+}
+
+// Whether the word is from one to so many decimal digits.
+fn is_numeral(word: &str, most: usize) -> bool
+    ensures { result ≡ is_numeral word.now most }
+{
+    !word.is_empty() && word.len() <= most && are_digits(word)
 }
 
 fn are_digits(word: &str) -> bool

@@ -5,4 +5,4 @@ use Rattle.lt_serve.proofs.command.seed_of.Goals as goal
 pub returns : goal.returns
 returns c =
     c.ok.ensures.value
-    ∙ seed_parsed c.args.word.now c.parse.result c.if-word-gt20.false (sym c.are_digits.ensures ∙ c.if-not-are_digits.false) c.parse.ensures.value.0
+    ∙ seed_parsed c.args.word.now c.parse.result (sym c.is_numeral.ensures ∙ c.if-not-is_numeral.false) c.parse.ensures.value.0
