@@ -52,7 +52,7 @@ moves_text-more script entries k made events e f =
     ∙ (flat_map-append (entry_text script) (take k entries) (record { made = made; events = events } ∷ [])
     ∙ ap (λ (t : List ℕ). moves_text script (take k entries) ++ t) (append_nil (entry_text script (record { made = made; events = events })))))
 
-events_of-take : (entries : List Logged) (k : ℕ) (events : List Event) → events_at entries k ≡ Some events → events_of (take (suc k) entries) ≡ events_of (take k entries) ++ events
+pub events_of-take : (entries : List Logged) (k : ℕ) (events : List Event) → events_at entries k ≡ Some events → events_of (take (suc k) entries) ≡ events_of (take k entries) ++ events
 events_of-take [] k events f = cc
 events_of-take (entry ∷ later) zero events f =
     let same : entry.events ≡ events = cc in

@@ -12,7 +12,7 @@ use lt_script::Script;
 use std::alloc::{AllocError, Global};
 
 /// The text of a run: for each move its line and the lines of its events, and then the lines of a run at
-/// rest, or those of a run that was cut at this node.
+/// rest, or those of a run that was cut at this node. The time that it takes is linear in the text.
 pub fn write(
     alloc: Global,
     script: &Script,

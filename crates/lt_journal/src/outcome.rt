@@ -1,5 +1,5 @@
-ghost use Rattle.std.specs.Prelude.{◌≡◌, IfOk, OnOk, fold, slice_set};
-ghost use Rattle.lt_model.specs.Text.{Outcome as AnyOutcome, with_lock, less_lock, with_waiting, after_event, first_outcome, outcome_of};
+ghost use Rattle.std.specs.Prelude.{◌≡◌, ◌≤◌, ◌+◌, ◌^◌, length, OnErr, IfOk, OnOk, fold, slice_set};
+ghost use Rattle.lt_model.specs.Text.{Outcome as AnyOutcome, with_lock, less_lock, with_waiting, after_event, first_outcome, outcome_of, events_of};
 ghost use Rattle.lt_journal.specs.Counts.{Tells};
 
 use crate::table::{Holding, Table};
@@ -71,11 +71,13 @@ impl Tally {
         })
     }
 
-    /// Takes one event more into account.
+    /// Takes one event more into account. It fails where more locks are held than a number can say.
     fn apply(&mut self, script: &Script, event: Event) -> Result<(), AllocError>
-        ensures { OnOk result ((outcome : AnyOutcome)
+        ensures applied { OnOk result ((outcome : AnyOutcome)
             → Tells script.now self.old outcome
             → Tells script.now self.new (after_event script.now outcome event)) }
+        ensures full { OnErr result ((outcome : AnyOutcome)
+            → Tells script.now self.old outcome → 2 ^ 64 ≤ length outcome.held + 1) }
     {
         match event {
             Event::Grant { client, set, mode } => self.grant(script, client, set, mode)?,
@@ -111,9 +113,11 @@ impl Tally {
 
     // Adds a lock, for which its client waits no more.
     fn grant(&mut self, script: &Script, client: u16, set: u8, mode: Mode) -> Result<(), AllocError>
-        ensures { OnOk result ((outcome : AnyOutcome)
+        ensures granted { OnOk result ((outcome : AnyOutcome)
             → Tells script.now self.old outcome
             → Tells script.now self.new (with_waiting (with_lock outcome client set mode) client None)) }
+        ensures full { OnErr result ((outcome : AnyOutcome)
+            → Tells script.now self.old outcome → 2 ^ 64 ≤ length outcome.held + 1) }
     {
         self.held.add(script, Holding { client, set, mode })?;
         self.wait(client, None);
@@ -129,10 +133,12 @@ impl Tally {
         gives_up: Mode,
         mode: Mode,
     ) -> Result<(), AllocError>
-        ensures { OnOk result ((outcome : AnyOutcome)
+        ensures changed { OnOk result ((outcome : AnyOutcome)
             → Tells script.now self.old outcome
             → Tells script.now self.new
             (with_waiting (with_lock (less_lock outcome client set gives_up) client set mode) client None)) }
+        ensures full { OnErr result ((outcome : AnyOutcome)
+            → Tells script.now self.old outcome → 2 ^ 64 ≤ length outcome.held + 1) }
     {
         let old = Holding {
             client,
@@ -169,17 +175,31 @@ pub fn tally_of(alloc: Global, script: &Script, run: &Run) -> Result<Tally, Allo
     ensures { IfOk result (λ tally. Tells script.now tally (outcome_of script.now run.now.entries)) }
 {
     let mut tally = Tally::new(alloc, script)?;
-    for k in 0..run.len() {
-        apply_all(&mut tally, script, run.events(k))?;
-    }
+    apply_run(&mut tally, script, run)?;
     Ok(tally)
+}
+
+// Takes the events of all moves into account. It fails only where a run has more events than a number can say.
+fn apply_run(tally: &mut Tally, script: &Script, run: &Run) -> Result<(), AllocError>
+    requires { Tells script.now tally.old (first_outcome script.now) }
+    ensures applied { OnOk result
+        (Tells script.now tally.new (outcome_of script.now run.now.entries)) }
+    ensures full { OnErr result (2 ^ 64 ≤ length (events_of run.now.entries) + 1) }
+{
+    for k in 0..run.len() {
+        apply_all(tally, script, run.events(k))?;
+    }
+    Ok(())
 }
 
 // Takes the events into account, in order.
 fn apply_all(tally: &mut Tally, script: &Script, events: &[Event]) -> Result<(), AllocError>
-    ensures { OnOk result ((outcome : AnyOutcome)
+    ensures applied { OnOk result ((outcome : AnyOutcome)
         → Tells script.now tally.old outcome
         → Tells script.now tally.new (fold (after_event script.now) outcome events.now)) }
+    ensures full { OnErr result ((outcome : AnyOutcome)
+        → Tells script.now tally.old outcome
+        → 2 ^ 64 ≤ length outcome.held + length events.now + 1) }
 {
     for event in events {
         tally.apply(script, *event)?;

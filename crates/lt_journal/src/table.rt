@@ -1,4 +1,4 @@
-ghost use Rattle.std.specs.Prelude.{◌≡◌, ◌↔◌, ◌≤◌, ◌++◌, ◌∷◌, [], List, IsTrue, IfOk, OnOk, length, filter, slice_index, slice_set};
+ghost use Rattle.std.specs.Prelude.{◌≡◌, ◌+◌, ◌^◌, OnErr, ◌↔◌, ◌≤◌, ◌++◌, ◌∷◌, [], List, IsTrue, IfOk, OnOk, length, filter, slice_index, slice_set};
 ghost use Rattle.lt_model.specs.Text.{Holding as AnyHolding, without, is_kept};
 ghost use Rattle.lt_journal.specs.Counts.{place_of, cell_of, HasCell, Counts};
 
@@ -60,17 +60,19 @@ impl Table {
         })
     }
 
-    /// How many such locks are held.
+    /// How many such locks are held, of a client and in a set of the script.
     pub fn count(&self, lock: Holding) -> usize
         ensures { result ≡ slice_index self.now (cell_of lock) }
     {
         self.cells.get(cell_of(lock)).copied().unwrap_or(0)
     }
 
-    /// Counts one such lock more. It fails, as for want of memory, where there are more than a number can say.
+    /// Counts one such lock more. It fails where the count would pass the largest number.
     pub fn add(&mut self, script: &Script, lock: Holding) -> Result<(), AllocError>
-        ensures { OnOk result ((held : List AnyHolding)
+        ensures added { OnOk result ((held : List AnyHolding)
             → Counts script.now self.old held → Counts script.now self.new (held ++ lock ∷ [])) }
+        ensures full { OnErr result ((held : List AnyHolding)
+            → Counts script.now self.old held → 2 ^ 64 ≤ length held + 1) }
     {
         if has_cell(script, lock) {
             let Some(more) = self.count(lock).checked_add(1) else {
