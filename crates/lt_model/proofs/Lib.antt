@@ -48,3 +48,5 @@ pub mod HomesSound
 pub mod CountEffects
 pub mod CountMove
 pub mod LinesInRuns
+pub mod NewsRules
+pub mod SmallSteps

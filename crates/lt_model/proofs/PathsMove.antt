@@ -31,7 +31,7 @@ use Rattle.lt_model.proofs.PathsHandOver.{no_token, finish-moved, lock-moved, tr
 use Rattle.lt_model.proofs.PathsBeyond.{Idle, finish-idle, lock-idle, try-idle, unlock-idle, change-idle, drop-idle}
 use Rattle.lt_model.proofs.PathsWorld.{PathsOf, put-same, put-other, after_moved, after_others, after_beyond, opened_for}
 
-put-put : {X : Type 0} (f : ℕ → X) (q : ℕ) (u v : X) → put (put f q u) q v ≡ put f q v
+pub put-put : {X : Type 0} (f : ℕ → X) (q : ℕ) (u v : X) → put (put f q u) q v ≡ put f q v
 put-put f q u v = fun_ext (λ k. by_test k (k == q))
   where
     by_test : (k : ℕ) (here : Bool) → (if here then v else (if here then u else f k)) ≡ (if here then v else f k)
@@ -44,7 +44,7 @@ put-itself f q = fun_ext (λ k. elim (cases_eq k q) [
   | inr d ↦ sym (put-other f q (f q) k d)
 ])
 
-sent-sent : (q : ℕ) (first second : List Post) (mail : ℕ → ℕ → List Letter) → sent q second (sent q first mail) ≡ sent q (first ++ second) mail
+pub sent-sent : (q : ℕ) (first second : List Post) (mail : ℕ → ℕ → List Letter) → sent q second (sent q first mail) ≡ sent q (first ++ second) mail
 sent-sent q first second mail = fun_ext (λ a. fun_ext (λ b. by_test a b (a == q)))
   where
     by_test : (a b : ℕ) (own : Bool)

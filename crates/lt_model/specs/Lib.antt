@@ -15,6 +15,7 @@ pub mod AccountPlay
 pub mod News
 pub mod NewsSteps
 pub mod NewsLaws
+pub mod NewsRules
 pub mod OnWay
 pub mod Paths
 pub mod PathEffects

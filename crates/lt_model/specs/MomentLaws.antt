@@ -7,8 +7,8 @@ use Rattle.lt_modes.specs.Held.{held_modes}
 use Rattle.lt_modes.specs.Script.{ScriptData}
 use Rattle.lt_modes.specs.State.{SetState}
 use Rattle.lt_model.specs.Below.{put}
-use Rattle.lt_model.specs.NodeMove.{at_clock}
-use Rattle.lt_model.specs.World.{World, is_enabled, after}
+use Rattle.lt_model.specs.NodeMove.{NodeMade, at_clock, joined_moves}
+use Rattle.lt_model.specs.World.{World, is_enabled, after_made, after}
 use Rattle.lt_model.specs.Facts.{state_at}
 use Rattle.lt_model.specs.Touches.{IsAside}
 use Rattle.lt_model.specs.Moments.{Between, Acting}
@@ -32,3 +32,8 @@ MoveBegins = (script : ScriptData) (w : World) (s q clock : ℕ) → SetKept scr
 abbrev pub AsideStays : Type 0
 AsideStays = (script : ScriptData) (w : World) (s q : ℕ) (step : Step) → SetKept script Between w s → IsTrue (is_enabled script w q step)
     → IsAside script w q step s → SetKept script Between (after script w q step) s
+
+-- what a node makes in two steps, the world takes in two steps: a move is a sequence of small steps of the world
+abbrev pub MovesInSteps : Type 0
+MovesInSteps = (w : World) (q : ℕ) (first second : NodeMade)
+    → after_made q (joined_moves first second) w ≡ after_made q second (after_made q first w)

@@ -3,6 +3,7 @@ ghost use Rattle.lt_model.specs.AccountFacts.{OwedAreOnWay, OnWayAreOwed, TellKe
 ghost use Rattle.lt_model.specs.AccountRules.{GrantsByRule, FrozenIsNotGranted, CommandsAreSteps, ServesByRule, ServicesAreSteps, CopiesAreDelivered, TellsAreApplied, TellsAreMade, HandingOverSettles, TokensArrive, OthersChangeNothing, RulesCount};
 ghost use Rattle.lt_model.specs.AccountPlay.{ClearStays, FirstAccounts, AnyOrder, FromTheStart};
 ghost use Rattle.lt_model.specs.NewsLaws.{Begins, Changes, Sends, Spares, Keeps, Takes, Leaves, Arrives as NewsArrive, Reorders as NewsReorder, FrozenAtRest};
+ghost use Rattle.lt_model.specs.NewsRules.{FreezingIsSteps, FreezesAreTaken, DesksComeAndGo};
 ghost use Rattle.lt_model.specs.OnWayLaws.{TellsAreOnWay, CopiesAreOnWay, FreezesAreOnWay};
 
 /// What can happen to the account of a node keeps it. What counts of the node then bars the same, or less, or one mode
@@ -75,6 +76,13 @@ pub fn law_news()
     ensures arrives { NewsArrive }
     ensures reorders { NewsReorder }
     ensures rest { FrozenAtRest }
+{}
+
+/// The rules of a node are steps of news.
+pub fn law_news_rules()
+    ensures freezes { FreezingIsSteps }
+    ensures takes { FreezesAreTaken }
+    ensures desk { DesksComeAndGo }
 {}
 
 /// The tells, copies and freezes that are gathered for a node are those in letters on their way and in parked letters.

@@ -1,4 +1,4 @@
-ghost use Rattle.lt_model.specs.MomentLaws.{MoveBegins, AsideStays};
+ghost use Rattle.lt_model.specs.MomentLaws.{MoveBegins, AsideStays, MovesInSteps};
 ghost use Rattle.lt_model.specs.PathEffects.{EffectsOnPath};
 ghost use Rattle.lt_model.specs.HomeLaws.{HomesKept, HomesInRuns, HomesSound, LinesInRuns, FewAdded};
 ghost use Rattle.lt_model.specs.Laws.{StartKept, StartLines, PathsKept, PathsInRuns, DeskSomewhere, TokenComes, OneToken, OthersStay, ClockMoves, OtherClocksStay, StampsKept, ClocksInRuns, TimedKept, TimedInRuns, StandingKept, StandingInRuns, StandsOnce, OnePlace, ServedKept, ServedInRuns, TryIsExact};
@@ -9,10 +9,12 @@ pub fn law_start()
     ensures lines { StartLines }
 {}
 
-/// What holds of a set holds in its middle form when a move begins, and stays as it is when a move doesn't touch the set.
+/// What holds of a set holds in its middle form when a move begins, and stays as it is when a move doesn't touch the set;
+/// and a move is a sequence of small steps of the world.
 pub fn law_moment()
     ensures begins { MoveBegins }
     ensures aside { AsideStays }
+    ensures steps { MovesInSteps }
 {}
 
 /// Links lead to the token of a set, of which there is one, and no enabled move changes that.

@@ -6,7 +6,8 @@ mod laws;
 mod worked;
 
 pub use account_laws::{
-    law_account, law_account_facts, law_account_rules, law_accounts, law_news, law_on_way,
+    law_account, law_account_facts, law_account_rules, law_accounts, law_news, law_news_rules,
+    law_on_way,
 };
 pub use laws::{
     law_clocks, law_exact_try, law_homes, law_lines, law_moment, law_one_place, law_one_token,

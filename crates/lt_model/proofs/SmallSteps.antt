@@ -1,0 +1,22 @@
+-- A move is a sequence of small steps of the world.
+use Rattle.std.proofs.Common.{◌≡◌, ℕ, List, ◌++◌, sym, ap, ◌∙◌}
+use Rattle.std.specs.List.{filter_map}
+use Rattle.std.proofs.Math.Path.{fun_ext}
+use Rattle.std.proofs.lemmas.List.{append_assoc}
+use Rattle.std.proofs.lemmas.List.Elements.{filter_map-append}
+use Rattle.lt_model.specs.World.{token_to}
+use Rattle.lt_model.specs.MomentLaws.{MovesInSteps}
+use Rattle.lt_model.proofs.PathsMove.{put-put, sent-sent}
+
+pub moves_in_steps : MovesInSteps
+moves_in_steps w q first second = λ i. record {
+  node = sym (put-put w.node q first.node second.node) i;
+  mail = sym (sent-sent q first.posts second.posts w.mail) i;
+  went = fun_ext went_twice i;
+}
+  where
+    went_twice : (s : ℕ) → w.went s ++ filter_map (token_to s) (first.posts ++ second.posts)
+        ≡ (w.went s ++ filter_map (token_to s) first.posts) ++ filter_map (token_to s) second.posts
+    went_twice s =
+        ap (λ (l : List ℕ). w.went s ++ l) (filter_map-append (token_to s) first.posts second.posts)
+        ∙ sym (append_assoc (w.went s) (filter_map (token_to s) first.posts) (filter_map (token_to s) second.posts))
