@@ -6,7 +6,6 @@ use Rattle.std.proofs.lemmas.Bool.{and_parts, or_cases, or_left, or_right, not-t
 use Rattle.std.proofs.lemmas.List.Elements.{All-set, All-push, All-append, All-from_recursion, recursion_from_All}
 use Rattle.std.proofs.lemmas.List.Quantifiers.{position-Some}
 use Rattle.lt_modes.specs.declared.mode.Mode.{Mode}
-use Rattle.lt_modes.specs.declared.mode.Mode.TheVariants.{IntentionRead, Read, Upgrade, IntentionWrite, Write}
 use Rattle.lt_modes.specs.declared.ask.Ask.{Ask}
 use Rattle.lt_modes.specs.declared.stamp.Stamp.{Stamp}
 use Rattle.lt_modes.specs.declared.parts.Row.{Row}
@@ -26,36 +25,10 @@ use Rattle.lt_core.specs.Serving.{Made, queue_of, is_served, next_from, next_ser
 use Rattle.lt_core.specs.SetMove.{lock, unlock, locked, unlocked, granted, asked, lock_ask}
 use Rattle.lt_model.specs.Log.{Logged}
 use Rattle.lt_model.specs.Below.{put}
+use Rattle.lt_model.proofs.Asks.{same_mode-true}
 use Rattle.lt_model.proofs.StartKept.{all_none}
 use Rattle.lt_world.specs.OneNode.{NodeState, World, start, act_stamp, obeyed, node_move, next_command, after, after_run}
 use Rattle.lt_alone.proofs.Modes.{free_of_both}
-
-same_mode-equal : (a b : Mode) → same_mode a b ≡ true → a ≡ b
-same_mode-equal IntentionRead IntentionRead e = refl
-same_mode-equal IntentionRead Read e = cc
-same_mode-equal IntentionRead Upgrade e = cc
-same_mode-equal IntentionRead IntentionWrite e = cc
-same_mode-equal IntentionRead Write e = cc
-same_mode-equal Read IntentionRead e = cc
-same_mode-equal Read Read e = refl
-same_mode-equal Read Upgrade e = cc
-same_mode-equal Read IntentionWrite e = cc
-same_mode-equal Read Write e = cc
-same_mode-equal Upgrade IntentionRead e = cc
-same_mode-equal Upgrade Read e = cc
-same_mode-equal Upgrade Upgrade e = refl
-same_mode-equal Upgrade IntentionWrite e = cc
-same_mode-equal Upgrade Write e = cc
-same_mode-equal IntentionWrite IntentionRead e = cc
-same_mode-equal IntentionWrite Read e = cc
-same_mode-equal IntentionWrite Upgrade e = cc
-same_mode-equal IntentionWrite IntentionWrite e = refl
-same_mode-equal IntentionWrite Write e = cc
-same_mode-equal Write IntentionRead e = cc
-same_mode-equal Write Read e = cc
-same_mode-equal Write Upgrade e = cc
-same_mode-equal Write IntentionWrite e = cc
-same_mode-equal Write Write e = refl
 
 not_some : (j : ℕ) → (let none : Option ℕ = None in none) ≡ Some j → ⊥
 not_some j e = cc
@@ -184,7 +157,7 @@ own_all Q client (row ∷ rest) modes h before m e =
     own_all Q client rest (gather (is_of client row) modes row) h.1 (λ n. by_test (is_of client row) refl n) m e
   where
     same : (n : Mode) → same_mode row.mode n ≡ true → Q row.mode → Q n
-    same n e q = subst Q (same_mode-equal row.mode n e) q
+    same n e q = subst Q (same_mode-true row.mode n e) q
 
     by_test : (own : Bool) → is_of client row ≡ own → (n : Mode) → has n (gather own modes row) ≡ true → Q n
     by_test true t n g = elim (or_cases _ _ (sym (union_has_both modes (one row.mode) n) ∙ g)) [

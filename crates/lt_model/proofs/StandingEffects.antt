@@ -1,11 +1,11 @@
 -- The effects of a move leave each unanswered ask in one place.
-use Rattle.std.proofs.Common.{◌≡◌, ◌≢◌, ℕ, suc, ◌+◌, ◌<◌, ◌≤◌, inl, inr, List, [], ◌∷◌, ◌++◌, length, Option, Some, None, Bool, true, false, refl, sym, ap, subst, arith, ◌∙◌, take as take_first}
+use Rattle.std.proofs.Common.{◌≡◌, ◌≢◌, ℕ, suc, ◌+◌, ◌<◌, ◌≤◌, List, [], ◌∷◌, ◌++◌, length, Option, Some, None, Bool, true, false, refl, sym, ap, subst, arith, ◌∙◌}
 use Rattle.std.specs.Prelude.{◌==◌, ◌&&◌, not, nat_lt, if◌then◌else◌, All, AllPairs, Contains, fold, remove, position, is_some, sum_by}
 use Rattle.std.specs.List.{AllByRecursion}
-use Rattle.std.proofs.lemmas.Bool.{eq-eqb, eqb-true, cases_lt}
-use Rattle.std.proofs.lemmas.List.{append-nil, take_all, drop_all}
+use Rattle.std.proofs.lemmas.Bool.{eq-eqb, eqb-true}
+use Rattle.std.proofs.lemmas.List.{append-nil}
 use Rattle.std.proofs.lemmas.List.Elements.{All-push, All-append, All-take, All-drop, All-weaker, Contains-get_or}
-use Rattle.std.proofs.lemmas.List.Quantifiers.{all_pairs_remove, all_pairs_push}
+use Rattle.std.proofs.lemmas.List.Quantifiers.{all_pairs_push}
 use Rattle.std.proofs.lemmas.List.Sums.{sum_by-append, sum_by-cons, sum_by_push}
 use Rattle.lt_modes.specs.declared.stamp.Stamp.{Stamp}
 use Rattle.lt_modes.specs.declared.ask.Ask.{Ask}
@@ -28,6 +28,7 @@ use Rattle.lt_model.specs.Standing.{IsMadeBy}
 use Rattle.lt_model.specs.PathEffects.{posts_weight}
 use Rattle.lt_model.proofs.SentInMove.{all_append, all_map, all_any}
 use Rattle.lt_model.proofs.Asks.{times_in-some, times_in-found, times_in-push, times_in-entered, times_in-remove, times_in-without, same_ask-itself}
+use Rattle.lt_model.proofs.Unanswered.{without_apart}
 use Rattle.lt_model.proofs.Effects.{Fact, HoldsOf, EndEffects, ActEffects, ByEffects, route_ways, holds_silent, acts_by_effects, take_by_effects, next_service-within}
 
 -- how often the ask stands in a letter of the set
@@ -157,7 +158,7 @@ answered_off : (s me clock : ℕ) (before elsewhere unanswered : Ask → ℕ) (t
 answered_off s me clock before elsewhere unanswered t u posts b h found gone even = record {
   once = λ a. omega (arith, h.once a, even a, times_in-without a b t.pending h.apart found, ap (times_in a) gone);
   own = subst (λ (l : List Ask). All (IsMadeBy me clock) l) (sym gone) (without_all t.pending (position (has_stamp b.stamp) t.pending) h.own);
-  apart = subst AreApart (sym gone) (without_apart t.pending (position (has_stamp b.stamp) t.pending) h.apart);
+  apart = subst AreApart (sym gone) (without_apart t.pending b.stamp h.apart);
   copies = h.copies;
 }
   where
@@ -165,17 +166,6 @@ answered_off s me clock before elsewhere unanswered t u posts b h found gone eve
     without_all asks None all = all
     without_all asks (Some k) all =
         All-append (IsMadeBy me clock) _ _ (All-take (IsMadeBy me clock) k asks all) (All-drop (IsMadeBy me clock) (suc k) asks all)
-
-    without_apart : (asks : List Ask) (o : Option ℕ) → AreApart asks → AreApart (without_at asks o)
-    without_apart asks None all = all
-    without_apart asks (Some k) all = elim (cases_lt k (length asks)) [
-      | inl within ↦ all_pairs_remove (λ (a c : Ask). a.stamp ≢ c.stamp) asks k within all
-      | inr past ↦ subst AreApart (sym (whole asks k past)) all
-    ]
-      where
-        whole : (l : List Ask) (n : ℕ) → length l ≤ n → remove l n ≡ l
-        whole l n past = ap (λ (rest : List Ask). take_first n l ++ rest) (drop_all (suc n) l (omega (arith, past)))
-            ∙ append-nil (take_first n l) ∙ take_all n l past
 
 -- one service
 serves-stands : (s clock : ℕ) (elsewhere unanswered : Ask → ℕ) (stamp : Stamp) → ((a : Ask) → a.node ≡ stamp.node → unanswered a ≡ 0)
