@@ -5,7 +5,7 @@
 top=$(cd "$(dirname "$0")/.." && pwd) || exit 1
 crate=$top/crates/bench_journal
 program=$crate/out/bench_journal
-[ -x "$program" ] || { echo "bench: run \`rt run -- 10 1 <stdin\` in crates/bench_journal first" >&2; exit 1; }
+[ -x "$program" ] || { echo "bench: run ./build first" >&2; exit 1; }
 
 # The microseconds that it takes to make the journal of so many moves so many times.
 taken() {
