@@ -1,5 +1,5 @@
--- The rules of a node are steps of accounts.
-use Rattle.std.proofs.Common.{◌≡◌, ◌≢◌, ℕ, zero, suc, ◌+◌, ◌<◌, inl, inr, List, [], ◌∷◌, length, Option, Some, None, Bool, true, false, refl, sym, ap, subst, arith, ◌∙◌}
+-- Rules of a node are steps of accounts.
+use Rattle.std.proofs.Common.{◌≡◌, ◌≢◌, ℕ, zero, suc, ◌+◌, ◌<◌, inl, inr, List, [], ◌∷◌, ◌++◌, length, Option, Some, None, Bool, true, false, refl, sym, ap, subst, arith, ◌∙◌}
 use Rattle.std.specs.Prelude.{◌⊎◌, ◌||◌, ◌&&◌, ◌==◌, not, IsTrue, IsFalse, if◌then◌else◌, nat_lt, fold, is_some, remove, slice_index_or, slice_set}
 use Rattle.std.proofs.lemmas.Bool.{and_parts, or_cases, eq-eqb, ne_eqb, eqb-true, cases_eq}
 use Rattle.std.specs.List.{AllByRecursion, filter_map, cons_option}
@@ -8,15 +8,21 @@ use Rattle.lt_modes.specs.declared.mode.Mode.{Mode}
 use Rattle.lt_modes.specs.declared.ask.Ask.{Ask}
 use Rattle.lt_modes.specs.Modes.{is_taking, no_modes, Modes, has, union, bars, covers, with_mode}
 use Rattle.lt_modes.specs.State.{SetState, Desk, Entry, Tell, Parked, ParkedAsk, ParkedTell, first_entry}
-use Rattle.lt_modes.specs.Held.{own_modes, other_modes, held_modes}
+use Rattle.lt_modes.specs.Held.{count_of, take_lock, own_modes, other_modes, held_modes}
 use Rattle.lt_modes.specs.Queue.{no_ask, modes_of_asks}
 use Rattle.lt_modes.specs.Records.{entry_of, record_of, own_owed, own_part, modes_at, others_below, others}
 use Rattle.lt_modes.specs.Tells.{told}
 use Rattle.lt_modes.specs.Granting.{may_join, against, asks_before}
 use Rattle.lt_modes.specs.Serving.{ask_at, queue_of, queue_of_desk, next_at, next_from, is_served, is_free, is_local, is_copy, is_clear_at_home, served, owed_at, owing}
+use Rattle.lt_modes.specs.declared.stamp.Stamp.{Stamp}
+use Rattle.lt_modes.specs.declared.event.Event.TheVariants.{Unlock, NotHeld}
+use Rattle.lt_modes.specs.Made.{Made}
+use Rattle.lt_modes.specs.Freezing.{freeze_at}
+use Rattle.lt_modes.specs.SetMove.{answers}
+use Rattle.lt_modes.specs.Telling.{tell_of}
 use Rattle.lt_modes.specs.HandingOver.{settled, without_desk}
 use Rattle.lt_modes.proofs.ModeAlgebra.{same_modes-true}
-use Rattle.lt_modes.specs.Routing.{dealt, reversed}
+use Rattle.lt_modes.specs.Routing.{Way, Parks, Goes, dealt, reversed, sent_on, route}
 use Rattle.lt_modes.specs.Script.{ScriptData}
 use Rattle.lt_modes.specs.declared.parts.Link.{Link}
 use Rattle.lt_modes.specs.declared.parts.Hoped.{Hoped}
@@ -26,11 +32,13 @@ use Rattle.lt_model.specs.Moments.{Moment}
 use Rattle.lt_model.specs.OnWay.{tell_parked, account_of}
 use Rattle.lt_model.specs.AccountPlay.{others_counted}
 use Rattle.lt_model.specs.Account.{counted, owed_and_waiting}
-use Rattle.lt_model.specs.AccountSteps.{MayJoin}
-use Rattle.lt_model.specs.AccountRules.{own_account, GrantsByRule, FrozenIsNotGranted, CommandsAreSteps, IsLocallyFree, IsCopyFree, ServesByRule, ServicesAreSteps, CopiesAreDelivered, TellsAreApplied, TellsAreMade, HandingOverSettles, IsParkedOf, told_by_parked, TokensArrive, OthersChangeNothing, RulesCount}
+use Rattle.lt_model.specs.AccountSteps.{MayJoin, unlocking}
+use Rattle.lt_model.specs.AccountRules.{own_account, GrantsByRule, FrozenIsNotGranted, CommandsAreSteps, IsLocallyFree, IsCopyFree, ServesByRule, ServicesAreSteps, CopiesAreDelivered, TellsAreApplied, TellsAreMade, HandingOverSettles, IsParkedOf, told_by_parked, TokensArrive, FreezesAreSteps, OthersChangeNothing, RulesCount}
 use Rattle.lt_model.proofs.AccountFacts.{bars_not, not_bars, below_by_members}
 use Rattle.lt_model.proofs.Members.{has-union, has-left, has-right}
-use Rattle.lt_model.proofs.PathsQuiet.{put_queue_some}
+use Rattle.lt_model.proofs.Effects.{route_ways}
+use Rattle.lt_model.proofs.NewsRules.{frozen_at}
+use Rattle.lt_model.proofs.PathsQuiet.{put_queue_some, owed_at_some}
 
 -- a test that fails against a union fails against its parts
 fails_within : (mode : Mode) (more fewer : Modes) → ((m : Mode) → IsTrue (has m fewer) → IsTrue (has m more)) → IsFalse (has mode (bars more))
@@ -76,13 +84,41 @@ frozen_is_not_granted me client mode s away can =
           inr (not_true (has mode s.frozen) (and_parts (covers s.charge mode) (not (has mode s.frozen)) alone).1)
     ]
 
+-- routing changes neither rows, charge nor unanswered asks, and leaves the desk where it is
+routed : (moving : Bool) (set clock : ℕ) (stamp : Stamp) (marked : Bool) (item : Parked) (s : SetState) (entry : Entry) (tells : List Tell) (copies : List Ask)
+    → own_account moving clock entry tells copies (route set stamp marked item s).state ≡ own_account moving clock entry tells copies s
+routed moving set clock stamp marked item s entry tells copies =
+    route_ways (λ (m : Made). own_account moving clock entry tells copies m.state ≡ own_account moving clock entry tells copies s) set stamp marked item s
+    (λ desk here. ap (λ (o : Option Desk). record (own_account moving clock entry tells copies s) { here = is_some o }) (sym here))
+    (λ away w e. by_way w)
+  where
+    turned : (turns : Bool) (hoped : Option Hoped) → own_account moving clock entry tells copies (if turns then record s { hoped = hoped } else s) ≡ own_account moving clock entry tells copies s
+    turned true hoped = refl
+    turned false hoped = refl
+
+    by_item : (i : Parked) → own_account moving clock entry tells copies (reversed stamp.node i s) ≡ own_account moving clock entry tells copies s
+    by_item (ParkedTell tell) = refl
+    by_item (ParkedAsk ask) = turned (is_taking ask.mode && not (ask.node == stamp.node)) (Some (record { node = ask.node; stamp = ask.stamp }))
+
+    by_way : (w : Way) → own_account moving clock entry tells copies (sent_on set stamp item s w).state ≡ own_account moving clock entry tells copies s
+    by_way Parks = refl
+    by_way (Goes to mark) = by_item item
+
 pub commands_are_steps : CommandsAreSteps
 commands_are_steps = record {
   gives = λ clock client mode gives_up s entry tells copies. refl;
-  unlocks = λ clock client mode s entry tells copies. refl;
+  unlocks = λ set clock client mode s entry tells copies. by_count set clock client mode s entry tells copies (count_of s.held client mode == 0);
+  asks = λ set clock stamp ask s entry tells copies.
+      routed true set clock stamp false (ParkedAsk ask) (record s { pending = s.pending ++ ask ∷ [] }) entry tells copies;
   drops = λ clock client s entry tells copies. refl;
-  asks = λ clock ask s entry tells copies. refl;
 }
+  where
+    by_count : (set clock client : ℕ) (mode : Mode) (s : SetState) (entry : Entry) (tells : List Tell) (copies : List Ask) (none : Bool)
+        → own_account true clock entry tells copies
+        (if none then answers (NotHeld client set mode) s else answers (Unlock client set mode) (record s { held = take_lock s.held client mode })).state
+        ≡ (if none then own_account true clock entry tells copies s else unlocking client mode (own_account true clock entry tells copies s))
+    by_count set clock client mode s entry tells copies true = refl
+    by_count set clock client mode s entry tells copies false = refl
 
 -- the ask that is next was tested against the asks before it
 next_tested : (me : ℕ) (s : SetState) (desk : Desk) (before : Modes) (first : ℕ) (queue : List Ask) (k : ℕ) → next_from me s desk before first queue ≡ Some k
@@ -169,6 +205,8 @@ entry_made desk v x make within = entry_put desk v x (make (entry_of desk v)) wi
 
 pub services_are_steps : ServicesAreSteps
 services_are_steps = record {
+  stays = λ set clock k stamp ask s entry tells copies.
+      ap (λ (b : Bool). record (own_account true clock entry tells copies s) { here = b }) (owed_at_some ask k s.desk);
   answers = λ clock k s entry tells copies.
       ap (λ (b : Bool). record (own_account true clock entry tells copies (served s k)) { here = b }) (put_queue_some (remove (queue_of s) k) s.desk);
   owes = λ set k x stamp ask s desk left here there within.
@@ -189,7 +227,8 @@ tells_are_applied x tell desk within = entry_made desk tell.node x (told tell) w
 pub tells_are_made : TellsAreMade
 tells_are_made = record {
   says = λ clock stamp s entry tells copies. refl;
-  charge = λ clock s entry tells more copies. refl;
+  made = λ set clock stamp s entry tells more copies.
+      routed false set clock stamp false (ParkedTell (tell_of stamp s)) (record s { charge = held_modes s.held }) entry more copies;
   none = λ clock s entry tells copies same away. same_modes-true (bars (held_modes s.held)) (bars s.charge) same;
 }
 
@@ -235,11 +274,22 @@ tokens_arrive = record {
   parked = parked_tells;
 }
 
+pub freezes_are_steps : FreezesAreSteps
+freezes_are_steps = record {
+  entries = λ me x desk within. frozen_at me x desk within;
+  stays = λ set clock stamp s entry tells copies. by_desk set clock stamp s entry tells copies s.desk refl;
+}
+  where
+    by_desk : (set clock : ℕ) (stamp : Stamp) (s : SetState) (entry : Entry) (tells : List Tell) (copies : List Ask) (o : Option Desk) → s.desk ≡ o
+        → own_account true clock entry tells copies (freeze_at set stamp s o).state ≡ own_account true clock entry tells copies s
+    by_desk set clock stamp s entry tells copies None away = refl
+    by_desk set clock stamp s entry tells copies (Some desk) here =
+        ap (λ (o : Option Desk). record (own_account true clock entry tells copies s) { here = is_some o }) (sym here)
+
 pub others_change_nothing : OthersChangeNothing
 others_change_nothing = record {
   learns = λ clock link s entry tells copies. by_epoch clock link s entry tells copies (nat_lt s.firm.epoch link.epoch);
-  parks = λ clock items s entry tells copies. refl;
-  reverses = λ me clock item s entry tells copies. by_item me clock item s entry tells copies;
+  routes = routed;
   keeps_freeze = λ clock number frozen s entry tells copies. by_number clock number frozen s entry tells copies (nat_lt s.number number);
 }
   where
@@ -247,17 +297,6 @@ others_change_nothing = record {
         → own_account true clock entry tells copies (if newer then record s { firm = link; hoped = None } else s) ≡ own_account true clock entry tells copies s
     by_epoch clock link s entry tells copies true = refl
     by_epoch clock link s entry tells copies false = refl
-
-    by_test : (clock : ℕ) (hoped : Option Hoped) (s : SetState) (entry : Entry) (tells : List Tell) (copies : List Ask) (turns : Bool)
-        → own_account true clock entry tells copies (if turns then record s { hoped = hoped } else s) ≡ own_account true clock entry tells copies s
-    by_test clock hoped s entry tells copies true = refl
-    by_test clock hoped s entry tells copies false = refl
-
-    by_item : (me clock : ℕ) (item : Parked) (s : SetState) (entry : Entry) (tells : List Tell) (copies : List Ask)
-        → own_account true clock entry tells copies (reversed me item s) ≡ own_account true clock entry tells copies s
-    by_item me clock (ParkedTell tell) s entry tells copies = refl
-    by_item me clock (ParkedAsk ask) s entry tells copies =
-        by_test clock (Some (record { node = ask.node; stamp = ask.stamp })) s entry tells copies (is_taking ask.mode && not (ask.node == me))
 
     by_number : (clock number : ℕ) (frozen : Modes) (s : SetState) (entry : Entry) (tells : List Tell) (copies : List Ask) (newer : Bool)
         → own_account true clock entry tells copies (if newer then record s { frozen = frozen; number = number } else s) ≡ own_account true clock entry tells copies s

@@ -1,4 +1,4 @@
--- The rules of a node are steps of news.
+-- Rules of a node are steps of news.
 use Rattle.std.proofs.Common.{◌≡◌, ◌≢◌, ℕ, zero, suc, ◌+◌, ◌<◌, inl, inr, List, [], ◌∷◌, length, Some, Bool, true, false, refl, sym, ap, subst, arith, ◌∙◌}
 use Rattle.std.specs.Prelude.{◌⊎◌, ◌||◌, ◌&&◌, ◌==◌, not, nat_lt, IsTrue, IsFalse, if◌then◌else◌, slice_index_or}
 use Rattle.std.proofs.lemmas.Bool.{eq-eqb, ne_eqb, or_right}
@@ -40,7 +40,7 @@ number_after-some [] number some = absurd (omega (arith, some))
 number_after-some (x ∷ rest) number some = refl
 
 -- the entry of node x after the freeze
-frozen_at : (me x : ℕ) (desk : Desk) → x < length desk.entries → entry_of (frozen_desk me desk) x ≡ frozen_entry me (frozen_by desk.queue) x (entry_of desk x)
+pub frozen_at : (me x : ℕ) (desk : Desk) → x < length desk.entries → entry_of (frozen_desk me desk) x ≡ frozen_entry me (frozen_by desk.queue) x (entry_of desk x)
 frozen_at me x desk within =
     map_from-at (frozen_entry me (frozen_by desk.queue)) 0 desk.entries x first_entry first_entry within
     ∙ ap (λ (k : ℕ). frozen_entry me (frozen_by desk.queue) k (entry_of desk x)) (omega arith)

@@ -64,7 +64,7 @@ left_after entry tell = union tell.modes (modes_of_owed (left_owed tell entry.ow
 abbrev pub IsFresh : Entry → List Tell → Tell → Type 0
 IsFresh entry tells tell = Contains tells tell × IsTrue (is_newer tell.stamp entry.told_at)
 
--- nothing that the node has asked or said is later than its clock, and neither two asks nor two tells of it have one stamp
+-- nothing that the node has asked or said is later than its clock, its asks have different stamps, and tells of one stamp are one
 pub record ClocksKept (moving : Bool) (clock : ℕ) (pending : List Ask) (entry : Entry) (tells : List Tell) : Type 0 where
   pub asks : (ask : Ask) → Contains pending ask → ask.stamp.clock ≤ clock
   pub apart : AllPairs (λ (x y : Ask). x.stamp ≢ y.stamp) pending

@@ -1,6 +1,6 @@
--- What each rule of a node does to accounts, as statements: the rule's tests are what the account's step asks for,
--- and its effect is that step.
-use Rattle.std.specs.Prelude.{◌≡◌, ◌≢◌, ◌⊎◌, ◌==◌, ◌<◌, Bool, true, false, ℕ, List, [], ◌∷◌, ◌++◌, Option, Some, None, fold, if◌then◌else◌, is_some, IsTrue, IsFalse, length}
+-- What rules of a node do to accounts, as statements: what a rule tests of modes is what the account's step asks of them,
+-- and what it changes is that step.
+use Rattle.std.specs.Prelude.{◌≡◌, ◌≢◌, ◌⊎◌, ◌||◌, ◌==◌, ◌<◌, Bool, true, false, ℕ, List, Option, Some, None, fold, if◌then◌else◌, is_some, IsTrue, IsFalse, length}
 use Rattle.std.specs.List.{AllByRecursion, filter_map}
 use Rattle.lt_modes.specs.declared.mode.Mode.{Mode}
 use Rattle.lt_modes.specs.declared.stamp.Stamp.{Stamp}
@@ -9,22 +9,24 @@ use Rattle.lt_modes.specs.Modes.{Modes, has, union, bars, covers, same_modes}
 use Rattle.lt_modes.specs.declared.parts.Link.{Link}
 use Rattle.lt_modes.specs.Script.{ScriptData}
 use Rattle.lt_modes.specs.State.{SetState, Desk, Entry, Tell, Parked, ParkedAsk, ParkedTell}
-use Rattle.lt_modes.specs.Held.{own_modes, other_modes, held_modes, take_lock}
+use Rattle.lt_modes.specs.Held.{count_of, own_modes, other_modes, held_modes}
 use Rattle.lt_modes.specs.Records.{entry_of, record_of, own_owed, modes_at, others}
 use Rattle.lt_modes.specs.Tells.{told, tell_applied}
 use Rattle.lt_modes.specs.Granting.{can_grant}
 use Rattle.lt_modes.specs.Serving.{ask_at, next_service, served, serve_copy, owing}
+use Rattle.lt_modes.specs.Freezing.{frozen_by, is_target, freeze}
 use Rattle.lt_modes.specs.HandingOver.{leaving, without_desk}
-use Rattle.lt_modes.specs.Telling.{tell_of}
+use Rattle.lt_modes.specs.Telling.{tell_of, make_tell}
 use Rattle.lt_modes.specs.Taking.{take_copy, take_freeze, take_token}
-use Rattle.lt_modes.specs.Routing.{learn, dealt, reversed}
-use Rattle.lt_modes.specs.SetMove.{given, dropped}
+use Rattle.lt_modes.specs.Routing.{learn, dealt, route}
+use Rattle.lt_modes.specs.SetMove.{given, unlocked, asked, dropped}
 use Rattle.lt_model.specs.World.{World}
 use Rattle.lt_model.specs.Facts.{state_at}
 use Rattle.lt_model.specs.Moments.{Moment}
 use Rattle.lt_model.specs.OnWay.{tell_parked, account_of}
 use Rattle.lt_model.specs.Account.{Account, counted}
 use Rattle.lt_model.specs.AccountPlay.{others_counted}
+use Rattle.lt_model.specs.NewsRules.{frozen_desk}
 use Rattle.lt_model.specs.AccountSteps.{MayGrant, granting, unlocking, dropping, asking, answering, delivering, tell_by, telling, settling, arriving, MayRest}
 
 -- the account of a node that keeps this for the set
@@ -55,14 +57,15 @@ abbrev pub FrozenIsNotGranted : Type 0
 FrozenIsNotGranted = (me client : ℕ) (mode : Mode) (s : SetState) → s.desk ≡ None → IsTrue (can_grant me s client mode)
     → IsTrue (covers (own_modes s.held client) mode) ⊎ IsFalse (has mode s.frozen)
 
--- the commands of a client
+-- the commands of a client; an ask is routed in the same effect, and an unlock of a lock that isn't held changes nothing
 pub record CommandsAreSteps : Type 0 where
   pub gives : (clock client : ℕ) (mode : Mode) (gives_up : Option Mode) (s : SetState) (entry : Entry) (tells : List Tell) (copies : List Ask)
       → own_account true clock entry tells copies (given client mode gives_up s) ≡ granting client mode gives_up (own_account true clock entry tells copies s)
-  pub unlocks : (clock client : ℕ) (mode : Mode) (s : SetState) (entry : Entry) (tells : List Tell) (copies : List Ask)
-      → own_account true clock entry tells copies (record s { held = take_lock s.held client mode }) ≡ unlocking client mode (own_account true clock entry tells copies s)
-  pub asks : (clock : ℕ) (ask : Ask) (s : SetState) (entry : Entry) (tells : List Tell) (copies : List Ask)
-      → own_account true clock entry tells copies (record s { pending = s.pending ++ ask ∷ [] }) ≡ asking ask (own_account true clock entry tells copies s)
+  pub unlocks : (set clock client : ℕ) (mode : Mode) (s : SetState) (entry : Entry) (tells : List Tell) (copies : List Ask)
+      → own_account true clock entry tells copies (unlocked set client mode s).state
+      ≡ (if count_of s.held client mode == 0 then own_account true clock entry tells copies s else unlocking client mode (own_account true clock entry tells copies s))
+  pub asks : (set clock : ℕ) (stamp : Stamp) (ask : Ask) (s : SetState) (entry : Entry) (tells : List Tell) (copies : List Ask)
+      → own_account true clock entry tells copies (asked set stamp ask s).state ≡ asking ask (own_account true clock entry tells copies s)
   pub drops : (clock client : ℕ) (s : SetState) (entry : Entry) (tells : List Tell) (copies : List Ask)
       → own_account true clock entry tells copies (dropped client s) ≡ dropping client (own_account true clock entry tells copies s)
 
@@ -84,8 +87,10 @@ abbrev pub ServesByRule : Type 0
 ServesByRule = (me k : ℕ) (s : SetState) (desk : Desk) → s.desk ≡ Some desk → next_service me s ≡ Some k
     → IsLocallyFree me s desk (ask_at s k) ⊎ IsCopyFree me s desk (ask_at s k)
 
--- a local service is an answer, and a copy is owed at the entry of its node alone
+-- a local service is an answer; a copy is owed at the entry of its node alone, and changes nothing of what the desk's node keeps
 pub record ServicesAreSteps : Type 0 where
+  pub stays : (set clock k : ℕ) (stamp : Stamp) (ask : Ask) (s : SetState) (entry : Entry) (tells : List Tell) (copies : List Ask)
+      → own_account true clock entry tells copies (serve_copy set stamp k ask s).state ≡ own_account true clock entry tells copies s
   pub answers : (clock k : ℕ) (s : SetState) (entry : Entry) (tells : List Tell) (copies : List Ask)
       → own_account true clock entry tells copies (served s k) ≡ answering (ask_at s k) (own_account true clock entry tells copies s)
   pub owes : (set k x : ℕ) (stamp : Stamp) (ask : Ask) (s : SetState) (desk left : Desk) → s.desk ≡ Some desk
@@ -106,8 +111,8 @@ TellsAreApplied = (x : ℕ) (tell : Tell) (desk : Desk) → tell.node < length d
 pub record TellsAreMade : Type 0 where
   pub says : (clock : ℕ) (stamp : Stamp) (s : SetState) (entry : Entry) (tells : List Tell) (copies : List Ask)
       → tell_of stamp s ≡ tell_by stamp (own_account true clock entry tells copies s)
-  pub charge : (clock : ℕ) (s : SetState) (entry : Entry) (tells more : List Tell) (copies : List Ask)
-      → own_account false clock entry more copies (record s { charge = held_modes s.held }) ≡ telling more (own_account true clock entry tells copies s)
+  pub made : (set clock : ℕ) (stamp : Stamp) (s : SetState) (entry : Entry) (tells more : List Tell) (copies : List Ask)
+      → own_account false clock entry more copies (make_tell set stamp s).state ≡ telling more (own_account true clock entry tells copies s)
   pub none : (clock : ℕ) (s : SetState) (entry : Entry) (tells : List Tell) (copies : List Ask)
       → IsTrue (same_modes (bars (held_modes s.held)) (bars s.charge)) → MayRest (own_account true clock entry tells copies s)
 
@@ -136,14 +141,20 @@ pub record TokensArrive : Type 0 where
   pub parked : (x : ℕ) (items : List Parked) (desk : Desk) → AllByRecursion (IsParkedOf (length desk.entries)) items
       → entry_of (fold dealt desk items) x ≡ told_by_parked x items (entry_of desk x)
 
--- links, parked letters and freezes that are taken change no account
+-- freezing says in entries what was told, and changes nothing of what the desk's node keeps but its frozen modes
+pub record FreezesAreSteps : Type 0 where
+  pub entries : (me x : ℕ) (desk : Desk) → x < length desk.entries
+      → entry_of (frozen_desk me desk) x
+      ≡ (if x == me || is_target me (frozen_by desk.queue) x (entry_of desk x) then record (entry_of desk x) { frozen_told = frozen_by desk.queue } else entry_of desk x)
+  pub stays : (set clock : ℕ) (stamp : Stamp) (s : SetState) (entry : Entry) (tells : List Tell) (copies : List Ask)
+      → own_account true clock entry tells copies (freeze set stamp s).state ≡ own_account true clock entry tells copies s
+
+-- a learnt link, a routed letter and a freeze that is taken change nothing of what an account reads at the node
 pub record OthersChangeNothing : Type 0 where
   pub learns : (clock : ℕ) (link : Link) (s : SetState) (entry : Entry) (tells : List Tell) (copies : List Ask)
       → own_account true clock entry tells copies (learn link s) ≡ own_account true clock entry tells copies s
-  pub parks : (clock : ℕ) (items : List Parked) (s : SetState) (entry : Entry) (tells : List Tell) (copies : List Ask)
-      → own_account true clock entry tells copies (record s { parked = items }) ≡ own_account true clock entry tells copies s
-  pub reverses : (me clock : ℕ) (item : Parked) (s : SetState) (entry : Entry) (tells : List Tell) (copies : List Ask)
-      → own_account true clock entry tells copies (reversed me item s) ≡ own_account true clock entry tells copies s
+  pub routes : (moving : Bool) (set clock : ℕ) (stamp : Stamp) (marked : Bool) (item : Parked) (s : SetState) (entry : Entry) (tells : List Tell) (copies : List Ask)
+      → own_account moving clock entry tells copies (route set stamp marked item s).state ≡ own_account moving clock entry tells copies s
   pub keeps_freeze : (clock number : ℕ) (frozen : Modes) (s : SetState) (entry : Entry) (tells : List Tell) (copies : List Ask)
       → own_account true clock entry tells copies (take_freeze number frozen s) ≡ own_account true clock entry tells copies s
 

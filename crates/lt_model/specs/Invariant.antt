@@ -1,4 +1,4 @@
--- What holds of every world of a run.
+-- What is to hold of every world of a run: the world invariant.
 use Rattle.std.specs.Prelude.{◌≡◌, ◌≢◌, ◌⊎◌, ◌↔◌, ◌≤◌, ◌<◌, false, ℕ, List, [], Option, Some, None, length, IsTrue, All, Contains}
 use Rattle.lt_modes.specs.declared.mode.Mode.{Mode}
 use Rattle.lt_modes.specs.declared.ask.Ask.{Ask}
@@ -81,7 +81,7 @@ pub record SetKept (script : ScriptData) (moment : Moment) (w : World) (s : ℕ)
   pub known : (place : Option ℕ) (desk : Desk) → DeskIs script w s place desk → DeskKept script moment w s place desk
   pub served : IsServedBut script moment w s
 
--- what holds of every world of a run, between moves: clients wait for one ask at most, letters go to other nodes and are of
+-- the world invariant, between moves: clients wait for one ask at most, letters go to other nodes and are of
 -- sets of the script, and each set is kept
 pub record Kept (script : ScriptData) (w : World) : Type 0 where
   pub clients : (q : ℕ) → q < script.nodes → ClientsKept script (w.node q)

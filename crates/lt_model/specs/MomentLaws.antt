@@ -6,8 +6,9 @@ use Rattle.lt_modes.specs.Modes.{bars}
 use Rattle.lt_modes.specs.Held.{held_modes}
 use Rattle.lt_modes.specs.Script.{ScriptData}
 use Rattle.lt_modes.specs.State.{SetState}
+use Rattle.lt_modes.specs.Made.{Made, joined}
 use Rattle.lt_model.specs.Below.{put}
-use Rattle.lt_model.specs.NodeMove.{NodeMade, at_clock, joined_moves}
+use Rattle.lt_model.specs.NodeMove.{NodeState, NodeMade, at_clock, touched, joined_moves}
 use Rattle.lt_model.specs.World.{World, is_enabled, after_made, after}
 use Rattle.lt_model.specs.Facts.{state_at}
 use Rattle.lt_model.specs.Touches.{IsAside}
@@ -33,7 +34,10 @@ abbrev pub AsideStays : Type 0
 AsideStays = (script : ScriptData) (w : World) (s q : ℕ) (step : Step) → SetKept script Between w s → IsTrue (is_enabled script w q step)
     → IsAside script w q step s → SetKept script Between (after script w q step) s
 
--- what a node makes in two steps, the world takes in two steps: a move is a sequence of small steps of the world
-abbrev pub MovesInSteps : Type 0
-MovesInSteps = (w : World) (q : ℕ) (first second : NodeMade)
-    → after_made q (joined_moves first second) w ≡ after_made q second (after_made q first w)
+-- a move is a sequence of small steps of the world: what a node makes in two steps, the world takes in two steps, and what is
+-- made of a set in two steps, the node makes in two steps
+pub record MovesInSteps : Type 0 where
+  pub world : (w : World) (q : ℕ) (first second : NodeMade)
+      → after_made q (joined_moves first second) w ≡ after_made q second (after_made q first w)
+  pub set : (n : NodeState) (s : ℕ) (first second : Made)
+      → touched n s (joined first second) ≡ joined_moves (touched n s first) (touched (touched n s first).node s second)

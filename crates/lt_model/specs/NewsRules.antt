@@ -1,4 +1,4 @@
--- What each rule of a node does to news, as statements.
+-- What rules of a node do to news, as statements.
 use Rattle.std.specs.Prelude.{◌≡◌, ◌≢◌, ◌⊎◌, ◌<◌, Bool, true, false, ℕ, List, Some, IsTrue, IsFalse, length}
 use Rattle.lt_modes.specs.declared.stamp.Stamp.{Stamp}
 use Rattle.lt_modes.specs.Modes.{Modes, has_none, same_modes}

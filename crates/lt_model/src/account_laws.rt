@@ -1,6 +1,6 @@
 ghost use Rattle.lt_model.specs.AccountLaws.{Ticks, Ages, Asks, Grants, Unlocks, Drops, Answers, Owes, Delivers, Applies, AppliesStale, Tells, Settles, Arrives, Rests, Freezes, Reorders, HoldClear};
 ghost use Rattle.lt_model.specs.AccountFacts.{OwedAreOnWay, OnWayAreOwed, TellKeepsWaiting, TwiceIsOnce, RecordBoundsHeld};
-ghost use Rattle.lt_model.specs.AccountRules.{GrantsByRule, FrozenIsNotGranted, CommandsAreSteps, ServesByRule, ServicesAreSteps, CopiesAreDelivered, TellsAreApplied, TellsAreMade, HandingOverSettles, TokensArrive, OthersChangeNothing, RulesCount};
+ghost use Rattle.lt_model.specs.AccountRules.{GrantsByRule, FrozenIsNotGranted, CommandsAreSteps, ServesByRule, ServicesAreSteps, CopiesAreDelivered, TellsAreApplied, TellsAreMade, HandingOverSettles, TokensArrive, FreezesAreSteps, OthersChangeNothing, RulesCount};
 ghost use Rattle.lt_model.specs.AccountPlay.{ClearStays, FirstAccounts, AnyOrder, FromTheStart};
 ghost use Rattle.lt_model.specs.NewsLaws.{Begins, Changes, Sends, Spares, Keeps, Takes, Leaves, Arrives as NewsArrive, Reorders as NewsReorder, FrozenAtRest};
 ghost use Rattle.lt_model.specs.NewsRules.{FreezingIsSteps, FreezesAreTaken, DesksComeAndGo};
@@ -28,7 +28,8 @@ pub fn law_account()
     ensures reorders { Reorders }
 {}
 
-/// The rules of a node are steps of accounts: what a rule tests is what its step asks for, and what it changes is the step.
+/// Rules of a node are steps of accounts: what a rule tests of modes is what its step asks of them, and what it changes is
+/// the step.
 pub fn law_account_rules()
     ensures grants { GrantsByRule }
     ensures frozen { FrozenIsNotGranted }
@@ -40,6 +41,7 @@ pub fn law_account_rules()
     ensures tells { TellsAreMade }
     ensures settles { HandingOverSettles }
     ensures arrives { TokensArrive }
+    ensures freezes { FreezesAreSteps }
     ensures nothing { OthersChangeNothing }
     ensures counts { RulesCount }
 {}
@@ -78,7 +80,7 @@ pub fn law_news()
     ensures rest { FrozenAtRest }
 {}
 
-/// The rules of a node are steps of news.
+/// Rules of a node are steps of news: what a rule changes is the step.
 pub fn law_news_rules()
     ensures freezes { FreezingIsSteps }
     ensures takes { FreezesAreTaken }

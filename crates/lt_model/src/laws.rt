@@ -3,14 +3,14 @@ ghost use Rattle.lt_model.specs.PathEffects.{EffectsOnPath};
 ghost use Rattle.lt_model.specs.HomeLaws.{HomesKept, HomesInRuns, HomesSound, LinesInRuns, FewAdded};
 ghost use Rattle.lt_model.specs.Laws.{StartKept, StartLines, PathsKept, PathsInRuns, DeskSomewhere, TokenComes, OneToken, OthersStay, ClockMoves, OtherClocksStay, StampsKept, ClocksInRuns, TimedKept, TimedInRuns, StandingKept, StandingInRuns, StandsOnce, OnePlace, ServedKept, ServedInRuns, TryIsExact};
 
-/// What holds of every world of a run holds at the start of each script.
+/// The world invariant holds at the start of each script.
 pub fn law_start()
     ensures world { StartKept }
     ensures lines { StartLines }
 {}
 
-/// What holds of a set holds in its middle form when a move begins, and stays as it is when a move doesn't touch the set;
-/// and a move is a sequence of small steps of the world.
+/// A set that is kept is kept in the middle form when a move begins, and as it was when a move doesn't touch it; and a move is
+/// a sequence of small steps of the world.
 pub fn law_moment()
     ensures begins { MoveBegins }
     ensures aside { AsideStays }

@@ -57,9 +57,10 @@ abbrev pub cut_of : Status → Option ℕ
 cut_of (Cut node) = Some node
 cut_of other = None
 
--- a run of the script by all rules, each move of which is the first enabled one; it ended so, at any time there was
--- one token of each set, and no two clients held conflicting modes
+-- the script is one that this version can run, and this a run of it by all rules, each move of which is the first enabled
+-- one; it ended so, at any time there was one token of each set, and no two clients held conflicting modes
 pub record RanTo (ending : Status) (script : ScriptData) (run : List Logged) : Type 0 where
+  pub built : can_run script ≡ true
   pub is_run : IsRun script run
   pub in_order : run ≡ first_run script (length run)
   pub ends : EndsAs ending script run

@@ -1,5 +1,5 @@
 use Rattle.lt_model.proofs.account_laws.law_account_rules.Goals as goal
-use Rattle.lt_model.proofs.AccountRules.{grants_by_rule, frozen_is_not_granted, commands_are_steps, serves_by_rule, services_are_steps, copies_are_delivered, tells_are_applied, tells_are_made, handing_over_settles, tokens_arrive, others_change_nothing, rules_count}
+use Rattle.lt_model.proofs.AccountRules.{grants_by_rule, frozen_is_not_granted, commands_are_steps, serves_by_rule, services_are_steps, copies_are_delivered, tells_are_applied, tells_are_made, handing_over_settles, tokens_arrive, freezes_are_steps, others_change_nothing, rules_count}
 
 pub returns : goal.returns
 returns c = record {
@@ -13,6 +13,7 @@ returns c = record {
   tells = tells_are_made;
   settles = handing_over_settles;
   arrives = tokens_arrive;
+  freezes = freezes_are_steps;
   nothing = others_change_nothing;
   counts = rules_count;
 }
