@@ -2,11 +2,13 @@ ghost use Rattle.std.specs.Prelude.{◌≡◌, ◌<◌, ◌^◌, ℕ, List, Opti
 ghost use Rattle.lt_modes.specs.Script.{ScriptData};
 ghost use Rattle.lt_model.specs.Log.{Logged};
 ghost use Rattle.lt_model.specs.World.{IsRun};
-ghost use Rattle.lt_model.specs.Text.{spaced, text_of};
 ghost use Rattle.lt_script.specs.Script.{IsScript};
 ghost use Rattle.lt_journal.specs.declared.line.Line.{Line as AnyLine};
 ghost use Rattle.lt_journal.specs.Grammar.{read_line, journal_of};
-ghost use Rattle.lt_journal.specs.RunLines.{IsAsWritten, FitsLine, FitsCut, line_words, run_lines};
+ghost use Rattle.lt_journal.specs.Words.{spaced, line_words};
+ghost use Rattle.lt_journal.specs.RunLines.{run_lines};
+ghost use Rattle.lt_journal.specs.Text.{IsAsWritten, text_of};
+ghost use Rattle.lt_journal.specs.LineFits.{FitsLine, FitsCut};
 
 /// What is written of a run is read as the run's lines, of every run whose moves can be counted in a line.
 pub fn law_read_text()

@@ -36,4 +36,3 @@ pub mod WorkedOneNode
 pub mod WorkedNodes
 pub mod WorkedOrders
 pub mod WorkedLong
-pub mod Text
