@@ -6,9 +6,9 @@ use Rattle.lt_modes.specs.declared.parts.Row.{Row}
 use Rattle.lt_modes.specs.Modes.{conflicts}
 use Rattle.lt_modes.specs.Script.{ScriptData}
 use Rattle.lt_script.specs.Script.{IsScript}
-use Rattle.lt_model.specs.Log.{Logged}
-use Rattle.lt_model.specs.World.{world_after, logged, is_enabled, is_at_rest, anyone_waits, IsRun}
-use Rattle.lt_model.specs.Order.{Turn, pick, count_turns, first_run}
+use Rattle.lt_runs.specs.Log.{Logged}
+use Rattle.lt_runs.specs.World.{world_after, logged, is_enabled, is_at_rest, anyone_waits, IsRun}
+use Rattle.lt_runs.specs.Order.{Turn, pick, count_turns, first_run}
 use Rattle.lt_world.specs.OneNode as one_node
 use Rattle.lt_world.specs.Order.{act_at, count_acts}
 use Rattle.lt_world.specs.Standing.{is_lone}

@@ -2,7 +2,7 @@
 use Rattle.std.specs.Prelude.{ℕ, List, sum_by}
 use Rattle.lt_modes.specs.declared.event.Event.{Event}
 use Rattle.lt_modes.specs.declared.event.Event.TheVariants.{Grant, Wait, Try, Unlock, NotHeld, Change, DropAll, Busy, Copy, Freeze, Token}
-use Rattle.lt_model.specs.Facts.{one_if}
+use Rattle.lt_lists.specs.Below.{one_if}
 
 -- how many locks the line adds
 abbrev pub adds : Event → ℕ

@@ -6,11 +6,11 @@ use Rattle.lt_io.specs.Sink.{AppendsPart}
 use Rattle.lt_io.specs.declared.whole.ReadFailure.{ReadFailure}
 use Rattle.lt_io.specs.declared.whole.ReadFailure.TheVariants.{Memory, Failed, TooLong as Long}
 use Rattle.lt_modes.specs.Script.{ScriptData}
-use Rattle.lt_model.specs.Log.{Logged}
-use Rattle.lt_model.specs.World.{world_after, IsRun, is_at_rest, anyone_waits}
-use Rattle.lt_model.specs.Order.{first_run}
-use Rattle.lt_model.specs.Facts.{token_count}
-use Rattle.lt_model.specs.Text.{text_of}
+use Rattle.lt_runs.specs.Log.{Logged}
+use Rattle.lt_runs.specs.World.{world_after, IsRun, is_at_rest, anyone_waits}
+use Rattle.lt_runs.specs.Order.{first_run}
+use Rattle.lt_runs.specs.Facts.{token_count}
+use Rattle.lt_runs.specs.Text.{text_of}
 use Rattle.lt_alone.specs.Laws.{ClientsAgree}
 use Rattle.lt_script.specs.declared.fault.ScriptFault.{ScriptFault}
 use Rattle.lt_script.specs.Reading.{read_of}

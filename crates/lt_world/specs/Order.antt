@@ -1,8 +1,8 @@
 -- The fixed order of the enabled moves.
-use Rattle.std.specs.Prelude.{Bool, true, ◌||◌, ◌&&◌, ◌==◌, nat_lt, ℕ, zero, suc, ◌+◌, Option, Some, None, length, option_and_then}
+use Rattle.std.specs.Prelude.{Bool, true, ◌||◌, ◌&&◌, ◌==◌, nat_lt, ℕ, zero, suc, Option, Some, None, length, option_and_then}
 use Rattle.lt_modes.specs.Script.{ScriptData}
 use Rattle.lt_world.specs.OneNode.{World, made_by, is_runnable}
-use Rattle.lt_model.specs.Below.{first_below, count_below}
+use Rattle.lt_lists.specs.Below.{first_below, count_below}
 
 -- the client that has made fewer commands acts first, and of two with as many the one that was declared first
 abbrev pub acts_before : ScriptData → World → ℕ → ℕ → Bool

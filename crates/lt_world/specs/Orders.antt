@@ -11,7 +11,7 @@ use Rattle.lt_core.specs.declared.order.Order.{Order}
 use Rattle.lt_core.specs.declared.order.Order.TheVariants.{Lock as LockOrder, Unlock as UnlockOrder}
 use Rattle.lt_core.specs.Core.{CoreData}
 use Rattle.lt_core.specs.Order.{move_of}
-use Rattle.lt_model.specs.Log.{Logged}
+use Rattle.lt_runs.specs.Log.{Logged}
 use Rattle.lt_world.specs.Standing.{Progress, next_of}
 
 -- the order that a command is, where it locks or unlocks

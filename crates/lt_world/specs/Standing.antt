@@ -7,8 +7,9 @@ use Rattle.lt_modes.specs.declared.command.Command.TheVariants.{Lock, Unlock}
 use Rattle.lt_modes.specs.Script.{ScriptData}
 use Rattle.lt_core.specs.Core.{CoreData, OutData, load_of}
 use Rattle.lt_world.specs.declared.limits.TheConstants.{MAX_MOVES}
-use Rattle.lt_model.specs.Log.{Logged}
-use Rattle.lt_world.specs.OneNode.{World, NodeState, IsRun, world_after, is_runnable, is_at_rest, commands_of, home}
+use Rattle.lt_runs.specs.Log.{Logged}
+use Rattle.lt_world.specs.OneNode.{World, NodeState, IsRun, world_after, is_runnable, is_at_rest, commands_of}
+use Rattle.lt_runs.specs.Families.{home}
 
 -- the commands of a client, and how many of them it has made
 pub record Progress : Type 0 where

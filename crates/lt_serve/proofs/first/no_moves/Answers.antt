@@ -1,7 +1,7 @@
 use Rattle.std.proofs.Common.{◌≡◌, [], List, length, sym, subst, refl}
 use Rattle.std.specs.Prelude.{◌==◌}
 use Rattle.std.proofs.lemmas.Bool.{and_parts, eqb-true, or_right}
-use Rattle.lt_model.specs.Log.{Logged}
+use Rattle.lt_runs.specs.Log.{Logged}
 use Rattle.lt_serve.specs.declared.status.Status.TheVariants.{Done}
 use Rattle.lt_world.specs.Standing.{is_lone}
 use Rattle.lt_serve.specs.Scripts.{has_no_set}
