@@ -1,6 +1,6 @@
-pub mod Words
+pub mod LineWords
 pub mod RunLines
-pub mod Text
+pub mod RunText
 pub mod LineFits
 pub mod Counts
 pub mod Grammar

@@ -1,7 +1,7 @@
 use Rattle.std.proofs.Common.{◌≡◌, ◌++◌, List}
-use Rattle.lt_model.specs.Holdings.{Holding}
+use Rattle.lt_runs.specs.Holdings.{Holding}
 use Rattle.lt_journal.specs.RunLines.{lines_below, held_by}
-use Rattle.lt_journal.specs.Text.{lines_text}
+use Rattle.lt_journal.specs.RunText.{lines_text}
 use Rattle.lt_journal.specs.Counts.{Counts}
 use Rattle.lt_journal.proofs.closing.held_lines.Given as goal
 
