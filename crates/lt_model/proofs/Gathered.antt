@@ -32,7 +32,7 @@ gathered-at (suc n) f k x below h = elim (cases_eq k n) [
   | inr other ↦ Contains-append_left (gather_below n f) (f n) x (gathered-at n f k x (omega (arith, below, other)) h)
 ]
 
-filter_map-which : {X Y : Type 0} (f : X → Option Y) (xs : List X) (y : Y) → Contains (filter_map f xs) y → (x : X) × Contains xs x × (f x ≡ Some y)
+pub filter_map-which : {X Y : Type 0} (f : X → Option Y) (xs : List X) (y : Y) → Contains (filter_map f xs) y → (x : X) × Contains xs x × (f x ≡ Some y)
 filter_map-which f [] y h = absurd (omega (arith, h.1))
 filter_map-which {X = X} {Y = Y} f (first ∷ rest) y h = by_first (f first) refl h (λ later. filter_map-which f rest y later)
   where
@@ -44,7 +44,7 @@ filter_map-which {X = X} {Y = Y} f (first ∷ rest) y h = by_first (f first) ref
       | inr later ↦ let more = again later in (more.0, contains_later first more.0 rest more.1, more.2)
     ]
 
-filter_map-at : {X Y : Type 0} (f : X → Option Y) (xs : List X) (x : X) (y : Y) → Contains xs x → f x ≡ Some y → Contains (filter_map f xs) y
+pub filter_map-at : {X Y : Type 0} (f : X → Option Y) (xs : List X) (x : X) (y : Y) → Contains xs x → f x ≡ Some y → Contains (filter_map f xs) y
 filter_map-at f [] x y h e = absurd (omega (arith, h.1))
 filter_map-at {X = X} {Y = Y} f (first ∷ rest) x y h e = by_first (f first) refl (λ later. filter_map-at f rest x y later e)
   where
@@ -113,7 +113,7 @@ freezes_are_on_way script w s x notice = (
   comes-at script w s x freeze_in notice (FreezeBody notice.number notice.modes) refl,
 )
 
-tell_if-which : (x : ℕ) (made tell : Tell) → tell_if x made ≡ Some tell → (made ≡ tell) × (tell.node ≡ x)
+pub tell_if-which : (x : ℕ) (made tell : Tell) → tell_if x made ≡ Some tell → (made ≡ tell) × (tell.node ≡ x)
 tell_if-which x made tell e = by_node (cases_eq made.node x)
   where
     by_node : (made.node ≡ x) ⊎ (made.node ≢ x) → (made ≡ tell) × (tell.node ≡ x)
@@ -122,7 +122,7 @@ tell_if-which x made tell e = by_node (cases_eq made.node x)
         (one, ap (λ (t : Tell). t.node) (sym one) ∙ same)
     by_node (inr other) = let no : None ≡ Some tell = ap (λ (b : Bool). if b then Some made else None) (sym (ne_eqb made.node x other)) ∙ e in cc
 
-tell_if-at : (x : ℕ) (tell : Tell) → tell.node ≡ x → tell_if x tell ≡ Some tell
+pub tell_if-at : (x : ℕ) (tell : Tell) → tell.node ≡ x → tell_if x tell ≡ Some tell
 tell_if-at x tell same = ap (λ (b : Bool). if b then Some tell else None) (eq-eqb tell.node x same)
 
 tell_body : (x : ℕ) (tell : Tell) (b : Body) → tell_in x b ≡ Some tell → (b ≡ TellBody tell) × (tell.node ≡ x)
@@ -132,7 +132,7 @@ tell_body x tell (AskBody other marked) e = cc
 tell_body x tell (TokenBody desk) e = cc
 tell_body x tell (FreezeBody number modes) e = cc
 
-tell_item : (x : ℕ) (tell : Tell) (item : Parked) → tell_parked x item ≡ Some tell → (item ≡ ParkedTell tell) × (tell.node ≡ x)
+pub tell_item : (x : ℕ) (tell : Tell) (item : Parked) → tell_parked x item ≡ Some tell → (item ≡ ParkedTell tell) × (tell.node ≡ x)
 tell_item x tell (ParkedTell made) e = let found = tell_if-which x made tell e in (ap ParkedTell found.0, found.1)
 tell_item x tell (ParkedAsk ask) e = cc
 
