@@ -175,6 +175,9 @@ sound_goes numbers x moving unfrozen old new t goes too h = record {
   rows_apart = h.rows_apart;
   pending = h.pending;
   one_ask = h.one_ask;
+  stamps_apart = h.stamps_apart;
+  made = All-weaker (λ (ask : Ask). ask.stamp.clock ≤ old) (λ (ask : Ask). ask.stamp.clock ≤ new)
+      (λ ask no_later. omega (arith, no_later, goes_on moving old new goes)) t.pending h.made;
   here = h.here;
   apart = h.apart;
   desk = by_desk t.desk h.desk;

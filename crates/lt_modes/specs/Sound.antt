@@ -60,12 +60,14 @@ SoundParked numbers (ParkedAsk ask) = Unit {0}
 SoundParked numbers (ParkedTell tell) = tell.node < numbers.nodes
 
 -- what node q with this clock keeps for a set is sound: between moves, or in the middle of a move of q on the set (`moving`),
--- in which it hasn't frozen yet (`unfrozen`)
+-- in which it hasn't frozen yet (`unfrozen`). Its unanswered asks have different stamps, none later than the clock, at each moment
 pub record SoundSet (numbers : Numbers) (q : ℕ) (moving unfrozen : Bool) (clock : ℕ) (s : SetState) : Type 0 where
   pub rows : All (SoundRow numbers q) s.held
   pub rows_apart : AllPairs (λ (a b : Row). (a.client ≢ b.client) ⊎ (a.mode ≢ b.mode)) s.held
   pub pending : All (SoundPending numbers q s.held) s.pending
   pub one_ask : AllPairs (λ (a b : Ask). a.client ≢ b.client) s.pending
+  pub stamps_apart : AllPairs (λ (a b : Ask). a.stamp ≢ b.stamp) s.pending
+  pub made : All (λ (ask : Ask). ask.stamp.clock ≤ clock) s.pending
   pub here : All (SoundHere numbers q s) (asks_here s)
   pub apart : IsTrue (are_apart (asks_here s))
   pub desk : SoundDesk numbers moving unfrozen clock s s.desk
