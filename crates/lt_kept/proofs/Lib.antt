@@ -1,0 +1,9 @@
+pub mod Measures
+pub mod ClientEffects
+pub mod ClientMoves
+pub mod ClientRuns
+pub mod RowsApart
+pub mod ScriptSets
+pub mod KeptHomes
+pub mod KeptParked
+pub mod Assembly

@@ -1,0 +1,6 @@
+ghost use Rattle.lt_kept.specs.Laws.{KeptStays};
+
+/// Every enabled move of a world that has the invariant leads to one that has it.
+pub fn law_step()
+    ensures moves { KeptStays }
+{}
