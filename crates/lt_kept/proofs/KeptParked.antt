@@ -48,7 +48,7 @@ token_to_one script w s x y desk more paths first second =
     on_path q d (p, letter, under, on, says) = subst (BodyOnPath script.nodes (w.went s) q) says (paths.letters p q letter under on).body
 
 -- the token isn't on its way where its desk is at a node
-not_both : {A : Type 0} (script : ScriptData) (w : World) (s t : ℕ) (desk : Desk) → Paths script w s → DeskIs script w s (Some t) desk → (x : ℕ) → TokenTo script w s x → A
+pub not_both : {A : Type 0} (script : ScriptData) (w : World) (s t : ℕ) (desk : Desk) → Paths script w s → DeskIs script w s (Some t) desk → (x : ℕ) → TokenTo script w s x → A
 not_both script w s t desk paths here x (more, comes) = no_place (one_desk script w s paths (Some t) None desk more here (x, to comes, comes)).0
   where
     to : Comes script w s x (TokenBody more) → x < script.nodes

@@ -6,4 +6,7 @@ pub mod RowsApart
 pub mod ScriptSets
 pub mod KeptHomes
 pub mod KeptParked
-pub mod Assembly
+pub mod AsksApart
+pub mod SoundStates
+pub mod KeptMoves
+pub mod FittingLetters
