@@ -6,8 +6,8 @@ use Rattle.lt_modes.specs.declared.parts.Row.{Row}
 use Rattle.lt_modes.specs.Modes.{conflicts}
 use Rattle.lt_modes.specs.Script.{ScriptData}
 use Rattle.lt_modes.specs.State.{SetState}
-use Rattle.lt_model.specs.Log.{Logged}
-use Rattle.lt_model.specs.World.{world_after}
+use Rattle.lt_runs.specs.Log.{Logged}
+use Rattle.lt_runs.specs.World.{world_after}
 use Rattle.lt_world.specs.OneNode as one_node
 use Rattle.lt_alone.proofs.Commands.{LoneScript}
 use Rattle.lt_alone.proofs.Runs.{same_after, same_set}

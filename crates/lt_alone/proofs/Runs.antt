@@ -8,9 +8,9 @@ use Rattle.lt_modes.specs.declared.moves.Step.TheVariants.{Act, Take}
 use Rattle.lt_modes.specs.Script.{ScriptData}
 use Rattle.lt_modes.specs.State.{Letter}
 use Rattle.lt_modes.specs.Made.{Post}
-use Rattle.lt_model.specs.Families.{home, commands_of}
-use Rattle.lt_model.specs.Log.{Logged}
-use Rattle.lt_model.specs.World.{World, start, sent, token_to, after, after_run, world_after, logged, IsRunFrom, IsRun}
+use Rattle.lt_runs.specs.Families.{home, commands_of}
+use Rattle.lt_runs.specs.Log.{Logged}
+use Rattle.lt_runs.specs.World.{World, start, sent, token_to, after, after_run, world_after, logged, IsRunFrom, IsRun}
 use Rattle.lt_world.specs.OneNode as one_node
 use Rattle.lt_alone.specs.Frozen.{with_frozen}
 use Rattle.lt_alone.proofs.Commands.{LoneScript, IsLone}

@@ -8,9 +8,8 @@ use Rattle.lt_modes.specs.declared.moves.Step.TheVariants.{Act, Take}
 use Rattle.lt_modes.specs.Script.{ScriptData}
 use Rattle.lt_modes.specs.State.{SetState}
 use Rattle.lt_modes.specs.Serving.{waits}
-use Rattle.lt_model.specs.Families.{commands_of, home}
-use Rattle.lt_model.specs.World.{World, start, made_by, is_waiting, is_runnable, is_enabled, has_mail}
-use Rattle.lt_world.specs.OneNode.{NodeState as NodeAlone}
+use Rattle.lt_runs.specs.Families.{commands_of, home}
+use Rattle.lt_runs.specs.World.{World, start, made_by, is_waiting, is_runnable, is_enabled, has_mail}
 use Rattle.lt_world.specs.OneNode as one_node
 use Rattle.lt_alone.proofs.Commands.{LoneScript}
 use Rattle.lt_alone.proofs.NodeMoves.{SameNode}

@@ -8,7 +8,7 @@ use Rattle.std.proofs.lemmas.List.Sums.{sum_by-cons}
 use Rattle.lt_modes.specs.declared.mode.Mode.{Mode}
 use Rattle.lt_modes.specs.Modes.{same_mode}
 use Rattle.lt_modes.specs.Script.{ScriptData}
-use Rattle.lt_model.specs.Text.{Holding, same_holding, without, without_at, is_kept}
+use Rattle.lt_runs.specs.Text.{Holding, same_holding, without, without_at, is_kept}
 use Rattle.lt_journal.specs.Counts.{count_of}
 
 same_mode-equal : (a b : Mode) → same_mode a b ≡ true → a ≡ b

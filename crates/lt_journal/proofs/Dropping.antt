@@ -6,7 +6,7 @@ use Rattle.std.proofs.lemmas.Bool.Decides.{eqb_tells}
 use Rattle.std.proofs.lemmas.List.{get_or_past}
 use Rattle.lt_modes.specs.declared.mode.Mode.{Mode}
 use Rattle.lt_modes.specs.Script.{ScriptData}
-use Rattle.lt_model.specs.Text.{Holding, is_related, is_kept}
+use Rattle.lt_runs.specs.Text.{Holding, is_related, is_kept}
 use Rattle.lt_journal.specs.Counts.{place_of, cell_of, HasCell, Counts, count_of}
 use Rattle.lt_journal.proofs.Counting.{count_of-kept}
 

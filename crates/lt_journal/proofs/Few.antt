@@ -5,8 +5,8 @@ use Rattle.std.proofs.lemmas.List.Sums.{length-filter, count_by-le-length}
 use Rattle.lt_modes.specs.declared.event.Event.{Event}
 use Rattle.lt_modes.specs.declared.event.Event.TheVariants.{Grant, Wait, Try, Unlock, NotHeld, Change, DropAll, Busy, Copy, Freeze, Token}
 use Rattle.lt_modes.specs.Script.{ScriptData}
-use Rattle.lt_model.specs.Log.{Logged}
-use Rattle.lt_model.specs.Text.{Holding, Outcome, without, without_at, is_kept, same_holding, after_event, events_of}
+use Rattle.lt_runs.specs.Log.{Logged}
+use Rattle.lt_runs.specs.Text.{Holding, Outcome, without, without_at, is_kept, same_holding, after_event, events_of}
 use Rattle.lt_merge.specs.Run.{events_at}
 use Rattle.std.specs.Prelude.{position, Result, Ok, Err, OnErr}
 use Rattle.lt_journal.proofs.Steps.{events_of-take}

@@ -6,8 +6,8 @@ use Rattle.lt_modes.specs.declared.mode.Mode.{Mode}
 use Rattle.lt_modes.specs.declared.event.Event.{Event}
 use Rattle.lt_modes.specs.declared.event.Event.TheVariants.{Grant, Wait, Try, Unlock, NotHeld, Change, DropAll, Busy, Copy, Freeze, Token}
 use Rattle.lt_modes.specs.Script.{ScriptData}
-use Rattle.lt_model.specs.Log.{Logged}
-use Rattle.lt_model.specs.Text.{all_modes, Holding, Waiting as WaitingFor, Owner as OwnerOf, Outcome, outcome_of, first_outcome, after_event, events_of, same_holding, first_owner}
+use Rattle.lt_runs.specs.Log.{Logged}
+use Rattle.lt_runs.specs.Text.{all_modes, Holding, Waiting as WaitingFor, Owner as OwnerOf, Outcome, outcome_of, first_outcome, after_event, events_of, same_holding, first_owner}
 use Rattle.lt_journal.specs.declared.line.Line.{Line}
 use Rattle.lt_journal.specs.declared.line.Line.TheVariants.{Event as EventLine, Held}
 use Rattle.lt_journal.specs.RunLines.{entry_lines, lines_below, held_line, held_in_mode, held_in_set, held_by, waiting_line, waiting_of, owner_of, closing_lines, run_lines, HasNode, HasSet, HasClient, IsNumber, FitsEvent, FitsLine}

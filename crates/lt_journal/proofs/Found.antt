@@ -15,7 +15,7 @@ use Rattle.lt_modes.specs.declared.moves.Step.{Step}
 use Rattle.lt_modes.specs.declared.moves.Step.TheVariants.{Act, Take}
 use Rattle.lt_modes.specs.Modes.{Modes, no_modes, with_mode, word_of, mode_of}
 use Rattle.lt_modes.specs.Script.{ScriptData, SetData, ClientData, set_name, client_name, name_of_set, name_of_client}
-use Rattle.lt_model.specs.Text.{all_modes, step_words, words_of_modes, word_of_bool, spaced}
+use Rattle.lt_runs.specs.Text.{all_modes, step_words, words_of_modes, word_of_bool, spaced}
 use Rattle.lt_text.specs.Number.{exact_number, is_numeral, has_leading_zero, are_digits}
 use Rattle.lt_text.proofs.NumberLemmas.{decimal_value}
 use Rattle.lt_script.specs.Script.{set_number, client_number}

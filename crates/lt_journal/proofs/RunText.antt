@@ -6,9 +6,9 @@ use Rattle.std.proofs.lemmas.List.Concat.{flat_map-append}
 use Rattle.lt_modes.specs.declared.mode.Mode.{Mode}
 use Rattle.lt_modes.specs.declared.event.Event.{Event}
 use Rattle.lt_modes.specs.Script.{ScriptData}
-use Rattle.lt_model.specs.Log.{Logged}
-use Rattle.lt_model.specs.Text as text
-use Rattle.lt_model.specs.Text.{line, move_words, event_text, entry_text, all_modes, each_below, text_of, Holding, Waiting as WaitingFor, Owner as OwnerOf, Outcome, outcome_of, same_holding, first_owner}
+use Rattle.lt_runs.specs.Log.{Logged}
+use Rattle.lt_runs.specs.Text as text
+use Rattle.lt_runs.specs.Text.{line, move_words, event_text, entry_text, all_modes, each_below, text_of, Holding, Waiting as WaitingFor, Owner as OwnerOf, Outcome, outcome_of, same_holding, first_owner}
 use Rattle.lt_journal.specs.declared.line.Line.{Line}
 use Rattle.lt_journal.specs.declared.line.Line.TheVariants.{Event as EventLine, Held, Waiting, Owner, End, Cut}
 use Rattle.lt_journal.specs.RunLines as of_run

@@ -7,8 +7,8 @@ use Rattle.std.proofs.lemmas.List.Sums.{fold-append}
 use Rattle.lt_modes.specs.declared.moves.Move.{Move}
 use Rattle.lt_modes.specs.declared.event.Event.{Event}
 use Rattle.lt_modes.specs.Script.{ScriptData}
-use Rattle.lt_model.specs.Log.{Logged}
-use Rattle.lt_model.specs.Text.{line, move_words, event_text, entry_text, moves_text, each_below, events_of, outcome_of, after_event, first_outcome}
+use Rattle.lt_runs.specs.Log.{Logged}
+use Rattle.lt_runs.specs.Text.{line, move_words, event_text, entry_text, moves_text, each_below, events_of, outcome_of, after_event, first_outcome}
 use Rattle.lt_merge.specs.Run.{made_at, events_at}
 
 append_nil : {X : Type 0} (xs : List X) → xs ++ [] ≡ xs

@@ -5,7 +5,7 @@ use Rattle.lt_modes.specs.declared.mode.Mode.{Mode}
 use Rattle.lt_modes.specs.declared.event.Event.{Event}
 use Rattle.lt_modes.specs.declared.event.Event.TheVariants.{Try}
 use Rattle.lt_modes.specs.Script.{ScriptData}
-use Rattle.lt_model.specs.Text.{Holding, Waiting, Outcome, with_lock, after_event}
+use Rattle.lt_runs.specs.Text.{Holding, Waiting, Outcome, with_lock, after_event}
 use Rattle.lt_journal.specs.Counts.{Counts, Tally, Tells}
 
 pub tells_held : (script : ScriptData) (tally : Tally) (outcome : Outcome) (cells : List ℕ) (held : List Holding) → Tells script tally outcome

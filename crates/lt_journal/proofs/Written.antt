@@ -10,8 +10,8 @@ use Rattle.lt_modes.specs.declared.event.Event.{Event}
 use Rattle.lt_modes.specs.declared.event.Event.TheVariants.{Grant, Wait, Try, Unlock, NotHeld, Change, DropAll, Busy, Copy, Freeze, Token}
 use Rattle.lt_modes.specs.Modes.{Modes, word_of, has, has_none}
 use Rattle.lt_modes.specs.Script.{ScriptData, set_name, client_name}
-use Rattle.lt_model.specs.Text as text
-use Rattle.lt_model.specs.Text.{line, spaced, event_words, event_text, entry_text, words_of_modes, word_of_bool, all_modes, each_below, text_of, Holding, Waiting as WaitingFor, Owner as OwnerOf, Outcome, outcome_of, first_owner}
+use Rattle.lt_runs.specs.Text as text
+use Rattle.lt_runs.specs.Text.{line, spaced, event_words, words_of_modes, word_of_bool, all_modes}
 use Rattle.lt_text.specs.Text.{lines, cut_at, fields}
 use Rattle.lt_journal.specs.declared.line.Line.{Line}
 use Rattle.lt_journal.specs.declared.line.Line.TheVariants.{Move as MoveLine, Event as EventLine, Held, Waiting, Owner, End, Cut, Bad}

@@ -3,7 +3,7 @@ use Rattle.std.specs.Prelude.{◌≡◌, ◌<◌, ◌+◌, ◌*◌, List, ℕ, O
 use Rattle.lt_modes.specs.declared.mode.Mode.{Mode}
 use Rattle.lt_modes.specs.declared.mode.Mode.TheVariants.{IntentionRead, Read, Upgrade, IntentionWrite, Write}
 use Rattle.lt_modes.specs.Script.{ScriptData}
-use Rattle.lt_model.specs.Text.{Holding, Waiting, Owner, Outcome, same_holding}
+use Rattle.lt_runs.specs.Text.{Holding, Waiting, Owner, Outcome, same_holding}
 
 -- the place of a mode among all modes
 abbrev pub place_of : Mode → ℕ

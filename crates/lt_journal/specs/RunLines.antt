@@ -8,8 +8,8 @@ use Rattle.lt_modes.specs.declared.moves.Step.TheVariants.{Act, Take}
 use Rattle.lt_modes.specs.declared.event.Event.{Event}
 use Rattle.lt_modes.specs.declared.event.Event.TheVariants.{Grant, Wait, Try, Unlock, NotHeld, Change, DropAll, Busy, Copy, Freeze, Token}
 use Rattle.lt_modes.specs.Script.{ScriptData, set_name}
-use Rattle.lt_model.specs.Log.{Logged}
-use Rattle.lt_model.specs.Text.{step_words, event_words, lock_words, spaced, Holding, Waiting as WaitingFor, Owner as OwnerOf, Outcome, all_modes, same_holding, first_owner, outcome_of}
+use Rattle.lt_runs.specs.Log.{Logged}
+use Rattle.lt_runs.specs.Text.{step_words, event_words, lock_words, spaced, Holding, Waiting as WaitingFor, Owner as OwnerOf, Outcome, all_modes, same_holding, first_owner, outcome_of}
 use Rattle.lt_journal.specs.declared.line.Line.{Line}
 use Rattle.lt_journal.specs.declared.line.Line.TheVariants.{Move as MoveLine, Event as EventLine, Held, Waiting, Owner, End, Cut, Bad}
 

@@ -1,6 +1,6 @@
 ghost use Rattle.std.specs.Prelude.{◌≡◌, ◌<◌, ◌++◌, List, OnOk, length};
 ghost use Rattle.lt_journal.specs.Counts.{Counts, Tells};
-ghost use Rattle.lt_model.specs.Text.{Holding as AnyHolding, Outcome as AnyOutcome, held_line, held_in_mode, held_in_set, held_by, held_text, waiting_line, waiting_of, waiting_text, owner_line, owners_text, outcome_text};
+ghost use Rattle.lt_runs.specs.Text.{Holding as AnyHolding, Outcome as AnyOutcome, held_line, held_in_mode, held_in_set, held_by, held_text, waiting_line, waiting_of, waiting_text, owner_line, owners_text, outcome_text};
 
 use crate::events::lock;
 use crate::names::set_name;

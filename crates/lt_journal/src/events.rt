@@ -1,7 +1,7 @@
 ghost use Rattle.std.specs.Prelude.{◌≡◌, ◌++◌, [], ◌∷◌, OnOk, if◌then◌else◌};
 ghost use Rattle.std.specs.List.{flat_map};
 ghost use Rattle.lt_modes.specs.Modes.{has, word_of};
-ghost use Rattle.lt_model.specs.Text.{after_space, spaced, line, lock_words, drop_words, letter_words, event_words, event_text, move_words, words_of_modes};
+ghost use Rattle.lt_runs.specs.Text.{after_space, spaced, line, lock_words, drop_words, letter_words, event_words, event_text, move_words, words_of_modes};
 
 use crate::names::{client_name, set_name};
 use crate::text::Text;

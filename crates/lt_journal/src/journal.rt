@@ -1,6 +1,6 @@
 ghost use Rattle.std.specs.Prelude.{◌≡◌, ◌++◌, OnOk, IfOk};
 ghost use Rattle.std.specs.List.{flat_map};
-ghost use Rattle.lt_model.specs.Text.{event_text, moves_text, closing_text, text_of};
+ghost use Rattle.lt_runs.specs.Text.{event_text, moves_text, closing_text, text_of};
 
 use crate::closing::outcome_lines;
 use crate::events::{event_line, move_line};

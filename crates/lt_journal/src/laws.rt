@@ -1,19 +1,10 @@
-ghost use Rattle.std.specs.Prelude.{◌≡◌, ◌<◌, ◌^◌, ℕ, List, Option, length};
+ghost use Rattle.std.specs.Prelude.{◌≡◌, ℕ, List};
 ghost use Rattle.lt_modes.specs.Script.{ScriptData};
-ghost use Rattle.lt_model.specs.Log.{Logged};
-ghost use Rattle.lt_model.specs.World.{IsRun};
-ghost use Rattle.lt_model.specs.Text.{spaced, text_of};
+ghost use Rattle.lt_runs.specs.Text.{spaced};
 ghost use Rattle.lt_script.specs.Script.{IsScript};
 ghost use Rattle.lt_journal.specs.declared.line.Line.{Line as AnyLine};
-ghost use Rattle.lt_journal.specs.Grammar.{read_line, journal_of};
-ghost use Rattle.lt_journal.specs.RunLines.{IsAsWritten, FitsLine, FitsCut, line_words, run_lines};
-
-/// What is written of a run is read as the run's lines, of every run whose moves can be counted in a line.
-pub fn law_read_text()
-    ensures { (script : ScriptData) → (entries : List Logged) → (cut : Option ℕ) → IsScript script
-        → IsRun script entries → length entries < 2 ^ 32 → FitsCut script cut
-        → journal_of script (text_of script entries cut) ≡ run_lines script entries cut }
-{}
+ghost use Rattle.lt_journal.specs.Grammar.{read_line};
+ghost use Rattle.lt_journal.specs.RunLines.{IsAsWritten, FitsLine, line_words};
 
 /// A line that is not bad stands there exactly as it is written, and what is written of a line is read as it.
 pub fn law_read_line()

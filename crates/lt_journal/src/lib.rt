@@ -55,7 +55,7 @@ mod tests;
 mod text;
 
 pub use journal::write;
-pub use laws::{law_read_line, law_read_text};
+pub use laws::law_read_line;
 pub use line::Line;
 pub use reading::{Journal, read};
 pub use splitting::{Parts, split};

@@ -1,6 +1,6 @@
 ghost use Rattle.std.specs.Prelude.{◌≡◌, slice_get};
 ghost use Rattle.lt_modes.specs.Script.{set_name, client_name, family_at};
-ghost use Rattle.lt_model.specs.Text.{is_related};
+ghost use Rattle.lt_runs.specs.Text.{is_related};
 
 use lt_script::Script;
 

@@ -1,5 +1,5 @@
 ghost use Rattle.std.specs.Prelude.{◌≡◌, ◌≤◌, ◌+◌, ◌^◌, length, OnErr, IfOk, OnOk, fold, slice_set};
-ghost use Rattle.lt_model.specs.Text.{Outcome as AnyOutcome, with_lock, less_lock, with_waiting, after_event, first_outcome, outcome_of, events_of};
+ghost use Rattle.lt_runs.specs.Text.{Outcome as AnyOutcome, with_lock, less_lock, with_waiting, after_event, first_outcome, outcome_of, events_of};
 ghost use Rattle.lt_journal.specs.Counts.{Tells};
 
 use crate::table::{Holding, Table};
@@ -17,7 +17,7 @@ pub struct Waiting {
 }
 
 impl Model for Waiting {
-    ghost use Rattle.lt_model.specs.Text.{Waiting as WaitingData};
+    ghost use Rattle.lt_runs.specs.Text.{Waiting as WaitingData};
 
     ghost Value = { WaitingData };
 
@@ -34,7 +34,7 @@ pub struct Owner {
 }
 
 impl Model for Owner {
-    ghost use Rattle.lt_model.specs.Text.{Owner as OwnerData};
+    ghost use Rattle.lt_runs.specs.Text.{Owner as OwnerData};
 
     ghost Value = { OwnerData };
 

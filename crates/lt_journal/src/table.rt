@@ -1,5 +1,5 @@
 ghost use Rattle.std.specs.Prelude.{◌≡◌, ◌+◌, ◌^◌, OnErr, ◌↔◌, ◌≤◌, ◌++◌, ◌∷◌, [], List, IsTrue, IfOk, OnOk, length, filter, slice_index, slice_set};
-ghost use Rattle.lt_model.specs.Text.{Holding as AnyHolding, without, is_kept};
+ghost use Rattle.lt_runs.specs.Text.{Holding as AnyHolding, without, is_kept};
 ghost use Rattle.lt_journal.specs.Counts.{place_of, cell_of, HasCell, Counts};
 
 use crate::names::is_related;
@@ -17,7 +17,7 @@ pub struct Holding {
 }
 
 impl Model for Holding {
-    ghost use Rattle.lt_model.specs.Text.{Holding as HoldingData};
+    ghost use Rattle.lt_runs.specs.Text.{Holding as HoldingData};
 
     ghost Value = { HoldingData };
 

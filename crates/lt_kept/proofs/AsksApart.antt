@@ -8,16 +8,17 @@ use Rattle.std.proofs.lemmas.List.Sums.{sum_by-cons, sum_by-append}
 use Rattle.lt_modes.specs.declared.ask.Ask.{Ask}
 use Rattle.lt_modes.specs.Script.{ScriptData}
 use Rattle.lt_modes.specs.State.{SetState, Parked, ParkedAsk, ParkedTell}
-use Rattle.lt_modes.specs.Queue.{same_ask}
+use Rattle.lt_modes.specs.Queue.{same_ask, times_in}
 use Rattle.lt_modes.specs.Serving.{queue_of}
 use Rattle.lt_modes.specs.Fits.{ask_if, parked_asks, asks_here, has_client, is_pending, is_known, are_apart}
 use Rattle.lt_model.specs.Homes.{IsAskOf}
-use Rattle.lt_model.specs.Families.{home}
-use Rattle.lt_model.specs.World.{World}
-use Rattle.lt_model.specs.Facts.{state_at, one_if, times_in, times_parked, places_in_state, place_count}
+use Rattle.lt_runs.specs.Families.{home}
+use Rattle.lt_runs.specs.World.{World}
+use Rattle.lt_runs.specs.Facts.{state_at, times_parked, places_in_state, place_count}
+use Rattle.lt_lists.specs.Below.{one_if}
 use Rattle.lt_model.specs.Standing.{AsksStand}
-use Rattle.lt_model.proofs.Asks.{times_in-some, same_ask-itself}
-use Rattle.lt_model.proofs.Members.{list_any-at, list_any-which}
+use Rattle.lt_accounts.proofs.Asks.{times_in-some, same_ask-itself}
+use Rattle.lt_lists.proofs.Members.{list_any-at, list_any-which}
 use Rattle.lt_model.proofs.StandingInRuns.{stands_once}
 use Rattle.lt_trial.proofs.Runs.{two_places}
 use Rattle.lt_kept.proofs.ClientEffects.{is_asks, one_of_client}

@@ -8,25 +8,26 @@ use Rattle.std.proofs.lemmas.List.Sums.{sum_by-cons, sum_by-append, list_all-fro
 use Rattle.lt_modes.specs.declared.ask.Ask.{Ask}
 use Rattle.lt_modes.specs.Script.{ScriptData}
 use Rattle.lt_modes.specs.State.{SetState, Desk, Body, AskBody, TellBody, CopyBody, TokenBody, FreezeBody, Letter}
-use Rattle.lt_modes.specs.Queue.{same_ask}
+use Rattle.lt_modes.specs.Queue.{same_ask, times_in}
 use Rattle.lt_modes.specs.Serving.{queue_of}
 use Rattle.lt_modes.specs.Fits.{is_at_home, parked_asks, asks_here, has_client, is_pending, is_known, are_apart, queue_fits, body_fits}
 use Rattle.lt_model.specs.Homes.{IsWhole, IsAskAtHome, IsLetterAtHome, IsBodyAtHome}
-use Rattle.lt_model.specs.World.{World}
-use Rattle.lt_model.specs.Facts.{state_at, one_if, times_in, times_parked, places_in_state, places_in_body, place_count}
+use Rattle.lt_runs.specs.World.{World}
+use Rattle.lt_runs.specs.Facts.{state_at, times_parked, places_in_state, places_in_body, place_count}
+use Rattle.lt_lists.specs.Below.{one_if}
 use Rattle.lt_model.specs.Moments.{Between}
 use Rattle.lt_model.specs.OnWay.{OnWay}
 use Rattle.lt_model.specs.Paths.{Paths, LetterOnPath, BodyOnPath}
 use Rattle.lt_model.specs.SoundNode.{numbers_of}
 use Rattle.lt_model.specs.Invariant.{BodyKept, LetterKept, SetKept, Kept}
-use Rattle.lt_model.proofs.Asks.{times_in-some, same_ask-itself}
+use Rattle.lt_accounts.proofs.Asks.{times_in-some, same_ask-itself}
 use Rattle.lt_model.proofs.HomesSound.{sound_ask}
 use Rattle.lt_model.proofs.Letters.{mail_weight-at}
-use Rattle.lt_model.proofs.Members.{list_any-at}
+use Rattle.lt_lists.proofs.Members.{list_any-at}
 use Rattle.lt_model.proofs.PathsQuiet.{link_named}
 use Rattle.lt_model.proofs.StandingEffects.{places_weight}
 use Rattle.lt_model.proofs.StandingInRuns.{stands_once}
-use Rattle.lt_model.proofs.Sums.{sum_below-at}
+use Rattle.lt_lists.proofs.Sums.{sum_below-at}
 use Rattle.lt_trial.proofs.Runs.{stood_of}
 use Rattle.lt_kept.specs.Laws.{LettersFit}
 use Rattle.lt_kept.proofs.AsksApart.{OwnAsks, apart_by, parked_times, here_times, standing_apart, standing_known}

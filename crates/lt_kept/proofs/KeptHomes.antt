@@ -13,31 +13,31 @@ use Rattle.lt_modes.specs.declared.moves.Step.TheVariants.{Act, Take}
 use Rattle.lt_modes.specs.Script.{ScriptData, ClientData}
 use Rattle.lt_modes.specs.State.{SetState, Desk, Body, AskBody, TellBody, CopyBody, TokenBody, FreezeBody, Letter, Parked, ParkedAsk, ParkedTell, first_state}
 use Rattle.lt_modes.specs.Made.{Post}
-use Rattle.lt_modes.specs.Queue.{same_ask}
+use Rattle.lt_modes.specs.Queue.{same_ask, times_in}
 use Rattle.lt_modes.specs.Serving.{queue_of}
 use Rattle.lt_modes.specs.Fits.{is_at_home}
 use Rattle.lt_modes.specs.Sound.{SoundRow, SoundPending, SoundParked}
-use Rattle.lt_model.specs.Families.{home}
+use Rattle.lt_runs.specs.Families.{home}
 use Rattle.lt_model.specs.Homes.{IsWhole, IsRowAtHome, IsAskAtHome, IsAskOf, IsParkedAtHome, IsBodyAtHome, IsStateAtHome, IsLetterAtHome}
-use Rattle.lt_model.specs.Below.{put}
-use Rattle.lt_model.specs.NodeMove.{NodeState, NodeMade, next_command, node_act, node_take}
-use Rattle.lt_model.specs.World.{World, is_enabled, is_some_letter, opened, take_front, node_move, after}
-use Rattle.lt_model.specs.Facts.{state_at, one_if, times_in, times_parked, places_in_state, places_in_body, place_count}
+use Rattle.lt_lists.specs.Below.{put, one_if}
+use Rattle.lt_runs.specs.NodeMove.{NodeState, NodeMade, next_command, node_act, node_take}
+use Rattle.lt_runs.specs.World.{World, is_enabled, is_some_letter, opened, take_front, node_move, after}
+use Rattle.lt_runs.specs.Facts.{state_at, times_parked, places_in_state, places_in_body, place_count}
 use Rattle.lt_model.specs.SoundNode.{numbers_of}
 use Rattle.lt_model.specs.Moments.{Between}
 use Rattle.lt_model.specs.OnWay.{OnWay}
 use Rattle.lt_model.specs.Invariant.{BodyKept, SetKept, Kept}
-use Rattle.lt_model.proofs.Asks.{times_in-some, same_ask-itself}
+use Rattle.lt_accounts.proofs.Asks.{times_in-some, same_ask-itself}
 use Rattle.lt_model.proofs.HomesEffects.{AreAtHome}
 use Rattle.lt_model.proofs.HomesSound.{home_among}
 use Rattle.lt_model.proofs.HomesMove.{IsMoveAtHome, IsMaker, drop_count, act_home, letter_home, maker}
 use Rattle.lt_model.proofs.Letters.{all_sent, before_take, mail_weight-at}
 use Rattle.lt_model.proofs.PathsMove.{has_mail_parts}
-use Rattle.lt_model.proofs.PathsWorld.{put-same, put-other}
-use Rattle.lt_model.proofs.SentInMove.{all_both, all_weaker}
+use Rattle.lt_lists.proofs.Puts.{put-same, put-other}
+use Rattle.lt_lists.proofs.AllLemmas.{all_both, all_weaker}
 use Rattle.lt_model.proofs.StandingEffects.{places_weight}
 use Rattle.lt_model.proofs.StandingInRuns.{stands_once}
-use Rattle.lt_model.proofs.Sums.{sum_below-at}
+use Rattle.lt_lists.proofs.Sums.{sum_below-at}
 use Rattle.lt_trial.proofs.Runs.{stood_of}
 use Rattle.lt_kept.proofs.ScriptSets.{AreAlike, MadeAlike, clipped, clipped_alike, act_alike, take_alike}
 

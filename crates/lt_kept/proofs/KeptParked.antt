@@ -11,17 +11,17 @@ use Rattle.lt_modes.specs.Routing.{learn}
 use Rattle.lt_modes.specs.Taking.{arrive, take_body}
 use Rattle.lt_modes.specs.Sound.{SoundDesk}
 use Rattle.lt_model.specs.SoundNode.{numbers_of}
-use Rattle.lt_model.specs.NodeMove.{NodeState, take_stamp, node_take}
-use Rattle.lt_model.specs.World.{World, is_enabled, put_mail, node_move, opened, take_front, after}
-use Rattle.lt_model.specs.Facts.{state_at}
+use Rattle.lt_runs.specs.NodeMove.{NodeState, take_stamp, node_take}
+use Rattle.lt_runs.specs.World.{World, is_enabled, put_mail, node_move, opened, take_front, after}
+use Rattle.lt_runs.specs.Facts.{state_at}
 use Rattle.lt_model.specs.Moments.{Between}
 use Rattle.lt_model.specs.OnWay.{OnWay, Comes, DeskIs}
 use Rattle.lt_model.specs.Paths.{Paths, DeskOnPath, BodyOnPath}
 use Rattle.lt_model.specs.Homes.{IsWhole}
 use Rattle.lt_model.specs.Invariant.{IsParkedFor, SetKept}
 use Rattle.lt_model.proofs.Letters.{still_on_way}
-use Rattle.lt_model.proofs.Members.{contains_cases}
-use Rattle.lt_model.proofs.PathsWorld.{put-same}
+use Rattle.lt_lists.proofs.Members.{contains_cases}
+use Rattle.lt_lists.proofs.Puts.{put-same}
 use Rattle.lt_model.proofs.TokenComes.{desk_somewhere, token_comes}
 use Rattle.lt_trial.specs.Ledger.{IsHeldUp, HeldUp}
 use Rattle.lt_trial.proofs.HeldUps.{none_held}

@@ -12,10 +12,10 @@ use Rattle.lt_modes.specs.Made.{Made, Post}
 use Rattle.lt_modes.specs.Serving.{waits}
 use Rattle.lt_modes.specs.Telling.{finish}
 use Rattle.lt_modes.specs.SetMove.{lock, try, unlock, change, drop, take}
-use Rattle.lt_model.specs.Below.{any_below, put}
-use Rattle.lt_model.specs.Families.{related}
+use Rattle.lt_lists.specs.Below.{any_below, put}
+use Rattle.lt_runs.specs.Families.{related}
 use Rattle.lt_model.specs.Homes.{IsWhole, HasTargets}
-use Rattle.lt_model.specs.NodeMove.{NodeState, NodeMade, node_waits, next_command, act_stamp, take_stamp, at_clock, one_made, touched, each_touched, drop_all, obey, node_act, node_take}
+use Rattle.lt_runs.specs.NodeMove.{NodeState, NodeMade, node_waits, next_command, act_stamp, take_stamp, at_clock, one_made, touched, each_touched, drop_all, obey, node_act, node_take}
 use Rattle.lt_model.proofs.HomesMove.{related_below, next_targets}
 
 -- the nodes keep the same for each set of the script

@@ -12,21 +12,22 @@ use Rattle.lt_modes.specs.declared.parts.Row.{Row}
 use Rattle.lt_modes.specs.Script.{ScriptData}
 use Rattle.lt_modes.specs.State.{SetState, Desk, Letter, Parked, ParkedAsk, ParkedTell}
 use Rattle.lt_modes.specs.Held.{is_row_of, no_row, row_place, count_at, count_of}
-use Rattle.lt_modes.specs.Queue.{same_ask}
+use Rattle.lt_modes.specs.Queue.{same_ask, times_in}
 use Rattle.lt_modes.specs.Serving.{queue_of}
 use Rattle.lt_modes.specs.Fits.{is_at_home, ask_if, parked_asks, asks_here, has_client, is_pending, is_known, are_apart}
 use Rattle.lt_modes.specs.Sound.{HoldsGivenUp, SoundPending, SoundHere, SoundDesk, SoundSet}
 use Rattle.lt_model.specs.Homes.{IsWhole, HasSoundHomes, IsSoundOwn, IsAskOf}
-use Rattle.lt_model.specs.Families.{home}
-use Rattle.lt_model.specs.World.{World, start, is_enabled, node_move, after, after_run, IsRunFrom}
-use Rattle.lt_model.specs.Facts.{state_at, one_if, times_in, times_parked, places_in_state, place_count}
+use Rattle.lt_runs.specs.Families.{home}
+use Rattle.lt_runs.specs.World.{World, start, is_enabled, node_move, after, after_run, IsRunFrom}
+use Rattle.lt_runs.specs.Facts.{state_at, times_parked, places_in_state, place_count}
+use Rattle.lt_lists.specs.Below.{one_if, put}
 use Rattle.lt_model.specs.Moments.{Between, is_at}
 use Rattle.lt_model.specs.OnWay.{DeskIs}
 use Rattle.lt_model.specs.SoundNode.{numbers_of}
 use Rattle.lt_model.specs.Timed.{Timed}
-use Rattle.lt_model.proofs.Sums.{sum_below-at}
-use Rattle.lt_model.proofs.Members.{list_any-at, list_any-which}
-use Rattle.lt_model.proofs.Asks.{times_in-some, same_ask-itself}
+use Rattle.lt_lists.proofs.Sums.{sum_below-at}
+use Rattle.lt_lists.proofs.Members.{list_any-at, list_any-which}
+use Rattle.lt_accounts.proofs.Asks.{times_in-some, same_ask-itself}
 use Rattle.lt_model.proofs.TokenComes.{desk_somewhere}
 use Rattle.lt_model.proofs.StandingInRuns.{stands_once}
 use Rattle.lt_trial.proofs.Moves.{Known, named_firm, entries_on}
@@ -43,8 +44,7 @@ use Rattle.lt_kept.proofs.AsksApart.{OwnAsks, apart_by, one_each, here_times, st
 use Rattle.lt_kept.proofs.KeptHomes.{HomesWithin, all_of, kept_homes, homes_within_kept}
 use Rattle.lt_kept.proofs.KeptParked.{HeldOrComes, held_or_comes_kept, parked_for, none_parked}
 use Rattle.lt_kept.specs.Laws.{KeptStays, KeptInRuns}
-use Rattle.lt_model.specs.Below.{put}
-use Rattle.lt_model.specs.Log.{Logged}
+use Rattle.lt_runs.specs.Log.{Logged}
 use Rattle.lt_model.specs.Paths.{Paths}
 use Rattle.lt_model.specs.Standing.{AsksStand}
 use Rattle.lt_model.specs.Invariant.{SetKept, Kept}
@@ -52,7 +52,7 @@ use Rattle.lt_model.proofs.HomesSound.{sound_state}
 use Rattle.lt_model.proofs.TimedMove.{timed_kept}
 use Rattle.lt_model.proofs.ServedMove.{served_kept}
 use Rattle.lt_model.proofs.PathsMove.{move_kept}
-use Rattle.lt_model.proofs.PathsWorld.{put-same, put-other}
+use Rattle.lt_lists.proofs.Puts.{put-same, put-other}
 use Rattle.lt_model.proofs.StandingMove.{standing_kept}
 use Rattle.lt_model.proofs.StartKept.{start_kept}
 use Rattle.lt_modes.specs.declared.moves.Step.{Step}

@@ -4,10 +4,10 @@ use Rattle.lt_modes.specs.declared.moves.Step.{Step}
 use Rattle.lt_modes.specs.Script.{ScriptData}
 use Rattle.lt_modes.specs.State.{Letter}
 use Rattle.lt_modes.specs.Fits.{fits}
-use Rattle.lt_model.specs.Log.{Logged}
+use Rattle.lt_runs.specs.Log.{Logged}
 use Rattle.lt_model.specs.Homes.{IsWhole}
-use Rattle.lt_model.specs.World.{World, is_enabled, after, world_after, IsRun}
-use Rattle.lt_model.specs.Facts.{state_at}
+use Rattle.lt_runs.specs.World.{World, is_enabled, after, world_after, IsRun}
+use Rattle.lt_runs.specs.Facts.{state_at}
 use Rattle.lt_model.specs.SoundNode.{numbers_of}
 use Rattle.lt_model.specs.Invariant.{Kept}
 

@@ -26,16 +26,16 @@ use Rattle.lt_modes.specs.Routing.{Way, Parks, Goes, dealt, reversed, sent_on, r
 use Rattle.lt_modes.specs.Script.{ScriptData}
 use Rattle.lt_modes.specs.declared.parts.Link.{Link}
 use Rattle.lt_modes.specs.declared.parts.Hoped.{Hoped}
-use Rattle.lt_model.specs.World.{World}
-use Rattle.lt_model.specs.Facts.{state_at}
+use Rattle.lt_runs.specs.World.{World}
+use Rattle.lt_runs.specs.Facts.{state_at}
 use Rattle.lt_model.specs.Moments.{Moment}
 use Rattle.lt_model.specs.OnWay.{tell_parked, account_of}
-use Rattle.lt_model.specs.AccountPlay.{others_counted}
-use Rattle.lt_model.specs.Account.{counted, owed_and_waiting}
-use Rattle.lt_model.specs.AccountSteps.{MayJoin, unlocking}
+use Rattle.lt_accounts.specs.AccountPlay.{others_counted}
+use Rattle.lt_accounts.specs.Account.{counted, owed_and_waiting}
+use Rattle.lt_accounts.specs.AccountSteps.{MayJoin, unlocking}
 use Rattle.lt_model.specs.AccountRules.{own_account, GrantsByRule, FrozenIsNotGranted, CommandsAreSteps, IsLocallyFree, IsCopyFree, ServesByRule, ServicesAreSteps, CopiesAreDelivered, TellsAreApplied, TellsAreMade, HandingOverSettles, IsParkedOf, told_by_parked, TokensArrive, FreezesAreSteps, OthersChangeNothing, RulesCount}
-use Rattle.lt_model.proofs.AccountFacts.{bars_not, not_bars, below_by_members}
-use Rattle.lt_model.proofs.Members.{has-union, has-left, has-right}
+use Rattle.lt_accounts.proofs.AccountFacts.{bars_not, not_bars, below_by_members}
+use Rattle.lt_accounts.proofs.ModeMembers.{has-union, has-left, has-right}
 use Rattle.lt_model.proofs.Effects.{route_ways}
 use Rattle.lt_model.proofs.NewsRules.{frozen_at}
 use Rattle.lt_model.proofs.PathsQuiet.{put_queue_some, owed_at_some}

@@ -14,26 +14,27 @@ use Rattle.lt_modes.specs.Freezing.{frozen_by}
 use Rattle.lt_modes.specs.Serving.{next_service, next_move}
 use Rattle.lt_modes.specs.Fits.{Numbers}
 use Rattle.lt_modes.specs.Sound.{IsNoLater, ChargeKept, SoundDesk, SoundSet}
-use Rattle.lt_model.specs.Below.{gather_below}
-use Rattle.lt_model.specs.World.{World, after}
-use Rattle.lt_model.specs.Facts.{state_at, one_if, tokens_in, places_in_state, places_in_body, times_in}
+use Rattle.lt_lists.specs.Below.{gather_below, one_if}
+use Rattle.lt_runs.specs.World.{World, after}
+use Rattle.lt_runs.specs.Facts.{state_at, tokens_in, places_in_state, places_in_body}
+use Rattle.lt_modes.specs.Queue.{times_in}
 use Rattle.lt_model.specs.OnWay.{OnWay, Comes, DeskIs, in_set, tell_in, tell_parked, copy_in, freeze_in, tells_of, copies_to, freezes_to, account_of, news_of}
 use Rattle.lt_model.specs.Moments.{Moment, Between, Acting, Frozen, is_at, is_moving, is_unfrozen, is_serving}
-use Rattle.lt_model.specs.Account.{Account, AccountKept, AreClear, counted}
-use Rattle.lt_model.specs.News.{News, NewsKept, Notice}
+use Rattle.lt_accounts.specs.Account.{Account, AccountKept, AreClear, counted}
+use Rattle.lt_accounts.specs.News.{News, NewsKept, Notice}
 use Rattle.lt_model.specs.Paths.{Paths, StateOnPath, LetterOnPath}
 use Rattle.lt_model.specs.SoundNode.{numbers_of}
 use Rattle.lt_model.specs.Touches.{of_set, SameSet}
 use Rattle.lt_model.specs.Invariant.{PlacesKept, IsParkedFor, DeskKept, SetKept}
 use Rattle.lt_model.specs.MomentLaws.{begun, MoveBegins, AsideStays}
-use Rattle.lt_model.proofs.Sums.{sum_below-same}
-use Rattle.lt_model.proofs.Members.{contains_filter, contains_filtered}
+use Rattle.lt_lists.proofs.Sums.{sum_below-same}
+use Rattle.lt_lists.proofs.Members.{contains_filter, contains_filtered}
 use Rattle.lt_model.proofs.OthersStay.{same_set, others_stay}
 use Rattle.lt_model.proofs.TokenComes.{desk_somewhere}
 use Rattle.lt_model.proofs.ClocksGrow.{clocks_grow}
-use Rattle.lt_model.proofs.AccountFacts.{held_below_charge}
-use Rattle.lt_model.proofs.AccountAsks.{ticks_kept, ages_kept}
-use Rattle.lt_model.proofs.NewsLemmas.{begins_kept}
+use Rattle.lt_accounts.proofs.AccountFacts.{held_below_charge}
+use Rattle.lt_accounts.proofs.AccountAsks.{ticks_kept, ages_kept}
+use Rattle.lt_accounts.proofs.NewsLemmas.{begins_kept}
 
 -- the clock stays or goes on, and goes on where the node is in its move
 abbrev pub Goes : Bool → ℕ → ℕ → Type 0

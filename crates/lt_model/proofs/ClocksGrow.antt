@@ -10,15 +10,16 @@ use Rattle.lt_modes.specs.Script.{ScriptData}
 use Rattle.lt_modes.specs.State.{Letter}
 use Rattle.lt_modes.specs.Made.{Post}
 use Rattle.lt_modes.specs.SetMove.{take}
-use Rattle.lt_model.specs.Log.{Logged}
-use Rattle.lt_model.specs.NodeMove.{NodeState, NodeMade, next_command, act_stamp, take_stamp, at_clock, one_made, node_act, node_take}
-use Rattle.lt_model.specs.World.{World, start, is_some_letter, opened, front_stamp, take_front, node_move, after_made, after, after_run}
+use Rattle.lt_runs.specs.Log.{Logged}
+use Rattle.lt_runs.specs.NodeMove.{NodeState, NodeMade, next_command, act_stamp, take_stamp, at_clock, one_made, node_act, node_take}
+use Rattle.lt_runs.specs.World.{World, start, is_some_letter, opened, front_stamp, take_front, node_move, after_made, after, after_run}
 use Rattle.lt_model.specs.Touches.{AreStamped}
 use Rattle.lt_model.specs.Laws.{ClockMoves, OtherClocksStay, StampsKept, ClocksInRuns}
 use Rattle.lt_model.proofs.Letters.{all_sent, before_take}
-use Rattle.lt_model.proofs.SentInMove.{all_weaker, take-sent}
-use Rattle.lt_model.proofs.StartKept.{none_in}
-use Rattle.lt_model.proofs.PathsWorld.{put-same, put-other}
+use Rattle.lt_model.proofs.SentInMove.{take-sent}
+use Rattle.lt_lists.proofs.AllLemmas.{all_weaker}
+use Rattle.lt_lists.proofs.Members.{none_in}
+use Rattle.lt_lists.proofs.Puts.{put-same, put-other}
 use Rattle.lt_model.proofs.PathsMove.{has_mail_parts}
 use Rattle.lt_model.proofs.NodeMoves.{obey-stamped}
 

@@ -16,15 +16,15 @@ use Rattle.lt_modes.specs.State.{SetState, Letter, first_desk, first_state}
 use Rattle.lt_modes.specs.Made.{Made, Post}
 use Rattle.lt_modes.specs.Telling.{finish}
 use Rattle.lt_modes.specs.SetMove.{drop, take}
-use Rattle.lt_model.specs.Below.{put, sum_below}
-use Rattle.lt_model.specs.Families.{family, related}
-use Rattle.lt_model.specs.NodeMove.{NodeState, NodeMade, node_waits, next_command, touched, each_touched, drop_all, locks_in_sets, act_stamp, take_stamp, at_clock, one_made, obey, node_act, node_take}
-use Rattle.lt_model.specs.World.{World, start, opened, put_mail, after_made, after}
-use Rattle.lt_model.specs.Counts.{adds, added_by}
+use Rattle.lt_lists.specs.Below.{put, sum_below}
+use Rattle.lt_runs.specs.Families.{family, related}
+use Rattle.lt_runs.specs.NodeMove.{NodeState, NodeMade, node_waits, next_command, touched, each_touched, drop_all, locks_in_sets, act_stamp, take_stamp, at_clock, one_made, obey, node_act, node_take}
+use Rattle.lt_runs.specs.World.{World, start, opened, put_mail, after_made, after}
+use Rattle.lt_model.specs.AddedLocks.{adds, added_by}
 use Rattle.lt_model.specs.Homes.{HasTargets, IsWhole}
-use Rattle.lt_model.proofs.Sums.{sum_below-none, sum_below-change, sum_below-at}
+use Rattle.lt_lists.proofs.Sums.{sum_below-none, sum_below-change, sum_below-at}
 use Rattle.lt_model.proofs.Letters.{mail_weight, IsCounted, mail_weight-sent, mail_weight-taken}
-use Rattle.lt_model.proofs.PathsWorld.{put-same, put-other}
+use Rattle.lt_lists.proofs.Puts.{put-same, put-other}
 use Rattle.lt_model.proofs.RuleEffects.{command_rules}
 use Rattle.lt_model.proofs.HomesMove.{next_targets, related_below, drop_count as dropped_by, step_drops}
 use Rattle.lt_model.proofs.CountEffects.{asks_in, asks_carried, asks_sent, Counted, some_locks, finish_count, count_acts, drop_count, take_count}

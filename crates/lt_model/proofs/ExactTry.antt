@@ -7,9 +7,9 @@ use Rattle.lt_modes.specs.declared.event.Event.TheVariants.{Try as TryLine}
 use Rattle.lt_modes.specs.Made.{Made}
 use Rattle.lt_modes.specs.Granting.{can_grant}
 use Rattle.lt_modes.specs.SetMove.{answers, given}
-use Rattle.lt_model.specs.NodeMove.{act_stamp, obey, at_clock, one_made}
+use Rattle.lt_runs.specs.NodeMove.{act_stamp, obey, at_clock, one_made}
 use Rattle.lt_modes.specs.Telling.{finish}
-use Rattle.lt_model.specs.Facts.{state_at}
+use Rattle.lt_runs.specs.Facts.{state_at}
 use Rattle.lt_model.specs.Laws.{TryIsExact}
 
 pub try_is_exact : TryIsExact

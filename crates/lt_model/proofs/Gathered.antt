@@ -1,62 +1,20 @@
 -- What is gathered from lists is what they have.
-use Rattle.std.proofs.Common.{◌≡◌, ◌≢◌, ℕ, zero, suc, ◌<◌, inl, inr, List, [], ◌∷◌, Option, Some, None, Bool, refl, sym, ap, subst, arith, ◌∙◌}
+use Rattle.lt_lists.proofs.Gathering.{gathered-which, gathered-at}
+use Rattle.lt_lists.proofs.Members.{some_equal, filter_map-which, filter_map-at}
+use Rattle.std.proofs.Common.{◌≡◌, ◌≢◌, ℕ, inl, inr, List, Option, Some, None, Bool, refl, sym, ap, subst, ◌∙◌}
 use Rattle.std.specs.Prelude.{◌⊎◌, Contains, if◌then◌else◌}
-use Rattle.std.specs.List.{filter_map, cons_option}
+use Rattle.std.specs.List.{filter_map}
 use Rattle.std.proofs.lemmas.Bool.{eq-eqb, ne_eqb, cases_eq}
 use Rattle.std.proofs.lemmas.List.Elements.{Contains-append_left, Contains-append_right, Contains-append_cases}
 use Rattle.lt_modes.specs.declared.ask.Ask.{Ask}
 use Rattle.lt_modes.specs.Script.{ScriptData}
 use Rattle.lt_modes.specs.State.{Tell, Body, AskBody, TellBody, CopyBody, TokenBody, FreezeBody, Letter, Parked, ParkedAsk, ParkedTell}
-use Rattle.lt_model.specs.Below.{gather_below}
-use Rattle.lt_model.specs.World.{World}
-use Rattle.lt_model.specs.Facts.{state_at}
-use Rattle.lt_model.specs.News.{Notice}
+use Rattle.lt_lists.specs.Below.{gather_below}
+use Rattle.lt_runs.specs.World.{World}
+use Rattle.lt_runs.specs.Facts.{state_at}
+use Rattle.lt_accounts.specs.News.{Notice}
 use Rattle.lt_model.specs.OnWay.{Comes, IsTellOf, in_set, tell_if, tell_in, tell_parked, copy_in, freeze_in, tells_of}
 use Rattle.lt_model.specs.OnWayLaws.{TellsAreOnWay, CopiesAreOnWay, FreezesAreOnWay}
-use Rattle.lt_model.proofs.Members.{contains_first, contains_later, contains_cases}
-
-some_equal : {X : Type 0} (a b : X) → Some a ≡ Some b → a ≡ b
-some_equal a b e = cc
-
-gathered-which : {X : Type 0} (n : ℕ) (f : ℕ → List X) (x : X) → Contains (gather_below n f) x → (k : ℕ) × (k < n) × Contains (f k) x
-gathered-which zero f x h = absurd (omega (arith, h.1))
-gathered-which (suc n) f x h = elim (Contains-append_cases (gather_below n f) (f n) x h) [
-  | inl before ↦ let found = gathered-which n f x before in (found.0, omega (arith, found.1), found.2)
-  | inr last ↦ (n, omega arith, last)
-]
-
-gathered-at : {X : Type 0} (n : ℕ) (f : ℕ → List X) (k : ℕ) (x : X) → k < n → Contains (f k) x → Contains (gather_below n f) x
-gathered-at zero f k x below h = absurd (omega (arith, below))
-gathered-at (suc n) f k x below h = elim (cases_eq k n) [
-  | inl last ↦ Contains-append_right (gather_below n f) (f n) x (subst (λ (i : ℕ). Contains (f i) x) last h)
-  | inr other ↦ Contains-append_left (gather_below n f) (f n) x (gathered-at n f k x (omega (arith, below, other)) h)
-]
-
-pub filter_map-which : {X Y : Type 0} (f : X → Option Y) (xs : List X) (y : Y) → Contains (filter_map f xs) y → (x : X) × Contains xs x × (f x ≡ Some y)
-filter_map-which f [] y h = absurd (omega (arith, h.1))
-filter_map-which {X = X} {Y = Y} f (first ∷ rest) y h = by_first (f first) refl h (λ later. filter_map-which f rest y later)
-  where
-    by_first : (o : Option Y) → f first ≡ o → Contains (cons_option o (filter_map f rest)) y
-        → (Contains (filter_map f rest) y → (x : X) × Contains rest x × (f x ≡ Some y)) → (x : X) × Contains (first ∷ rest) x × (f x ≡ Some y)
-    by_first None e found again = let more = again found in (more.0, contains_later first more.0 rest more.1, more.2)
-    by_first (Some made) e found again = elim (contains_cases made y (filter_map f rest) found) [
-      | inl same ↦ (first, contains_first first first rest refl, e ∙ ap Some same)
-      | inr later ↦ let more = again later in (more.0, contains_later first more.0 rest more.1, more.2)
-    ]
-
-pub filter_map-at : {X Y : Type 0} (f : X → Option Y) (xs : List X) (x : X) (y : Y) → Contains xs x → f x ≡ Some y → Contains (filter_map f xs) y
-filter_map-at f [] x y h e = absurd (omega (arith, h.1))
-filter_map-at {X = X} {Y = Y} f (first ∷ rest) x y h e = by_first (f first) refl (λ later. filter_map-at f rest x y later e)
-  where
-    by_first : (o : Option Y) → f first ≡ o → (Contains rest x → Contains (filter_map f rest) y) → Contains (cons_option o (filter_map f rest)) y
-    by_first None none again = elim (contains_cases first x rest h) [
-      | inl same ↦ let no : None ≡ Some y = sym none ∙ ap f same ∙ e in cc
-      | inr later ↦ again later
-    ]
-    by_first (Some made) some again = elim (contains_cases first x rest h) [
-      | inl same ↦ let one : Some made ≡ Some y = sym some ∙ ap f same ∙ e in contains_first made y (filter_map f rest) (some_equal made y one)
-      | inr later ↦ contains_later made y (filter_map f rest) (again later)
-    ]
 
 -- what a letter of the set says
 in_set-which : {X : Type 0} (s : ℕ) (read : Body → Option X) (letter : Letter) (x : X) → in_set s read letter ≡ Some x → (letter.set ≡ s) × (read letter.body ≡ Some x)
@@ -113,7 +71,7 @@ freezes_are_on_way script w s x notice = (
   comes-at script w s x freeze_in notice (FreezeBody notice.number notice.modes) refl,
 )
 
-pub tell_if-which : (x : ℕ) (made tell : Tell) → tell_if x made ≡ Some tell → (made ≡ tell) × (tell.node ≡ x)
+tell_if-which : (x : ℕ) (made tell : Tell) → tell_if x made ≡ Some tell → (made ≡ tell) × (tell.node ≡ x)
 tell_if-which x made tell e = by_node (cases_eq made.node x)
   where
     by_node : (made.node ≡ x) ⊎ (made.node ≢ x) → (made ≡ tell) × (tell.node ≡ x)
@@ -122,7 +80,7 @@ tell_if-which x made tell e = by_node (cases_eq made.node x)
         (one, ap (λ (t : Tell). t.node) (sym one) ∙ same)
     by_node (inr other) = let no : None ≡ Some tell = ap (λ (b : Bool). if b then Some made else None) (sym (ne_eqb made.node x other)) ∙ e in cc
 
-pub tell_if-at : (x : ℕ) (tell : Tell) → tell.node ≡ x → tell_if x tell ≡ Some tell
+tell_if-at : (x : ℕ) (tell : Tell) → tell.node ≡ x → tell_if x tell ≡ Some tell
 tell_if-at x tell same = ap (λ (b : Bool). if b then Some tell else None) (eq-eqb tell.node x same)
 
 tell_body : (x : ℕ) (tell : Tell) (b : Body) → tell_in x b ≡ Some tell → (b ≡ TellBody tell) × (tell.node ≡ x)
@@ -132,7 +90,7 @@ tell_body x tell (AskBody other marked) e = cc
 tell_body x tell (TokenBody desk) e = cc
 tell_body x tell (FreezeBody number modes) e = cc
 
-pub tell_item : (x : ℕ) (tell : Tell) (item : Parked) → tell_parked x item ≡ Some tell → (item ≡ ParkedTell tell) × (tell.node ≡ x)
+tell_item : (x : ℕ) (tell : Tell) (item : Parked) → tell_parked x item ≡ Some tell → (item ≡ ParkedTell tell) × (tell.node ≡ x)
 tell_item x tell (ParkedTell made) e = let found = tell_if-which x made tell e in (ap ParkedTell found.0, found.1)
 tell_item x tell (ParkedAsk ask) e = cc
 

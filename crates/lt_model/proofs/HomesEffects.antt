@@ -1,5 +1,6 @@
 -- The effects of a move leave locks and asks at home, and their lines name what is of the script.
-use Rattle.std.proofs.Common.{◌≡◌, ℕ, suc, ◌<◌, ◌≤◌, List, [], ◌∷◌, ◌++◌, length, map, Option, Some, None, Bool, true, false, refl, subst, arith, ◌∙◌, take as take_first, drop as drop_front, set as set_at}
+use Rattle.lt_lists.proofs.AllLemmas.{all_front, all_back, remove_all, all_append, all_map, all_any}
+use Rattle.std.proofs.Common.{◌≡◌, ℕ, ◌<◌, ◌≤◌, List, [], ◌∷◌, ◌++◌, length, map, Option, Some, None, Bool, true, false, refl, subst, arith, ◌∙◌, take as take_first, drop as drop_front, set as set_at}
 use Rattle.std.specs.Prelude.{◌==◌, ◌&&◌, not, nat_lt, if◌then◌else◌, All, fold, remove, position, slice_index_or}
 use Rattle.std.specs.List.{AllByRecursion}
 use Rattle.std.proofs.lemmas.Bool.{eqb-true}
@@ -25,9 +26,8 @@ use Rattle.lt_modes.specs.Routing.{Way, Parks, Goes, learn, dealt, body_of, reve
 use Rattle.lt_modes.specs.Telling.{tell_of, finish}
 use Rattle.lt_modes.specs.Taking.{take_body, arrive}
 use Rattle.lt_modes.specs.SetMove.{ask_of, asked, given, dropped, take, drop}
-use Rattle.lt_model.specs.Families.{home}
+use Rattle.lt_runs.specs.Families.{home}
 use Rattle.lt_model.specs.Homes.{IsRowAtHome, IsAskAtHome, IsAskOf, IsParkedAtHome, IsBodyAtHome, IsStateAtHome, IsLineWithin}
-use Rattle.lt_model.proofs.SentInMove.{all_append, all_map, all_any}
 use Rattle.lt_model.proofs.Effects.{route_ways}
 use Rattle.lt_model.proofs.RuleEffects.{Between, EndRules, ActRules, finish_rule, take_rule}
 
@@ -53,14 +53,6 @@ pub record MadeAtHome (script : ScriptData) (bound q : ℕ) (m : Made) : Type 0 
 
 abbrev pub at_home : ScriptData → ℕ → ℕ → Between
 at_home script bound q t m = IsStateAtHome script q t → MadeAtHome script bound q m
-
-all_front : {X : Type 0} (P : X → Type 0) (xs ys : List X) → AllByRecursion P (xs ++ ys) → AllByRecursion P xs
-all_front P [] ys h = tt
-all_front P (x ∷ xs) ys h = (h.0, all_front P xs ys h.1)
-
-all_back : {X : Type 0} (P : X → Type 0) (xs ys : List X) → AllByRecursion P (xs ++ ys) → AllByRecursion P ys
-all_back P [] ys h = h
-all_back P (x ∷ xs) ys h = all_back P xs ys h.1
 
 pub said_both : (script : ScriptData) (bound : ℕ) (posts more : List Post) (lines later : List Event) → AreAtHome script bound posts lines
     → AreAtHome script bound more later → AreAtHome script bound (posts ++ more) (lines ++ later)
@@ -95,9 +87,6 @@ more_home script q client mode rows known own h = by_place (row_place rows clien
         let within = (position-Some (is_row_of client mode) rows k no_row e).0 in
         let old = h k no_row within in
         All-set (IsRowAtHome script q) rows k (one_more (slice_index_or rows k no_row)) (record { client = old.client; home = old.home; count = omega arith }) h
-
-remove_all : {X : Type 0} (P : X → Type 0) (xs : List X) (k : ℕ) → All P xs → All P (remove xs k)
-remove_all P xs k h = All-append P (take_first k xs) (drop_front (suc k) xs) (All-take P k xs h) (All-drop P (suc k) xs h)
 
 pub less_home : (script : ScriptData) (q client : ℕ) (mode : Mode) (rows : List Row) → All (IsRowAtHome script q) rows
     → All (IsRowAtHome script q) (take_lock rows client mode)
@@ -355,7 +344,7 @@ learn_home script q link t h = by_test (nat_lt t.firm.epoch link.epoch)
     by_test true = record { rows = h.rows; pending = h.pending; parked = h.parked; queue = h.queue }
     by_test false = h
 
-pub arrives_home : (script : ScriptData) (bound : ℕ) (stamp : Stamp) (letter : Letter) → letter.set < length script.sets
+arrives_home : (script : ScriptData) (bound : ℕ) (stamp : Stamp) (letter : Letter) → letter.set < length script.sets
     → IsBodyAtHome script stamp.node letter.body → (t : SetState) → at_home script bound stamp.node t (arrive stamp letter t)
 arrives_home script bound stamp letter in_sets own t h = by_body letter.body own (learn letter.link t) (learn_home script stamp.node letter.link t h)
   where

@@ -15,17 +15,18 @@ use Rattle.lt_modes.specs.State.{SetState, Letter, first_state, first_desk}
 use Rattle.lt_modes.specs.Made.{Made, Post}
 use Rattle.lt_modes.specs.Telling.{finish}
 use Rattle.lt_modes.specs.SetMove.{drop, take}
-use Rattle.lt_model.specs.Below.{put}
-use Rattle.lt_model.specs.Families.{command_if, commands_of, home, family, related}
-use Rattle.lt_model.specs.Log.{Logged}
-use Rattle.lt_model.specs.NodeMove.{NodeState, NodeMade, node_waits, next_command, touched, each_touched, drop_all, locks_in_sets, act_stamp, take_stamp, at_clock, one_made, obey, node_act, node_take}
-use Rattle.lt_model.specs.World.{World, start, is_some_letter, is_enabled, opened, take_front, node_move, after, after_run, IsRunFrom}
+use Rattle.lt_lists.specs.Below.{put}
+use Rattle.lt_runs.specs.Families.{command_if, commands_of, home, family, related}
+use Rattle.lt_runs.specs.Log.{Logged}
+use Rattle.lt_runs.specs.NodeMove.{NodeState, NodeMade, node_waits, next_command, touched, each_touched, drop_all, locks_in_sets, act_stamp, take_stamp, at_clock, one_made, obey, node_act, node_take}
+use Rattle.lt_runs.specs.World.{World, start, is_some_letter, is_enabled, opened, take_front, node_move, after, after_run, IsRunFrom}
 use Rattle.lt_model.specs.Homes.{HasTargets, IsWhole, IsStateAtHome, IsLetterAtHome, Homes}
 use Rattle.lt_model.specs.HomeLaws.{HomesKept, HomesInRuns}
 use Rattle.lt_model.proofs.Letters.{all_sent, before_take}
-use Rattle.lt_model.proofs.SentInMove.{AreSentIn, all_append, all_weaker, all_both, finish-sent, lock-sent, try-sent, unlock-sent, change-sent, drop-sent, take-sent}
-use Rattle.lt_model.proofs.StartKept.{none_in}
-use Rattle.lt_model.proofs.PathsWorld.{put-same, put-other}
+use Rattle.lt_model.proofs.SentInMove.{AreSentIn, finish-sent, lock-sent, try-sent, unlock-sent, change-sent, drop-sent, take-sent}
+use Rattle.lt_lists.proofs.AllLemmas.{all_append, all_weaker, all_both}
+use Rattle.lt_lists.proofs.Members.{none_in}
+use Rattle.lt_lists.proofs.Puts.{put-same, put-other}
 use Rattle.lt_model.proofs.PathsMove.{has_mail_parts}
 use Rattle.lt_model.proofs.RuleEffects.{command_rules}
 use Rattle.lt_model.proofs.HomesEffects.{AreAtHome, MadeAtHome, at_home, said_both, said_nothing, home_acts, finish_home, drop_home, take_home}

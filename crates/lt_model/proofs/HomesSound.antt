@@ -8,17 +8,16 @@ use Rattle.std.proofs.lemmas.List.Elements.{All-append, All-weaker, All-from_rec
 use Rattle.lt_modes.specs.declared.ask.Ask.{Ask}
 use Rattle.lt_modes.specs.declared.parts.Row.{Row}
 use Rattle.lt_modes.specs.Fits.{is_at_home, ask_if, parked_asks}
-use Rattle.lt_modes.specs.Script.{ScriptData, ClientData}
+use Rattle.lt_modes.specs.Script.{ScriptData, ClientData, node_of_client}
 use Rattle.lt_modes.specs.Serving.{queue_of}
 use Rattle.lt_modes.specs.Sound.{SoundRow, SoundParked}
 use Rattle.lt_modes.specs.State.{SetState, Parked, ParkedAsk, ParkedTell}
-use Rattle.lt_model.specs.Families.{home_of}
 use Rattle.lt_model.specs.Homes.{IsWhole, IsRowAtHome, IsAskAtHome, IsAskOf, IsParkedAtHome, IsStateAtHome, IsSoundOwn, HasSoundHomes}
 use Rattle.lt_model.specs.HomeLaws.{HomesSound}
 use Rattle.lt_model.specs.SoundNode.{numbers_of}
 
 pub home_among : (clients : List ClientData) (k : ℕ) → k < length clients
-    → slice_index (map (λ (client : ClientData). client.node) clients) k ≡ home_of (slice_get clients k)
+    → slice_index (map (λ (client : ClientData). client.node) clients) k ≡ node_of_client (slice_get clients k)
 home_among [] k h = absurd (omega (arith, h))
 home_among (client ∷ rest) zero h = refl
 home_among (client ∷ rest) (suc k) h = home_among rest k (omega (arith, h))

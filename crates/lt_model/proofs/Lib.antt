@@ -1,5 +1,4 @@
 pub mod Runs
-pub mod Sums
 pub mod Letters
 pub mod SentInMove
 pub mod PathsQuiet
@@ -13,7 +12,6 @@ pub mod TimedEffects
 pub mod NodeMoves
 pub mod NodeEffects
 pub mod TimedMove
-pub mod Asks
 pub mod StandingEffects
 pub mod StandingMove
 pub mod StandingInRuns
@@ -25,19 +23,6 @@ pub mod ClocksGrow
 pub mod StartKept
 pub mod PathsInRuns
 pub mod TokenComes
-pub mod Members
-pub mod AccountFacts
-pub mod EditedLists
-pub mod Rows
-pub mod Unanswered
-pub mod AccountRows
-pub mod AccountGrants
-pub mod AccountAnswers
-pub mod AccountAsks
-pub mod AccountTells
-pub mod AccountDesk
-pub mod AccountPlay
-pub mod NewsLemmas
 pub mod Gathered
 pub mod AccountRules
 pub mod BeginsMove

@@ -11,20 +11,21 @@ use Rattle.lt_modes.specs.declared.event.Event.{Event}
 use Rattle.lt_modes.specs.Script.{ScriptData}
 use Rattle.lt_modes.specs.State.{Body, AskBody, TellBody, CopyBody, TokenBody, FreezeBody, Letter}
 use Rattle.lt_modes.specs.Made.{Post}
-use Rattle.lt_model.specs.Log.{Logged}
-use Rattle.lt_model.specs.NodeMove.{node_act}
-use Rattle.lt_model.specs.World.{World, start, is_some_letter, is_enabled, opened, front_stamp, move_stamp, take_front, node_move, after_made, after, IsMove, IsRunFrom}
+use Rattle.lt_runs.specs.Log.{Logged}
+use Rattle.lt_runs.specs.NodeMove.{node_act}
+use Rattle.lt_runs.specs.World.{World, start, is_some_letter, is_enabled, opened, front_stamp, move_stamp, take_front, node_move, after_made, after, IsMove, IsRunFrom}
 use Rattle.lt_model.specs.OnWay.{OnWay}
-use Rattle.lt_model.specs.Holdings.{lines_of}
+use Rattle.lt_runs.specs.Holdings.{lines_of}
 use Rattle.lt_model.specs.Invariant.{BodyKept}
 use Rattle.lt_model.specs.Paths.{Paths}
 use Rattle.lt_model.specs.Timed.{Timed}
 use Rattle.lt_model.specs.Touches.{AreStamped}
-use Rattle.lt_model.specs.Counts.{adds, added_by}
+use Rattle.lt_model.specs.AddedLocks.{adds, added_by}
 use Rattle.lt_model.specs.Homes.{IsWhole, Homes, HasMaker, IsLineWithin, IsEntryWithin}
 use Rattle.lt_model.specs.HomeLaws.{LinesInRuns, FewAdded}
 use Rattle.lt_model.proofs.Letters.{IsCounted, sent_on_way}
-use Rattle.lt_model.proofs.StartKept.{none_in, paths_start}
+use Rattle.lt_model.proofs.StartKept.{paths_start}
+use Rattle.lt_lists.proofs.Members.{none_in}
 use Rattle.lt_model.proofs.PathsMove.{has_mail_parts, move_kept}
 use Rattle.lt_model.proofs.ClocksGrow.{clock_moves, other_clocks_stay, stamps_kept}
 use Rattle.lt_model.proofs.TimedMove.{timed_kept, timed_in_runs}

@@ -1,6 +1,6 @@
 -- A node's command as the effects on one of its sets, among what it does on the others.
 use Rattle.std.proofs.Common.{◌≡◌, ◌≢◌, ℕ, ◌+◌, ◌≤◌, inl, inr, List, [], ◌∷◌, ◌++◌, Option, Some, None, Bool, true, false, sym, ap, subst, arith, ◌∙◌}
-use Rattle.std.specs.Prelude.{◌⊎◌}
+use Rattle.std.specs.Prelude.{◌⊎◌, ◌==◌}
 use Rattle.std.specs.List.{AllByRecursion}
 use Rattle.std.proofs.lemmas.Bool.{cases_eq}
 use Rattle.std.proofs.lemmas.List.{append_assoc}
@@ -13,12 +13,12 @@ use Rattle.lt_modes.specs.Places.{cons_if, places_from}
 use Rattle.lt_modes.specs.Made.{Made, Post}
 use Rattle.lt_modes.specs.Telling.{finish}
 use Rattle.lt_modes.specs.SetMove.{lock, try, unlock, change, drop}
-use Rattle.lt_model.specs.Families.{family, related}
-use Rattle.std.specs.Prelude.{◌==◌}
-use Rattle.lt_model.specs.NodeMove.{NodeState, node_waits, touched, each_touched, drop_all, obey}
+use Rattle.lt_runs.specs.Families.{family, related}
+use Rattle.lt_runs.specs.NodeMove.{NodeState, node_waits, touched, each_touched, drop_all, obey}
 use Rattle.lt_model.specs.Touches.{sets_of_command}
-use Rattle.lt_model.proofs.SentInMove.{AreSentIn, all_weaker, finish-sent, drop-sent}
-use Rattle.lt_model.proofs.PathsWorld.{put-same}
+use Rattle.lt_model.proofs.SentInMove.{AreSentIn, finish-sent, drop-sent}
+use Rattle.lt_lists.proofs.AllLemmas.{all_weaker}
+use Rattle.lt_lists.proofs.Puts.{put-same}
 use Rattle.lt_model.proofs.Effects.{Fact, HoldsOf, ByEffects}
 use Rattle.lt_model.proofs.NodeMoves.{touched-beside, each-beside}
 

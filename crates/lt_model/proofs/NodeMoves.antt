@@ -9,11 +9,12 @@ use Rattle.lt_modes.specs.State.{SetState}
 use Rattle.lt_modes.specs.Made.{Made, Post}
 use Rattle.lt_modes.specs.Telling.{finish}
 use Rattle.lt_modes.specs.SetMove.{drop}
-use Rattle.lt_model.specs.Families.{related}
-use Rattle.lt_model.specs.NodeMove.{NodeState, NodeMade, node_waits, touched, each_touched, drop_all, obey}
+use Rattle.lt_runs.specs.Families.{related}
+use Rattle.lt_runs.specs.NodeMove.{NodeState, NodeMade, node_waits, touched, each_touched, drop_all, obey}
 use Rattle.lt_model.specs.Touches.{sets_of_command}
-use Rattle.lt_model.proofs.SentInMove.{AreSentIn, all_append, all_weaker, finish-sent, lock-sent, try-sent, unlock-sent, change-sent, drop-sent}
-use Rattle.lt_model.proofs.PathsWorld.{put-other}
+use Rattle.lt_model.proofs.SentInMove.{AreSentIn, finish-sent, lock-sent, try-sent, unlock-sent, change-sent, drop-sent}
+use Rattle.lt_lists.proofs.AllLemmas.{all_append, all_weaker}
+use Rattle.lt_lists.proofs.Puts.{put-other}
 
 -- the node's clock stays, and its letters have this stamp
 pub record IsStamped (stamp : Stamp) (n : NodeState) (made : NodeMade) : Type 0 where

@@ -11,16 +11,17 @@ use Rattle.lt_modes.specs.Script.{ScriptData}
 use Rattle.lt_modes.specs.State.{Body, Letter}
 use Rattle.lt_modes.specs.Made.{Post}
 use Rattle.lt_modes.specs.SetMove.{take}
-use Rattle.lt_model.specs.NodeMove.{NodeState, NodeMade, next_command, act_stamp, take_stamp, at_clock, one_made, node_act}
-use Rattle.lt_model.specs.World.{World, put_mail, sent, take_front, after_made}
-use Rattle.lt_model.specs.Facts.{state_at}
+use Rattle.lt_runs.specs.NodeMove.{NodeState, NodeMade, next_command, act_stamp, take_stamp, at_clock, one_made, node_act}
+use Rattle.lt_runs.specs.World.{World, put_mail, sent, take_front, after_made}
+use Rattle.lt_runs.specs.Facts.{state_at}
 use Rattle.lt_model.specs.Touches.{of_set, sets_of_front, SameSet}
 use Rattle.lt_model.specs.Laws.{OthersStay}
-use Rattle.lt_model.proofs.Sums.{sum_below-same}
+use Rattle.lt_lists.proofs.Sums.{sum_below-same}
 use Rattle.lt_model.proofs.Letters.{letters_to, letters_to-same, letters_to-other}
-use Rattle.lt_model.proofs.SentInMove.{all_weaker, take-sent}
+use Rattle.lt_model.proofs.SentInMove.{take-sent}
+use Rattle.lt_lists.proofs.AllLemmas.{all_weaker}
 use Rattle.lt_model.proofs.PathsHandOver.{no_token_of_other, none_go}
-use Rattle.lt_model.proofs.PathsWorld.{put-same, put-other}
+use Rattle.lt_lists.proofs.Puts.{put-same, put-other}
 use Rattle.lt_model.proofs.NodeMoves.{IsBeside, touched-beside, obey-beside}
 
 of_set-other : (s : ℕ) (letter : Letter) (rest : List Letter) → letter.set ≢ s → of_set s (letter ∷ rest) ≡ of_set s rest

@@ -24,11 +24,12 @@ use Rattle.lt_modes.specs.Routing.{learn}
 use Rattle.lt_modes.specs.Telling.{tell, attend, finish, finish_by}
 use Rattle.lt_modes.specs.Taking.{take_body, arrive}
 use Rattle.lt_modes.specs.SetMove.{answers, given, granted, ask_of, asked, locked, tried, unlocked, change_held, changed, dropped, lock, try, unlock, change, drop, take}
-use Rattle.lt_model.specs.World.{token_by, token_to}
-use Rattle.lt_model.specs.Facts.{one_if, tokens_in}
+use Rattle.lt_runs.specs.World.{token_by, token_to}
+use Rattle.lt_runs.specs.Facts.{tokens_in}
+use Rattle.lt_lists.specs.Below.{one_if}
 use Rattle.lt_model.specs.Paths.{IsTrueLink, DeskOnPath, HasWay, StateOnPath, BodyOnPath, LetterOnPath}
 use Rattle.lt_model.specs.PathEffects.{Ground, Quiet, token_weight, posts_weight, Moved}
-use Rattle.lt_model.proofs.SentInMove.{all_append, all_weaker}
+use Rattle.lt_lists.proofs.AllLemmas.{all_append, all_weaker}
 use Rattle.lt_model.proofs.PathsQuiet.{quiet_then, ask_at-named, route-quiet, learn_on_path, learn_desk, token_on_path, serve-quiet, freeze-quiet, tell-quiet}
 
 -- the post carries no token of the set

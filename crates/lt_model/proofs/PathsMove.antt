@@ -1,4 +1,5 @@
 -- Each enabled move keeps the token's paths.
+use Rattle.lt_lists.proofs.Puts.{put-put, put-itself, put-same, put-other}
 use Rattle.std.proofs.Common.{◌≡◌, ◌≢◌, ℕ, ◌+◌, ◌<◌, ◌≤◌, inl, inr, List, [], ◌∷◌, ◌++◌, Option, Some, None, Bool, true, false, refl, sym, ap, subst, arith, ◌∙◌}
 use Rattle.std.proofs.Math.Path.{fun_ext}
 use Rattle.std.specs.Prelude.{◌==◌, not, nat_lt, if◌then◌else◌, IsTrue, Contains, is_some, filter_map, drop as drop_front}
@@ -17,32 +18,20 @@ use Rattle.lt_modes.specs.State.{SetState, Letter}
 use Rattle.lt_modes.specs.Made.{Made, Post}
 use Rattle.lt_modes.specs.Telling.{finish}
 use Rattle.lt_modes.specs.SetMove.{lock, try, unlock, change, drop, take}
-use Rattle.lt_model.specs.Below.{put}
-use Rattle.lt_model.specs.Families.{related}
-use Rattle.lt_model.specs.NodeMove.{NodeState, NodeMade, node_waits, next_command, act_stamp, take_stamp, touched, each_touched, drop_all, obey, at_clock, one_made, node_act, node_take}
-use Rattle.lt_model.specs.World.{World, has_mail, is_some_letter, is_enabled, take_front, put_mail, opened, letter_for, sent, token_to, after_made, after}
-use Rattle.lt_model.specs.Facts.{state_at, one_if, tokens_in}
+use Rattle.lt_lists.specs.Below.{put, one_if}
+use Rattle.lt_runs.specs.Families.{related}
+use Rattle.lt_runs.specs.NodeMove.{NodeState, NodeMade, node_waits, next_command, act_stamp, take_stamp, touched, each_touched, drop_all, obey, at_clock, one_made, node_act, node_take}
+use Rattle.lt_runs.specs.World.{World, has_mail, is_some_letter, is_enabled, take_front, put_mail, opened, letter_for, sent, token_to, after_made, after}
+use Rattle.lt_runs.specs.Facts.{state_at, tokens_in}
 use Rattle.lt_model.specs.Paths.{StateOnPath, LetterOnPath, Paths}
-use Rattle.lt_model.proofs.Sums.{sum_below-at}
+use Rattle.lt_lists.proofs.Sums.{sum_below-at}
 use Rattle.lt_model.proofs.Letters.{letters_to}
-use Rattle.lt_model.proofs.SentInMove.{IsSentIn, AreSentIn, all_weaker, finish-sent, lock-sent, try-sent, unlock-sent, change-sent, drop-sent, take-sent}
+use Rattle.lt_model.proofs.SentInMove.{IsSentIn, AreSentIn, finish-sent, lock-sent, try-sent, unlock-sent, change-sent, drop-sent, take-sent}
+use Rattle.lt_lists.proofs.AllLemmas.{all_weaker}
 use Rattle.lt_model.specs.PathEffects.{Ground, token_weight, Moved}
 use Rattle.lt_model.proofs.PathsHandOver.{no_token, finish-moved, lock-moved, try-moved, unlock-moved, change-moved, drop-moved, take-moved}
 use Rattle.lt_model.proofs.PathsBeyond.{Idle, finish-idle, lock-idle, try-idle, unlock-idle, change-idle, drop-idle}
-use Rattle.lt_model.proofs.PathsWorld.{PathsOf, put-same, put-other, after_moved, after_others, after_beyond, opened_for}
-
-pub put-put : {X : Type 0} (f : ℕ → X) (q : ℕ) (u v : X) → put (put f q u) q v ≡ put f q v
-put-put f q u v = fun_ext (λ k. by_test k (k == q))
-  where
-    by_test : (k : ℕ) (here : Bool) → (if here then v else (if here then u else f k)) ≡ (if here then v else f k)
-    by_test k true = refl
-    by_test k false = refl
-
-put-itself : {X : Type 0} (f : ℕ → X) (q : ℕ) → f ≡ put f q (f q)
-put-itself f q = fun_ext (λ k. elim (cases_eq k q) [
-  | inl e ↦ ap f e ∙ sym (ap (put f q (f q)) e ∙ put-same f q (f q))
-  | inr d ↦ sym (put-other f q (f q) k d)
-])
+use Rattle.lt_model.proofs.PathsWorld.{PathsOf, after_moved, after_others, after_beyond, opened_for}
 
 pub sent-sent : (q : ℕ) (first second : List Post) (mail : ℕ → ℕ → List Letter) → sent q second (sent q first mail) ≡ sent q (first ++ second) mail
 sent-sent q first second mail = fun_ext (λ a. fun_ext (λ b. by_test a b (a == q)))

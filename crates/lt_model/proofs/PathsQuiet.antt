@@ -20,11 +20,12 @@ use Rattle.lt_modes.specs.Freezing.{freeze, freeze_at, frozen_by, frozen_entry, 
 use Rattle.lt_modes.specs.Routing.{Way, Parks, Goes, learn, dealt, is_behind, hoped_way, way, way_onward, body_of, reversed, sent_on, route, route_by}
 use Rattle.lt_modes.specs.Telling.{tell, tell_of, make_tell}
 use Rattle.lt_modes.specs.Taking.{take_token}
-use Rattle.lt_model.specs.Facts.{one_if, tokens_in}
+use Rattle.lt_runs.specs.Facts.{tokens_in}
+use Rattle.lt_lists.specs.Below.{one_if}
 use Rattle.lt_model.specs.Paths.{IsTrueLink, IsNamed, IsParkedNamed, DeskOnPath, HasWay, StateOnPath, BodyOnPath}
 use Rattle.lt_model.specs.PathEffects.{Ground, Quiet}
-use Rattle.lt_model.proofs.StartKept.{all_none}
-use Rattle.lt_model.proofs.SentInMove.{all_append, all_map, all_weaker}
+use Rattle.lt_lists.proofs.Members.{all_none}
+use Rattle.lt_lists.proofs.AllLemmas.{all_append, all_map, all_weaker}
 
 pub link_named : (nodes : ℕ) (went : List ℕ) (link : Link) → Ground nodes went → IsTrueLink went link → link.node < nodes
 link_named nodes went link g true_link = subst (λ (x : ℕ). x < nodes) true_link.node (g.known link.epoch 0 true_link.epoch)

@@ -1,20 +1,21 @@
 -- The token's path in a world, as a node makes its move on one set.
+use Rattle.lt_lists.proofs.Puts.{put-same, put-other}
 use Rattle.std.proofs.Common.{◌≡◌, ◌≢◌, ℕ, ◌+◌, ◌<◌, ◌≤◌, inl, inr, List, [], ◌∷◌, ◌++◌, length, Option, Some, None, refl, sym, ap, subst, arith, ◌∙◌}
 use Rattle.std.specs.Prelude.{◌⊎◌, Contains, is_some, filter_map, slice_index, drop}
 use Rattle.std.specs.List.{AllByRecursion}
-use Rattle.std.proofs.lemmas.Bool.{cases_eq, cases_lt, eq-eqb, ne_eqb}
+use Rattle.std.proofs.lemmas.Bool.{cases_eq, cases_lt, eq-eqb}
 use Rattle.std.proofs.lemmas.List.{append-nil, get_or_append_left, length_push}
 use Rattle.std.proofs.lemmas.List.Elements.{All-push}
 use Rattle.lt_modes.specs.State.{SetState, Desk, Letter}
 use Rattle.lt_modes.specs.Made.{Made, Post}
-use Rattle.lt_model.specs.Below.{put, sum_below}
-use Rattle.lt_model.specs.World.{sent, put_mail, token_to}
-use Rattle.lt_model.specs.Facts.{one_if, tokens_in}
+use Rattle.lt_lists.specs.Below.{put, sum_below, one_if}
+use Rattle.lt_runs.specs.World.{sent, put_mail, token_to}
+use Rattle.lt_runs.specs.Facts.{tokens_in}
 use Rattle.lt_model.specs.Paths.{HasWay, StateOnPath, LetterOnPath}
 use Rattle.lt_model.specs.PathEffects.{Ground, token_weight, Moved, HandsOver}
-use Rattle.lt_model.proofs.Sums.{sum_below-change, sum_below-at, sum_below-two, sum_below-same}
+use Rattle.lt_lists.proofs.Sums.{sum_below-change, sum_below-at, sum_below-two, sum_below-same}
 use Rattle.lt_model.proofs.Letters.{mail_weight, all_sent, before_take, mail_weight-sent, mail_weight-none, mail_weight-beyond, mail_weight-at, mail_weight-taken}
-use Rattle.lt_model.proofs.SentInMove.{all_weaker, all_any}
+use Rattle.lt_lists.proofs.AllLemmas.{all_weaker, all_any}
 use Rattle.lt_model.proofs.PathsHandOver.{HasNoToken, no_token_of_other, none_go, link_later, letter_later}
 
 -- the nodes that have the desk
@@ -54,12 +55,6 @@ state_later nodes gone x q v t h d none last = record {
 
 pub weighs_tokens : (s : ℕ) (letter : Letter) → letter.set ≡ s → token_weight s letter ≡ tokens_in letter.body
 weighs_tokens s letter e = rw (eq-eqb letter.set s e) refl
-
-pub put-same : {X : Type 0} (f : ℕ → X) (q : ℕ) (v : X) → put f q v q ≡ v
-put-same f q v = rw (eq-eqb q q refl) refl
-
-pub put-other : {X : Type 0} (f : ℕ → X) (q : ℕ) (v : X) (k : ℕ) → k ≢ q → put f q v k ≡ f k
-put-other f q v k d = rw (ne_eqb k q d) refl
 
 -- what stays on the path as the move is made: the other nodes, and the letters that were on their way
 record Others (nodes s q : ℕ) (state : ℕ → SetState) (mail : ℕ → ℕ → List Letter) (now : List ℕ) : Type 0 where

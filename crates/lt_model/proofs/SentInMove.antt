@@ -1,6 +1,7 @@
 -- The letters of a rule are of its set and have the stamp of its move.
-use Rattle.std.proofs.Common.{◌≡◌, ℕ, zero, suc, List, [], ◌∷◌, ◌++◌, Option, Some, None, Bool, true, false, refl}
-use Rattle.std.specs.Prelude.{◌==◌, if◌then◌else◌, map, length}
+use Rattle.lt_lists.proofs.AllLemmas.{all_append, all_map, all_any}
+use Rattle.std.proofs.Common.{◌≡◌, ℕ, zero, suc, Option, Some, None, Bool, true, false, refl}
+use Rattle.std.specs.Prelude.{◌==◌, if◌then◌else◌, length}
 use Rattle.std.specs.List.{AllByRecursion}
 use Rattle.std.proofs.lemmas.Bool.{cond_both}
 use Rattle.lt_modes.specs.declared.mode.Mode.{Mode}
@@ -18,26 +19,6 @@ use Rattle.lt_modes.specs.declared.event.Event.TheVariants.{Try, Unlock, NotHeld
 use Rattle.lt_modes.specs.Held.{count_of, take_lock}
 use Rattle.lt_modes.specs.Granting.{can_grant}
 use Rattle.lt_modes.specs.SetMove.{answers, given, granted, ask_of, asked, locked, tried, unlocked, change_held, changed, dropped, lock, try, unlock, change, drop, take}
-
-pub all_append : {X : Type 0} (P : X → Type 0) (xs ys : List X) → AllByRecursion P xs → AllByRecursion P ys → AllByRecursion P (xs ++ ys)
-all_append P [] ys hx hy = hy
-all_append P (x ∷ xs) ys hx hy = (hx.0, all_append P xs ys hx.1 hy)
-
-pub all_weaker : {X : Type 0} (P Q : X → Type 0) → ((x : X) → P x → Q x) → (xs : List X) → AllByRecursion P xs → AllByRecursion Q xs
-all_weaker P Q weaker [] h = tt
-all_weaker P Q weaker (x ∷ xs) h = (weaker x h.0, all_weaker P Q weaker xs h.1)
-
-pub all_both : {X : Type 0} (P Q : X → Type 0) (xs : List X) → AllByRecursion P xs → AllByRecursion Q xs → AllByRecursion (λ x. P x × Q x) xs
-all_both P Q [] hp hq = tt
-all_both P Q (x ∷ xs) hp hq = ((hp.0, hq.0), all_both P Q xs hp.1 hq.1)
-
-pub all_map : {X Y : Type 0} (P : Y → Type 0) (f : X → Y) (xs : List X) → AllByRecursion (λ x. P (f x)) xs → AllByRecursion P (map f xs)
-all_map P f [] h = tt
-all_map P f (x ∷ xs) h = (h.0, all_map P f xs h.1)
-
-pub all_any : {X : Type 0} (P : X → Type 0) → ((x : X) → P x) → (xs : List X) → AllByRecursion P xs
-all_any P each [] = tt
-all_any P each (x ∷ xs) = (each x, all_any P each xs)
 
 -- the post is of the set and of the move with the stamp
 abbrev pub IsSentIn : ℕ → Stamp → Post → Type 0

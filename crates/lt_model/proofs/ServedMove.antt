@@ -12,16 +12,16 @@ use Rattle.lt_modes.specs.Serving.{ask_at, next_service, next_move}
 use Rattle.lt_modes.specs.HandingOver.{hand_over_to}
 use Rattle.lt_modes.specs.Telling.{tell_of}
 use Rattle.lt_modes.specs.SetMove.{take}
-use Rattle.lt_model.specs.Below.{put}
-use Rattle.lt_model.specs.Log.{Logged}
-use Rattle.lt_model.specs.NodeMove.{NodeState, next_command, act_stamp, take_stamp, at_clock, one_made, node_act, node_take}
-use Rattle.lt_model.specs.World.{World, start, opened, take_front, node_move, after, after_run, IsRunFrom}
-use Rattle.lt_model.specs.Facts.{state_at}
+use Rattle.lt_lists.specs.Below.{put}
+use Rattle.lt_runs.specs.Log.{Logged}
+use Rattle.lt_runs.specs.NodeMove.{NodeState, next_command, act_stamp, take_stamp, at_clock, one_made, node_act, node_take}
+use Rattle.lt_runs.specs.World.{World, start, opened, take_front, node_move, after, after_run, IsRunFrom}
+use Rattle.lt_runs.specs.Facts.{state_at}
 use Rattle.lt_model.specs.Invariant.{IsServed}
 use Rattle.lt_model.specs.Laws.{ServedKept, ServedInRuns}
 use Rattle.lt_model.proofs.SentInMove.{take-sent}
 use Rattle.lt_model.proofs.PathsBeyond.{route-idle}
-use Rattle.lt_model.proofs.PathsWorld.{put-same, put-other}
+use Rattle.lt_lists.proofs.Puts.{put-same, put-other}
 use Rattle.lt_model.proofs.StartKept.{served_if}
 use Rattle.lt_model.proofs.Effects.{Fact, EndEffects, ActEffects, acts_by_effects, take_by_effects}
 use Rattle.lt_model.proofs.NodeMoves.{obey-beside, touched-beside}

@@ -6,10 +6,11 @@ use Rattle.std.proofs.lemmas.List.{append_assoc}
 use Rattle.std.proofs.lemmas.List.Elements.{filter_map-append}
 use Rattle.lt_modes.specs.State.{SetState}
 use Rattle.lt_modes.specs.Made.{joined}
-use Rattle.lt_model.specs.NodeMove.{NodeMade, touched}
-use Rattle.lt_model.specs.World.{World, token_to}
+use Rattle.lt_runs.specs.NodeMove.{NodeMade, touched}
+use Rattle.lt_runs.specs.World.{World, token_to}
 use Rattle.lt_model.specs.MomentLaws.{MovesInSteps}
-use Rattle.lt_model.proofs.PathsMove.{put-put, sent-sent}
+use Rattle.lt_model.proofs.PathsMove.{sent-sent}
+use Rattle.lt_lists.proofs.Puts.{put-put}
 
 pub moves_in_steps : MovesInSteps
 moves_in_steps = record {

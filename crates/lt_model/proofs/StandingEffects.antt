@@ -14,7 +14,7 @@ use Rattle.lt_modes.specs.Modes.{is_taking}
 use Rattle.lt_modes.specs.Held.{held_modes}
 use Rattle.lt_modes.specs.State.{SetState, Desk, Body, AskBody, TellBody, CopyBody, TokenBody, FreezeBody, Letter, Parked, ParkedAsk, ParkedTell}
 use Rattle.lt_modes.specs.Made.{Post, silent}
-use Rattle.lt_modes.specs.Queue.{same_ask, has_stamp, without, without_at, no_ask}
+use Rattle.lt_modes.specs.Queue.{same_ask, has_stamp, without, without_at, no_ask, times_in}
 use Rattle.lt_modes.specs.Serving.{queue_of, queue_of_desk, ask_at, next_service, serve_one, serve_local, serve_copy}
 use Rattle.lt_modes.specs.Freezing.{freeze, freeze_at, frozen_by, targets}
 use Rattle.lt_modes.specs.HandingOver.{hand_over_to}
@@ -23,12 +23,13 @@ use Rattle.lt_modes.specs.Telling.{tell_of}
 use Rattle.lt_modes.specs.Taking.{take_body, arrive}
 use Rattle.lt_modes.specs.SetMove.{ask_of, asked, take}
 use Rattle.lt_modes.proofs.ServingLemmas.{queue_of-serve_one}
-use Rattle.lt_model.specs.Facts.{one_if, times_in, times_parked, places_in_state, places_in_body, tokens_in}
+use Rattle.lt_runs.specs.Facts.{times_parked, places_in_state, places_in_body, tokens_in}
+use Rattle.lt_lists.specs.Below.{one_if}
 use Rattle.lt_model.specs.Standing.{IsMadeBy}
 use Rattle.lt_model.specs.PathEffects.{posts_weight}
-use Rattle.lt_model.proofs.SentInMove.{all_append, all_map, all_any}
-use Rattle.lt_model.proofs.Asks.{times_in-some, times_in-found, times_in-push, times_in-entered, times_in-remove, times_in-without, same_ask-itself}
-use Rattle.lt_model.proofs.Unanswered.{without_apart}
+use Rattle.lt_lists.proofs.AllLemmas.{all_append, all_map, all_any}
+use Rattle.lt_accounts.proofs.Asks.{times_in-some, times_in-found, times_in-push, times_in-entered, times_in-remove, times_in-without, same_ask-itself}
+use Rattle.lt_accounts.proofs.Unanswered.{without_apart}
 use Rattle.lt_model.proofs.Effects.{Fact, HoldsOf, EndEffects, ActEffects, ByEffects, route_ways, holds_silent, acts_by_effects, take_by_effects, next_service-within}
 
 -- how often the ask stands in a letter of the set

@@ -10,23 +10,26 @@ use Rattle.lt_modes.specs.Script.{ScriptData}
 use Rattle.lt_modes.specs.State.{SetState, Body, AskBody, TellBody, CopyBody, TokenBody, FreezeBody, Letter}
 use Rattle.lt_modes.specs.Made.{Post}
 use Rattle.lt_modes.specs.SetMove.{take}
-use Rattle.lt_model.specs.Below.{put, sum_below}
-use Rattle.lt_model.specs.NodeMove.{NodeState, NodeMade, next_command, act_stamp, take_stamp, at_clock, one_made, node_act, node_take}
-use Rattle.lt_model.specs.World.{World, is_some_letter, opened, put_mail, take_front, after_made, after}
-use Rattle.lt_model.specs.Facts.{state_at, one_if, times_in, places_in_state, places_in_body, tokens_in, place_count}
+use Rattle.lt_lists.specs.Below.{put, sum_below, one_if}
+use Rattle.lt_runs.specs.NodeMove.{NodeState, NodeMade, next_command, act_stamp, take_stamp, at_clock, one_made, node_act, node_take}
+use Rattle.lt_runs.specs.World.{World, is_some_letter, opened, put_mail, take_front, after_made, after}
+use Rattle.lt_runs.specs.Facts.{state_at, places_in_state, places_in_body, tokens_in, place_count}
+use Rattle.lt_modes.specs.Queue.{times_in}
 use Rattle.lt_model.specs.Paths.{Paths}
 use Rattle.lt_model.specs.Standing.{IsMadeBy, AsksStand}
-use Rattle.lt_model.proofs.Sums.{sum_below-same, sum_below-none, sum_below-change, sum_below-at}
+use Rattle.lt_lists.proofs.Sums.{sum_below-same, sum_below-none, sum_below-change, sum_below-at}
 use Rattle.lt_model.proofs.Letters.{mail_weight, IsCounted, all_sent, before_take, sent_on_way, mail_weight-sent, mail_weight-beyond, mail_weight-taken, mail_weight-at}
 use Rattle.lt_model.specs.Laws.{StandingKept}
 use Rattle.std.proofs.lemmas.List.Sums.{sum_by-append}
 use Rattle.lt_model.specs.PathEffects.{token_weight}
-use Rattle.lt_model.proofs.SentInMove.{all_append, all_weaker, all_any, take-sent}
-use Rattle.lt_model.proofs.PathsWorld.{put-same, put-other, weighs_tokens}
+use Rattle.lt_model.proofs.SentInMove.{take-sent}
+use Rattle.lt_lists.proofs.AllLemmas.{all_append, all_weaker, all_any}
+use Rattle.lt_model.proofs.PathsWorld.{weighs_tokens}
+use Rattle.lt_lists.proofs.Puts.{put-same, put-other}
 use Rattle.lt_model.proofs.PathsMove.{has_mail_parts, move_kept}
 use Rattle.lt_model.proofs.NodeMoves.{obey-stamped, obey-beside, touched-beside}
 use Rattle.lt_model.proofs.NodeEffects.{IsOfSet, once_or_aside, obey_by_effects}
-use Rattle.lt_model.proofs.Asks.{times_in-none}
+use Rattle.lt_accounts.proofs.Asks.{times_in-none}
 use Rattle.lt_model.proofs.StandingEffects.{places_weight, places_sent-none, IsCopyHome, Stands, stands, stands_later, standing_moves, standing_take}
 
 -- how often the ask stands at the nodes, and how often it is unanswered

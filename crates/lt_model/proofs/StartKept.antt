@@ -1,12 +1,15 @@
 -- The start of each script has the invariant.
+use Rattle.lt_accounts.proofs.FirstAccount.{empty_account, empty_is_kept}
+use Rattle.lt_accounts.proofs.ModeMembers.{none_has}
+use Rattle.lt_lists.proofs.Sums.{sum_zero, sum_same, sum_first}
+use Rattle.lt_lists.proofs.Gathering.{gather_none}
+use Rattle.lt_lists.proofs.Members.{none_in, all_none}
 use Rattle.std.proofs.Common.{◌≡◌, ◌≢◌, ℕ, zero, suc, ◌<◌, inl, inr, List, [], ◌∷◌, ◌++◌, length, Option, Some, None, Bool, true, false, refl, sym, ap, subst, arith, ◌∙◌}
-use Rattle.std.specs.Prelude.{◌==◌, if◌then◌else◌, IfSome, All, Contains, IsTrue, is_some, slice_index_or, unwrap_or}
+use Rattle.std.specs.Prelude.{◌==◌, if◌then◌else◌, IfSome, IsTrue, is_some, slice_index_or, unwrap_or}
 use Rattle.std.proofs.lemmas.Bool.{ne_eqb, eqb-true}
 use Rattle.std.proofs.lemmas.List.{append-nil, length-replicate, get_or-replicate}
 use Rattle.std.specs.List.{filter_map}
 use Rattle.lt_modes.specs.declared.ask.Ask.{Ask}
-use Rattle.lt_modes.specs.declared.mode.Mode.{Mode}
-use Rattle.lt_modes.specs.declared.mode.Mode.TheVariants.{IntentionRead, Read, Upgrade, IntentionWrite, Write}
 use Rattle.lt_modes.specs.Modes.{Modes, no_modes, has}
 use Rattle.lt_modes.specs.Script.{ScriptData}
 use Rattle.lt_modes.specs.State.{SetState, Desk, Entry, Tell, Body, first_desk, first_entry}
@@ -14,28 +17,18 @@ use Rattle.lt_modes.specs.Records.{entry_of, record_of}
 use Rattle.lt_modes.specs.Serving.{next_service, next_move}
 use Rattle.lt_modes.specs.Fits.{Numbers}
 use Rattle.lt_modes.specs.Sound.{SoundSet}
-use Rattle.lt_model.specs.Below.{sum_below, gather_below}
-use Rattle.lt_model.specs.World.{start}
+use Rattle.lt_lists.specs.Below.{sum_below, gather_below, one_if}
+use Rattle.lt_runs.specs.World.{start}
 use Rattle.lt_model.specs.Moments.{Between, is_at}
 use Rattle.lt_model.specs.OnWay.{Comes, DeskIs, in_set, tell_in, tell_parked, copy_in, freeze_in, tells_of, copies_to, freezes_to, account_of, news_of}
-use Rattle.lt_model.specs.Facts.{state_at, one_if, times_in, places_in_state, place_count}
-use Rattle.lt_model.specs.Account.{Account, AccountKept, counted}
-use Rattle.lt_model.specs.News.{News, Notice, NewsKept}
+use Rattle.lt_runs.specs.Facts.{state_at, places_in_state, place_count}
+use Rattle.lt_modes.specs.Queue.{times_in}
+use Rattle.lt_accounts.specs.Account.{Account, AccountKept, counted}
+use Rattle.lt_accounts.specs.News.{News, Notice, NewsKept}
 use Rattle.lt_model.specs.Invariant.{DeskKept, SetKept, Kept, LinesKept}
 use Rattle.lt_model.specs.Paths.{HasWay, Paths}
 use Rattle.lt_modes.specs.declared.parts.Hoped.{Hoped}
 use Rattle.lt_model.specs.SoundNode.{ClientsKept, numbers_of}
-
--- nothing is in an empty list
-pub none_in : {X : Type 0} {A : Type 0} (x : X) → Contains [] x → A
-none_in x h = absurd (omega (arith, h.1))
-
-pub all_none : {X : Type 0} (P : X → Type 0) → All P []
-all_none P = λ k d h. absurd (omega (arith, h))
-
-pub sum_zero : (n : ℕ) → sum_below n (λ k. 0) ≡ 0
-sum_zero zero = refl
-sum_zero (suc n) = omega (arith, sum_zero n)
 
 -- what a node keeps at the start, with the desk or without
 abbrev state_if : ℕ → Bool → SetState
@@ -94,11 +87,6 @@ clients_start script q = record {
 no_comes : {A : Type 0} (script : ScriptData) (s q : ℕ) (body : Body) → Comes script (start script) s q body → A
 no_comes script s q body h = none_in h.1 h.3.among
 
--- nothing is gathered from empty lists
-gather_none : {X : Type 0} (n : ℕ) (f : ℕ → List X) → ((k : ℕ) → f k ≡ []) → gather_below n f ≡ []
-gather_none zero f none = refl
-gather_none (suc n) f none = ap (λ xs. xs ++ f n) (gather_none n f none) ∙ none n
-
 no_tells : (script : ScriptData) (s x : ℕ) → tells_of script (start script) s x ≡ []
 no_tells script s x =
     let parked = gather_none script.nodes (λ q. filter_map (tell_parked x) (state_at (start script) s q).parked) (λ q. refl) in
@@ -112,57 +100,6 @@ no_copies script s x = gather_none script.nodes (λ p. filter_map (in_set s copy
 
 no_freezes : (script : ScriptData) (s x : ℕ) → freezes_to script (start script) s x ≡ []
 no_freezes script s x = gather_none script.nodes (λ p. filter_map (in_set s freeze_in) ((start script).mail p x)) (λ p. refl)
-
--- an account in which nothing is
-abbrev first_account : ℕ → Bool → Account
-first_account clock here = record {
-  clock = clock;
-  held = [];
-  charge = no_modes;
-  pending = [];
-  entry = first_entry;
-  tells = [];
-  copies = [];
-  here = here;
-  moving = false;
-}
-
-pub account_first : (clock : ℕ) (here : Bool) → AccountKept (first_account clock here)
-account_first clock here = record {
-  clocks = record {
-    asks = λ ask h. none_in ask h;
-    apart = λ i j d before below. absurd (omega (arith, below));
-    tells_made = λ tell t. none_in tell t;
-    tells_apart = λ x y h. none_in x h;
-    told = omega arith;
-    owed = λ copy h. none_in copy h;
-  };
-  known = record {
-    in_entry = λ ask h. none_in ask h;
-    in_tells = λ ask tell h. none_in ask h;
-    lists = λ later older t. none_in later t;
-    entry_list = λ tell t. none_in tell t.0;
-  };
-  owed = record {
-    waits = λ ask h. none_in ask h;
-    owed = λ ask h. none_in ask h;
-    on_way = λ copy ask h. none_in copy h;
-    open_still = λ copy h. none_in copy h;
-  };
-  charge = λ away. refl;
-  cover = λ away. record {
-    record_bound = λ mode bar. bar;
-    left_bound = λ tell t. none_in tell t.0;
-    record_shrinks = λ tell t. none_in tell t.0;
-    left_shrinks = λ later older t. none_in later t.0;
-    exact = inl (λ mode bar. bar);
-  };
-  clear = record {
-    copies_clear = λ x y h. none_in x h;
-    copy_and_held = λ ask h. none_in ask h;
-    clients = λ x y h. none_in x h;
-  };
-}
 
 entry_first : (nodes x : ℕ) → x < nodes → entry_of (first_desk nodes) x ≡ first_entry
 entry_first nodes x h = get_or-replicate nodes x first_entry first_entry h
@@ -194,7 +131,7 @@ account_by clock here entry tells copies = record {
 }
 
 account_start : (script : ScriptData) (s : ℕ) (place : Option ℕ) (x : ℕ) → x < script.nodes
-    → account_of script Between (start script) s place (first_desk script.nodes) x ≡ first_account 0 (is_at place x)
+    → account_of script Between (start script) s place (first_desk script.nodes) x ≡ empty_account 0 (is_at place x)
 account_start script s place x h =
     ap (λ (e : Entry). account_by 0 (is_at place x) e (tells_of script (start script) s x) (copies_to script (start script) s x)) (entry_first script.nodes x h)
     ∙ ap (λ (t : List Tell). account_by 0 (is_at place x) first_entry t (copies_to script (start script) s x)) (no_tells script s x)
@@ -231,32 +168,17 @@ news_first here = record {
   told = λ away between some. refl;
 }
 
-pub none_has : {A : Type 0} (mode : Mode) → IsTrue (has mode no_modes) → A
-none_has IntentionRead h = cc
-none_has Read h = cc
-none_has Upgrade h = cc
-none_has IntentionWrite h = cc
-none_has Write h = cc
-
-counted_first : (clock : ℕ) (here : Bool) → counted (first_account clock here) ≡ no_modes
+counted_first : (clock : ℕ) (here : Bool) → counted (empty_account clock here) ≡ no_modes
 counted_first clock true = refl
 counted_first clock false = refl
 
 desk_kept : (script : ScriptData) (s : ℕ) (place : Option ℕ) → DeskKept script Between (start script) s place (first_desk script.nodes)
 desk_kept script s place = record {
-  accounts = λ x h. subst AccountKept (sym (account_start script s place x h)) (account_first 0 (is_at place x));
+  accounts = λ x h. subst AccountKept (sym (account_start script s place x h)) (empty_is_kept 0 (is_at place x));
   clear = λ x y hx hy d mode member.
       none_has mode (subst (λ (modes : Modes). IsTrue (has mode modes)) (ap counted (account_start script s place x hx) ∙ counted_first 0 (is_at place x)) member);
   news = λ x h. subst NewsKept (sym (news_start script s place x h)) (news_first (is_at place x));
 }
-
-sum_same : (n : ℕ) (f g : ℕ → ℕ) → ((k : ℕ) → f k ≡ g k) → sum_below n f ≡ sum_below n g
-sum_same zero f g e = refl
-sum_same (suc n) f g e = omega (arith, sum_same n f g e, e n)
-
-sum_first : (n : ℕ) (f : ℕ → ℕ) → f 0 ≡ 1 → ((k : ℕ) → f (suc k) ≡ 0) → sum_below (suc n) f ≡ 1
-sum_first zero f first rest = omega (arith, first)
-sum_first (suc n) f first rest = omega (arith, sum_first n f first rest, rest n)
 
 sum_tokens : (n nodes : ℕ) → 0 < n → sum_below n (λ q. one_if (is_some (state_if nodes (q == 0)).desk)) ≡ 1
 sum_tokens zero nodes h = absurd (omega (arith, h))

@@ -1,6 +1,6 @@
 -- The effects of a move write no number above the move's clock.
 use Rattle.std.proofs.Common.{◌≡◌, ℕ, ◌+◌, ◌<◌, ◌≤◌, List, [], ◌∷◌, ◌++◌, Option, Some, None, Bool, true, false, sym, subst, arith}
-use Rattle.std.specs.Prelude.{◌==◌, ◌&&◌, not, nat_lt, if◌then◌else◌, IfSome, fold}
+use Rattle.std.specs.Prelude.{◌==◌, ◌&&◌, not, nat_lt, if◌then◌else◌, IfSome, fold, remove}
 use Rattle.std.specs.List.{AllByRecursion}
 use Rattle.lt_modes.specs.declared.stamp.Stamp.{Stamp}
 use Rattle.lt_modes.specs.declared.ask.Ask.{Ask}
@@ -17,9 +17,8 @@ use Rattle.lt_modes.specs.Routing.{Way, Parks, Goes, learn, dealt, body_of, reve
 use Rattle.lt_modes.specs.Telling.{tell_of}
 use Rattle.lt_modes.specs.Taking.{take_body, arrive}
 use Rattle.lt_modes.specs.SetMove.{ask_of, asked, take}
-use Rattle.std.specs.Prelude.{remove}
 use Rattle.lt_model.specs.Invariant.{BodyKept}
-use Rattle.lt_model.proofs.SentInMove.{all_append, all_map, all_any}
+use Rattle.lt_lists.proofs.AllLemmas.{all_append, all_map, all_any}
 use Rattle.lt_model.proofs.Effects.{Fact, HoldsOf, EndEffects, ActEffects, route_ways, holds_silent, acts_by_effects, take_by_effects, ByEffects}
 
 -- the desk's epoch is up to one bound, its freeze number up to another

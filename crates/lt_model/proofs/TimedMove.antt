@@ -9,17 +9,18 @@ use Rattle.lt_modes.specs.Script.{ScriptData}
 use Rattle.lt_modes.specs.State.{SetState, Desk, Letter, first_desk}
 use Rattle.lt_modes.specs.Made.{Post}
 use Rattle.lt_modes.specs.SetMove.{take}
-use Rattle.lt_model.specs.Below.{put}
-use Rattle.lt_model.specs.Log.{Logged}
-use Rattle.lt_model.specs.NodeMove.{NodeState, NodeMade, next_command, act_stamp, take_stamp, at_clock, one_made, node_act, node_take}
-use Rattle.lt_model.specs.World.{World, start, is_some_letter, opened, put_mail, take_front, after_made, after, after_run, IsRunFrom}
+use Rattle.lt_lists.specs.Below.{put}
+use Rattle.lt_runs.specs.Log.{Logged}
+use Rattle.lt_runs.specs.NodeMove.{NodeState, NodeMade, next_command, act_stamp, take_stamp, at_clock, one_made, node_act, node_take}
+use Rattle.lt_runs.specs.World.{World, start, is_some_letter, opened, put_mail, take_front, after_made, after, after_run, IsRunFrom}
 use Rattle.lt_model.specs.Invariant.{BodyKept, LetterKept}
 use Rattle.lt_model.specs.Timed.{StateTimed, Timed}
 use Rattle.lt_model.specs.Laws.{TimedKept, TimedInRuns}
 use Rattle.lt_model.proofs.Letters.{all_sent, before_take}
-use Rattle.lt_model.proofs.SentInMove.{all_weaker, all_both, all_any, take-sent}
-use Rattle.lt_model.proofs.StartKept.{none_in}
-use Rattle.lt_model.proofs.PathsWorld.{put-same, put-other}
+use Rattle.lt_model.proofs.SentInMove.{take-sent}
+use Rattle.lt_lists.proofs.AllLemmas.{all_weaker, all_both, all_any}
+use Rattle.lt_lists.proofs.Members.{none_in}
+use Rattle.lt_lists.proofs.Puts.{put-same, put-other}
 use Rattle.lt_model.proofs.PathsMove.{has_mail_parts}
 use Rattle.lt_model.proofs.NodeMoves.{obey-stamped, obey-beside, touched-beside}
 use Rattle.lt_model.proofs.NodeEffects.{IsOfSet, once_or_aside, obey_by_effects}

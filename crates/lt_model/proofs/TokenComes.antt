@@ -5,13 +5,13 @@ use Rattle.std.proofs.lemmas.Bool.{cases_eq, eqb-true}
 use Rattle.std.proofs.lemmas.List.Sums.{sum_by-cons}
 use Rattle.lt_modes.specs.Script.{ScriptData}
 use Rattle.lt_modes.specs.State.{Desk, Body, AskBody, TellBody, CopyBody, TokenBody, FreezeBody, Letter}
-use Rattle.lt_model.specs.Below.{sum_below}
-use Rattle.lt_model.specs.World.{World}
-use Rattle.lt_model.specs.Facts.{state_at, one_if, tokens_in}
+use Rattle.lt_lists.specs.Below.{sum_below, one_if}
+use Rattle.lt_runs.specs.World.{World}
+use Rattle.lt_runs.specs.Facts.{state_at, tokens_in}
 use Rattle.lt_model.specs.OnWay.{Comes, DeskIs}
 use Rattle.lt_model.specs.Paths.{DeskOnPath, HasWay, BodyOnPath, Paths}
 use Rattle.lt_model.specs.Laws.{DeskSomewhere, TokenComes}
-use Rattle.lt_model.proofs.Sums.{sum_below-some}
+use Rattle.lt_lists.proofs.Sums.{sum_below-some}
 use Rattle.lt_model.specs.PathEffects.{token_weight}
 use Rattle.lt_model.proofs.PathsWorld.{desks}
 

@@ -2,11 +2,11 @@
 use Rattle.std.specs.Prelude.{◌≤◌, ℕ, List, length, take, All, IsTrue}
 use Rattle.lt_modes.specs.declared.moves.Step.{Step}
 use Rattle.lt_modes.specs.Script.{ScriptData}
-use Rattle.lt_model.specs.Log.{Logged}
-use Rattle.lt_model.specs.World.{World, is_enabled, after, world_after, IsRun}
-use Rattle.lt_model.specs.Holdings.{lines_of}
-use Rattle.lt_model.specs.Counts.{added_by}
-use Rattle.lt_model.specs.Facts.{state_at}
+use Rattle.lt_runs.specs.Log.{Logged}
+use Rattle.lt_runs.specs.World.{World, is_enabled, after, world_after, IsRun}
+use Rattle.lt_runs.specs.Holdings.{lines_of}
+use Rattle.lt_model.specs.AddedLocks.{added_by}
+use Rattle.lt_runs.specs.Facts.{state_at}
 use Rattle.lt_model.specs.Homes.{IsWhole, Homes, HasSoundHomes, IsEntryWithin}
 
 -- an enabled move keeps locks and asks at home

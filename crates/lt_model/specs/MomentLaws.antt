@@ -7,10 +7,10 @@ use Rattle.lt_modes.specs.Held.{held_modes}
 use Rattle.lt_modes.specs.Script.{ScriptData}
 use Rattle.lt_modes.specs.State.{SetState}
 use Rattle.lt_modes.specs.Made.{Made, joined}
-use Rattle.lt_model.specs.Below.{put}
-use Rattle.lt_model.specs.NodeMove.{NodeState, NodeMade, at_clock, touched, joined_moves}
-use Rattle.lt_model.specs.World.{World, is_enabled, after_made, after}
-use Rattle.lt_model.specs.Facts.{state_at}
+use Rattle.lt_lists.specs.Below.{put}
+use Rattle.lt_runs.specs.NodeMove.{NodeState, NodeMade, at_clock, touched, joined_moves}
+use Rattle.lt_runs.specs.World.{World, is_enabled, after_made, after}
+use Rattle.lt_runs.specs.Facts.{state_at}
 use Rattle.lt_model.specs.Touches.{IsAside}
 use Rattle.lt_model.specs.Moments.{Between, Acting}
 use Rattle.lt_model.specs.Invariant.{SetKept}

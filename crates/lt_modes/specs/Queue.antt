@@ -1,5 +1,5 @@
 -- The desk's queue: asks in the order in which they are served.
-use Rattle.std.specs.Prelude.{Bool, true, false, ◌+◌, ◌==◌, ◌&&◌, not, ℕ, List, [], ◌∷◌, Option, Some, None, if◌then◌else◌, fold, insert, remove, position, length}
+use Rattle.std.specs.Prelude.{Bool, true, false, ◌+◌, ◌==◌, ◌&&◌, not, ℕ, List, [], ◌∷◌, Option, Some, None, if◌then◌else◌, fold, insert, remove, position, length, count_by}
 use Rattle.lt_modes.specs.declared.mode.Mode.TheVariants.{IntentionRead}
 use Rattle.lt_modes.specs.declared.stamp.Stamp.{Stamp}
 use Rattle.lt_modes.specs.declared.ask.Ask.{Ask}
@@ -53,3 +53,6 @@ same_ask a b =
     && (a.client == b.client
     && (a.node == b.node
     && (same_mode a.mode b.mode && (same_choice a.gives_up b.gives_up && same_flag a.holder b.holder))))
+
+abbrev pub times_in : Ask → List Ask → ℕ
+times_in ask asks = count_by (same_ask ask) asks

@@ -3,14 +3,14 @@ use Rattle.std.proofs.Common.{◌≡◌, ℕ, Bool, true, false, Some, None, Lis
 use Rattle.std.specs.Prelude.{◌==◌, ◌&&◌, not, if◌then◌else◌}
 use Rattle.std.proofs.lemmas.Bool.{eqb-true}
 use Rattle.lt_modes.specs.Script.{ScriptData}
-use Rattle.lt_model.specs.Log.{Logged}
-use Rattle.lt_model.specs.World.{world_after, is_at_rest, anyone_waits}
+use Rattle.lt_runs.specs.Log.{Logged}
+use Rattle.lt_runs.specs.World.{world_after, is_at_rest, anyone_waits}
 use Rattle.lt_world.specs.OneNode as one_node
 use Rattle.lt_world.specs.declared.limits.TheConstants.{MAX_MOVES}
 use Rattle.lt_serve.specs.declared.status.Status.{Status}
 use Rattle.lt_serve.specs.declared.status.Status.TheVariants.{Done, Stuck, Usage, Refused, TooLong, ReadFault, WriteFault, NoMemory, Cut, BadJournal, NotBuilt}
 use Rattle.lt_serve.specs.Alone.{EndsAlone}
-use Rattle.lt_serve.specs.Serving.{EndsAs}
+use Rattle.lt_serve.specs.TopCall.{EndsAs}
 
 -- a node that is full has made all its moves, and isn't at rest
 full_parts : (node moves : ℕ) (rest full : Bool) → (moves == MAX_MOVES) ≡ full → (if full && not rest then Some 0 else None) ≡ Some node

@@ -2,9 +2,9 @@
 use Rattle.std.proofs.Common.{◌≡◌, ℕ, Option, Some, None, List, [], ◌∷◌, ◌++◌, refl, ap}
 use Rattle.std.specs.Option.{option_map}
 use Rattle.lt_modes.specs.Script.{ScriptData}
-use Rattle.lt_model.specs.Log.{Logged}
+use Rattle.lt_runs.specs.Log.{Logged}
 use Rattle.lt_world.specs.OneNode.{World, start, after, after_run, world_after, logged}
-use Rattle.lt_world.specs.Order.{act_at}
+use Rattle.lt_world.specs.LoneOrder.{act_at}
 use Rattle.lt_world.specs.declared.choice.Choice.{Choice}
 use Rattle.lt_world.specs.Choice.{act_choice}
 use Rattle.lt_alone.specs.Laws.{IsFirstMove, AreFirstFrom}

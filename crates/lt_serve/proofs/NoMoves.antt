@@ -7,10 +7,10 @@ use Rattle.lt_modes.specs.declared.command.Command.TheVariants.{Lock, Try, Unloc
 use Rattle.lt_modes.specs.Script.{ScriptData, SetData, ClientData}
 use Rattle.lt_modes.specs.declared.parts.Row.{Row}
 use Rattle.lt_alone.specs.Laws.{ClientsAgree}
-use Rattle.lt_model.proofs.StartKept.{all_none}
+use Rattle.lt_lists.proofs.Members.{all_none}
 use Rattle.lt_script.specs.Script.{IsScript, IsRequest, HasTargets}
-use Rattle.lt_model.specs.Below.{any_below}
-use Rattle.lt_model.specs.World.{start, is_at_rest, anyone_waits, is_runnable, is_waiting, has_mail}
+use Rattle.lt_lists.specs.Below.{any_below}
+use Rattle.lt_runs.specs.World.{start, is_at_rest, anyone_waits, is_runnable, is_waiting, has_mail}
 
 -- no number below n passes a test that none passes
 any_below_none : (n : ℕ) (test : ℕ → Bool) → ((k : ℕ) → test k ≡ false) → any_below n test ≡ false

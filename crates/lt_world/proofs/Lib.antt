@@ -4,4 +4,3 @@ mod Picks
 mod Places
 mod Recorded
 mod Runs
-mod Searches

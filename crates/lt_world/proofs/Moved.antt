@@ -16,12 +16,13 @@ use Rattle.lt_modes.specs.State.{SetState}
 use Rattle.lt_core.specs.declared.order.Order.{Order}
 use Rattle.lt_core.specs.Core.{CoreData, OutData, SamePlace, load_of}
 use Rattle.lt_core.specs.Order.{move_of}
-use Rattle.lt_model.specs.Log.{Logged}
-use Rattle.lt_model.specs.Below.{put}
-use Rattle.lt_world.specs.OneNode.{World, NodeState, NodeMade, start, world_after, home, made_by, is_enabled, is_runnable, is_some_letter, commands_of, command_if, act_stamp, obeyed, touched, next_command, node_move, logged}
+use Rattle.lt_runs.specs.Log.{Logged}
+use Rattle.lt_lists.specs.Below.{put}
+use Rattle.lt_world.specs.OneNode.{World, NodeState, NodeMade, start, world_after, made_by, is_enabled, is_runnable, is_some_letter, commands_of, command_if, act_stamp, obeyed, touched, next_command, node_move, logged}
+use Rattle.lt_runs.specs.Families.{home}
 use Rattle.lt_world.proofs.Runs.{after_run-push, IsRunFrom-push}
 use Rattle.lt_world.specs.Orders.{order_of, moved, entry_of}
-use Rattle.lt_world.specs.Standing.{Progress, no_progress, progress_of, next_of, no_command, one_more, Stands, is_lone, locks_or_unlocks, node_after}
+use Rattle.lt_world.specs.Fields.{Progress, no_progress, progress_of, next_of, no_command, one_more, Stands, is_lone, locks_or_unlocks, node_after}
 use Rattle.lt_world.specs.Choice.{IsAct}
 
 -- a front that passes before others that pass

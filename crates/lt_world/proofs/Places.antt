@@ -5,9 +5,9 @@ use Rattle.std.proofs.lemmas.Bool.{and_parts, and_from, or_cases, or_left, or_ri
 use Rattle.std.proofs.lemmas.Bool.Decides.{nat_tests}
 use Rattle.lt_modes.specs.Script.{ScriptData}
 use Rattle.lt_world.specs.OneNode.{World, made_by, is_runnable}
-use Rattle.lt_world.specs.Order.{acts_before, comes_after, next_act, act_from, act_at, count_acts}
-use Rattle.lt_model.specs.Below.{count_below}
-use Rattle.lt_world.proofs.Searches.{IsStrictOrder, Found, found, one_less, same_count}
+use Rattle.lt_world.specs.LoneOrder.{acts_before, comes_after, next_act, act_from, act_at, count_acts}
+use Rattle.lt_lists.specs.Below.{count_below}
+use Rattle.lt_lists.proofs.Searches.{IsStrictOrder, Found, found, one_less, same_count}
 
 -- a is before b by a first number, and then by a second
 by_two : (m n a b : ℕ) → nat_lt m n || (m == n && nat_lt a b) ≡ true → (m < n) ⊎ ((m ≡ n) × (a < b))

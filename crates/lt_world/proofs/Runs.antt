@@ -1,7 +1,7 @@
 -- A run and one move more.
 use Rattle.std.proofs.Common.{◌≡◌, List, [], ◌∷◌, ◌++◌, refl}
 use Rattle.lt_modes.specs.Script.{ScriptData}
-use Rattle.lt_model.specs.Log.{Logged}
+use Rattle.lt_runs.specs.Log.{Logged}
 use Rattle.lt_world.specs.OneNode.{World, after, after_run, IsMove, IsRunFrom}
 
 pub after_run-push : (script : ScriptData) (w : World) (run : List Logged) (entry : Logged)

@@ -1,20 +1,19 @@
 -- The world of one node: its enabled moves, and runs.
-use Rattle.std.specs.Prelude.{◌≡◌, Bool, true, false, ◌&&◌, ◌||◌, ◌==◌, not, nat_lt, ℕ, zero, suc, ◌+◌, List, [], ◌∷◌, ◌++◌, Option, Some, None, if◌then◌else◌, length, slice_get, IsTrue, is_none}
-use Rattle.std.specs.List.{filter_map, list_any}
-use Rattle.lt_modes.specs.declared.mode.Mode.{Mode}
+use Rattle.lt_runs.specs.Families.{home}
+use Rattle.std.specs.Prelude.{◌≡◌, Bool, true, false, ◌&&◌, ◌==◌, not, nat_lt, ℕ, ◌+◌, List, [], ◌∷◌, Option, Some, None, if◌then◌else◌, length, slice_get, IsTrue}
+use Rattle.std.specs.List.{filter_map}
 use Rattle.lt_modes.specs.declared.stamp.Stamp.{Stamp}
 use Rattle.lt_modes.specs.declared.command.Command.{Command}
-use Rattle.lt_modes.specs.declared.command.Command.TheVariants.{Lock, Unlock, Try, Change, DropAll}
+use Rattle.lt_modes.specs.declared.command.Command.TheVariants.{Lock, Unlock}
 use Rattle.lt_modes.specs.declared.moves.Step.{Step}
 use Rattle.lt_modes.specs.declared.moves.Step.TheVariants.{Act, Take}
-use Rattle.lt_modes.specs.declared.moves.Move.{Move}
 use Rattle.lt_modes.specs.declared.event.Event.{Event}
-use Rattle.lt_modes.specs.Script.{ScriptData, home_at}
+use Rattle.lt_modes.specs.Script.{ScriptData}
 use Rattle.lt_modes.specs.State.{SetState, Letter, lone_state}
-use Rattle.lt_core.specs.Serving.{Made, waits}
+use Rattle.lt_core.specs.LoneServing.{Made, waits}
 use Rattle.lt_core.specs.SetMove.{lock, unlock}
-use Rattle.lt_model.specs.Log.{Logged}
-use Rattle.lt_model.specs.Below.{any_below, first_below, put}
+use Rattle.lt_runs.specs.Log.{Logged}
+use Rattle.lt_lists.specs.Below.{any_below, put}
 
 -- a node: its clock, how many commands each client has made, and its sets
 pub record NodeState : Type 0 where
@@ -40,10 +39,6 @@ command_if client request = if request.0 == client then Some request.1 else None
 -- the client's commands, in order
 abbrev pub commands_of : ScriptData → ℕ → List Command
 commands_of script client = filter_map (command_if client) script.commands
-
--- the client's node
-abbrev pub home : ScriptData → ℕ → ℕ
-home script client = home_at script.clients client
 
 -- how many commands the client has made
 abbrev pub made_by : ScriptData → World → ℕ → ℕ

@@ -1,7 +1,7 @@
 use Rattle.std.proofs.Common.{List}
 use Rattle.lt_modes.specs.Script.{ScriptData}
-use Rattle.lt_model.specs.Log.{Logged}
-use Rattle.lt_model.specs.World.{start, world_after}
+use Rattle.lt_runs.specs.Log.{Logged}
+use Rattle.lt_runs.specs.World.{start, world_after}
 use Rattle.lt_world.specs.OneNode as one_node
 use Rattle.lt_alone.specs.Laws.{AfterEachRun}
 use Rattle.lt_alone.proofs.Commands.{LoneScript, lone_script}

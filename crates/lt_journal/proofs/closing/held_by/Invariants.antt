@@ -1,5 +1,5 @@
 use Rattle.std.proofs.Common.{◌≡◌, ◌++◌, List}
-use Rattle.lt_model.specs.Text.{Holding, each_below, held_in_set}
+use Rattle.lt_runs.specs.Text.{Holding, each_below, held_in_set}
 use Rattle.lt_journal.specs.Counts.{Counts}
 use Rattle.lt_journal.proofs.closing.held_by.Given as goal
 

@@ -1,7 +1,7 @@
 use Rattle.std.proofs.Common.{◌≡◌, ◌∙◌, ◌++◌, ap, ℕ, arith, get_or, take}
 use Rattle.std.specs.List.{flat_map}
 use Rattle.lt_modes.specs.declared.mode.Mode.TheVariants.{IntentionRead}
-use Rattle.lt_model.specs.Text.{Holding, held_line, held_in_mode}
+use Rattle.lt_runs.specs.Text.{Holding, held_line, held_in_mode}
 use Rattle.lt_journal.specs.declared.closing.TheConstants.{MODES}
 use Rattle.lt_journal.proofs.Steps.{text_more, flat_map-more}
 use Rattle.lt_journal.proofs.closing.held_in_set.Goals as goal

@@ -1,6 +1,6 @@
 use Rattle.std.proofs.Common.{◌≡◌, ◌++◌, List, take}
 use Rattle.std.specs.List.{flat_map}
-use Rattle.lt_model.specs.Text.{Holding, held_in_mode}
+use Rattle.lt_runs.specs.Text.{Holding, held_in_mode}
 use Rattle.lt_journal.specs.declared.closing.TheConstants.{MODES}
 use Rattle.lt_journal.specs.Counts.{Counts}
 use Rattle.lt_journal.proofs.closing.held_in_set.Given as goal

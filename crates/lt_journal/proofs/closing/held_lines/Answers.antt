@@ -1,4 +1,4 @@
-use Rattle.lt_model.specs.Text.{held_by}
+use Rattle.lt_runs.specs.Text.{held_by}
 use Rattle.lt_journal.proofs.Steps.{text_more, each_below-more}
 use Rattle.lt_journal.proofs.closing.held_lines.Goals as goal
 

@@ -1,5 +1,5 @@
 use Rattle.std.proofs.Common.{◌≡◌, ◌++◌}
-use Rattle.lt_model.specs.Text.{each_below, owner_of}
+use Rattle.lt_runs.specs.Text.{each_below, owner_of}
 use Rattle.lt_journal.proofs.closing.owner_lines.Given as goal
 
 abbrev pub invariant-loop-set : goal.invariant-loop-set

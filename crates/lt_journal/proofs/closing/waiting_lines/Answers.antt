@@ -1,4 +1,4 @@
-use Rattle.lt_model.specs.Text.{waiting_of}
+use Rattle.lt_runs.specs.Text.{waiting_of}
 use Rattle.lt_journal.proofs.Steps.{text_more, each_below-more}
 use Rattle.lt_journal.proofs.closing.waiting_lines.Goals as goal
 

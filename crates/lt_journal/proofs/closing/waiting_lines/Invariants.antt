@@ -1,5 +1,5 @@
 use Rattle.std.proofs.Common.{◌≡◌, ◌++◌}
-use Rattle.lt_model.specs.Text.{each_below, waiting_of}
+use Rattle.lt_runs.specs.Text.{each_below, waiting_of}
 use Rattle.lt_journal.proofs.closing.waiting_lines.Given as goal
 
 abbrev pub invariant-loop-client : goal.invariant-loop-client

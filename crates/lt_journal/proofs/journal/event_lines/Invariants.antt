@@ -1,6 +1,6 @@
 use Rattle.std.proofs.Common.{◌≡◌, ◌++◌, take}
 use Rattle.std.specs.List.{flat_map}
-use Rattle.lt_model.specs.Text.{event_text}
+use Rattle.lt_runs.specs.Text.{event_text}
 use Rattle.lt_journal.proofs.journal.event_lines.Given as goal
 
 abbrev pub invariant-loop-event : goal.invariant-loop-event

@@ -1,7 +1,7 @@
 use Rattle.std.proofs.Common.{◌∙◌, ◌++◌, ap, List, ℕ}
 use Rattle.std.specs.List.{flat_map}
 use Rattle.std.proofs.lemmas.List.{append_assoc}
-use Rattle.lt_model.specs.Text.{event_text, line, move_words}
+use Rattle.lt_runs.specs.Text.{event_text, line, move_words}
 use Rattle.lt_journal.proofs.Steps.{text_more, moves_text-more}
 use Rattle.lt_journal.proofs.journal.move_lines.Goals as goal
 

@@ -1,7 +1,7 @@
 use Rattle.std.proofs.Common.{take, fold, subst, arith, List}
 use Rattle.std.proofs.lemmas.List.{take_all}
 use Rattle.lt_modes.specs.declared.event.Event.{Event}
-use Rattle.lt_model.specs.Text.{after_event}
+use Rattle.lt_runs.specs.Text.{after_event}
 use Rattle.lt_journal.specs.Counts.{Tells}
 use Rattle.std.proofs.lemmas.List.{length-take}
 use Rattle.lt_journal.proofs.Few.{held_after_all, on_err}

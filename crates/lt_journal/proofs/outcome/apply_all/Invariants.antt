@@ -1,6 +1,6 @@
 use Rattle.std.proofs.Common.{take}
 use Rattle.std.specs.Prelude.{fold}
-use Rattle.lt_model.specs.Text.{Outcome, after_event}
+use Rattle.lt_runs.specs.Text.{Outcome, after_event}
 use Rattle.lt_journal.specs.Counts.{Tells}
 use Rattle.lt_journal.proofs.outcome.apply_all.Given as goal
 

@@ -1,5 +1,5 @@
 use Rattle.std.proofs.Common.{take, subst, arith}
-use Rattle.lt_model.specs.Text.{Outcome, outcome_of, first_outcome, events_of}
+use Rattle.lt_runs.specs.Text.{Outcome, outcome_of, first_outcome, events_of}
 use Rattle.lt_journal.specs.Counts.{Tells}
 use Rattle.lt_journal.proofs.Steps.{outcome_of-more}
 use Rattle.lt_journal.proofs.Few.{held_after_all, events_up_to, on_err}

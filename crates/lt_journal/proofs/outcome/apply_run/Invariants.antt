@@ -1,5 +1,5 @@
 use Rattle.std.proofs.Common.{take}
-use Rattle.lt_model.specs.Text.{outcome_of}
+use Rattle.lt_runs.specs.Text.{outcome_of}
 use Rattle.lt_journal.specs.Counts.{Tells}
 use Rattle.lt_journal.proofs.outcome.apply_run.Given as goal
 

@@ -1,5 +1,5 @@
 use Rattle.std.proofs.Common.{◌++◌, ◌∷◌, [], filter, sym, subst}
-use Rattle.lt_model.specs.Text.{Holding, without, is_kept}
+use Rattle.lt_runs.specs.Text.{Holding, without, is_kept}
 use Rattle.lt_journal.specs.Counts.{Tally, Tells}
 use Rattle.lt_journal.proofs.Telling.{tells_held, tells_event, tells_try}
 use Rattle.lt_journal.proofs.outcome.Tally.apply.Goals as goal

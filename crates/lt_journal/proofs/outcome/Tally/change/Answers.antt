@@ -1,6 +1,6 @@
 use Rattle.std.proofs.Common.{sym, subst, arith}
 use Rattle.std.proofs.lemmas.Result.{on_ok_weaker, on_err_weaker}
-use Rattle.lt_model.specs.Text.{Holding, without, less_lock}
+use Rattle.lt_runs.specs.Text.{Holding, without, less_lock}
 use Rattle.lt_journal.specs.Counts.{Tally, Tells}
 use Rattle.lt_journal.proofs.Telling.{tells_held}
 use Rattle.lt_journal.proofs.Few.{length-without}

@@ -1,5 +1,5 @@
 use Rattle.std.proofs.Common.{◌++◌, ◌∷◌, [], None, sym, subst}
-use Rattle.lt_model.specs.Text.{Holding, with_lock, with_waiting}
+use Rattle.lt_runs.specs.Text.{Holding, with_lock, with_waiting}
 use Rattle.lt_journal.specs.Counts.{Tally, Tells}
 use Rattle.lt_journal.proofs.Telling.{tells_held, tells_waiting}
 use Rattle.lt_journal.proofs.outcome.Tally.grant.Goals as goal

@@ -1,0 +1,14 @@
+pub mod AccountAnswers
+pub mod AccountAsks
+pub mod AccountDesk
+pub mod AccountFacts
+pub mod AccountGrants
+pub mod AccountPlay
+pub mod AccountRows
+pub mod AccountTells
+pub mod NewsLemmas
+pub mod Rows
+pub mod Unanswered
+pub mod Asks
+pub mod ModeMembers
+pub mod FirstAccount

@@ -1,0 +1,7 @@
+pub mod Sums
+pub mod EditedLists
+pub mod Searches
+pub mod Members
+pub mod Gathering
+pub mod AllLemmas
+pub mod Puts

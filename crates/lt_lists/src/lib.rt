@@ -1,0 +1,2 @@
+//! Words and lemmas on lists, sums and searches by number.
+#![tactic(auto)]

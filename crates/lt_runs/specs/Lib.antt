@@ -1,0 +1,8 @@
+pub mod Log
+pub mod Families
+pub mod NodeMove
+pub mod World
+pub mod Holdings
+pub mod Facts
+pub mod Text
+pub mod FixedOrder

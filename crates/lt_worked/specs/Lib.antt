@@ -1,0 +1,5 @@
+pub mod Worked
+pub mod WorkedOneNode
+pub mod WorkedNodes
+pub mod WorkedOrders
+pub mod WorkedLong
