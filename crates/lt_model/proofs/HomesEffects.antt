@@ -344,7 +344,7 @@ learn_home script q link t h = by_test (nat_lt t.firm.epoch link.epoch)
     by_test true = record { rows = h.rows; pending = h.pending; parked = h.parked; queue = h.queue }
     by_test false = h
 
-arrives_home : (script : ScriptData) (bound : ℕ) (stamp : Stamp) (letter : Letter) → letter.set < length script.sets
+pub arrives_home : (script : ScriptData) (bound : ℕ) (stamp : Stamp) (letter : Letter) → letter.set < length script.sets
     → IsBodyAtHome script stamp.node letter.body → (t : SetState) → at_home script bound stamp.node t (arrive stamp letter t)
 arrives_home script bound stamp letter in_sets own t h = by_body letter.body own (learn letter.link t) (learn_home script stamp.node letter.link t h)
   where
