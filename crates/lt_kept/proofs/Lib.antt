@@ -10,3 +10,4 @@ pub mod AsksApart
 pub mod SoundStates
 pub mod KeptMoves
 pub mod FittingLetters
+pub mod ServiceOrder
