@@ -8,7 +8,7 @@ use Rattle.lt_modes.specs.declared.command.Command.{Command}
 use Rattle.lt_modes.specs.Script.{ScriptData, node_of_client}
 use Rattle.lt_script.specs.Script.{IsScript}
 use Rattle.lt_runs.specs.Families.{command_if, commands_of, home}
-use Rattle.lt_world.specs.Standing.{is_lone, locks_or_unlocks}
+use Rattle.lt_world.specs.Fields.{is_lone, locks_or_unlocks}
 
 -- there is a command, which locks or unlocks
 abbrev pub IsLone : Option Command → Type 0

@@ -9,12 +9,12 @@ use Rattle.lt_modes.specs.Script.{ScriptData}
 use Rattle.lt_modes.specs.State.{SetState}
 use Rattle.lt_modes.specs.Made.{Made}
 use Rattle.lt_modes.specs.SetMove.{lock, unlock}
-use Rattle.lt_core.specs.Serving.{Made as MadeAlone}
+use Rattle.lt_core.specs.LoneServing.{Made as MadeAlone}
 use Rattle.lt_core.specs.SetMove.{lock as lock_alone, unlock as unlock_alone}
 use Rattle.lt_lists.specs.Below.{put}
 use Rattle.lt_runs.specs.Families.{commands_of}
 use Rattle.lt_runs.specs.NodeMove.{NodeState, NodeMade, act_stamp, at_clock, one_made, touched, obey, node_act}
-use Rattle.lt_world.specs.Standing.{locks_or_unlocks}
+use Rattle.lt_world.specs.Fields.{locks_or_unlocks}
 use Rattle.lt_world.specs.OneNode.{NodeState as NodeAlone, NodeMade as NodeMadeAlone, act_stamp as act_stamp_alone, touched as touched_alone, obeyed, node_move as node_move_alone, next_command as next_command_alone}
 use Rattle.lt_alone.specs.Frozen.{with_frozen}
 use Rattle.lt_alone.proofs.LoneSet.{LoneSet, AreHere, state_of}

@@ -7,10 +7,10 @@ use Rattle.lt_modes.specs.declared.moves.Step.TheVariants.{Act}
 use Rattle.lt_modes.specs.Script.{ScriptData}
 use Rattle.lt_lists.specs.Below.{first_below, count_below, any_below}
 use Rattle.lt_runs.specs.World.{World, after, logged, made_by, is_runnable, has_mail, is_at_rest, anyone_waits}
-use Rattle.lt_runs.specs.Order.{Turn, act_turn, takes, next_act, act_after, count_acts, count_turns, pick, first_step, first_run_from}
+use Rattle.lt_runs.specs.FixedOrder.{Turn, act_turn, takes, next_act, act_after, count_acts, count_turns, pick, first_step, first_run_from}
 use Rattle.lt_runs.specs.Log.{Logged}
 use Rattle.lt_world.specs.OneNode as one_node
-use Rattle.lt_world.specs.Order as one_order
+use Rattle.lt_world.specs.LoneOrder as one_order
 use Rattle.lt_alone.specs.Laws.{turn_of, AreFirstFrom}
 use Rattle.lt_alone.proofs.Commands.{LoneScript}
 use Rattle.lt_alone.proofs.Runs.{same_step}

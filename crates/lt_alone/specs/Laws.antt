@@ -8,10 +8,10 @@ use Rattle.lt_modes.specs.Script.{ScriptData}
 use Rattle.lt_script.specs.Script.{IsScript}
 use Rattle.lt_runs.specs.Log.{Logged}
 use Rattle.lt_runs.specs.World.{world_after, logged, is_enabled, is_at_rest, anyone_waits, IsRun}
-use Rattle.lt_runs.specs.Order.{Turn, pick, count_turns, first_run}
+use Rattle.lt_runs.specs.FixedOrder.{Turn, pick, count_turns, first_run}
 use Rattle.lt_world.specs.OneNode as one_node
-use Rattle.lt_world.specs.Order.{act_at, count_acts}
-use Rattle.lt_world.specs.Standing.{is_lone}
+use Rattle.lt_world.specs.LoneOrder.{act_at, count_acts}
+use Rattle.lt_world.specs.Fields.{is_lone}
 use Rattle.lt_alone.specs.Frozen.{with_frozen}
 
 -- a run of the one node is a run of the full rules, and the other way round
@@ -25,8 +25,8 @@ AfterEachRun Holds = (script : ScriptData) (run : List Logged) → IsScript scri
     → one_node.IsRun script run → Holds script run
 
 -- the full rules leave the set as the one node's do, but for the frozen modes, which they keep beside it
-abbrev pub SameSet : ScriptData → List Logged → Type 0
-SameSet script run = ((world_after script run).node 0).set 0 ≡ with_frozen (((one_node.world_after script run).node 0).set 0)
+abbrev pub SameStates : ScriptData → List Logged → Type 0
+SameStates script run = ((world_after script run).node 0).set 0 ≡ with_frozen (((one_node.world_after script run).node 0).set 0)
 
 -- the node's clock is the same
 abbrev pub SameClock : ScriptData → List Logged → Type 0

@@ -1,11 +1,11 @@
 //! The laws that tie a node that is alone to the full rules.
-ghost use Rattle.lt_alone.specs.Laws.{SameRuns, AfterEachRun, SameSet, SameClock, SameProgress, NoLetter, TokensStay, SameEnabled, SameEntries, SameRest, SameWaiting, SameOrder, SameCount, FirstRuns, ClientsAgree};
+ghost use Rattle.lt_alone.specs.Laws.{SameRuns, AfterEachRun, SameStates, SameClock, SameProgress, NoLetter, TokensStay, SameEnabled, SameEntries, SameRest, SameWaiting, SameOrder, SameCount, FirstRuns, ClientsAgree};
 
 /// For a script of one node and one set, with locks and unlocks alone, the rules that the code follows make the runs
 /// of the full rules, and no two clients ever hold conflicting modes.
 pub fn law_alone()
     ensures runs { SameRuns }
-    ensures sets { AfterEachRun SameSet }
+    ensures sets { AfterEachRun SameStates }
     ensures clocks { AfterEachRun SameClock }
     ensures progress { AfterEachRun SameProgress }
     ensures letters { AfterEachRun NoLetter }

@@ -1,5 +1,5 @@
 pub mod Granting
-pub mod Serving
 pub mod SetMove
 pub mod Core
 pub mod Order
+pub mod LoneServing

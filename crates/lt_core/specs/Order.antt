@@ -4,7 +4,7 @@ use Rattle.lt_modes.specs.declared.stamp.Stamp.{Stamp}
 use Rattle.lt_modes.specs.State.{SetState}
 use Rattle.lt_modes.specs.Held.{count_of}
 use Rattle.lt_core.specs.Granting.{can_grant}
-use Rattle.lt_core.specs.Serving.{Made}
+use Rattle.lt_core.specs.LoneServing.{Made}
 use Rattle.lt_core.specs.SetMove.{lock, unlock}
 use Rattle.lt_core.specs.declared.order.Order.{Order}
 use Rattle.lt_core.specs.declared.order.Order.TheVariants.{Lock, Unlock}

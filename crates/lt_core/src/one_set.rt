@@ -1,7 +1,7 @@
 ghost use Rattle.std.specs.Prelude.{◌≡◌, ◌+◌, ◌≤◌, ◌<◌, ◌^◌, [], ◌∷◌, ◌++◌, length, OnOk, IfSome, slice_index_or};
 ghost use Rattle.lt_modes.specs.State.{lone_state};
 ghost use Rattle.lt_core.specs.Granting.{can_grant};
-ghost use Rattle.lt_core.specs.Serving.{queue_of, waits, next_service, served, answer_event, serve};
+ghost use Rattle.lt_core.specs.LoneServing.{queue_of, waits, next_service, served, answer_event, serve};
 ghost use Rattle.lt_modes.specs.Queue.{no_ask};
 ghost use Rattle.lt_core.specs.SetMove.{granted, asked, lock_ask, locked, unlocked};
 ghost use Rattle.lt_core.specs.Core.{load_of, RoomToMove, RoomToServe, SamePlace};

@@ -1,4 +1,4 @@
-pub mod Counts
 pub mod Source
 pub mod Sink
 pub mod Memory
+pub mod FaultCounts

@@ -1,7 +1,7 @@
 -- What one read does to a source's counts of ends and of bytes given.
 use Rattle.std.specs.Prelude.{◌≡◌, ℕ, ◌<◌, List, Option, Result, Ok, Err}
 use Rattle.std.specs.Io.KnownBytes.{Consumes}
-use Rattle.lt_io.specs.Counts.{Counts}
+use Rattle.lt_io.specs.FaultCounts.{Counts}
 
 -- a count of ends after a read that gave so many bytes to a buffer with so much room: a read of nothing
 -- into a buffer with room is an end, and no other read is

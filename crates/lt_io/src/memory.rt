@@ -1,7 +1,7 @@
 ghost use Rattle.std.specs.Prelude.{◌≡◌, ◌-◌, ◌↔◌, Some, min, length, IsErr, IfOk, Contains};
 ghost use Rattle.std.specs.Io.{ReadsAtMost};
 ghost use Rattle.std.specs.Io.KnownBytes.{ReadConsumes, WriteAppends};
-ghost use Rattle.lt_io.specs.Counts.{count_after, HasCause};
+ghost use Rattle.lt_io.specs.FaultCounts.{count_after, HasCause};
 ghost use Rattle.lt_io.specs.Source.{Ends, Gives};
 ghost use Rattle.lt_io.specs.Sink.{TakesSome};
 

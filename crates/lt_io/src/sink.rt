@@ -1,6 +1,6 @@
 ghost use Rattle.std.specs.Prelude.{ℕ, List, Option};
 ghost use Rattle.std.specs.Io.KnownBytes.{WriteAppends};
-ghost use Rattle.lt_io.specs.Counts.{HasCause};
+ghost use Rattle.lt_io.specs.FaultCounts.{HasCause};
 ghost use Rattle.lt_io.specs.Sink.{TakesSome};
 
 use crate::source::Failed;

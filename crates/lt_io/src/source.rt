@@ -1,7 +1,7 @@
 ghost use Rattle.std.specs.Prelude.{ℕ, List, Option, length};
 ghost use Rattle.std.specs.Io.{ReadsAtMost};
 ghost use Rattle.std.specs.Io.KnownBytes.{ReadConsumes};
-ghost use Rattle.lt_io.specs.Counts.{HasCause};
+ghost use Rattle.lt_io.specs.FaultCounts.{HasCause};
 ghost use Rattle.lt_io.specs.Source.{CountsEnd, Ends, Gives};
 
 use std::error::Error;

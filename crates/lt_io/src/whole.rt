@@ -1,7 +1,7 @@
 ghost use Rattle.std.specs.Prelude.{◌≡◌, ◌≤◌, ◌<◌, ◌+◌, length, vec_len, IfOk, OnOk, OnErr, IfSome};
 ghost use Rattle.std.specs.Io.KnownBytes.{Consumes, Appends, IsAtEnd};
 ghost use Rattle.lt_io.specs.declared.whole.ReadFailure.TheVariants as failure;
-ghost use Rattle.lt_io.specs.Counts.{Counts, Rose, RoseBy, HasCause};
+ghost use Rattle.lt_io.specs.FaultCounts.{Counts, Rose, RoseBy, HasCause};
 ghost use Rattle.lt_io.specs.Source.{LosesPart};
 ghost use Rattle.lt_io.specs.Sink.{AppendsPart};
 

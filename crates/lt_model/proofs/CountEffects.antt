@@ -24,7 +24,7 @@ use Rattle.lt_modes.specs.Telling.{tell_of, finish}
 use Rattle.lt_modes.specs.Taking.{take_body, arrive}
 use Rattle.lt_modes.specs.SetMove.{ask_of, asked, dropped, take, drop}
 use Rattle.lt_modes.proofs.ServingLemmas.{queue_of-serve_one}
-use Rattle.lt_model.specs.Counts.{adds, added_by}
+use Rattle.lt_model.specs.AddedLocks.{adds, added_by}
 use Rattle.lt_model.proofs.Effects.{route_ways}
 use Rattle.lt_model.proofs.RuleEffects.{Between, EndRules, ActRules, finish_rule, take_rule}
 

@@ -20,7 +20,7 @@ use Rattle.lt_model.specs.Invariant.{BodyKept}
 use Rattle.lt_model.specs.Paths.{Paths}
 use Rattle.lt_model.specs.Timed.{Timed}
 use Rattle.lt_model.specs.Touches.{AreStamped}
-use Rattle.lt_model.specs.Counts.{adds, added_by}
+use Rattle.lt_model.specs.AddedLocks.{adds, added_by}
 use Rattle.lt_model.specs.Homes.{IsWhole, Homes, HasMaker, IsLineWithin, IsEntryWithin}
 use Rattle.lt_model.specs.HomeLaws.{LinesInRuns, FewAdded}
 use Rattle.lt_model.proofs.Letters.{IsCounted, sent_on_way}

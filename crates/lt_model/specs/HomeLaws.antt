@@ -5,7 +5,7 @@ use Rattle.lt_modes.specs.Script.{ScriptData}
 use Rattle.lt_runs.specs.Log.{Logged}
 use Rattle.lt_runs.specs.World.{World, is_enabled, after, world_after, IsRun}
 use Rattle.lt_runs.specs.Holdings.{lines_of}
-use Rattle.lt_model.specs.Counts.{added_by}
+use Rattle.lt_model.specs.AddedLocks.{added_by}
 use Rattle.lt_runs.specs.Facts.{state_at}
 use Rattle.lt_model.specs.Homes.{IsWhole, Homes, HasSoundHomes, IsEntryWithin}
 

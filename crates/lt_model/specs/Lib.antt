@@ -12,6 +12,6 @@ pub mod Standing
 pub mod AccountRules
 pub mod OnWayLaws
 pub mod Homes
-pub mod Counts
 pub mod Laws
 pub mod HomeLaws
+pub mod AddedLocks

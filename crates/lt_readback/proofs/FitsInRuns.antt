@@ -11,7 +11,7 @@ use Rattle.lt_modes.specs.declared.moves.Step.TheVariants.{Act, Take}
 use Rattle.lt_modes.specs.declared.event.Event.{Event}
 use Rattle.lt_modes.specs.declared.event.Event.TheVariants.{Grant, Wait, Try, Unlock, NotHeld, Change, DropAll, Busy, Copy, Freeze, Token}
 use Rattle.lt_modes.specs.Script.{ScriptData}
-use Rattle.lt_model.specs.Counts.{adds, added_by}
+use Rattle.lt_model.specs.AddedLocks.{adds, added_by}
 use Rattle.lt_model.specs.Homes.{HasTargets, IsWhole, HasMaker, IsLineWithin, IsEntryWithin}
 use Rattle.lt_runs.specs.Log.{Logged}
 use Rattle.lt_runs.specs.Text.{Holding, Outcome, same_holding, without, without_at, is_kept, after_event, first_outcome, events_of}

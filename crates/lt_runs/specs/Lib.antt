@@ -2,7 +2,7 @@ pub mod Log
 pub mod Families
 pub mod NodeMove
 pub mod World
-pub mod Order
 pub mod Holdings
 pub mod Facts
 pub mod Text
+pub mod FixedOrder

@@ -10,7 +10,7 @@ use Rattle.lt_world.specs.declared.limits.TheConstants.{MAX_MOVES}
 use Rattle.lt_serve.specs.declared.status.Status.{Status}
 use Rattle.lt_serve.specs.declared.status.Status.TheVariants.{Done, Stuck, Usage, Refused, TooLong, ReadFault, WriteFault, NoMemory, Cut, BadJournal, NotBuilt}
 use Rattle.lt_serve.specs.Alone.{EndsAlone}
-use Rattle.lt_serve.specs.Serving.{EndsAs}
+use Rattle.lt_serve.specs.TopCall.{EndsAs}
 
 -- a node that is full has made all its moves, and isn't at rest
 full_parts : (node moves : ℕ) (rest full : Bool) → (moves == MAX_MOVES) ≡ full → (if full && not rest then Some 0 else None) ≡ Some node

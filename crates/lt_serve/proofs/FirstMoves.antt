@@ -4,7 +4,7 @@ use Rattle.std.specs.Option.{option_map}
 use Rattle.lt_modes.specs.Script.{ScriptData}
 use Rattle.lt_runs.specs.Log.{Logged}
 use Rattle.lt_world.specs.OneNode.{World, start, after, after_run, world_after, logged}
-use Rattle.lt_world.specs.Order.{act_at}
+use Rattle.lt_world.specs.LoneOrder.{act_at}
 use Rattle.lt_world.specs.declared.choice.Choice.{Choice}
 use Rattle.lt_world.specs.Choice.{act_choice}
 use Rattle.lt_alone.specs.Laws.{IsFirstMove, AreFirstFrom}

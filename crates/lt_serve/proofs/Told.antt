@@ -3,7 +3,7 @@ use Rattle.std.proofs.Common.{◌≡◌, ℕ, List, ◌++◌, Option, Some, None
 use Rattle.std.specs.Io.KnownBytes.{Consumes, IsAtEnd}
 use Rattle.lt_modes.specs.Script.{ScriptData}
 use Rattle.lt_script.specs.Reading.{read_of}
-use Rattle.lt_serve.specs.Serving.{Denotes}
+use Rattle.lt_serve.specs.TopCall.{Denotes}
 
 -- all that was left denotes what the bytes that were taken denote
 pub denotes : (left after : Option (List ℕ)) (bytes : List ℕ) (script : ScriptData) → Consumes left after bytes → IsAtEnd after

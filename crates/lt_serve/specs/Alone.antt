@@ -3,7 +3,7 @@ use Rattle.std.specs.Prelude.{◌≡◌, ◌⊎◌, true, false, Some, List, len
 use Rattle.lt_modes.specs.Script.{ScriptData}
 use Rattle.lt_runs.specs.Log.{Logged}
 use Rattle.lt_world.specs.OneNode.{world_after, is_at_rest, anyone_waits}
-use Rattle.lt_world.specs.Standing.{WorldData, full_node}
+use Rattle.lt_world.specs.Fields.{WorldData, full_node}
 use Rattle.lt_world.specs.declared.limits.TheConstants.{MAX_MOVES}
 use Rattle.lt_serve.specs.declared.status.Status.{Status}
 use Rattle.lt_serve.specs.declared.status.Status.TheVariants.{Done, Stuck, Cut}

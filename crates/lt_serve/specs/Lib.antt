@@ -1,5 +1,5 @@
 pub mod Alone
 pub mod Scripts
-pub mod Serving
 pub mod Status
 pub mod Words
+pub mod TopCall

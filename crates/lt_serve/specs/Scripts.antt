@@ -1,7 +1,7 @@
 -- The scripts that this version can run.
 use Rattle.std.specs.Prelude.{Bool, ◌||◌, ◌&&◌, ◌==◌, length}
 use Rattle.lt_modes.specs.Script.{ScriptData}
-use Rattle.lt_world.specs.Standing.{is_lone}
+use Rattle.lt_world.specs.Fields.{is_lone}
 
 -- one node and no set, so that there is nothing to lock
 abbrev pub has_no_set : ScriptData → Bool

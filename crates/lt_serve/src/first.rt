@@ -2,11 +2,11 @@ ghost use Rattle.std.specs.Prelude.{◌≡◌, [], IsTrue, IfOk, OnOk};
 ghost use Rattle.lt_alone.specs.Laws.{AreFirstFrom};
 ghost use Rattle.lt_script.specs.Script.{IsScript};
 ghost use Rattle.lt_world.specs.OneNode.{start};
-ghost use Rattle.lt_world.specs.Standing.{is_lone};
+ghost use Rattle.lt_world.specs.Fields.{is_lone};
 ghost use Rattle.lt_world.specs.declared.limits.TheConstants.{MAX_MOVES};
 ghost use Rattle.lt_serve.specs.Scripts.{has_no_set, can_run};
 ghost use Rattle.lt_serve.specs.Alone.{IsOver, EndsAlone};
-ghost use Rattle.lt_serve.specs.Serving.{RanTo};
+ghost use Rattle.lt_serve.specs.TopCall.{RanTo};
 
 use crate::status::Status;
 use lt_alone::law_alone;

@@ -1,12 +1,12 @@
 ghost use Rattle.std.specs.Prelude.{◌≡◌, ◌+◌, IsTrue, IfOk, OnOk, IfErr};
-ghost use Rattle.lt_io.specs.Counts.{Rose, RoseBy};
+ghost use Rattle.lt_io.specs.FaultCounts.{Rose, RoseBy};
 ghost use Rattle.lt_modes.specs.Script.{ScriptData};
 ghost use Rattle.lt_script.specs.declared.fault.ScriptFault.{ScriptFault as AnyFault};
 ghost use Rattle.lt_script.specs.Script.{IsScript};
 ghost use Rattle.lt_serve.specs.Scripts.{can_run};
 ghost use Rattle.lt_serve.specs.declared.limits.TheConstants.{MAX_INPUT};
 ghost use Rattle.lt_serve.specs.declared.status.Status.TheVariants as status;
-ghost use Rattle.lt_serve.specs.Serving.{Denotes, HasFault, DenotesOther, IsWhole, IsReadAnswer, TellsBytes, status_of};
+ghost use Rattle.lt_serve.specs.TopCall.{Denotes, HasFault, DenotesOther, IsReadWhole, IsReadAnswer, TellsBytes, status_of};
 
 use crate::limits::MAX_INPUT;
 use crate::scripts::can_run;
@@ -20,8 +20,8 @@ pub(crate) fn read_script<S: Source>(alloc: Global, source: &mut S) -> Result<Sc
     ensures script { IfOk result (Denotes (S.left source.old)) }
     ensures built { IfOk result (λ script. IsTrue (can_run script)) }
     ensures kept { IfOk result IsScript }
-    ensures whole { OnOk result (IsWhole (S.given source.old) (S.given source.new) (S.ends source.old) (S.ends source.new)) }
-    ensures whole_too { IfErr result (λ answer. TellsBytes answer → IsWhole (S.given source.old) (S.given source.new) (S.ends source.old) (S.ends source.new)) }
+    ensures whole { OnOk result (IsReadWhole (S.given source.old) (S.given source.new) (S.ends source.old) (S.ends source.new)) }
+    ensures whole_too { IfErr result (λ answer. TellsBytes answer → IsReadWhole (S.given source.old) (S.given source.new) (S.ends source.old) (S.ends source.new)) }
     ensures answer { IfErr result IsReadAnswer }
     ensures read_fault { IfErr result (λ answer. answer ≡ status.ReadFault → Rose (S.faults source.old) (S.faults source.new)) }
     ensures too_long { IfErr result (λ answer. answer ≡ status.TooLong → RoseBy (MAX_INPUT + 1) (S.given source.old) (S.given source.new)) }

@@ -1,13 +1,13 @@
 ghost use Rattle.std.specs.Prelude.{◌≡◌, ◌↔◌, ◌⊎◌, ◌+◌, map, [], None, IsTrue};
 ghost use Rattle.std.specs.String.{string_bytes};
-ghost use Rattle.lt_io.specs.Counts.{Rose, RoseBy};
+ghost use Rattle.lt_io.specs.FaultCounts.{Rose, RoseBy};
 ghost use Rattle.lt_script.specs.declared.fault.ScriptFault.{ScriptFault as AnyFault};
 ghost use Rattle.lt_script.specs.Script.{IsScript};
 ghost use Rattle.lt_serve.specs.Scripts.{can_run};
 ghost use Rattle.lt_serve.specs.declared.limits.TheConstants.{MAX_INPUT};
 ghost use Rattle.lt_serve.specs.declared.status.Status.TheVariants as status;
 ghost use Rattle.lt_serve.specs.Words.{command_of, IsSimFirst, IsUnbuilt};
-ghost use Rattle.lt_serve.specs.Serving.{Tells, TellsOf, HasRead, IsWhole, HasFault, DenotesOther};
+ghost use Rattle.lt_serve.specs.TopCall.{Tells, TellsOf, HasRead, IsReadWhole, HasFault, DenotesOther};
 
 use crate::command::Command;
 use crate::first::first_run;
@@ -53,7 +53,7 @@ pub fn serve<R: Threads + Sync, S: Source, K: Sink, G: Gate>(
 
     // What the run is, how it ended, and what was written.
     ensures tells { Tells result.status (S.left source.old) result.run.entries (K.held sink.old) (K.held sink.new) }
-    ensures read_to_the_end { HasRead (map string_bytes words.now) result.status → IsWhole (S.given source.old) (S.given source.new) (S.ends source.old) (S.ends source.new) }
+    ensures read_to_the_end { HasRead (map string_bytes words.now) result.status → IsReadWhole (S.given source.old) (S.given source.new) (S.ends source.old) (S.ends source.new) }
     ensures unread { ¬ (IsSimFirst (map string_bytes words.now)) → source.new ≡ source.old }
 {
     match Command::from_words(words) {

@@ -31,7 +31,7 @@ pub enum Status {
 }
 
 impl Status {
-    ghost use Rattle.lt_serve.specs.Serving.{cut_of};
+    ghost use Rattle.lt_serve.specs.TopCall.{cut_of};
 
     /// The exit status of the program.
     pub fn code(&self) -> u8

@@ -11,7 +11,7 @@ use Rattle.lt_modes.specs.Fits.{parked_asks}
 use Rattle.lt_modes.specs.Script.{ScriptData, SetData, ClientData}
 use Rattle.lt_runs.specs.Log.{Logged}
 use Rattle.lt_runs.specs.World.{World, world_after, is_at_rest, anyone_waits}
-use Rattle.lt_runs.specs.Order.{first_run, turns_of, made_in_turn}
+use Rattle.lt_runs.specs.FixedOrder.{first_run, turns_of, made_in_turn}
 use Rattle.lt_runs.specs.Holdings.{Holding, holding, holdings, count_of, wanted, owner_of, lines_of}
 
 -- a lock, and how often it is held

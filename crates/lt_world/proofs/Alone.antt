@@ -5,16 +5,16 @@ use Rattle.std.proofs.lemmas.Bool.{and_parts, eqb-true}
 use Rattle.lt_modes.specs.Script.{ScriptData}
 use Rattle.lt_modes.specs.State.{lone_state}
 use Rattle.lt_script.specs.Script.{IsScript}
-use Rattle.lt_core.specs.Serving.{waits}
+use Rattle.lt_core.specs.LoneServing.{waits}
 use Rattle.lt_core.specs.Core.{CoreData, OutData}
 use Rattle.lt_runs.specs.Log.{Logged}
 use Rattle.lt_world.specs.OneNode.{World, world_after, commands_of, is_waiting, is_runnable, is_at_rest, anyone_waits}
 use Rattle.lt_runs.specs.Families.{home}
-use Rattle.lt_world.specs.Order.{next_act, act_at, act_from, count_acts}
+use Rattle.lt_world.specs.LoneOrder.{next_act, act_at, act_from, count_acts}
 use Rattle.lt_lists.proofs.Searches.{any_below_at, none_counted}
 use Rattle.lt_world.proofs.Places.{no_place}
 use Rattle.lt_world.specs.Choice.{act_choice}
-use Rattle.lt_world.specs.Standing.{Progress, no_progress, Stands, is_lone}
+use Rattle.lt_world.specs.Fields.{Progress, no_progress, Stands, is_lone}
 
 pub one_node : (script : ScriptData) → IsTrue (is_lone script) → script.nodes ≡ 1
 one_node script h = eqb-true _ _ (and_parts _ _ h).0

@@ -22,7 +22,7 @@ use Rattle.lt_world.specs.OneNode.{World, NodeState, NodeMade, start, world_afte
 use Rattle.lt_runs.specs.Families.{home}
 use Rattle.lt_world.proofs.Runs.{after_run-push, IsRunFrom-push}
 use Rattle.lt_world.specs.Orders.{order_of, moved, entry_of}
-use Rattle.lt_world.specs.Standing.{Progress, no_progress, progress_of, next_of, no_command, one_more, Stands, is_lone, locks_or_unlocks, node_after}
+use Rattle.lt_world.specs.Fields.{Progress, no_progress, progress_of, next_of, no_command, one_more, Stands, is_lone, locks_or_unlocks, node_after}
 use Rattle.lt_world.specs.Choice.{IsAct}
 
 -- a front that passes before others that pass

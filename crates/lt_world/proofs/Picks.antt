@@ -3,7 +3,7 @@ use Rattle.std.proofs.Common.{◌≡◌, ℕ, zero, suc, ◌<◌, ◌-◌, Some,
 use Rattle.std.specs.Prelude.{option_and_then}
 use Rattle.lt_modes.specs.Script.{ScriptData}
 use Rattle.lt_world.specs.OneNode.{World}
-use Rattle.lt_world.specs.Order.{next_act, act_from}
+use Rattle.lt_world.specs.LoneOrder.{next_act, act_from}
 
 pub act_from_more : (script : ScriptData) (w : World) (client k : ℕ) → 0 < k
     → act_from script w client k ≡ option_and_then (λ next. act_from script w next (k - 1)) (next_act script w (Some client))

@@ -5,7 +5,7 @@ use Rattle.std.proofs.lemmas.Bool.{and_parts, and_from, or_cases, or_left, or_ri
 use Rattle.std.proofs.lemmas.Bool.Decides.{nat_tests}
 use Rattle.lt_modes.specs.Script.{ScriptData}
 use Rattle.lt_world.specs.OneNode.{World, made_by, is_runnable}
-use Rattle.lt_world.specs.Order.{acts_before, comes_after, next_act, act_from, act_at, count_acts}
+use Rattle.lt_world.specs.LoneOrder.{acts_before, comes_after, next_act, act_from, act_at, count_acts}
 use Rattle.lt_lists.specs.Below.{count_below}
 use Rattle.lt_lists.proofs.Searches.{IsStrictOrder, Found, found, one_less, same_count}
 

@@ -5,7 +5,7 @@ use Rattle.lt_modes.specs.declared.moves.Step.TheVariants.{Act, Take}
 use Rattle.lt_modes.specs.Script.{ScriptData}
 use Rattle.lt_lists.specs.Below.{earlier as earlier_of}
 use Rattle.lt_world.specs.OneNode.{World, is_runnable}
-use Rattle.lt_world.specs.Order.{acts_before, comes_after}
+use Rattle.lt_world.specs.LoneOrder.{acts_before, comes_after}
 use Rattle.lt_world.specs.declared.choice.Choice.{Choice}
 
 abbrev pub act_choice : ℕ → Choice

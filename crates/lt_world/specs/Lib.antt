@@ -1,6 +1,6 @@
 pub mod OneNode
-pub mod Order
 pub mod Choice
 pub mod Orders
-pub mod Standing
 pub mod Recording
+pub mod Fields
+pub mod LoneOrder

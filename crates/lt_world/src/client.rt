@@ -1,7 +1,7 @@
 ghost use Rattle.std.specs.Prelude.{◌≡◌, ◌<◌, ◌+◌, ℕ, length, nat_lt, IfOk, slice_index_or};
 ghost use Rattle.lt_world.specs.OneNode.{commands_of};
 ghost use Rattle.lt_script.specs.Script.{IsScript};
-ghost use Rattle.lt_world.specs.Standing.{next_of, one_more, no_progress};
+ghost use Rattle.lt_world.specs.Fields.{next_of, one_more, no_progress};
 
 use lt_modes::Command;
 use lt_script::Script;
@@ -16,7 +16,7 @@ pub(crate) struct Client {
 }
 
 impl Model for Client {
-    ghost use Rattle.lt_world.specs.Standing.{Progress};
+    ghost use Rattle.lt_world.specs.Fields.{Progress};
 
     ghost Value = { Progress };
 

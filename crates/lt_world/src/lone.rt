@@ -1,7 +1,7 @@
 ghost use Rattle.std.specs.Prelude.{◌≡◌};
 ghost use Rattle.std.specs.List.{list_all};
 ghost use Rattle.lt_script.specs.Script.{IsScript};
-ghost use Rattle.lt_world.specs.Standing.{is_lone, locks_or_unlocks};
+ghost use Rattle.lt_world.specs.Fields.{is_lone, locks_or_unlocks};
 
 use lt_modes::Command;
 use lt_script::Script;

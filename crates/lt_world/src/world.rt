@@ -2,8 +2,8 @@ mod order;
 
 ghost use Rattle.std.specs.Prelude.{◌≡◌, ◌≤◌, ◌<◌, ◌↔◌, [], ◌∷◌, ◌++◌, length, IsTrue, IsNone, IsFalse, IfOk, IfSome, OnSome, OnOk, OnErr, option_map};
 ghost use Rattle.lt_world.specs.OneNode.{is_runnable, is_enabled, is_at_rest, anyone_waits, logged, IsRun};
-ghost use Rattle.lt_world.specs.Order.{act_at, count_acts};
-ghost use Rattle.lt_world.specs.Standing.{WorldData, full_node, is_lone, world_of};
+ghost use Rattle.lt_world.specs.LoneOrder.{act_at, count_acts};
+ghost use Rattle.lt_world.specs.Fields.{WorldData, full_node, is_lone, world_of};
 ghost use Rattle.lt_world.specs.Choice.{act_choice, IsAct};
 ghost use Rattle.lt_world.specs.declared.limits.TheConstants.{MAX_MOVES};
 
@@ -31,7 +31,7 @@ pub struct World<'a> {
 
 impl<'a> Model for World<'a> {
     ghost use Rattle.std.specs.Prelude.{◌≡◌, []};
-    ghost use Rattle.lt_world.specs.Standing.{WorldData, Stands};
+    ghost use Rattle.lt_world.specs.Fields.{WorldData, Stands};
 
     ghost Value = { WorldData };
 

@@ -1,7 +1,7 @@
 ghost use Rattle.std.specs.Prelude.{◌≡◌, ◌<◌, length, IsTrue, IfSome, None};
 ghost use Rattle.lt_world.specs.OneNode.{is_enabled, is_at_rest};
-ghost use Rattle.lt_world.specs.Order.{next_act, act_from, acts_before, comes_after};
-ghost use Rattle.lt_world.specs.Standing.{IsRunnable, world_of};
+ghost use Rattle.lt_world.specs.LoneOrder.{next_act, act_from, acts_before, comes_after};
+ghost use Rattle.lt_world.specs.Fields.{IsRunnable, world_of};
 ghost use Rattle.lt_world.specs.Choice.{act_choice, first_with};
 
 use super::World;

@@ -1,6 +1,6 @@
 use Rattle.std.proofs.Common.{◌≡◌, drop}
 use Rattle.lt_modes.specs.Modes.{no_modes}
-use Rattle.lt_core.specs.Serving.{next_from}
+use Rattle.lt_core.specs.LoneServing.{next_from}
 use Rattle.lt_core.proofs.serving.next.Given as goal
 
 abbrev pub invariant-loop-k : goal.invariant-loop-k

@@ -1,7 +1,7 @@
 -- What was read so far is what the source gave, and none of it was an end.
 use Rattle.std.proofs.Common.{◌≡◌, ◌≤◌, ◌+◌, ◌-◌, vec_len}
 use Rattle.std.specs.Io.KnownBytes.{Consumes}
-use Rattle.lt_io.specs.Counts.{count_after}
+use Rattle.lt_io.specs.FaultCounts.{count_after}
 use Rattle.lt_io.proofs.whole.read_all.Given as goal
 
 abbrev pub invariant-loop-bytes : goal.invariant-loop-bytes

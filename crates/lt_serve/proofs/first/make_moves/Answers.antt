@@ -1,7 +1,7 @@
 use Rattle.std.proofs.Common.{◌≡◌, ◌∙◌, ◌++◌, ◌∷◌, [], length, arith, ap, subst, sym}
 use Rattle.std.proofs.lemmas.List.{length_push}
 use Rattle.lt_world.specs.OneNode.{start, world_after, logged}
-use Rattle.lt_world.specs.Standing.{WorldData}
+use Rattle.lt_world.specs.Fields.{WorldData}
 use Rattle.lt_alone.specs.Laws.{AreFirstFrom}
 use Rattle.lt_serve.proofs.FirstMoves.{picked_next}
 use Rattle.lt_serve.proofs.first.make_moves.Goals as goal

@@ -3,9 +3,9 @@ use Rattle.std.specs.Prelude.{◌==◌}
 use Rattle.std.proofs.lemmas.Bool.{and_parts, eqb-true, or_right}
 use Rattle.lt_runs.specs.Log.{Logged}
 use Rattle.lt_serve.specs.declared.status.Status.TheVariants.{Done}
-use Rattle.lt_world.specs.Standing.{is_lone}
+use Rattle.lt_world.specs.Fields.{is_lone}
 use Rattle.lt_serve.specs.Scripts.{has_no_set}
-use Rattle.lt_serve.specs.Serving.{RanTo}
+use Rattle.lt_serve.specs.TopCall.{RanTo}
 use Rattle.lt_serve.proofs.NoMoves.{at_rest, none_waits, none_held}
 use Rattle.lt_serve.proofs.first.no_moves.Goals as goal
 

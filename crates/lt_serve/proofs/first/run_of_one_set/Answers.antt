@@ -2,7 +2,7 @@ use Rattle.std.proofs.Common.{rules}
 use Rattle.std.proofs.lemmas.Bool.{or_left}
 use Rattle.lt_alone.specs.Laws.{AreFirstFrom}
 use Rattle.lt_world.specs.OneNode as one_node
-use Rattle.lt_world.specs.Standing.{is_lone}
+use Rattle.lt_world.specs.Fields.{is_lone}
 use Rattle.lt_serve.specs.Scripts.{has_no_set}
 use Rattle.lt_runs.specs.World.{IsRun}
 use Rattle.lt_serve.specs.Alone.{EndsAlone}

@@ -1,6 +1,6 @@
 use Rattle.std.proofs.Common.{◌≡◌, ℕ, ◌<◌, length, slice_index_or}
 use Rattle.lt_world.specs.OneNode.{commands_of}
-use Rattle.lt_world.specs.Standing.{no_progress}
+use Rattle.lt_world.specs.Fields.{no_progress}
 use Rattle.lt_world.proofs.client.clients_of.Given as goal
 
 abbrev pub invariant-loop-client : goal.invariant-loop-client

@@ -2,7 +2,7 @@ use Rattle.std.proofs.Common.{◌≡◌, ◌∙◌, ◌++◌, [], ◌∷◌, Lis
 use Rattle.std.proofs.lemmas.Grind.{common_steps}
 use Rattle.lt_modes.specs.declared.event.Event.{Event}
 use Rattle.lt_world.specs.Orders.{moved, entry_of}
-use Rattle.lt_world.specs.Standing.{progress_of}
+use Rattle.lt_world.specs.Fields.{progress_of}
 use Rattle.lt_world.specs.Recording.{with_events}
 use Rattle.lt_world.proofs.Recorded.{pushed}
 use Rattle.lt_world.proofs.moving.act.Goals as goal

@@ -1,5 +1,5 @@
 use Rattle.std.proofs.Common.{◌≡◌, ◌+◌, ◌≤◌, ◌++◌, length}
-use Rattle.lt_core.specs.Serving.{queue_of, serve}
+use Rattle.lt_core.specs.LoneServing.{queue_of, serve}
 use Rattle.lt_core.specs.Core.{RoomToServe, SamePlace, load_of}
 use Rattle.lt_core.proofs.one_set.Core.serve.Given as goal
 

@@ -1,6 +1,6 @@
 use Rattle.std.proofs.Common.{◌≡◌}
-use Rattle.lt_world.specs.Order.{act_from}
-use Rattle.lt_world.specs.Standing.{world_of, IsRunnable}
+use Rattle.lt_world.specs.LoneOrder.{act_from}
+use Rattle.lt_world.specs.Fields.{world_of, IsRunnable}
 use Rattle.lt_world.proofs.world.World.act_from.Given as goal
 
 abbrev pub invariant-loop-left : goal.invariant-loop-left

@@ -1,7 +1,7 @@
 use Rattle.std.proofs.Common.{◌≡◌, ◌<◌, ◌∙◌, true, length, arith, sym, subst}
-use Rattle.lt_core.specs.Serving.{waits}
+use Rattle.lt_core.specs.LoneServing.{waits}
 use Rattle.lt_world.specs.OneNode.{world_after, anyone_waits}
-use Rattle.lt_world.specs.Standing.{WorldData}
+use Rattle.lt_world.specs.Fields.{WorldData}
 use Rattle.lt_world.proofs.Alone.{someone_waits}
 use Rattle.lt_world.proofs.world.World.anyone_waits.Goals as goal
 

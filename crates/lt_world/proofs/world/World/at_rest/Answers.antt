@@ -1,6 +1,6 @@
 use Rattle.std.proofs.Common.{◌≡◌, ◌<◌, ◌∙◌, true, length, arith, sym, ap}
 use Rattle.lt_world.specs.OneNode.{is_runnable}
-use Rattle.lt_world.specs.Standing.{world_of, WorldData}
+use Rattle.lt_world.specs.Fields.{world_of, WorldData}
 use Rattle.lt_world.proofs.Alone.{not_at_rest}
 use Rattle.lt_world.proofs.world.World.at_rest.Goals as goal
 

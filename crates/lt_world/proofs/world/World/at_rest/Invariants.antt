@@ -1,7 +1,7 @@
 use Rattle.std.proofs.Common.{◌≡◌, false}
 use Rattle.lt_lists.specs.Below.{any_below}
 use Rattle.lt_world.specs.OneNode.{is_runnable}
-use Rattle.lt_world.specs.Standing.{world_of}
+use Rattle.lt_world.specs.Fields.{world_of}
 use Rattle.lt_world.proofs.world.World.at_rest.Given as goal
 
 abbrev pub invariant-loop-client : goal.invariant-loop-client

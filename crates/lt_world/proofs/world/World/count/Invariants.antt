@@ -1,7 +1,7 @@
 use Rattle.std.proofs.Common.{◌≡◌, ◌≤◌}
 use Rattle.lt_lists.specs.Below.{count_below}
 use Rattle.lt_world.specs.OneNode.{is_runnable}
-use Rattle.lt_world.specs.Standing.{world_of}
+use Rattle.lt_world.specs.Fields.{world_of}
 use Rattle.lt_world.proofs.world.World.count.Given as goal
 
 abbrev pub invariant-loop-client : goal.invariant-loop-client

@@ -1,8 +1,8 @@
 use Rattle.std.proofs.Common.{◌≡◌, ◌∙◌, ℕ, Option, None, length, add-one, sym, ap, subst, arith}
 use Rattle.std.specs.Prelude.{IsTrue}
-use Rattle.lt_world.specs.Order.{next_act, next_below}
+use Rattle.lt_world.specs.LoneOrder.{next_act, next_below}
 use Rattle.lt_world.specs.Choice.{first_with}
-use Rattle.lt_world.specs.Standing.{WorldData, is_lone, world_of}
+use Rattle.lt_world.specs.Fields.{WorldData, is_lone, world_of}
 use Rattle.lt_world.proofs.Alone.{rest_alone}
 use Rattle.lt_world.proofs.world.World.next_act.Goals as goal
 

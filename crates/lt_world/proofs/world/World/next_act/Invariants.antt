@@ -1,7 +1,7 @@
 use Rattle.std.proofs.Common.{◌≡◌}
 use Rattle.std.specs.Prelude.{IfSome}
-use Rattle.lt_world.specs.Order.{next_below}
-use Rattle.lt_world.specs.Standing.{world_of, IsRunnable}
+use Rattle.lt_world.specs.LoneOrder.{next_below}
+use Rattle.lt_world.specs.Fields.{world_of, IsRunnable}
 use Rattle.lt_world.proofs.world.World.next_act.Given as goal
 
 abbrev pub invariant-loop-client : goal.invariant-loop-client

@@ -2,8 +2,8 @@ use Rattle.std.proofs.Common.{◌≡◌, ◌∙◌, Option, Some, None, ℕ, sym
 use Rattle.std.specs.Prelude.{option_and_then}
 use Rattle.lt_modes.specs.Script.{ScriptData}
 use Rattle.lt_world.specs.OneNode.{World}
-use Rattle.lt_world.specs.Order.{next_act, act_at, act_from}
-use Rattle.lt_world.specs.Standing.{world_of}
+use Rattle.lt_world.specs.LoneOrder.{next_act, act_at, act_from}
+use Rattle.lt_world.specs.Fields.{world_of}
 use Rattle.lt_world.proofs.Alone.{no_move, not_at_rest}
 use Rattle.lt_world.proofs.world.World.pick.Goals as goal
 

@@ -3,7 +3,7 @@ use Rattle.lt_modes.specs.declared.stamp.Stamp.{Stamp}
 use Rattle.lt_runs.specs.Log.{Logged}
 use Rattle.lt_world.specs.OneNode.{world_after, is_enabled, logged}
 use Rattle.lt_world.specs.Orders.{entry_of, moved}
-use Rattle.lt_world.specs.Standing.{world_of, WorldData, progress_of}
+use Rattle.lt_world.specs.Fields.{world_of, WorldData, progress_of}
 use Rattle.lt_world.proofs.Alone.{one_node}
 use Rattle.lt_world.proofs.Moved.{is_act, acting, noted, stands_stepped}
 use Rattle.lt_world.proofs.world.World.step.Goals as goal

@@ -1,14 +1,14 @@
 -- What each answer of the top call means.
 use Rattle.std.specs.Prelude.{◌≡◌, true, false, ℕ, ◌≤◌, List, [], Option, Some, None, Ok, Err, length, take}
 use Rattle.std.specs.Io.KnownBytes.{Appends}
-use Rattle.lt_io.specs.Counts.{Counts}
+use Rattle.lt_io.specs.FaultCounts.{Counts}
 use Rattle.lt_io.specs.Sink.{AppendsPart}
 use Rattle.lt_io.specs.declared.whole.ReadFailure.{ReadFailure}
 use Rattle.lt_io.specs.declared.whole.ReadFailure.TheVariants.{Memory, Failed, TooLong as Long}
 use Rattle.lt_modes.specs.Script.{ScriptData}
 use Rattle.lt_runs.specs.Log.{Logged}
 use Rattle.lt_runs.specs.World.{world_after, IsRun, is_at_rest, anyone_waits}
-use Rattle.lt_runs.specs.Order.{first_run}
+use Rattle.lt_runs.specs.FixedOrder.{first_run}
 use Rattle.lt_runs.specs.Facts.{token_count}
 use Rattle.lt_runs.specs.Text.{text_of}
 use Rattle.lt_alone.specs.Laws.{ClientsAgree}
@@ -119,7 +119,7 @@ HasRead words NotBuilt = IsSimFirst words
 HasRead words other = ⊥
 
 -- the source came to its end, and gave no more bytes than a script may have
-pub record IsWhole (given given' ends ends' : ℕ) : Type 0 where
+pub record IsReadWhole (given given' ends ends' : ℕ) : Type 0 where
   pub ended : Counts 1 ends ends'
   pub few : (count : ℕ) × (count ≤ MAX_INPUT) × Counts count given given'
 
