@@ -38,7 +38,7 @@ use Rattle.lt_lists.proofs.AllLemmas.{all_both, all_weaker}
 use Rattle.lt_model.proofs.StandingEffects.{places_weight}
 use Rattle.lt_model.proofs.StandingInRuns.{stands_once}
 use Rattle.lt_lists.proofs.Sums.{sum_below-at}
-use Rattle.lt_trial.proofs.Runs.{stood_of}
+use Rattle.lt_ledgers.proofs.Runs.{stood_of}
 use Rattle.lt_kept.proofs.ScriptSets.{AreAlike, MadeAlike, clipped, clipped_alike, act_alike, take_alike}
 
 -- at each node and in each letter of the script, for its sets, what there is is at home

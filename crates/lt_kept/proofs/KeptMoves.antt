@@ -30,8 +30,8 @@ use Rattle.lt_lists.proofs.Members.{list_any-at, list_any-which}
 use Rattle.lt_accounts.proofs.Asks.{times_in-some, same_ask-itself}
 use Rattle.lt_model.proofs.TokenComes.{desk_somewhere}
 use Rattle.lt_model.proofs.StandingInRuns.{stands_once}
-use Rattle.lt_trial.proofs.Moves.{Known, named_firm, entries_on}
-use Rattle.lt_trial.proofs.Runs.{two_places, stood_of, ledgers_step}
+use Rattle.lt_ledgers.proofs.Moves.{Known, named_firm, entries_on}
+use Rattle.lt_ledgers.proofs.Runs.{two_places, stood_of, ledgers_step}
 use Rattle.lt_trial.proofs.Rest.{nothing_in}
 use Rattle.lt_trial.proofs.LineMoves.{after_node}
 use Rattle.lt_trial.proofs.Totals.{row_count, total, none_found, sum_by-zero}
