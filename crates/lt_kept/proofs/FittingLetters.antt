@@ -28,7 +28,7 @@ use Rattle.lt_model.proofs.PathsQuiet.{link_named}
 use Rattle.lt_model.proofs.StandingEffects.{places_weight}
 use Rattle.lt_model.proofs.StandingInRuns.{stands_once}
 use Rattle.lt_lists.proofs.Sums.{sum_below-at}
-use Rattle.lt_ledgers.proofs.Runs.{stood_of}
+use Rattle.lt_model.proofs.KeptSets.{kept_stands}
 use Rattle.lt_kept.specs.Laws.{LettersFit}
 use Rattle.lt_kept.proofs.AsksApart.{OwnAsks, apart_by, parked_times, here_times, standing_apart, standing_known}
 use Rattle.lt_kept.proofs.ClientEffects.{is_asks}
@@ -38,7 +38,7 @@ use Rattle.lt_kept.proofs.KeptParked.{not_both}
 -- the asks of a set of a world that is kept
 pub kept_asks : (script : ScriptData) (w : World) (s : ℕ) → Kept script w → s < length script.sets → OwnAsks script w s
 kept_asks script w s h under = record {
-  stood = stood_of script w s (h.sets s under);
+  stood = kept_stands script w s (h.sets s under);
   own = λ x below. ((kept_homes script w h).states x s below under).pending;
   few = λ x below client. omega (arith, (h.clients x below).one_ask client,
       sum_below-at (length script.sets) s (λ k. count_by (is_asks client) ((w.node x).set k).pending) under);

@@ -38,17 +38,14 @@ use Rattle.lt_lists.proofs.AllLemmas.{all_both, all_weaker}
 use Rattle.lt_model.proofs.StandingEffects.{places_weight}
 use Rattle.lt_model.proofs.StandingInRuns.{stands_once}
 use Rattle.lt_lists.proofs.Sums.{sum_below-at}
-use Rattle.lt_ledgers.proofs.Runs.{stood_of}
+use Rattle.lt_lists.proofs.Members.{all_of}
+use Rattle.lt_model.proofs.KeptSets.{kept_stands}
 use Rattle.lt_kept.proofs.ScriptSets.{AreAlike, MadeAlike, clipped, clipped_alike, act_alike, take_alike}
 
 -- at each node and in each letter of the script, for its sets, what there is is at home
 pub record HomesWithin (script : ScriptData) (w : World) : Type 0 where
   pub states : (x s : ℕ) → x < script.nodes → s < length script.sets → IsStateAtHome script x (state_at w s x)
   pub letters : (p q : ℕ) (letter : Letter) → p < script.nodes → q < script.nodes → Contains (w.mail p q) letter → IsLetterAtHome script q letter
-
--- members make all
-pub all_of : {X : Type 0} (P : X → Type 0) (xs : List X) → ((x : X) → Contains xs x → P x) → All P xs
-all_of P xs h k d within = h (slice_index_or xs k d) (Contains-get_or xs k d within)
 
 row_at_home : (script : ScriptData) (q : ℕ) (row : Row) → SoundRow (numbers_of script) q row → IsRowAtHome script q row
 row_at_home script q row h =
@@ -73,7 +70,7 @@ own_at_home script q held ask h =
 -- an ask that stands anywhere is at home
 standing_at_home : (script : ScriptData) (w : World) (s : ℕ) (ask : Ask) → SetKept script Between w s → 1 ≤ place_count script w s ask → IsAskAtHome script ask
 standing_at_home script w s ask h some =
-    let found = stands_once script w s ask (stood_of script w s h) some in
+    let found = stands_once script w s ask (kept_stands script w s h) some in
     (own_at_home script ask.node (state_at w s ask.node).held ask
     (All-contains (SoundPending (numbers_of script) ask.node (state_at w s ask.node).held) (state_at w s ask.node).pending ask (h.states ask.node found.0).pending found.1)).0
 

@@ -31,8 +31,9 @@ use Rattle.lt_accounts.proofs.Asks.{times_in-some, same_ask-itself}
 use Rattle.lt_model.proofs.TokenComes.{desk_somewhere}
 use Rattle.lt_model.proofs.StandingInRuns.{stands_once}
 use Rattle.lt_ledgers.proofs.Moves.{Known, named_firm, entries_on}
-use Rattle.lt_ledgers.proofs.Runs.{two_places, stood_of, ledgers_step}
-use Rattle.lt_trial.proofs.Rest.{nothing_in}
+use Rattle.lt_ledgers.proofs.Runs.{two_places, ledgers_step}
+use Rattle.lt_model.proofs.KeptSets.{kept_stands, kept_timed}
+use Rattle.lt_lists.proofs.Members.{all_of, nothing_in}
 use Rattle.lt_trial.proofs.LineMoves.{after_node}
 use Rattle.lt_trial.proofs.Totals.{row_count, total, none_found, sum_by-zero}
 use Rattle.lt_kept.proofs.Measures.{SomeEach}
@@ -41,7 +42,7 @@ use Rattle.lt_kept.proofs.ClientMoves.{SoundClients}
 use Rattle.lt_kept.proofs.ClientRuns.{sound_clients, clients_kept}
 use Rattle.lt_kept.proofs.RowsApart.{rows_stay_apart}
 use Rattle.lt_kept.proofs.SoundStates.{SetFacts, sound_set}
-use Rattle.lt_kept.proofs.KeptHomes.{HomesWithin, all_of, kept_homes, homes_within_kept}
+use Rattle.lt_kept.proofs.KeptHomes.{HomesWithin, kept_homes, homes_within_kept}
 use Rattle.lt_kept.proofs.KeptParked.{HeldOrComes, held_or_comes_kept, parked_for, none_parked}
 use Rattle.lt_kept.specs.Laws.{KeptStays, KeptInRuns}
 use Rattle.lt_runs.specs.Log.{Logged}
@@ -56,22 +57,6 @@ use Rattle.lt_lists.proofs.Puts.{put-same, put-other}
 use Rattle.lt_model.proofs.StandingMove.{standing_kept}
 use Rattle.lt_model.proofs.StartKept.{start_kept}
 use Rattle.lt_modes.specs.declared.moves.Step.{Step}
-
--- what is timed in a set that is kept
-timed_of : (script : ScriptData) (w : World) (s : ℕ) → SetKept script Between w s → Timed script w s
-timed_of script w s h = record {
-  states = λ x below. record {
-    epoch = (h.states x below).epoch;
-    number = (h.states x below).number;
-    desk = by_desk x (state_at w s x).desk (h.states x below).desk;
-  };
-  letters = λ p q letter below on. h.letters p q letter below (h.paths.letters p q letter below on).to on;
-}
-  where
-    by_desk : (x : ℕ) (o : Option Desk) → SoundDesk (numbers_of script) false false (w.node x).clock (state_at w s x) o
-        → IfSome o (λ (desk : Desk). (desk.epoch ≤ (w.node x).clock) × (desk.number ≤ (w.node x).clock))
-    by_desk x None sound = tt
-    by_desk x (Some desk) sound = (sound.1, sound.2)
 
 -- each enabled move keeps the invariant
 pub kept_stays : KeptStays
@@ -98,10 +83,10 @@ kept_stays script w q step whole h enabled = record {
     paths s under = move_kept script w s whole.some_node (h.sets s under).paths q step enabled
 
     stood : (s : ℕ) → s < length script.sets → AsksStand script later s
-    stood s under = standing_kept script w s whole.some_node (h.sets s under).paths (stood_of script w s (h.sets s under)) q step enabled
+    stood s under = standing_kept script w s whole.some_node (h.sets s under).paths (kept_stands script w s (h.sets s under)) q step enabled
 
     timed : (s : ℕ) → s < length script.sets → Timed script later s
-    timed s under = timed_kept script w s (timed_of script w s (h.sets s under)) q step enabled
+    timed s under = timed_kept script w s (kept_timed script w s (h.sets s under)) q step enabled
 
     known : (s : ℕ) → s < length script.sets → Known script later s
     known s under = ledgers_step script w s q step whole (h.sets s under) enabled

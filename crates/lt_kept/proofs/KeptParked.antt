@@ -26,7 +26,8 @@ use Rattle.lt_model.proofs.TokenComes.{desk_somewhere, token_comes}
 use Rattle.lt_ledgers.specs.Ledger.{IsHeldUp, HeldUp}
 use Rattle.lt_ledgers.proofs.HeldUps.{none_held}
 use Rattle.lt_ledgers.proofs.ParkedRuns.{other_state, own_held, taken_held}
-use Rattle.lt_ledgers.proofs.Runs.{one_desk, stood_of}
+use Rattle.lt_ledgers.proofs.Runs.{one_desk}
+use Rattle.lt_model.proofs.KeptSets.{kept_stands}
 
 -- the token is on its way to x
 abbrev pub TokenTo : ScriptData → World → ℕ → ℕ → Type 0
@@ -128,7 +129,7 @@ held_or_comes_kept script w s q step x whole h below enabled = by_held (kept_hel
     by_held (inr comes) = by_step step comes
     by_held (inl held) = inl (elim (cases_eq x q) [
       | inl e ↦ subst (λ (y : ℕ). HeldUp y (state_at (after script w q step) s y)) (sym e)
-          (own_held script w s q step whole h.paths (stood_of script w s h) h.known (subst (λ (y : ℕ). HeldUp y (state_at w s y)) e held) enabled)
+          (own_held script w s q step whole h.paths (kept_stands script w s h) h.known (subst (λ (y : ℕ). HeldUp y (state_at w s y)) e held) enabled)
       | inr d ↦ subst (HeldUp x) (sym (other_state script w s q step x d)) held
     ])
 

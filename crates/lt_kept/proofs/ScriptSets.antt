@@ -16,6 +16,7 @@ use Rattle.lt_lists.specs.Below.{any_below, put}
 use Rattle.lt_runs.specs.Families.{related}
 use Rattle.lt_model.specs.Homes.{IsWhole, HasTargets}
 use Rattle.lt_runs.specs.NodeMove.{NodeState, NodeMade, node_waits, next_command, act_stamp, take_stamp, at_clock, one_made, touched, each_touched, drop_all, obey, node_act, node_take}
+use Rattle.lt_lists.proofs.Searches.{any_below_same}
 use Rattle.lt_model.proofs.HomesMove.{related_below, next_targets}
 
 -- the nodes keep the same for each set of the script
@@ -54,10 +55,6 @@ each_alike script rule (set ∷ rest) in_sets n m alike =
     let later = each_alike script rule rest in_sets.1 (touched n set (rule set (n.set set))).node (touched m set (rule set (m.set set))).node first.node in
     record { node = later.node; posts = λ i. first.posts i ++ later.posts i }
 
-any_below-same : (n : ℕ) (test other : ℕ → Bool) → ((k : ℕ) → k < n → test k ≡ other k) → any_below n test ≡ any_below n other
-any_below-same zero test other same = refl
-any_below-same (suc n) test other same = λ i. any_below-same n test other (λ k below. same k (omega (arith, below))) i || same n (omega arith) i
-
 obey_alike : (script : ScriptData) (stamp : Stamp) (client : ℕ) (command : Command) (n m : NodeState) → HasTargets script client command → AreAlike script n m
     → MadeAlike script (obey script stamp client (Some command) n) (obey script stamp client (Some command) m)
 obey_alike script stamp client (Lock s mode) n m targets alike = touched_alike script n m s (λ k t. lock k stamp client mode t) targets alike
@@ -66,7 +63,7 @@ obey_alike script stamp client (Unlock s mode) n m targets alike = touched_alike
 obey_alike script stamp client (Change s gives_up mode) n m targets alike = touched_alike script n m s (λ k t. change k stamp client gives_up mode t) targets alike
 obey_alike script stamp client (DropAll other s) n m targets alike =
     subst (λ (b : Bool). MadeAlike script (drop_all (node_waits script n other) stamp client other s (related script s) n) (drop_all b stamp client other s (related script s) m))
-    (any_below-same (length script.sets) (λ k. waits (n.set k) other) (λ k. waits (m.set k) other) (λ k below. ap (λ (t : SetState). waits t other) (alike k below)))
+    (any_below_same (length script.sets) (λ k. waits (n.set k) other) (λ k. waits (m.set k) other) (λ k below. ap (λ (t : SetState). waits t other) (alike k below)))
     (by_waits (node_waits script n other))
   where
     by_waits : (waiting : Bool) → MadeAlike script (drop_all waiting stamp client other s (related script s) n) (drop_all waiting stamp client other s (related script s) m)

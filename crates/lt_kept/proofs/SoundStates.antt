@@ -31,8 +31,9 @@ use Rattle.lt_accounts.proofs.Asks.{times_in-some, same_ask-itself}
 use Rattle.lt_model.proofs.TokenComes.{desk_somewhere}
 use Rattle.lt_model.proofs.StandingInRuns.{stands_once}
 use Rattle.lt_ledgers.proofs.Moves.{Known, named_firm, entries_on}
-use Rattle.lt_ledgers.proofs.Runs.{two_places, stood_of, ledgers_step}
-use Rattle.lt_trial.proofs.Rest.{nothing_in}
+use Rattle.lt_ledgers.proofs.Runs.{two_places, ledgers_step}
+use Rattle.lt_model.proofs.KeptSets.{kept_stands}
+use Rattle.lt_lists.proofs.Members.{all_of, nothing_in}
 use Rattle.lt_trial.proofs.LineMoves.{after_node}
 use Rattle.lt_trial.proofs.Totals.{row_count, total, none_found, sum_by-zero}
 use Rattle.lt_kept.proofs.Measures.{SomeEach}
@@ -41,7 +42,7 @@ use Rattle.lt_kept.proofs.ClientMoves.{SoundClients}
 use Rattle.lt_kept.proofs.ClientRuns.{sound_clients, clients_kept}
 use Rattle.lt_kept.proofs.RowsApart.{rows_stay_apart}
 use Rattle.lt_kept.proofs.AsksApart.{OwnAsks, apart_by, one_each, here_times, standing_apart, standing_known}
-use Rattle.lt_kept.proofs.KeptHomes.{HomesWithin, all_of, kept_homes, homes_within_kept}
+use Rattle.lt_kept.proofs.KeptHomes.{HomesWithin, kept_homes, homes_within_kept}
 use Rattle.lt_kept.proofs.KeptParked.{HeldOrComes, held_or_comes_kept, parked_for, none_parked}
 use Rattle.lt_kept.specs.Laws.{KeptStays, KeptInRuns}
 use Rattle.lt_runs.specs.Log.{Logged}
