@@ -48,7 +48,7 @@ clear_stays n x counts now clear here on y z hy hz d = by_first (cases_eq y x)
     by_first (inr dy) = by_second dy (cases_eq z x)
 
 -- what the others count, each of them counts
-others-which : (n : ℕ) (accounts : ℕ → Account) (v : ℕ) (mode : Mode) → Bars (others_counted n accounts v) mode
+pub others-which : (n : ℕ) (accounts : ℕ → Account) (v : ℕ) (mode : Mode) → Bars (others_counted n accounts v) mode
     → (y : ℕ) × (y < n) × (y ≢ v) × Bars (counted (accounts y)) mode
 others-which zero accounts v mode bar = none_has bar.0 bar.2
 others-which (suc n) accounts v mode bar =

@@ -1,7 +1,7 @@
 -- Which rows a node has with one lock more, with one less, and without a client; and which modes they hold.
 use Rattle.std.proofs.Common.{◌≡◌, ◌≢◌, ℕ, ◌<◌, inl, inr, List, [], ◌∷◌, length, Option, Some, None, Bool, true, false, refl, sym, ap, subst, arith, ◌∙◌}
 use Rattle.std.specs.Prelude.{◌⊎◌, ◌==◌, not, if◌then◌else◌, IsTrue, Contains, fold, remove, slice_index_or, slice_set}
-use Rattle.std.proofs.lemmas.Bool.{eqb-true, ne_eqb}
+use Rattle.std.proofs.lemmas.Bool.{eqb-true, eq-eqb, ne_eqb}
 use Rattle.std.proofs.lemmas.List.Elements.{Contains-get_or, Contains-push_cases}
 use Rattle.std.proofs.lemmas.List.Quantifiers.{position-Some}
 use Rattle.lt_modes.specs.declared.mode.Mode.{Mode}
@@ -170,3 +170,15 @@ pub others-at : (rows : List Row) (client : ℕ) (row : Row) → Contains rows r
     → IsTrue (has row.mode (other_modes rows client))
 others-at rows client row h differ =
     picked-at (λ (r : Row). not (is_of client r)) no_modes rows row h (ap not (ne_eqb row.client client differ))
+
+-- a mode of the others is that of a row of another client
+pub other-which : (rows : List Row) (client : ℕ) (mode : Mode) → IsTrue (has mode (other_modes rows client))
+    → (row : Row) × Contains rows row × (row.client ≢ client) × (row.mode ≡ mode)
+other-which rows client mode h = elim (picked-which (λ (r : Row). not (is_of client r)) no_modes rows mode h) [
+  | inl none ↦ none_has mode none
+  | inr found ↦ (found.0, found.1, λ same. not_own (found.0.client == client) (eq-eqb found.0.client client same) found.2, found.3)
+]
+  where
+    not_own : {A : Type 0} (t : Bool) → t ≡ true → not t ≡ true → A
+    not_own true e f = cc
+    not_own false e f = cc

@@ -1,6 +1,7 @@
 -- Sums over the numbers below a bound.
-use Rattle.std.proofs.Common.{◌≡◌, ◌≢◌, ℕ, zero, suc, ◌+◌, ◌<◌, ◌≤◌, inl, inr, refl, arith, ap, sym}
-use Rattle.std.proofs.lemmas.Bool.{cases_eq}
+use Rattle.std.proofs.Common.{◌≡◌, ◌≢◌, ℕ, zero, suc, ◌+◌, ◌<◌, ◌≤◌, inl, inr, Bool, true, false, refl, arith, ap, sym}
+use Rattle.std.specs.Prelude.{◌⊎◌, ◌==◌, if◌then◌else◌}
+use Rattle.std.proofs.lemmas.Bool.{cases_eq, cases_lt, eq-eqb, ne_eqb}
 use Rattle.lt_lists.specs.Below.{sum_below}
 
 pub sum_below-same : (n : ℕ) (f g : ℕ → ℕ) → ((k : ℕ) → k < n → f k ≡ g k) → sum_below n f ≡ sum_below n g
@@ -70,3 +71,32 @@ sum_same (suc n) f g e = omega (arith, sum_same n f g e, e n)
 pub sum_first : (n : ℕ) (f : ℕ → ℕ) → f 0 ≡ 1 → ((k : ℕ) → f (suc k) ≡ 0) → sum_below (suc n) f ≡ 1
 sum_first zero f first rest = omega (arith, first)
 sum_first (suc n) f first rest = omega (arith, sum_first n f first rest, rest n)
+
+pub sum_below-most : (n : ℕ) (f g : ℕ → ℕ) → ((k : ℕ) → k < n → f k ≤ g k) → sum_below n f ≤ sum_below n g
+sum_below-most zero f g h = omega arith
+sum_below-most (suc n) f g h = omega (arith, sum_below-most n f g (λ k below. h k (omega (arith, below))), h n (omega arith))
+
+-- one number alone weighs something
+pub sum_below-one : (n t x : ℕ) → sum_below n (λ k. if k == t then x else 0) ≤ x
+sum_below-one n t x = by_bound (cases_lt t n)
+  where
+    none : (m : ℕ) → m ≤ t → sum_below m (λ k. if k == t then x else 0) ≡ 0
+    none zero h = refl
+    none (suc m) h =
+        let here : ◌≡◌ {A = ℕ} (if m == t then x else 0) 0 = ap (λ (b : Bool). if b then x else 0) (ne_eqb m t (λ e. omega (arith, e, h))) in
+        omega (arith, none m (omega (arith, h)), here)
+
+    some : (m : ℕ) → t < m → sum_below m (λ k. if k == t then x else 0) ≡ x
+    some zero h = absurd (omega (arith, h))
+    some (suc m) h = elim (cases_eq m t) [
+      | inl e ↦
+          let here : ◌≡◌ {A = ℕ} (if m == t then x else 0) x = ap (λ (b : Bool). if b then x else 0) (eq-eqb m t e) in
+          omega (arith, none m (omega (arith, e)), here)
+      | inr d ↦
+          let here : ◌≡◌ {A = ℕ} (if m == t then x else 0) 0 = ap (λ (b : Bool). if b then x else 0) (ne_eqb m t d) in
+          omega (arith, some m (omega (arith, h, d)), here)
+    ]
+
+    by_bound : (t < n) ⊎ (n ≤ t) → sum_below n (λ k. if k == t then x else 0) ≤ x
+    by_bound (inl below) = omega (arith, some n below)
+    by_bound (inr above) = omega (arith, none n above)

@@ -37,11 +37,11 @@ use Rattle.lt_accounts.proofs.AccountAsks.{ticks_kept, ages_kept}
 use Rattle.lt_accounts.proofs.NewsLemmas.{begins_kept}
 
 -- the clock stays or goes on, and goes on where the node is in its move
-abbrev Goes : Bool → ℕ → ℕ → Type 0
+abbrev pub Goes : Bool → ℕ → ℕ → Type 0
 Goes false old new = old ≤ new
 Goes true old new = old < new
 
-goes_on : (moving : Bool) (old new : ℕ) → Goes moving old new → old ≤ new
+pub goes_on : (moving : Bool) (old new : ℕ) → Goes moving old new → old ≤ new
 goes_on false old new h = h
 goes_on true old new h = omega (arith, h)
 
@@ -57,7 +57,7 @@ on_way_same w later s p q letter same on =
       set = on.set;
     }
 
-comes_same : (script : ScriptData) (w later : World) (s x : ℕ) (body : Body) → ((p q : ℕ) → of_set s (later.mail p q) ≡ of_set s (w.mail p q))
+pub comes_same : (script : ScriptData) (w later : World) (s x : ℕ) (body : Body) → ((p q : ℕ) → of_set s (later.mail p q) ≡ of_set s (w.mail p q))
     → Comes script later s x body → Comes script w s x body
 comes_same script w later s x body same h = (h.0, h.1, h.2, on_way_same w later s h.0 x h.1 (same h.0 x) h.3, h.4)
 
@@ -82,7 +82,7 @@ gather_same : {X : Type 0} (n : ℕ) (f g : ℕ → List X) → ((k : ℕ) → f
 gather_same zero f g same = refl
 gather_same (suc n) f g same = ap (λ l. l ++ f n) (gather_same n f g same) ∙ ap (λ l. gather_below n g ++ l) (same n)
 
-tells_same : (script : ScriptData) (w later : World) (s x : ℕ) → SameSet script w later s → tells_of script later s x ≡ tells_of script w s x
+pub tells_same : (script : ScriptData) (w later : World) (s x : ℕ) → SameSet script w later s → tells_of script later s x ≡ tells_of script w s x
 tells_same script w later s x same =
     ap (λ (l : List Tell). l ++ gather_below script.nodes (λ q. filter_map (tell_parked x) (state_at later s q).parked))
     (gather_same script.nodes (λ p. gather_below script.nodes (λ q. filter_map (in_set s (tell_in x)) (later.mail p q)))
@@ -93,11 +93,11 @@ tells_same script w later s x same =
     (gather_same script.nodes (λ q. filter_map (tell_parked x) (state_at later s q).parked) (λ q. filter_map (tell_parked x) (state_at w s q).parked)
     (λ q. ap (λ (t : SetState). filter_map (tell_parked x) t.parked) (same.states q)))
 
-copies_same : (script : ScriptData) (w later : World) (s x : ℕ) → SameSet script w later s → copies_to script later s x ≡ copies_to script w s x
+pub copies_same : (script : ScriptData) (w later : World) (s x : ℕ) → SameSet script w later s → copies_to script later s x ≡ copies_to script w s x
 copies_same script w later s x same = gather_same script.nodes (λ p. filter_map (in_set s copy_in) (later.mail p x)) (λ p. filter_map (in_set s copy_in) (w.mail p x))
     (λ p. read_same s copy_in (later.mail p x) (w.mail p x) (same.letters p x))
 
-freezes_same : (script : ScriptData) (w later : World) (s x : ℕ) → SameSet script w later s → freezes_to script later s x ≡ freezes_to script w s x
+pub freezes_same : (script : ScriptData) (w later : World) (s x : ℕ) → SameSet script w later s → freezes_to script later s x ≡ freezes_to script w s x
 freezes_same script w later s x same = gather_same script.nodes (λ p. filter_map (in_set s freeze_in) (later.mail p x)) (λ p. filter_map (in_set s freeze_in) (w.mail p x))
     (λ p. read_same s freeze_in (later.mail p x) (w.mail p x) (same.letters p x))
 
@@ -115,7 +115,7 @@ account_by clock here moving entry t tells copies = record {
   moving = moving;
 }
 
-account_same : (script : ScriptData) (moment : Moment) (w later : World) (s : ℕ) (place : Option ℕ) (desk : Desk) (x : ℕ) → SameSet script w later s
+pub account_same : (script : ScriptData) (moment : Moment) (w later : World) (s : ℕ) (place : Option ℕ) (desk : Desk) (x : ℕ) → SameSet script w later s
     → account_of script moment later s place desk x ≡ record (account_of script Between w s place desk x) { clock = (later.node x).clock; moving = is_moving moment x }
 account_same script moment w later s place desk x same =
     let clock = (later.node x).clock in
@@ -124,7 +124,7 @@ account_same script moment w later s place desk x same =
     ∙ ap (λ (l : List Tell). make (state_at w s x) l (copies_to script later s x)) (tells_same script w later s x same)
     ∙ ap (λ (l : List Ask). make (state_at w s x) (tells_of script w s x) l) (copies_same script w later s x same)
 
-account_goes : (a : Account) (moving : Bool) (clock : ℕ) → AccountKept a → a.moving ≡ false → Goes moving a.clock clock → AccountKept (record a { clock = clock; moving = moving })
+pub account_goes : (a : Account) (moving : Bool) (clock : ℕ) → AccountKept a → a.moving ≡ false → Goes moving a.clock clock → AccountKept (record a { clock = clock; moving = moving })
 account_goes a true clock h between goes = (ticks_kept a clock h (record { between = between; later = goes })).0
 account_goes a false clock h between goes =
     subst (λ (m : Bool). AccountKept (record a { clock = clock; moving = m })) between (ages_kept a clock h between goes)
@@ -142,17 +142,17 @@ news_by t coming entry desk here serving = record {
   serving = serving;
 }
 
-news_same : (script : ScriptData) (moment : Moment) (w later : World) (s : ℕ) (place : Option ℕ) (desk : Desk) (x : ℕ) → SameSet script w later s
+pub news_same : (script : ScriptData) (moment : Moment) (w later : World) (s : ℕ) (place : Option ℕ) (desk : Desk) (x : ℕ) → SameSet script w later s
     → news_of script moment later s place desk x ≡ record (news_of script Between w s place desk x) { serving = is_serving moment place }
 news_same script moment w later s place desk x same =
     ap (λ (t : SetState). news_by t (freezes_to script later s x) (entry_of desk x) desk (is_at place x) (is_serving moment place)) (same.states x)
     ∙ ap (λ (l : List Notice). news_by (state_at w s x) l (entry_of desk x) desk (is_at place x) (is_serving moment place)) (freezes_same script w later s x same)
 
-news_goes : (n : News) (serving : Bool) → NewsKept n → n.serving ≡ false → NewsKept (record n { serving = serving })
+pub news_goes : (n : News) (serving : Bool) → NewsKept n → n.serving ≡ false → NewsKept (record n { serving = serving })
 news_goes n true h between = begins_kept n h
 news_goes n false h between = subst (λ (b : Bool). NewsKept (record n { serving = b })) between h
 
-desk_same : (script : ScriptData) (w later : World) (s : ℕ) (place : Option ℕ) (desk : Desk) → SameSet script w later s → DeskIs script later s place desk → DeskIs script w s place desk
+pub desk_same : (script : ScriptData) (w later : World) (s : ℕ) (place : Option ℕ) (desk : Desk) → SameSet script w later s → DeskIs script later s place desk → DeskIs script w s place desk
 desk_same script w later s (Some t) desk same h = (h.0, ap (λ (u : SetState). u.desk) (sym (same.states t)) ∙ h.1)
 desk_same script w later s None desk same h = (h.0, h.1, comes_same script w later s h.0 _ same.letters h.2)
 

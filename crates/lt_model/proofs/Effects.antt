@@ -196,7 +196,7 @@ pub record ByEffects (set : ℕ) (stamp : Stamp) (begun ended : Fact) : Type 0 w
   pub drops : (client : ℕ) (t : SetState) (posts : List Post) → begun t posts → HoldsOf ended posts (drop set stamp client t)
   pub finishes : (t : SetState) (posts : List Post) → begun t posts → HoldsOf ended posts (finish set stamp t)
 
-quiet_made : (mid : Fact) (posts : List Post) (m : Made) → m.posts ≡ [] → mid m.state posts → HoldsOf mid posts m
+pub quiet_made : (mid : Fact) (posts : List Post) (m : Made) → m.posts ≡ [] → mid m.state posts → HoldsOf mid posts m
 quiet_made mid posts m none h = subst (mid m.state) (sym (ap (λ (more : List Post). posts ++ more) none ∙ append-nil posts)) h
 
 lock_by_effects : (set : ℕ) (stamp : Stamp) (begun mid : Fact) → ActEffects set stamp begun mid → (client : ℕ) (mode : Mode) (t : SetState) (posts : List Post)

@@ -71,7 +71,7 @@ freezes_are_on_way script w s x notice = (
   comes-at script w s x freeze_in notice (FreezeBody notice.number notice.modes) refl,
 )
 
-tell_if-which : (x : ℕ) (made tell : Tell) → tell_if x made ≡ Some tell → (made ≡ tell) × (tell.node ≡ x)
+pub tell_if-which : (x : ℕ) (made tell : Tell) → tell_if x made ≡ Some tell → (made ≡ tell) × (tell.node ≡ x)
 tell_if-which x made tell e = by_node (cases_eq made.node x)
   where
     by_node : (made.node ≡ x) ⊎ (made.node ≢ x) → (made ≡ tell) × (tell.node ≡ x)
@@ -80,7 +80,7 @@ tell_if-which x made tell e = by_node (cases_eq made.node x)
         (one, ap (λ (t : Tell). t.node) (sym one) ∙ same)
     by_node (inr other) = let no : None ≡ Some tell = ap (λ (b : Bool). if b then Some made else None) (sym (ne_eqb made.node x other)) ∙ e in cc
 
-tell_if-at : (x : ℕ) (tell : Tell) → tell.node ≡ x → tell_if x tell ≡ Some tell
+pub tell_if-at : (x : ℕ) (tell : Tell) → tell.node ≡ x → tell_if x tell ≡ Some tell
 tell_if-at x tell same = ap (λ (b : Bool). if b then Some tell else None) (eq-eqb tell.node x same)
 
 tell_body : (x : ℕ) (tell : Tell) (b : Body) → tell_in x b ≡ Some tell → (b ≡ TellBody tell) × (tell.node ≡ x)
@@ -90,7 +90,7 @@ tell_body x tell (AskBody other marked) e = cc
 tell_body x tell (TokenBody desk) e = cc
 tell_body x tell (FreezeBody number modes) e = cc
 
-tell_item : (x : ℕ) (tell : Tell) (item : Parked) → tell_parked x item ≡ Some tell → (item ≡ ParkedTell tell) × (tell.node ≡ x)
+pub tell_item : (x : ℕ) (tell : Tell) (item : Parked) → tell_parked x item ≡ Some tell → (item ≡ ParkedTell tell) × (tell.node ≡ x)
 tell_item x tell (ParkedTell made) e = let found = tell_if-which x made tell e in (ap ParkedTell found.0, found.1)
 tell_item x tell (ParkedAsk ask) e = cc
 

@@ -88,7 +88,7 @@ more_home script q client mode rows known own h = by_place (row_place rows clien
         let old = h k no_row within in
         All-set (IsRowAtHome script q) rows k (one_more (slice_index_or rows k no_row)) (record { client = old.client; home = old.home; count = omega arith }) h
 
-less_home : (script : ScriptData) (q client : ℕ) (mode : Mode) (rows : List Row) → All (IsRowAtHome script q) rows
+pub less_home : (script : ScriptData) (q client : ℕ) (mode : Mode) (rows : List Row) → All (IsRowAtHome script q) rows
     → All (IsRowAtHome script q) (take_lock rows client mode)
 less_home script q client mode rows h = by_place (row_place rows client mode) refl
   where
@@ -117,7 +117,7 @@ answered_home script q ask rows own h =
     more_home script q ask.client ask.mode (give_up rows ask.client ask.gives_up) own.0.client (own.0.home ∙ own.1)
     (give_up_home script q ask.client ask.gives_up rows h)
 
-given_home : (script : ScriptData) (q client : ℕ) (mode : Mode) (gives_up : Option Mode) (t : SetState) → client < length script.clients
+pub given_home : (script : ScriptData) (q client : ℕ) (mode : Mode) (gives_up : Option Mode) (t : SetState) → client < length script.clients
     → home script client ≡ q → IsStateAtHome script q t → IsStateAtHome script q (given client mode gives_up t)
 given_home script q client mode gives_up t known own h = record {
   rows = more_home script q client mode (give_up t.held client gives_up) known own (give_up_home script q client gives_up t.held h.rows);
@@ -344,7 +344,7 @@ learn_home script q link t h = by_test (nat_lt t.firm.epoch link.epoch)
     by_test true = record { rows = h.rows; pending = h.pending; parked = h.parked; queue = h.queue }
     by_test false = h
 
-arrives_home : (script : ScriptData) (bound : ℕ) (stamp : Stamp) (letter : Letter) → letter.set < length script.sets
+pub arrives_home : (script : ScriptData) (bound : ℕ) (stamp : Stamp) (letter : Letter) → letter.set < length script.sets
     → IsBodyAtHome script stamp.node letter.body → (t : SetState) → at_home script bound stamp.node t (arrive stamp letter t)
 arrives_home script bound stamp letter in_sets own t h = by_body letter.body own (learn letter.link t) (learn_home script stamp.node letter.link t h)
   where

@@ -175,7 +175,7 @@ act_home script bound q client n whole known own h few = by_command (next_comman
         obey_home script bound (act_stamp q n) client command (one_made client (at_clock (n.clock + 1) n)) known own
         (subst (λ (x : ℕ). x < script.nodes) own (whole.homes client known)) (next_targets script n client command whole e) h room
 
-letter_home : (script : ScriptData) (bound q : ℕ) (letter : Letter) (n : NodeState) → q < script.nodes → IsLetterAtHome script q letter
+pub letter_home : (script : ScriptData) (bound q : ℕ) (letter : Letter) (n : NodeState) → q < script.nodes → IsLetterAtHome script q letter
     → IsNodeAtHome script q n → IsMoveAtHome script bound q (node_take q letter n)
 letter_home script bound q letter n in_nodes own h =
     let stamp = take_stamp q n letter in

@@ -16,13 +16,13 @@ use Rattle.lt_model.specs.Homes.{IsWhole, IsRowAtHome, IsAskAtHome, IsAskOf, IsP
 use Rattle.lt_model.specs.HomeLaws.{HomesSound}
 use Rattle.lt_model.specs.SoundNode.{numbers_of}
 
-home_among : (clients : List ClientData) (k : ℕ) → k < length clients
+pub home_among : (clients : List ClientData) (k : ℕ) → k < length clients
     → slice_index (map (λ (client : ClientData). client.node) clients) k ≡ node_of_client (slice_get clients k)
 home_among [] k h = absurd (omega (arith, h))
 home_among (client ∷ rest) zero h = refl
 home_among (client ∷ rest) (suc k) h = home_among rest k (omega (arith, h))
 
-known_among : (script : ScriptData) (client : ℕ) → client < length script.clients → client < length (numbers_of script).homes
+pub known_among : (script : ScriptData) (client : ℕ) → client < length script.clients → client < length (numbers_of script).homes
 known_among script client h = omega (arith, h, length-map script.clients (λ (data_of : ClientData). data_of.node))
 
 sound_row : (script : ScriptData) (q : ℕ) (row : Row) → IsRowAtHome script q row → SoundRow (numbers_of script) q row
@@ -32,7 +32,7 @@ sound_row script q row h = record {
   count = h.count;
 }
 
-sound_ask : (script : ScriptData) (ask : Ask) → IsWhole script → IsAskAtHome script ask → IsTrue (is_at_home (numbers_of script) ask)
+pub sound_ask : (script : ScriptData) (ask : Ask) → IsWhole script → IsAskAtHome script ask → IsTrue (is_at_home (numbers_of script) ask)
 sound_ask script ask whole h =
     let named : ask.node < script.nodes = subst (λ (x : ℕ). x < script.nodes) h.home (whole.homes ask.client h.client) in
     and_from _ _ (lt-ltb ask.node script.nodes named)
@@ -49,7 +49,7 @@ parked_home script [] h = tt
 parked_home script (ParkedAsk ask ∷ rest) h = (h.0, parked_home script rest h.1)
 parked_home script (ParkedTell tell ∷ rest) h = parked_home script rest h.1
 
-sound_state : (script : ScriptData) (q : ℕ) (s : SetState) → IsWhole script → IsStateAtHome script q s → HasSoundHomes script q s
+pub sound_state : (script : ScriptData) (q : ℕ) (s : SetState) → IsWhole script → IsStateAtHome script q s → HasSoundHomes script q s
 sound_state script q s whole h = record {
   rows = All-weaker (IsRowAtHome script q) _ (sound_row script q) s.held h.rows;
   pending = All-weaker (IsAskOf script q) (IsSoundOwn script q) (λ ask own. (sound_ask script ask whole own.0, own.1, own.0.maker ∙ own.1)) s.pending h.pending;

@@ -73,7 +73,7 @@ once_or_aside script s (Some (Change set gives_up mode)) = one_set set s
 once_or_aside script s (Some (DropAll other set)) = places_once (λ k (data_of : SetData). data_of.family == family script set) s 0 script.sets
 
 -- the rule on one set of the node, where it is this set
-touched_own : (s set : ℕ) (n : NodeState) (ended : Fact) (posts : List Post) (rule : ℕ → SetState → Made) → set ≡ s
+pub touched_own : (s set : ℕ) (n : NodeState) (ended : Fact) (posts : List Post) (rule : ℕ → SetState → Made) → set ≡ s
     → HoldsOf ended posts (rule s (n.set s)) → ended ((touched n set (rule set (n.set set))).node.set s) (posts ++ (rule set (n.set set)).posts)
 touched_own s set n ended posts rule e h =
     let m = rule set (n.set set) in
@@ -81,7 +81,7 @@ touched_own s set n ended posts rule e h =
     subst (λ (t : SetState). ended t (posts ++ m.posts)) (sym (ap (λ (k : ℕ). (touched n set m).node.set k) (sym e) ∙ put-same n.set set m.state)) here
 
 -- the rule on several sets, this one among them
-each_by_effects : (s : ℕ) (stamp : Stamp) (begun ended : Fact) → IsOfSet s begun → IsOfSet s ended
+pub each_by_effects : (s : ℕ) (stamp : Stamp) (begun ended : Fact) → IsOfSet s begun → IsOfSet s ended
     → (rule : ℕ → SetState → Made) → ((set : ℕ) (t : SetState) → AreSentIn set stamp (rule set t))
     → ((t : SetState) (posts : List Post) → begun t posts → HoldsOf ended posts (rule s t))
     → (sets : List ℕ) → IsOnce s sets → (n : NodeState) (posts : List Post) → begun (n.set s) posts
@@ -103,7 +103,7 @@ each_by_effects s stamp begun ended begun_of ended_of rule from leads (set ∷ r
     subst (ended ((each_touched rule rest next).node.set s)) (append_assoc posts m.posts (each_touched rule rest next).posts)
     (each_by_effects s stamp begun ended begun_of ended_of rule from leads rest later.1 next (posts ++ m.posts) still)
 
-none_once : {A : Type 0} (set s : ℕ) → set ≢ s → IsOnce s (set ∷ []) → A
+pub none_once : {A : Type 0} (set s : ℕ) → set ≢ s → IsOnce s (set ∷ []) → A
 none_once set s d (inl own) = absurd (d own.0)
 none_once set s d (inr later) = absurd later.1
 

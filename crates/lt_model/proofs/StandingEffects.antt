@@ -147,7 +147,7 @@ route-stands s clock before elsewhere unanswered stamp marked item t posts hand 
         )) ((λ e. item_home to item mark), tt)
 
 -- an unanswered ask of the node that stands here is one of those that it waits for
-found_here : (s me clock : ℕ) (elsewhere unanswered : Ask → ℕ) (t : SetState) (posts : List Post) (b : Ask) → Stands s me clock elsewhere unanswered t posts
+pub found_here : (s me clock : ℕ) (elsewhere unanswered : Ask → ℕ) (t : SetState) (posts : List Post) (b : Ask) → Stands s me clock elsewhere unanswered t posts
     → unanswered b ≡ 0 → 1 ≤ places_in_state b t + elsewhere b → Contains t.pending b
 found_here s me clock elsewhere unanswered t posts b h none some = times_in-found b t.pending (omega (arith, h.once b, none, some))
 
@@ -264,7 +264,7 @@ stands_later s me clock later elsewhere unanswered t posts grows h =
     record { once = h.once; own = own_later me clock later grows t.pending h.own; apart = h.apart; copies = h.copies }
 
 -- a new ask
-asks-stands : (s clock : ℕ) (elsewhere unanswered : Ask → ℕ) (stamp : Stamp) (ask : Ask) (t : SetState) (posts : List Post) → clock < stamp.clock
+pub asks-stands : (s clock : ℕ) (elsewhere unanswered : Ask → ℕ) (stamp : Stamp) (ask : Ask) (t : SetState) (posts : List Post) → clock < stamp.clock
     → ask.stamp ≡ stamp → ask.node ≡ stamp.node → Stands s stamp.node clock elsewhere unanswered t posts
     → HoldsOf (stands s stamp.node stamp.clock elsewhere unanswered) posts (asked s stamp ask t)
 asks-stands s clock elsewhere unanswered stamp ask t posts grows made me h =
@@ -309,7 +309,7 @@ learn_asks link t = by_test (nat_lt t.firm.epoch link.epoch)
     by_test false = record { pending = refl; parked = refl; desk = refl }
 
 -- a letter in hand, whose asks count as standing elsewhere until it has arrived
-arrives-stands : (s clock : ℕ) (elsewhere unanswered : Ask → ℕ) (stamp : Stamp) (letter : Letter) (t : SetState) → letter.set ≡ s
+pub arrives-stands : (s clock : ℕ) (elsewhere unanswered : Ask → ℕ) (stamp : Stamp) (letter : Letter) (t : SetState) → letter.set ≡ s
     → ((a : Ask) → a.node ≡ stamp.node → unanswered a ≡ 0) → IsCopyHome stamp.node letter.body → one_if (is_some t.desk) + tokens_in letter.body ≤ 1
     → Stands s stamp.node clock (λ a. elsewhere a + places_in_body a letter.body) unanswered t []
     → HoldsOf (stands s stamp.node clock elsewhere unanswered) [] (arrive stamp letter t)

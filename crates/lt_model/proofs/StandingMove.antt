@@ -33,27 +33,27 @@ use Rattle.lt_accounts.proofs.Asks.{times_in-none}
 use Rattle.lt_model.proofs.StandingEffects.{places_weight, places_sent-none, IsCopyHome, Stands, stands, stands_later, standing_moves, standing_take}
 
 -- how often the ask stands at the nodes, and how often it is unanswered
-abbrev at_nodes : ScriptData → World → ℕ → Ask → ℕ
+abbrev pub at_nodes : ScriptData → World → ℕ → Ask → ℕ
 at_nodes script w s a = sum_below script.nodes (λ x. places_in_state a (state_at w s x))
 
-abbrev asked_in : ScriptData → World → ℕ → Ask → ℕ
+abbrev pub asked_in : ScriptData → World → ℕ → Ask → ℕ
 asked_in script w s a = sum_below script.nodes (λ x. times_in a (state_at w s x).pending)
 
 -- how often it stands elsewhere than at node q, with these letters on their way
-abbrev elsewhere : ScriptData → World → ℕ → ℕ → (ℕ → ℕ → List Letter) → Ask → ℕ
+abbrev pub elsewhere : ScriptData → World → ℕ → ℕ → (ℕ → ℕ → List Letter) → Ask → ℕ
 elsewhere script w s q mail a = (at_nodes script w s a - places_in_state a (state_at w s q)) + mail_weight script.nodes (places_weight s a) mail
 
-abbrev unanswered : ScriptData → World → ℕ → ℕ → Ask → ℕ
+abbrev pub unanswered : ScriptData → World → ℕ → ℕ → Ask → ℕ
 unanswered script w s q a = asked_in script w s a - times_in a (state_at w s q).pending
 
 -- asks of node q are unanswered at no other node
-only_here : (script : ScriptData) (w : World) (s q : ℕ) → AsksStand script w s → q < script.nodes → (a : Ask) → a.node ≡ q → unanswered script w s q a ≡ 0
+pub only_here : (script : ScriptData) (w : World) (s q : ℕ) → AsksStand script w s → q < script.nodes → (a : Ask) → a.node ≡ q → unanswered script w s q a ≡ 0
 only_here script w s q h hq a me =
     let change = sum_below-change script.nodes q (λ x. times_in a (state_at w s x).pending) (λ x. 0) hq (λ x below d.
     times_in-none a (state_at w s x).pending (λ found. d (sym (All-contains (IsMadeBy x (w.node x).clock) (state_at w s x).pending a (h.own x below) found).0 ∙ me))) in
     omega (arith, change, sum_below-none script.nodes (λ x. 0) (λ x below. refl))
 
-copy_home : (script : ScriptData) (w : World) (s x : ℕ) (letter : Letter) → ((ask : Ask) → letter.body ≡ CopyBody ask → ask.node ≡ x) → IsCopyHome x letter.body
+pub copy_home : (script : ScriptData) (w : World) (s x : ℕ) (letter : Letter) → ((ask : Ask) → letter.body ≡ CopyBody ask → ask.node ≡ x) → IsCopyHome x letter.body
 copy_home script w s x letter h = by_body letter.body h
   where
     by_body : (body : Body) → ((ask : Ask) → body ≡ CopyBody ask → ask.node ≡ x) → IsCopyHome x body
@@ -158,10 +158,10 @@ after_standing script w s q mail made older before paths h grows standing beyond
     new_home (inl below) = all_weaker _ _ (λ (post : Post) home. λ under under_too of_set. home of_set) made.posts (standing below).copies
     new_home (inr above) = all_any _ (λ (post : Post). λ under under_too of_set. absurd (omega (arith, under, above))) made.posts
 
-other_weight : (s : ℕ) (a : Ask) (letter : Letter) → letter.set ≢ s → places_weight s a letter ≡ 0
+pub other_weight : (s : ℕ) (a : Ask) (letter : Letter) → letter.set ≢ s → places_weight s a letter ≡ 0
 other_weight s a letter d = rw (ne_eqb letter.set s d) refl
 
-stands_of_set : (s me clock : ℕ) (others asked : Ask → ℕ) → IsOfSet s (stands s me clock others asked)
+pub stands_of_set : (s me clock : ℕ) (others asked : Ask → ℕ) → IsOfSet s (stands s me clock others asked)
 stands_of_set s me clock others asked t posts more other h = record {
   once = λ a. omega (
     arith,
@@ -175,7 +175,7 @@ stands_of_set s me clock others asked t posts more other h = record {
 }
 
 -- what stands at node q before its move, with so much of the ask in hand
-stands_before : (script : ScriptData) (w : World) (s q : ℕ) (mail : ℕ → ℕ → List Letter) (hand : Ask → ℕ) → AsksStand script w s → q < script.nodes
+pub stands_before : (script : ScriptData) (w : World) (s q : ℕ) (mail : ℕ → ℕ → List Letter) (hand : Ask → ℕ) → AsksStand script w s → q < script.nodes
     → ((a : Ask) → mail_weight script.nodes (places_weight s a) mail + hand a ≡ mail_weight script.nodes (places_weight s a) w.mail)
     → Stands s q (w.node q).clock (λ a. elsewhere script w s q mail a + hand a) (unanswered script w s q) (state_at w s q) []
 stands_before script w s q mail hand h hq weight = record {
@@ -191,7 +191,7 @@ stands_before script w s q mail hand h hq weight = record {
   copies = tt;
 }
 
-none_in_hand : (s me clock : ℕ) (others asked hand : Ask → ℕ) (t : SetState) (posts : List Post) → ((a : Ask) → hand a ≡ 0)
+pub none_in_hand : (s me clock : ℕ) (others asked hand : Ask → ℕ) (t : SetState) (posts : List Post) → ((a : Ask) → hand a ≡ 0)
     → Stands s me clock (λ a. others a + hand a) asked t posts → Stands s me clock others asked t posts
 none_in_hand s me clock others asked hand t posts none h =
     record { once = λ a. omega (arith, h.once a, none a); own = h.own; apart = h.apart; copies = h.copies }

@@ -1,0 +1,127 @@
+-- Each enabled move keeps the world invariant, and so it holds in every run.
+use Rattle.std.proofs.Common.{◌≡◌, ◌≢◌, ℕ, zero, suc, ◌+◌, ◌<◌, ◌≤◌, inl, inr, List, [], ◌∷◌, length, Option, Some, None, Bool, true, false, refl, sym, ap, subst, arith, take, ◌∙◌}
+use Rattle.std.specs.Prelude.{◌⊎◌, ◌==◌, ◌||◌, not, if◌then◌else◌, Contains, All, AllPairs, IsTrue, IfSome, count_by, sum_by, is_some, slice_index_or}
+use Rattle.std.specs.List.{filter_map}
+use Rattle.std.proofs.lemmas.Bool.{cases_eq, eq-eqb, ne_eqb, eqb-true, and_from, or_right}
+use Rattle.std.proofs.lemmas.List.Elements.{All-contains, Contains-get_or}
+use Rattle.std.proofs.lemmas.List.Quantifiers.{position-Some}
+use Rattle.std.proofs.lemmas.List.Sums.{sum_by-cons, sum_by-append}
+use Rattle.lt_modes.specs.declared.mode.Mode.{Mode}
+use Rattle.lt_modes.specs.declared.ask.Ask.{Ask}
+use Rattle.lt_modes.specs.declared.parts.Row.{Row}
+use Rattle.lt_modes.specs.Script.{ScriptData}
+use Rattle.lt_modes.specs.State.{SetState, Desk, Letter, Parked, ParkedAsk, ParkedTell}
+use Rattle.lt_modes.specs.Held.{is_row_of, no_row, row_place, count_at, count_of}
+use Rattle.lt_modes.specs.Queue.{same_ask, times_in}
+use Rattle.lt_modes.specs.Serving.{queue_of}
+use Rattle.lt_modes.specs.Fits.{is_at_home, ask_if, parked_asks, asks_here, has_client, is_pending, is_known, are_apart}
+use Rattle.lt_modes.specs.Sound.{HoldsGivenUp, SoundPending, SoundHere, SoundDesk, SoundSet}
+use Rattle.lt_model.specs.Homes.{IsWhole, HasSoundHomes, IsSoundOwn, IsAskOf}
+use Rattle.lt_runs.specs.Families.{home}
+use Rattle.lt_runs.specs.World.{World, start, is_enabled, node_move, after, after_run, IsRunFrom}
+use Rattle.lt_runs.specs.Facts.{state_at, times_parked, places_in_state, place_count}
+use Rattle.lt_lists.specs.Below.{one_if, put}
+use Rattle.lt_model.specs.Moments.{Between, is_at}
+use Rattle.lt_model.specs.OnWay.{DeskIs}
+use Rattle.lt_model.specs.SoundNode.{numbers_of}
+use Rattle.lt_model.specs.Timed.{Timed}
+use Rattle.lt_lists.proofs.Sums.{sum_below-at}
+use Rattle.lt_lists.proofs.Members.{list_any-at, list_any-which}
+use Rattle.lt_accounts.proofs.Asks.{times_in-some, same_ask-itself}
+use Rattle.lt_model.proofs.TokenComes.{desk_somewhere}
+use Rattle.lt_model.proofs.StandingInRuns.{stands_once}
+use Rattle.lt_ledgers.proofs.Moves.{Known, named_firm, entries_on}
+use Rattle.lt_ledgers.proofs.Runs.{two_places, ledgers_step}
+use Rattle.lt_model.proofs.KeptSets.{kept_stands, kept_timed}
+use Rattle.lt_lists.proofs.Members.{all_of, nothing_in}
+use Rattle.lt_trial.proofs.LineMoves.{after_node}
+use Rattle.lt_trial.proofs.Totals.{row_count, total, none_found, sum_by-zero}
+use Rattle.lt_kept.proofs.Measures.{SomeEach}
+use Rattle.lt_kept.proofs.ClientEffects.{is_asks, GivenBy, one_of_client}
+use Rattle.lt_kept.proofs.ClientMoves.{SoundClients}
+use Rattle.lt_kept.proofs.ClientRuns.{sound_clients, clients_kept}
+use Rattle.lt_kept.proofs.RowsApart.{rows_stay_apart}
+use Rattle.lt_kept.proofs.SoundStates.{SetFacts, sound_set}
+use Rattle.lt_kept.proofs.KeptHomes.{HomesWithin, kept_homes, homes_within_kept}
+use Rattle.lt_kept.proofs.KeptParked.{HeldOrComes, held_or_comes_kept, parked_for, none_parked}
+use Rattle.lt_kept.specs.Laws.{KeptStays, KeptInRuns}
+use Rattle.lt_runs.specs.Log.{Logged}
+use Rattle.lt_model.specs.Paths.{Paths}
+use Rattle.lt_model.specs.Standing.{AsksStand}
+use Rattle.lt_model.specs.Invariant.{SetKept, Kept}
+use Rattle.lt_model.proofs.HomesSound.{sound_state}
+use Rattle.lt_model.proofs.TimedMove.{timed_kept}
+use Rattle.lt_model.proofs.ServedMove.{served_kept}
+use Rattle.lt_model.proofs.PathsMove.{move_kept}
+use Rattle.lt_lists.proofs.Puts.{put-same, put-other}
+use Rattle.lt_model.proofs.StandingMove.{standing_kept}
+use Rattle.lt_model.proofs.StartKept.{start_kept}
+use Rattle.lt_modes.specs.declared.moves.Step.{Step}
+
+-- each enabled move keeps the invariant
+pub kept_stays : KeptStays
+kept_stays script w q step whole h enabled = record {
+  clients = λ x below. (clients x below).kept;
+  letters = λ a b ha hb. all_of (λ (letter : Letter). letter.set < length script.sets) (later.mail a b) (λ letter there. (homes.letters a b letter ha hb there).set);
+  none_to_itself = λ x below. nothing_in (later.mail x x) (λ letter there.
+      ((paths letter.set (homes.letters x x letter below below there).set).letters x x letter below (record { among = there; set = refl })).other refl);
+  sets = λ s under. record {
+    paths = paths s under;
+    letters = λ a b letter ha hb on. (timed s under).letters a b letter ha on;
+    states = λ x below. sound_set script later s x whole (facts s x under below) under below (rows_stay_apart script w q step whole h enabled x s below under);
+    places = (stood s under).places;
+    parked = λ x below. parked_for script later s x (paths s under) below (held s x under below);
+    known = known s under;
+    served = λ t desk idle there. served_kept script w s (λ x d at. (h.sets s under).served x d refl at) q step enabled t desk there;
+  };
+}
+  where
+    later : World
+    later = after script w q step
+
+    paths : (s : ℕ) → s < length script.sets → Paths script later s
+    paths s under = move_kept script w s whole.some_node (h.sets s under).paths q step enabled
+
+    stood : (s : ℕ) → s < length script.sets → AsksStand script later s
+    stood s under = standing_kept script w s whole.some_node (h.sets s under).paths (kept_stands script w s (h.sets s under)) q step enabled
+
+    timed : (s : ℕ) → s < length script.sets → Timed script later s
+    timed s under = timed_kept script w s (kept_timed script w s (h.sets s under)) q step enabled
+
+    known : (s : ℕ) → s < length script.sets → Known script later s
+    known s under = ledgers_step script w s q step whole (h.sets s under) enabled
+
+    homes : HomesWithin script later
+    homes = homes_within_kept script w q step whole (kept_homes script w h) enabled
+
+    held : (s x : ℕ) → s < length script.sets → x < script.nodes → HeldOrComes script later s x
+    held s x under below = held_or_comes_kept script w s q step x whole (h.sets s under) below enabled
+
+    clients : (x : ℕ) → x < script.nodes → SoundClients script (later.node x)
+    clients x below = subst (SoundClients script) (sym (after_node script w q step x)) (elim (cases_eq x q) [
+      | inl e ↦ subst (SoundClients script) (sym (ap (put w.node q (node_move script w q step).node) e ∙ put-same w.node q (node_move script w q step).node))
+          (clients_kept script w whole h q step enabled)
+      | inr d ↦ subst (SoundClients script) (sym (put-other w.node q (node_move script w q step).node x d)) (sound_clients script w x h below)
+    ])
+
+    facts : (s x : ℕ) → s < length script.sets → x < script.nodes → SetFacts script later s x
+    facts s x under below = record {
+      paths = paths s under;
+      stood = stood s under;
+      timed = timed s under;
+      known = known s under;
+      homes = homes;
+      held = held s x under below;
+      clients = clients;
+    }
+
+run_kept : (script : ScriptData) (run : List Logged) (w : World) → IsWhole script → Kept script w → IsRunFrom script w run → (k : ℕ) → Kept script (after_run script w (take k run))
+run_kept script run w whole h is_run zero = h
+run_kept script [] w whole h is_run (suc k) = h
+run_kept script (entry ∷ rest) w whole h is_run (suc k) =
+    let q = entry.made.stamp.node in
+    run_kept script rest (after script w q entry.made.step) whole (kept_stays script w q entry.made.step whole h is_run.0.enabled) is_run.1 k
+
+-- and so it holds in every run
+pub kept_in_runs : KeptInRuns
+kept_in_runs script run whole is_run k = run_kept script run (start script) whole (start_kept script whole.some_node) is_run k

@@ -1,0 +1,4 @@
+pub mod QuietRest
+pub mod FirstWaiter
+pub mod LedAtRest
+pub mod FrozenAtRest

@@ -1,0 +1,8 @@
+ghost use Rattle.lt_rest.specs.RestLaws.{FirstWaiterConflicts, AsksAreLed, HoldersAreFrozen};
+
+/// Where no move is enabled: who waits for whom, and what is frozen.
+pub fn law_rest()
+    ensures first { FirstWaiterConflicts }
+    ensures led { AsksAreLed }
+    ensures frozen { HoldersAreFrozen }
+{}
