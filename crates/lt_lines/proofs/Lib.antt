@@ -2,3 +2,4 @@ pub mod LineCounts
 pub mod LineRules
 pub mod LineMoves
 pub mod WaitRules
+pub mod WaitActs
