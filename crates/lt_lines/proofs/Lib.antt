@@ -3,3 +3,4 @@ pub mod LineRules
 pub mod LineMoves
 pub mod WaitRules
 pub mod WaitActs
+pub mod WaitMoves
