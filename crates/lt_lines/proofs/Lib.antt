@@ -4,3 +4,4 @@ pub mod LineMoves
 pub mod WaitRules
 pub mod WaitActs
 pub mod WaitMoves
+pub mod WaitSteps

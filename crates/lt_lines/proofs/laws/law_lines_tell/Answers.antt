@@ -1,5 +1,5 @@
 use Rattle.lt_lines.proofs.laws.law_lines_tell.Goals as goal
-use Rattle.lt_lines.proofs.WaitMoves.{each_follows}
+use Rattle.lt_lines.proofs.WaitSteps.{move_told}
 use Rattle.lt_lines.proofs.LineMoves.{lines_tell_held, runs_are_lawful}
 
 pub returns : goal.returns
