@@ -40,8 +40,11 @@ pub kept_asks : (script : ScriptData) (w : World) (s : ℕ) → Kept script w �
 kept_asks script w s h under = record {
   stood = kept_stands script w s (h.sets s under);
   own = λ x below. ((kept_homes script w h).states x s below under).pending;
-  few = λ x below client. omega (arith, (h.clients x below).one_ask client,
-      sum_below-at (length script.sets) s (λ k. count_by (is_asks client) ((w.node x).set k).pending) under);
+  few = λ x below client. omega (
+    arith,
+    (h.clients x below).one_ask client,
+    sum_below-at (length script.sets) s (λ k. count_by (is_asks client) ((w.node x).set k).pending) under,
+  );
 }
 
 -- a letter of a set of the script that is on its way
@@ -59,8 +62,12 @@ said_and_here : (script : ScriptData) (w : World) (p q : ℕ) (letter : Letter) 
     → places_in_body a letter.body + places_in_state a (state_at w letter.set q) ≤ place_count script w letter.set a
 said_and_here script w p q letter f a =
     let weighs : places_weight letter.set a letter ≡ places_in_body a letter.body = rw (eq-eqb letter.set letter.set refl) refl in
-    omega (arith, weighs, mail_weight-at script.nodes p q (places_weight letter.set a) w.mail letter f.sender f.receiver f.among,
-      sum_below-at script.nodes q (λ y. places_in_state a (state_at w letter.set y)) f.receiver)
+    omega (
+      arith,
+      weighs,
+      mail_weight-at script.nodes p q (places_weight letter.set a) w.mail letter f.sender f.receiver f.among,
+      sum_below-at script.nodes q (λ y. places_in_state a (state_at w letter.set y)) f.receiver,
+    )
 
 -- an ask that a letter says alone
 ask_alone : (script : ScriptData) (w : World) (p q : ℕ) (letter : Letter) (ask : Ask) → FitFacts script w p q letter → ((a : Ask) → places_in_body a letter.body ≡ one_if (same_ask a ask))

@@ -57,8 +57,7 @@ own_at_home script q held ask h =
     let parts = and_parts (nat_lt ask.node script.nodes) _ h.home in
     let more = and_parts (nat_lt ask.client (length (numbers_of script).homes)) (slice_index (numbers_of script).homes ask.client == ask.node) parts.1 in
     let known : ask.client < length script.clients =
-    omega (arith, ltb-true ask.client (length (numbers_of script).homes) more.0, length-map script.clients (λ (client : ClientData). client.node)) in
-    (
+    omega (arith, ltb-true ask.client (length (numbers_of script).homes) more.0, length-map script.clients (λ (client : ClientData). client.node)) in (
       record {
         client = known;
         home = sym (home_among script.clients ask.client known) ∙ eqb-true (slice_index (numbers_of script).homes ask.client) ask.node more.1;

@@ -142,5 +142,3 @@ sound_set script w s x whole g below under differ = record {
         elsewhere : (place : Option ℕ) (desk : Desk) → DeskIs script w s place desk → is_at place x ≡ false
         elsewhere None desk h = refl
         elsewhere (Some p) desk h = ne_eqb x p (λ same. no_desk desk (sym e ∙ ap (λ (y : ℕ). (state_at w s y).desk) same ∙ h.1))
-
-

@@ -8,12 +8,11 @@ use Rattle.lt_modes.specs.declared.mode.Mode.{Mode}
 use Rattle.lt_modes.specs.declared.stamp.Stamp.{Stamp}
 use Rattle.lt_modes.specs.declared.ask.Ask.{Ask}
 use Rattle.lt_modes.specs.declared.event.Event.{Event}
-use Rattle.lt_modes.specs.declared.event.Event.TheVariants.{Grant, Wait, Try, Unlock, NotHeld, Change}
+use Rattle.lt_modes.specs.declared.event.Event.TheVariants.{Wait, Try, Unlock, NotHeld, Change}
 use Rattle.lt_modes.specs.State.{SetState, ParkedAsk}
 use Rattle.lt_modes.specs.Held.{count_of, take_lock}
 use Rattle.lt_modes.specs.Made.{Made, then_do}
 use Rattle.lt_modes.specs.Granting.{can_grant}
-use Rattle.lt_modes.specs.Routing.{route}
 use Rattle.lt_modes.specs.SetMove.{answers, given, granted, ask_of, asked, locked, tried, unlocked, change_held, changed}
 use Rattle.lt_runs.specs.Holdings.{Holding, holding, wanted_after}
 use Rattle.lt_ledgers.proofs.Own.{route_same}

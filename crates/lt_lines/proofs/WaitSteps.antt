@@ -1,12 +1,10 @@
 -- The lines of each enabled move of a world that is kept tell who waits at the mover.
 use Rattle.std.proofs.Common.{◌≡◌, ◌≢◌, ℕ, ◌+◌, ◌<◌, inl, inr, List, [], ◌∷◌, ◌++◌, length, Option, Some, None, Bool, true, false, refl, sym, ap, subst, arith, ◌∙◌}
-use Rattle.std.specs.Prelude.{◌⊎◌, ◌==◌, not, nat_lt, if◌then◌else◌, Contains, AllPairs, IsTrue, fold, drop as drop_front}
-use Rattle.std.specs.List.{AllByRecursion}
+use Rattle.std.specs.Prelude.{◌==◌, not, nat_lt, if◌then◌else◌, Contains, AllPairs, IsTrue, fold, drop as drop_front}
 use Rattle.std.proofs.lemmas.Bool.{and_parts, cases_eq, false≢true}
 use Rattle.std.proofs.lemmas.List.Elements.{All-contains}
 use Rattle.lt_modes.specs.declared.stamp.Stamp.{Stamp}
 use Rattle.lt_modes.specs.declared.ask.Ask.{Ask}
-use Rattle.lt_modes.specs.declared.event.Event.{Event}
 use Rattle.lt_modes.specs.declared.command.Command.{Command}
 use Rattle.lt_modes.specs.declared.command.Command.TheVariants.{Lock, Unlock, Try, Change, DropAll}
 use Rattle.lt_modes.specs.declared.moves.Step.{Step}
@@ -21,11 +19,10 @@ use Rattle.lt_modes.specs.Telling.{finish}
 use Rattle.lt_modes.specs.SetMove.{locked, tried, unlocked, changed, dropped, drop, take as take_letter}
 use Rattle.lt_runs.specs.Families.{home, related}
 use Rattle.lt_runs.specs.Holdings.{Holding, wanted_after}
-use Rattle.lt_runs.specs.NodeMove.{NodeState, NodeMade, node_waits, next_command, act_stamp, take_stamp, at_clock, one_made, node_act, node_take, touched, each_touched, drop_all, obey}
+use Rattle.lt_runs.specs.NodeMove.{NodeState, NodeMade, node_waits, next_command, act_stamp, take_stamp, at_clock, one_made, node_act, node_take, touched, drop_all, obey}
 use Rattle.lt_runs.specs.World.{World, is_enabled, is_waiting, is_some_letter, put_mail, take_front, node_move}
 use Rattle.lt_model.specs.Homes.{IsWhole, HasTargets}
 use Rattle.lt_model.specs.Invariant.{Kept}
-use Rattle.lt_model.specs.OnWay.{OnWay}
 use Rattle.lt_model.specs.Standing.{AsksStand}
 use Rattle.lt_lists.proofs.AllLemmas.{all_weaker}
 use Rattle.lt_model.proofs.Effects.{HoldsOf}
