@@ -1,4 +1,5 @@
 use Rattle.lt_lines.proofs.KeptLines.{lines_kept_in_runs, lines_tell_held, holdings_are_lawful, lines_tell_waits}
+use Rattle.lt_lines.proofs.OwnerRuns.{owners_in_runs}
 use Rattle.lt_lines.proofs.laws.law_lines_tell.Goals as goal
 
 pub returns : goal.returns
