@@ -1,6 +1,6 @@
 -- The `token` lines of a move are those of the letters that carry the token.
-use Rattle.std.proofs.Common.{◌≡◌, ◌≢◌, ℕ, ◌<◌, ◌+◌, inl, inr, List, [], ◌∷◌, ◌++◌, length, map, Option, Some, None, Bool, true, false, refl, sym, ap, subst, arith, ◌∙◌}
-use Rattle.std.specs.Prelude.{◌⊎◌, ◌==◌, if◌then◌else◌, Contains, fold, nat_lt}
+use Rattle.std.proofs.Common.{◌≡◌, ◌≢◌, ℕ, ◌+◌, inl, inr, List, [], ◌∷◌, ◌++◌, map, Option, Some, None, Bool, true, false, refl, ap, arith, ◌∙◌}
+use Rattle.std.specs.Prelude.{◌⊎◌, ◌==◌, if◌then◌else◌, Contains, fold}
 use Rattle.std.specs.List.{filter_map, cons_option}
 use Rattle.std.proofs.lemmas.Bool.{cases_eq, eq-eqb, ne_eqb}
 use Rattle.std.proofs.lemmas.List.Elements.{filter_map-append, Contains-append_left, Contains-append_right}
@@ -10,11 +10,11 @@ use Rattle.lt_modes.specs.declared.stamp.Stamp.{Stamp}
 use Rattle.lt_modes.specs.declared.ask.Ask.{Ask}
 use Rattle.lt_modes.specs.declared.parts.Link.{Link}
 use Rattle.lt_modes.specs.declared.event.Event.{Event}
-use Rattle.lt_modes.specs.declared.event.Event.TheVariants.{Freeze, Wait, Token}
+use Rattle.lt_modes.specs.declared.event.Event.TheVariants.{Freeze, Wait}
 use Rattle.lt_modes.specs.Modes.{Modes}
 use Rattle.lt_modes.specs.State.{SetState, Desk, Body, AskBody, TellBody, CopyBody, TokenBody, FreezeBody, Letter, Parked, ParkedAsk, ParkedTell}
 use Rattle.lt_modes.specs.Held.{held_modes}
-use Rattle.lt_modes.specs.Made.{Made, Post, silent, post_of}
+use Rattle.lt_modes.specs.Made.{Made, Post, post_of}
 use Rattle.lt_modes.specs.Serving.{ask_at, answer_by, answer_event, serve_local, serve_copy}
 use Rattle.lt_modes.specs.Freezing.{freeze_at, frozen_by, targets, number_after}
 use Rattle.lt_modes.specs.HandingOver.{hand_over_to, without_desk, leaving}

@@ -1,6 +1,6 @@
 -- The last `token` line of a set is of the token's last move.
-use Rattle.std.proofs.Common.{◌≡◌, ℕ, ◌+◌, ◌<◌, inl, inr, List, [], ◌∷◌, ◌++◌, length, Option, Some, None, Bool, true, false, refl, sym, ap, subst, arith, take, ◌∙◌, append-nil}
-use Rattle.std.specs.Prelude.{◌⊎◌, ◌==◌, if◌then◌else◌, Contains, IsTrue, fold, slice_index}
+use Rattle.std.proofs.Common.{◌≡◌, ℕ, ◌+◌, ◌<◌, inl, inr, List, [], ◌∷◌, ◌++◌, length, Option, Some, None, Bool, true, false, refl, sym, ap, subst, ◌∙◌, append-nil}
+use Rattle.std.specs.Prelude.{◌==◌, if◌then◌else◌, Contains, IsTrue, fold}
 use Rattle.std.specs.List.{filter_map}
 use Rattle.std.proofs.lemmas.Bool.{eq-eqb}
 use Rattle.std.proofs.lemmas.List.Elements.{Contains-append_right}
@@ -13,26 +13,26 @@ use Rattle.lt_modes.specs.declared.command.Command.TheVariants.{Lock, Unlock, Tr
 use Rattle.lt_modes.specs.declared.moves.Step.{Step}
 use Rattle.lt_modes.specs.declared.moves.Step.TheVariants.{Act, Take}
 use Rattle.lt_modes.specs.Script.{ScriptData}
-use Rattle.lt_modes.specs.State.{SetState, Body, TokenBody, Letter}
+use Rattle.lt_modes.specs.State.{SetState, Body, Letter}
 use Rattle.lt_modes.specs.Made.{Made, Post}
 use Rattle.lt_modes.specs.Telling.{finish}
 use Rattle.lt_modes.specs.SetMove.{drop, dropped}
 use Rattle.lt_runs.specs.Families.{related}
-use Rattle.lt_runs.specs.Holdings.{owner_of, owner_after, lines_of}
-use Rattle.lt_runs.specs.Log.{Logged}
+use Rattle.lt_runs.specs.Holdings.{owner_of, owner_after}
 use Rattle.lt_runs.specs.NodeMove.{NodeState, NodeMade, node_waits, next_command, act_stamp, take_stamp, at_clock, one_made, touched, each_touched, drop_all, obey}
-use Rattle.lt_runs.specs.World.{World, start, is_enabled, take_front, node_move, letter_for, token_to, after, world_after, IsRun}
+use Rattle.lt_runs.specs.World.{World, is_enabled, take_front, node_move, letter_for, token_to, after}
 use Rattle.lt_model.specs.Homes.{IsWhole, Homes}
 use Rattle.lt_model.specs.Invariant.{Kept}
 use Rattle.lt_model.specs.OnWay.{OnWay}
-use Rattle.lt_model.specs.Paths.{IsTrueLink, BodyOnPath, LetterOnPath}
+use Rattle.lt_model.specs.Paths.{BodyOnPath}
 use Rattle.lt_lists.proofs.Members.{filter_map-at}
-use Rattle.lt_model.proofs.HomesMove.{IsMaker, maker}
+use Rattle.lt_model.proofs.HomesMove.{maker}
 use Rattle.lt_model.proofs.PathsMove.{has_mail_parts}
 use Rattle.lt_model.proofs.RuleEffects.{command_rules}
 use Rattle.lt_kept.proofs.KeptMoves.{kept_stays}
+use Rattle.lt_lines.specs.LineLaws.{IsLastMove, LinesTellOwners}
 use Rattle.lt_lines.proofs.AlongRuns.{along_runs}
-use Rattle.lt_lines.proofs.OwnerRules.{TokenStays, TokenGoes, TokenTold, none_told, then_told, tokens_told, finish_tokens, act_tokens, take_tokens}
+use Rattle.lt_lines.proofs.OwnerRules.{TokenTold, none_told, then_told, tokens_told, finish_tokens, act_tokens, take_tokens}
 
 -- the lines of what a node made tell its token moves
 abbrev NodeTokens : NodeMade → Type 0
@@ -94,10 +94,6 @@ went_after : (script : ScriptData) (w : World) (q : ℕ) (step : Step) (s : ℕ)
 went_after script w q (Act client) s = refl
 went_after script w q (Take p) s = refl
 
--- the link names the last move of the token, by its number and the node that it went to
-abbrev pub IsLastMove : List ℕ → Link → Type 0
-IsLastMove went link = (link.epoch + 1 ≡ length went) × (slice_index went link.epoch ≡ link.node)
-
 -- what the lines say of each set's owner
 abbrev pub OwnersTold : ScriptData → List Event → World → Type 0
 OwnersTold script lines w = (s : ℕ) → s < length script.sets → IsLastMove (w.went s) (owner_of s lines)
@@ -120,7 +116,7 @@ owners_after script w lines q step whole kept homes enabled h s below =
         let desk = subst (λ (body : Body). BodyOnPath script.nodes ((after script w q step).went s) goes.to body) goes.body path.body in
         subst (IsLastMove ((after script w q step).went s)) (sym (goes.said (owner_of s lines))) (desk.epoch, desk.node)
 
-pub owners_in_runs : (script : ScriptData) (run : List Logged) → IsWhole script → IsRun script run → (k : ℕ) → OwnersTold script (lines_of (take k run)) (world_after script (take k run))
-owners_in_runs script run whole is_run k =
+pub lines_tell_owners : LinesTellOwners
+lines_tell_owners script run whole is_run k =
     along_runs script (OwnersTold script) whole (λ w lines q step kept homes enabled h. owners_after script w lines q step whole kept homes enabled h)
     (λ s below. (refl, refl)) run is_run k
