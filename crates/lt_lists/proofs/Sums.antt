@@ -1,6 +1,7 @@
 -- Sums over the numbers below a bound.
-use Rattle.std.proofs.Common.{◌≡◌, ◌≢◌, ℕ, zero, suc, ◌+◌, ◌<◌, ◌≤◌, inl, inr, Bool, true, false, refl, arith, ap, sym}
-use Rattle.std.specs.Prelude.{◌⊎◌, ◌==◌, if◌then◌else◌}
+use Rattle.std.proofs.Common.{◌≡◌, ◌≢◌, ℕ, zero, suc, ◌+◌, ◌<◌, ◌≤◌, inl, inr, List, [], ◌∷◌, length, Bool, true, false, refl, arith, ap, sym}
+use Rattle.std.specs.Prelude.{◌⊎◌, ◌==◌, if◌then◌else◌, sum_by, slice_index_or}
+use Rattle.std.proofs.lemmas.List.Sums.{sum_by-cons}
 use Rattle.std.proofs.lemmas.Bool.{cases_eq, cases_lt, eq-eqb, ne_eqb}
 use Rattle.lt_lists.specs.Below.{sum_below}
 
@@ -100,3 +101,9 @@ sum_below-one n t x = by_bound (cases_lt t n)
     by_bound : (t < n) ⊎ (n ≤ t) → sum_below n (λ k. if k == t then x else 0) ≤ x
     by_bound (inl below) = omega (arith, some n below)
     by_bound (inr above) = omega (arith, none n above)
+
+-- a list in which nothing weighs weighs nothing
+pub sum_by-zero : {X : Type 0} (f : X → ℕ) (xs : List X) → ((i : ℕ) (d : X) → i < length xs → f (slice_index_or xs i d) ≡ 0) → sum_by f xs ≡ 0
+sum_by-zero f [] none = refl
+sum_by-zero f (x ∷ rest) none =
+    omega (arith, sum_by-cons f x rest, none 0 x (omega arith), sum_by-zero f rest (λ i d within. none (suc i) d (omega (arith, within))))
