@@ -29,7 +29,7 @@ use Rattle.lt_model.proofs.StandingEffects.{places_weight}
 use Rattle.lt_model.proofs.StandingInRuns.{stands_once}
 use Rattle.lt_lists.proofs.Sums.{sum_below-at}
 use Rattle.lt_model.proofs.KeptSets.{kept_stands}
-use Rattle.lt_kept.specs.Laws.{LettersFit}
+use Rattle.lt_kept.specs.KeptLaws.{LettersFit}
 use Rattle.lt_kept.proofs.AsksApart.{OwnAsks, apart_by, parked_times, here_times, standing_apart, standing_known}
 use Rattle.lt_kept.proofs.ClientEffects.{is_asks}
 use Rattle.lt_kept.proofs.KeptHomes.{kept_homes}

@@ -1,4 +1,4 @@
--- Each enabled move keeps the world invariant, and so it holds in every run.
+-- Each enabled move of any world that has the invariant keeps it.
 use Rattle.std.proofs.Common.{◌≡◌, ◌≢◌, ℕ, zero, suc, ◌+◌, ◌<◌, ◌≤◌, inl, inr, List, [], ◌∷◌, length, Option, Some, None, Bool, true, false, refl, sym, ap, subst, arith, take, ◌∙◌}
 use Rattle.std.specs.Prelude.{◌⊎◌, ◌==◌, ◌||◌, not, if◌then◌else◌, Contains, All, AllPairs, IsTrue, IfSome, count_by, sum_by, is_some, slice_index_or}
 use Rattle.std.specs.List.{filter_map}
@@ -46,7 +46,7 @@ use Rattle.lt_kept.proofs.RowsApart.{rows_stay_apart}
 use Rattle.lt_kept.proofs.SoundStates.{SetFacts, sound_set}
 use Rattle.lt_kept.proofs.KeptHomes.{HomesWithin, kept_homes, homes_within_kept}
 use Rattle.lt_kept.proofs.KeptParked.{HeldOrComes, held_or_comes_kept, parked_for, none_parked}
-use Rattle.lt_kept.specs.Laws.{KeptStays, KeptInRuns}
+use Rattle.lt_kept.specs.KeptLaws.{KeptStays}
 use Rattle.lt_runs.specs.Log.{Logged}
 use Rattle.lt_model.specs.Paths.{Paths}
 use Rattle.lt_model.specs.Standing.{AsksStand}
@@ -116,14 +116,3 @@ kept_stays script w q step whole h enabled = record {
       held = held s x under below;
       clients = clients;
     }
-
-run_kept : (script : ScriptData) (run : List Logged) (w : World) → IsWhole script → Kept script w → IsRunFrom script w run → (k : ℕ) → Kept script (after_run script w (take k run))
-run_kept script run w whole h is_run zero = h
-run_kept script [] w whole h is_run (suc k) = h
-run_kept script (entry ∷ rest) w whole h is_run (suc k) =
-    let q = entry.made.stamp.node in
-    run_kept script rest (after script w q entry.made.step) whole (kept_stays script w q entry.made.step whole h is_run.0.enabled) is_run.1 k
-
--- and so it holds in every run
-pub kept_in_runs : KeptInRuns
-kept_in_runs script run whole is_run k = run_kept script run (start script) whole (start_kept script whole.some_node) is_run k

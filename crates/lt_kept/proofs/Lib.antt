@@ -10,4 +10,5 @@ pub mod AsksApart
 pub mod SoundStates
 pub mod KeptMoves
 pub mod FittingLetters
+pub mod KeptRuns
 pub mod ServiceOrder

@@ -46,7 +46,6 @@ use Rattle.lt_kept.proofs.RowsApart.{rows_stay_apart}
 use Rattle.lt_kept.proofs.AsksApart.{OwnAsks, apart_by, one_each, here_times, standing_apart, standing_known}
 use Rattle.lt_kept.proofs.KeptHomes.{HomesWithin, kept_homes, homes_within_kept}
 use Rattle.lt_kept.proofs.KeptParked.{HeldOrComes, held_or_comes_kept, parked_for, none_parked}
-use Rattle.lt_kept.specs.Laws.{KeptStays, KeptInRuns}
 use Rattle.lt_runs.specs.Log.{Logged}
 use Rattle.lt_model.specs.Paths.{Paths}
 use Rattle.lt_model.specs.Standing.{AsksStand}
