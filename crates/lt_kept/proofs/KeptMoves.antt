@@ -34,10 +34,9 @@ use Rattle.lt_ledgers.proofs.Moves.{Known, named_firm, entries_on}
 use Rattle.lt_ledgers.proofs.Runs.{two_places, ledgers_step}
 use Rattle.lt_model.proofs.KeptSets.{kept_stands, kept_timed}
 use Rattle.lt_lists.proofs.Members.{all_of, nothing_in}
-use Rattle.lt_trial.proofs.LineMoves.{after_node}
-use Rattle.lt_trial.proofs.Totals.{row_count, total}
-use Rattle.lt_lists.proofs.Searches.{none_found}
-use Rattle.lt_lists.proofs.Sums.{sum_by-zero}
+use Rattle.lt_model.proofs.NodeMoves.{after_node}
+use Rattle.lt_accounts.proofs.RowTotals.{row_count, total}
+use Rattle.lt_lists.proofs.Sums.{none_found, sum_by-zero}
 use Rattle.lt_kept.proofs.Measures.{SomeEach}
 use Rattle.lt_kept.proofs.ClientEffects.{is_asks, GivenBy, one_of_client}
 use Rattle.lt_kept.proofs.ClientMoves.{SoundClients}

@@ -1,9 +1,7 @@
--- What a search below a bound finds, and what one in a list doesn't.
-use Rattle.std.proofs.Common.{◌≡◌, ◌≢◌, Bool, true, false, ℕ, zero, suc, ◌<◌, ◌+◌, Option, Some, None, inl, inr, List, length, refl, subst, sym, ap, ◌∙◌, arith}
-use Rattle.std.specs.Prelude.{◌||◌, if◌then◌else◌, nat_lt, position, slice_index_or}
-use Rattle.std.specs.List.{position_or_len}
-use Rattle.std.proofs.lemmas.Bool.{cases_eq, cases_lt, or_left, or_right, lt-ltb, false≢true}
-use Rattle.std.proofs.lemmas.List.Sums.{fails_before_first}
+-- What a search below a bound finds.
+use Rattle.std.proofs.Common.{◌≡◌, ◌≢◌, Bool, true, false, ℕ, zero, suc, ◌<◌, ◌+◌, Option, Some, None, inl, inr, refl, subst, sym, ap, ◌∙◌, arith}
+use Rattle.std.specs.Prelude.{◌||◌, if◌then◌else◌}
+use Rattle.std.proofs.lemmas.Bool.{cases_eq, cases_lt, or_left, or_right, false≢true}
 use Rattle.lt_lists.specs.Below.{any_below, count_below, first_below, earlier}
 
 pub any_below_at : (n k : ℕ) (test : ℕ → Bool) → k < n → test k ≡ true → any_below n test ≡ true
@@ -137,15 +135,3 @@ found (suc n) test before order =
       | true ↦ λ holds. found_here n test before (first_below n test before) order holds (found n test before order)
       | false ↦ λ fails. found_on n test before (first_below n test before) fails (found n test before order)
     ] refl
-
--- no item passes where none is found
-pub none_found : {X : Type 0} (test : X → Bool) (xs : List X) → position test xs ≡ None → (i : ℕ) (d : X) → i < length xs → test (slice_index_or xs i d) ≡ false
-none_found test xs e i d within = by_place (nat_lt (position_or_len test xs) (length xs)) refl e
-  where
-    by_place : (there : Bool) → nat_lt (position_or_len test xs) (length xs) ≡ there → (if there then Some (position_or_len test xs) else None) ≡ None
-        → test (slice_index_or xs i d) ≡ false
-    by_place true f g = cc
-    by_place false f g = elim (cases_lt i (position_or_len test xs)) [
-      | inl before ↦ fails_before_first test xs i d before
-      | inr after ↦ absurd (false≢true (sym f ∙ lt-ltb (position_or_len test xs) (length xs) (omega (arith, after, within))))
-    ]

@@ -1,8 +1,10 @@
--- Sums over the numbers below a bound.
-use Rattle.std.proofs.Common.{◌≡◌, ◌≢◌, ℕ, zero, suc, ◌+◌, ◌<◌, ◌≤◌, inl, inr, List, [], ◌∷◌, length, Bool, true, false, refl, arith, ap, sym}
-use Rattle.std.specs.Prelude.{◌⊎◌, ◌==◌, if◌then◌else◌, sum_by, slice_index_or}
-use Rattle.std.proofs.lemmas.List.Sums.{sum_by-cons}
+-- Sums over the numbers below a bound, and over lists.
+use Rattle.std.proofs.Common.{◌≡◌, ◌≢◌, ℕ, zero, suc, ◌+◌, ◌<◌, ◌≤◌, inl, inr, Bool, true, false, List, [], ◌∷◌, length, Option, Some, None, refl, arith, ap, sym, ◌∙◌}
+use Rattle.std.specs.Prelude.{◌⊎◌, ◌==◌, if◌then◌else◌, nat_lt, position, sum_by, slice_index_or}
 use Rattle.std.proofs.lemmas.Bool.{cases_eq, cases_lt, eq-eqb, ne_eqb}
+use Rattle.std.specs.List.{position_or_len}
+use Rattle.std.proofs.lemmas.Bool.{lt-ltb, false≢true}
+use Rattle.std.proofs.lemmas.List.Sums.{sum_by-cons, fails_before_first}
 use Rattle.lt_lists.specs.Below.{sum_below}
 
 pub sum_below-same : (n : ℕ) (f g : ℕ → ℕ) → ((k : ℕ) → k < n → f k ≡ g k) → sum_below n f ≡ sum_below n g
@@ -102,8 +104,17 @@ sum_below-one n t x = by_bound (cases_lt t n)
     by_bound (inl below) = omega (arith, some n below)
     by_bound (inr above) = omega (arith, none n above)
 
--- a list in which nothing weighs weighs nothing
+-- no item passes where none is found
+pub none_found : {X : Type 0} (test : X → Bool) (xs : List X) → position test xs ≡ None → (i : ℕ) (d : X) → i < length xs → test (slice_index_or xs i d) ≡ false
+none_found test xs e i d within = by_place (nat_lt (position_or_len test xs) (length xs)) refl e
+  where
+    by_place : (there : Bool) → nat_lt (position_or_len test xs) (length xs) ≡ there → (if there then Some (position_or_len test xs) else None) ≡ None → test (slice_index_or xs i d) ≡ false
+    by_place true f g = cc
+    by_place false f g = elim (cases_lt i (position_or_len test xs)) [
+      | inl before ↦ fails_before_first test xs i d before
+      | inr after ↦ absurd (false≢true (sym f ∙ lt-ltb (position_or_len test xs) (length xs) (omega (arith, after, within))))
+    ]
+
 pub sum_by-zero : {X : Type 0} (f : X → ℕ) (xs : List X) → ((i : ℕ) (d : X) → i < length xs → f (slice_index_or xs i d) ≡ 0) → sum_by f xs ≡ 0
 sum_by-zero f [] none = refl
-sum_by-zero f (x ∷ rest) none =
-    omega (arith, sum_by-cons f x rest, none 0 x (omega arith), sum_by-zero f rest (λ i d within. none (suc i) d (omega (arith, within))))
+sum_by-zero f (x ∷ rest) none = omega (arith, sum_by-cons f x rest, none 0 x (omega arith), sum_by-zero f rest (λ i d within. none (suc i) d (omega (arith, within))))

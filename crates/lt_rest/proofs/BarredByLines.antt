@@ -14,7 +14,7 @@ use Rattle.lt_modes.specs.Script.{ClientData}
 use Rattle.lt_modes.specs.Held.{is_row_of, no_row, row_place, count_at, count_of}
 use Rattle.lt_modes.specs.Sound.{SoundRow}
 use Rattle.lt_modes.proofs.ModeAlgebra.{has-itself}
-use Rattle.lt_lists.proofs.Searches.{none_found}
+use Rattle.lt_lists.proofs.Sums.{none_found}
 use Rattle.lt_accounts.proofs.Asks.{same_mode-true}
 use Rattle.lt_runs.specs.Families.{home}
 use Rattle.lt_runs.specs.Holdings.{Holding, holding, holdings, same_holding}
