@@ -1,5 +1,5 @@
 -- The invariant in every run, and what follows from it there.
-use Rattle.std.proofs.Common.{◌≡◌, ℕ, zero, suc, ◌+◌, ◌<◌, ◌≤◌, List, [], ◌∷◌, arith, take}
+use Rattle.std.proofs.Common.{ℕ, zero, suc, List, [], ◌∷◌, arith, take}
 use Rattle.lt_modes.specs.Script.{ScriptData}
 use Rattle.lt_runs.specs.Log.{Logged}
 use Rattle.lt_runs.specs.World.{World, start, after, after_run, world_after, IsRunFrom}
@@ -14,7 +14,8 @@ use Rattle.lt_kept.specs.RunLaws.{KeptInRuns, LettersFitInRuns, FirstWaiterInRun
 use Rattle.lt_kept.proofs.KeptMoves.{kept_stays}
 use Rattle.lt_kept.proofs.FittingLetters.{letters_fit}
 
-run_kept : (script : ScriptData) (run : List Logged) (w : World) → IsWhole script → Kept script w → IsRunFrom script w run → (k : ℕ) → Kept script (after_run script w (take k run))
+run_kept : (script : ScriptData) (run : List Logged) (w : World) → IsWhole script → Kept script w → IsRunFrom script w run → (k : ℕ)
+    → Kept script (after_run script w (take k run))
 run_kept script run w whole h is_run zero = h
 run_kept script [] w whole h is_run (suc k) = h
 run_kept script (entry ∷ rest) w whole h is_run (suc k) =

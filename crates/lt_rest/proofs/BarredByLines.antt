@@ -1,13 +1,12 @@
 -- Where lines tell what is held, an ask that is barred is barred by the lines.
-use Rattle.std.proofs.Common.{◌≡◌, ◌≢◌, ℕ, suc, ◌+◌, ◌<◌, ◌≤◌, List, [], ◌∷◌, length, Option, Some, None, Bool, true, false, refl, sym, ap, subst, arith, ◌∙◌}
-use Rattle.std.specs.Prelude.{◌==◌, ◌&&◌, if◌then◌else◌, Contains, All, IsTrue, nat_lt, count_by, slice_index_or}
+use Rattle.std.proofs.Common.{◌≡◌, ℕ, suc, ◌<◌, ◌≤◌, List, [], ◌∷◌, length, Option, Some, None, Bool, true, false, refl, sym, ap, subst, arith, ◌∙◌}
+use Rattle.std.specs.Prelude.{◌==◌, ◌&&◌, if◌then◌else◌, Contains, All, IsTrue, count_by}
 use Rattle.std.proofs.lemmas.Bool.{and_parts, and_from, eq-eqb, eqb-true, false≢true}
 use Rattle.std.proofs.lemmas.List.{length-map}
 use Rattle.std.proofs.lemmas.List.Elements.{All-contains}
 use Rattle.std.proofs.lemmas.List.Quantifiers.{position-Some}
 use Rattle.std.proofs.lemmas.List.Sums.{sum_by-cons}
 use Rattle.lt_modes.specs.declared.mode.Mode.{Mode}
-use Rattle.lt_modes.specs.declared.ask.Ask.{Ask}
 use Rattle.lt_modes.specs.declared.parts.Row.{Row}
 use Rattle.lt_modes.specs.Modes.{conflicts, same_mode}
 use Rattle.lt_modes.specs.Script.{ClientData}
@@ -21,14 +20,15 @@ use Rattle.lt_runs.specs.Holdings.{Holding, holding, holdings, same_holding}
 use Rattle.lt_runs.specs.Facts.{state_at}
 use Rattle.lt_model.specs.SoundNode.{numbers_of}
 use Rattle.lt_model.proofs.HomesSound.{home_among}
-use Rattle.lt_rest.specs.RestLaws.{IsBarred, BarredByLines}
+use Rattle.lt_rest.specs.RestLaws.{BarredByLines}
 
 -- what counts of a list is in it
 counted_in : {X : Type 0} (test : X → Bool) (xs : List X) → 1 ≤ count_by test xs → (x : X) × Contains xs x × (test x ≡ true)
 counted_in test [] some = absurd (omega (arith, some))
 counted_in {X = X} test (first ∷ rest) some = by_test (test first) refl (λ more. counted_in test rest more)
   where
-    by_test : (passes : Bool) → test first ≡ passes → (1 ≤ count_by test rest → (x : X) × Contains rest x × (test x ≡ true)) → (x : X) × Contains (first ∷ rest) x × (test x ≡ true)
+    by_test : (passes : Bool) → test first ≡ passes → (1 ≤ count_by test rest → (x : X) × Contains rest x × (test x ≡ true))
+        → (x : X) × Contains (first ∷ rest) x × (test x ≡ true)
     by_test true e again = (first, (0, omega arith, refl), e)
     by_test false e again =
         let none : ◌≡◌ {A = ℕ} (if test first then 1 else 0) 0 = ap (λ (b : Bool). if b then 1 else 0) e in
