@@ -1,8 +1,8 @@
 -- What clients hold and wait for in a set, through the commands of one of them.
-use Rattle.std.proofs.Common.{◌≡◌, ◌≢◌, ℕ, zero, suc, ◌+◌, ◌-◌, ◌<◌, ◌≤◌, inl, inr, List, [], ◌∷◌, ◌++◌, length, Option, Some, None, Bool, true, false, refl, sym, ap, subst, arith, ◌∙◌}
+use Rattle.std.proofs.Common.{◌≡◌, ◌≢◌, ℕ, ◌+◌, ◌-◌, ◌≤◌, inl, inr, List, [], ◌∷◌, ◌++◌, Option, Some, None, Bool, true, false, refl, sym, ap, subst, arith, ◌∙◌}
 use Rattle.std.specs.Prelude.{◌⊎◌, ◌==◌, ◌&&◌, if◌then◌else◌, Contains, All, AllPairs, count_by, slice_index_or, is_none, sum_by}
-use Rattle.std.proofs.lemmas.Bool.{cases_eq, eq-eqb, ne_eqb, eqb-true, and_left}
-use Rattle.std.proofs.lemmas.List.Elements.{Contains-get_or, Contains-push_cases}
+use Rattle.std.proofs.lemmas.Bool.{cases_eq, eq-eqb, ne_eqb, and_left}
+use Rattle.std.proofs.lemmas.List.Elements.{Contains-push_cases}
 use Rattle.std.proofs.lemmas.List.Quantifiers.{position-Some}
 use Rattle.std.proofs.lemmas.List.Sums.{get_or-le-sum_by}
 use Rattle.lt_modes.specs.declared.mode.Mode.{Mode}
@@ -11,27 +11,21 @@ use Rattle.lt_modes.specs.declared.ask.Ask.{Ask}
 use Rattle.lt_modes.specs.declared.parts.Row.{Row}
 use Rattle.lt_modes.specs.declared.event.Event.TheVariants.{Try, Unlock, NotHeld, Change}
 use Rattle.lt_modes.specs.Modes.{same_mode}
-use Rattle.lt_modes.specs.State.{SetState, Desk, Parked, ParkedAsk, ParkedTell}
-use Rattle.lt_modes.specs.Held.{is_row_of, no_row, row_place, count_at, count_of, add_lock, take_lock, without_client, locks_of, held_modes}
+use Rattle.lt_modes.specs.State.{SetState, Desk, Parked, ParkedAsk}
+use Rattle.lt_modes.specs.Held.{is_row_of, no_row, row_place, count_at, count_of, add_lock, take_lock, without_client, locks_of}
 use Rattle.lt_modes.specs.Made.{Post}
-use Rattle.lt_modes.specs.Queue.{no_ask, without, times_in}
+use Rattle.lt_modes.specs.Queue.{times_in}
 use Rattle.lt_modes.specs.Granting.{can_grant}
-use Rattle.lt_modes.specs.Serving.{ask_at, queue_of, queue_of_desk, next_service, give_up, answered, serve_local, serve_copy}
-use Rattle.lt_modes.specs.Freezing.{freeze_at}
-use Rattle.lt_modes.specs.HandingOver.{hand_over_to}
-use Rattle.lt_modes.specs.Telling.{tell_of, make_tell}
+use Rattle.lt_modes.specs.Serving.{queue_of_desk, give_up}
 use Rattle.lt_modes.specs.SetMove.{answers, given, granted, ask_of, asked, locked, tried, unlocked, change_held, changed, dropped}
 use Rattle.lt_runs.specs.Facts.{times_parked}
 use Rattle.lt_model.specs.Standing.{IsMadeBy}
-use Rattle.lt_accounts.proofs.Asks.{times_in-some}
-use Rattle.lt_model.proofs.Effects.{Fact, HoldsOf, EndEffects, ActEffects, next_service-within, quiet_made}
-use Rattle.lt_accounts.proofs.Unanswered.{without_only, without_gone}
-use Rattle.lt_model.proofs.StandingEffects.{Stands, stands, standing_ends, standing_acts, asks-stands, found_here}
+use Rattle.lt_model.proofs.Effects.{Fact, HoldsOf, ActEffects, quiet_made}
+use Rattle.lt_model.proofs.StandingEffects.{Stands, stands, standing_acts, asks-stands}
 use Rattle.lt_ledgers.proofs.Own.{route_same}
 use Rattle.lt_ledgers.proofs.Ends.{both}
-use Rattle.lt_ledgers.proofs.Runs.{two_places}
-use Rattle.lt_accounts.proofs.RowTotals.{row_count, total, total_added, total_taken, total_dropped}
-use Rattle.lt_kept.proofs.ClientCounts.{SomeEach, each_some, some_added, some_taken, some_dropped, locks_added, locks_taken, locks_fewer, locks_dropped, asks_without, asks_pushed}
+use Rattle.lt_accounts.proofs.RowTotals.{row_count, total, total_taken, total_dropped}
+use Rattle.lt_kept.proofs.ClientCounts.{each_some, some_taken, some_dropped, locks_added, locks_fewer, locks_dropped, asks_pushed}
 use Rattle.lt_kept.proofs.ClientEffects.{is_asks, is_new, GivenBy, Clients, clients, same_clients, asks_some, others_given, some_given}
 
 -- a count of rows is a part of the total

@@ -5,6 +5,7 @@ pub mod ClientCommands
 pub mod ClientMoves
 pub mod ClientsKept
 pub mod RowsApart
+pub mod RowsKept
 pub mod KeptHomes
 pub mod KeptParked
 pub mod AsksApart
