@@ -12,3 +12,4 @@ pub mod Unanswered
 pub mod Asks
 pub mod ModeMembers
 pub mod FirstAccount
+pub mod AllKept
