@@ -20,7 +20,7 @@ use Rattle.lt_model.specs.Standing.{AsksStand}
 use Rattle.lt_accounts.proofs.Asks.{times_in-some, same_ask-itself}
 use Rattle.lt_lists.proofs.Members.{list_any-at, list_any-which}
 use Rattle.lt_model.proofs.StandingInRuns.{stands_once}
-use Rattle.lt_ledgers.proofs.Runs.{two_places}
+use Rattle.lt_lists.proofs.Sums.{two_places}
 use Rattle.lt_kept.proofs.ClientEffects.{is_asks, one_of_client}
 
 -- asks of different clients

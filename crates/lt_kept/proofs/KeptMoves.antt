@@ -5,8 +5,8 @@ use Rattle.lt_modes.specs.State.{Letter}
 use Rattle.lt_runs.specs.World.{World, node_move, after}
 use Rattle.lt_lists.specs.Below.{put}
 use Rattle.lt_model.specs.Timed.{Timed}
-use Rattle.lt_ledgers.proofs.Moves.{Known}
-use Rattle.lt_ledgers.proofs.Runs.{ledgers_step}
+use Rattle.lt_ledgers.specs.LedgerLaws.{LedgersKept}
+use Rattle.lt_ledgers.proofs.EachMove.{moves_keep_ledgers}
 use Rattle.lt_model.proofs.KeptSets.{kept_stands, kept_timed}
 use Rattle.lt_lists.proofs.Members.{all_of, nothing_in}
 use Rattle.lt_model.proofs.NodeMoves.{after_node}
@@ -55,8 +55,8 @@ kept_stays script w q step whole h enabled = record {
     timed : (s : ℕ) → s < length script.sets → Timed script later s
     timed s under = timed_kept script w s (kept_timed script w s (h.sets s under)) q step enabled
 
-    known : (s : ℕ) → s < length script.sets → Known script later s
-    known s under = ledgers_step script w s q step whole (h.sets s under) enabled
+    known : (s : ℕ) → s < length script.sets → LedgersKept script later s
+    known s under = moves_keep_ledgers script w s q step whole (h.sets s under) enabled
 
     homes : HomesWithin script later
     homes = homes_within_kept script w q step whole (kept_homes script w h) enabled

@@ -23,10 +23,10 @@ use Rattle.lt_model.proofs.Letters.{still_on_way}
 use Rattle.lt_lists.proofs.Members.{contains_cases}
 use Rattle.lt_lists.proofs.Puts.{put-same}
 use Rattle.lt_model.proofs.TokenComes.{desk_somewhere, token_comes}
-use Rattle.lt_ledgers.specs.Ledger.{IsHeldUp, HeldUp}
+use Rattle.lt_ledgers.specs.HeldUp.{IsHeldUp, HeldUp}
 use Rattle.lt_ledgers.proofs.HeldUps.{none_held}
-use Rattle.lt_ledgers.proofs.ParkedRuns.{other_state, own_held, taken_held}
-use Rattle.lt_ledgers.proofs.Runs.{one_desk}
+use Rattle.lt_ledgers.proofs.HeldUpMoves.{other_state, own_held, taken_held}
+use Rattle.lt_ledgers.proofs.OneDesk.{one_desk}
 use Rattle.lt_model.proofs.KeptSets.{kept_stands}
 
 -- the token is on its way to x

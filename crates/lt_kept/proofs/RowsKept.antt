@@ -31,7 +31,7 @@ use Rattle.lt_kept.proofs.ScriptSets.{clipped, act_alike, take_alike}
 use Rattle.std.proofs.lemmas.List.Elements.{All-contains}
 use Rattle.lt_lists.proofs.Puts.{put-same, put-other}
 use Rattle.lt_model.proofs.RuleEffects.{Between, EndRules, ActRules, finish_rule, command_rules, take_rule}
-use Rattle.lt_ledgers.proofs.Own.{route_same}
+use Rattle.lt_ledgers.proofs.OwnSteps.{route_same}
 use Rattle.lt_model.proofs.NodeMoves.{after_node}
 use Rattle.lt_kept.proofs.RowsApart.{Single, single_added, single_taken, single_dropped, single_answered, single_of, rows_apart}
 

@@ -20,13 +20,13 @@ use Rattle.lt_model.specs.Moments.{is_at}
 use Rattle.lt_model.specs.OnWay.{DeskIs}
 use Rattle.lt_model.specs.SoundNode.{numbers_of}
 use Rattle.lt_model.specs.Timed.{Timed}
-use Rattle.lt_lists.proofs.Sums.{sum_below-at}
+use Rattle.lt_lists.proofs.Sums.{sum_below-at, none_found, sum_by-zero}
 use Rattle.lt_accounts.proofs.Asks.{times_in-some}
 use Rattle.lt_model.proofs.TokenComes.{desk_somewhere}
-use Rattle.lt_ledgers.proofs.Moves.{Known, named_firm, entries_on}
+use Rattle.lt_ledgers.specs.LedgerLaws.{LedgersKept}
+use Rattle.lt_ledgers.proofs.OneDesk.{named_firm, entries_on}
 use Rattle.lt_lists.proofs.Members.{all_of}
 use Rattle.lt_accounts.proofs.RowTotals.{row_count, total}
-use Rattle.lt_lists.proofs.Sums.{none_found, sum_by-zero}
 use Rattle.lt_kept.proofs.ClientCounts.{SomeEach}
 use Rattle.lt_kept.proofs.ClientEffects.{is_asks, GivenBy}
 use Rattle.lt_kept.proofs.ClientMoves.{SoundClients}
@@ -56,7 +56,7 @@ pub record SetFacts (script : ScriptData) (w : World) (s x : ℕ) : Type 0 where
   pub paths : Paths script w s
   pub stood : AsksStand script w s
   pub timed : Timed script w s
-  pub known : Known script w s
+  pub known : LedgersKept script w s
   pub homes : HomesWithin script w
   pub held : HeldOrComes script w s x
   pub clients : (y : ℕ) → y < script.nodes → SoundClients script (w.node y)
