@@ -51,7 +51,7 @@ IsIdle client t = count_by (is_asks client) t.pending ≡ 0
 abbrev pub idle : ℕ → SetState → Fact
 idle client first t posts = Clients (λ c. 0) first t × IsIdle client t
 
-no_ask_of : (client : ℕ) (t : SetState) → IsIdle client t → (ask : Ask) → Contains t.pending ask → ask.client ≢ client
+pub no_ask_of : (client : ℕ) (t : SetState) → IsIdle client t → (ask : Ask) → Contains t.pending ask → ask.client ≢ client
 no_ask_of client t none ask there same = omega (arith, none, asks_some client t.pending ask there same)
 
 more_allowed : (bonus more : ℕ → ℕ) (first t : SetState) → ((c : ℕ) → bonus c ≤ more c) → Clients bonus first t → Clients more first t

@@ -1,7 +1,9 @@
-ghost use Rattle.lt_lines.specs.Ledger.{LinesTellHeld, RunsAreLawful};
+ghost use Rattle.lt_lines.specs.LineLaws.{LinesKeptInRuns, LinesTellHeld, HoldingsAreLawful, LinesTellWaits};
 
-/// Scratch.
+/// The lines of a run tell what is held, which is lawful, and who waits.
 pub fn law_lines_tell()
-    ensures lines { LinesTellHeld }
-    ensures lawful { RunsAreLawful }
+    ensures kept { LinesKeptInRuns }
+    ensures held { LinesTellHeld }
+    ensures lawful { HoldingsAreLawful }
+    ensures waits { LinesTellWaits }
 {}
