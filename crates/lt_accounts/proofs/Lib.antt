@@ -13,3 +13,4 @@ pub mod Asks
 pub mod ModeMembers
 pub mod FirstAccount
 pub mod RowTotals
+pub mod AllKept

@@ -1,6 +1,6 @@
 -- In a world that is kept each letter on its way fits its receiver.
-use Rattle.std.proofs.Common.{◌≡◌, ◌≢◌, ℕ, ◌+◌, ◌^◌, ◌<◌, ◌≤◌, inl, inr, List, [], ◌∷◌, ◌++◌, length, Option, Some, None, Bool, true, false, refl, sym, ap, subst, arith, ◌∙◌}
-use Rattle.std.specs.Prelude.{◌==◌, ◌&&◌, not, nat_lt, nat_le, Contains, All, IsTrue, count_by, is_none, if◌then◌else◌}
+use Rattle.std.proofs.Common.{◌≡◌, ℕ, ◌+◌, ◌^◌, ◌<◌, ◌≤◌, List, ◌∷◌, ◌++◌, length, Option, Some, None, Bool, true, false, refl, ap, subst, arith}
+use Rattle.std.specs.Prelude.{not, Contains, count_by, is_none, if◌then◌else◌}
 use Rattle.std.specs.List.{list_all}
 use Rattle.std.proofs.lemmas.Bool.{and_from, and_parts, eq-eqb, lt-ltb, le-leb}
 use Rattle.std.proofs.lemmas.List.Elements.{All-contains, Contains-get_or}
@@ -9,15 +9,14 @@ use Rattle.lt_modes.specs.declared.ask.Ask.{Ask}
 use Rattle.lt_modes.specs.Script.{ScriptData}
 use Rattle.lt_modes.specs.State.{SetState, Desk, Body, AskBody, TellBody, CopyBody, TokenBody, FreezeBody, Letter}
 use Rattle.lt_modes.specs.Queue.{same_ask, times_in}
-use Rattle.lt_modes.specs.Serving.{queue_of}
-use Rattle.lt_modes.specs.Fits.{is_at_home, parked_asks, asks_here, has_client, is_pending, is_known, are_apart, queue_fits, body_fits}
+use Rattle.lt_modes.specs.Fits.{is_at_home, parked_asks, asks_here, has_client, is_known, are_apart, queue_fits, body_fits}
 use Rattle.lt_model.specs.Homes.{IsWhole, IsAskAtHome, IsLetterAtHome, IsBodyAtHome}
 use Rattle.lt_runs.specs.World.{World}
-use Rattle.lt_runs.specs.Facts.{state_at, times_parked, places_in_state, places_in_body, place_count}
+use Rattle.lt_runs.specs.Facts.{state_at, places_in_state, places_in_body, place_count}
 use Rattle.lt_lists.specs.Below.{one_if}
 use Rattle.lt_model.specs.Moments.{Between}
 use Rattle.lt_model.specs.OnWay.{OnWay}
-use Rattle.lt_model.specs.Paths.{Paths, LetterOnPath, BodyOnPath}
+use Rattle.lt_model.specs.Paths.{LetterOnPath, BodyOnPath}
 use Rattle.lt_model.specs.SoundNode.{numbers_of}
 use Rattle.lt_model.specs.Invariant.{BodyKept, LetterKept, SetKept, Kept}
 use Rattle.lt_accounts.proofs.Asks.{times_in-some, same_ask-itself}
@@ -29,7 +28,7 @@ use Rattle.lt_model.proofs.StandingEffects.{places_weight}
 use Rattle.lt_model.proofs.StandingInRuns.{stands_once}
 use Rattle.lt_lists.proofs.Sums.{sum_below-at}
 use Rattle.lt_model.proofs.KeptSets.{kept_stands}
-use Rattle.lt_kept.specs.Laws.{LettersFit}
+use Rattle.lt_kept.specs.KeptLaws.{LettersFit}
 use Rattle.lt_kept.proofs.AsksApart.{OwnAsks, apart_by, parked_times, here_times, standing_apart, standing_known}
 use Rattle.lt_kept.proofs.ClientEffects.{is_asks}
 use Rattle.lt_kept.proofs.KeptHomes.{kept_homes}
@@ -70,7 +69,8 @@ said_and_here script w p q letter f a =
     )
 
 -- an ask that a letter says alone
-ask_alone : (script : ScriptData) (w : World) (p q : ℕ) (letter : Letter) (ask : Ask) → FitFacts script w p q letter → ((a : Ask) → places_in_body a letter.body ≡ one_if (same_ask a ask))
+ask_alone : (script : ScriptData) (w : World) (p q : ℕ) (letter : Letter) (ask : Ask) → FitFacts script w p q letter
+    → ((a : Ask) → places_in_body a letter.body ≡ one_if (same_ask a ask))
     → (1 ≤ place_count script w letter.set ask) × (not (has_client ask.client (asks_here (state_at w letter.set q))) ≡ true)
 ask_alone script w p q letter ask f says = (
   omega (arith, one ask, said_and_here script w p q letter f ask, ap one_if (same_ask-itself ask)),

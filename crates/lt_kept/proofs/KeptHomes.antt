@@ -1,25 +1,23 @@
 -- In a world that is kept rows, asks and letters are at home; and so it is after an enabled move.
-use Rattle.std.proofs.Common.{◌≡◌, ◌≢◌, ℕ, ◌+◌, ◌<◌, ◌≤◌, inl, inr, List, [], ◌∷◌, length, Option, Some, None, Bool, true, false, refl, sym, ap, subst, arith, ◌∙◌}
-use Rattle.std.specs.Prelude.{◌==◌, nat_lt, if◌then◌else◌, Contains, All, IsTrue, slice_index, slice_index_or}
+use Rattle.std.proofs.Common.{◌≡◌, ℕ, ◌<◌, ◌≤◌, inl, inr, List, [], ◌∷◌, length, Bool, true, false, refl, sym, ap, subst, arith, ◌∙◌}
+use Rattle.std.specs.Prelude.{◌==◌, nat_lt, if◌then◌else◌, Contains, IsTrue, slice_index, slice_index_or}
 use Rattle.std.specs.List.{AllByRecursion}
-use Rattle.std.proofs.lemmas.Bool.{cases_eq, and_parts, ltb-true, eqb-true, eq-eqb, lt-ltb}
+use Rattle.std.proofs.lemmas.Bool.{cases_eq, and_parts, ltb-true, eqb-true, eq-eqb}
 use Rattle.std.proofs.lemmas.List.{length-map}
-use Rattle.std.proofs.lemmas.List.Elements.{All-contains, All-nil, All-weaker, Contains-get_or}
+use Rattle.std.proofs.lemmas.List.Elements.{All-contains, All-nil, All-weaker}
 use Rattle.std.proofs.lemmas.List.Sums.{get_or-le-sum_by}
 use Rattle.lt_modes.specs.declared.ask.Ask.{Ask}
 use Rattle.lt_modes.specs.declared.parts.Row.{Row}
 use Rattle.lt_modes.specs.declared.moves.Step.{Step}
 use Rattle.lt_modes.specs.declared.moves.Step.TheVariants.{Act, Take}
 use Rattle.lt_modes.specs.Script.{ScriptData, ClientData}
-use Rattle.lt_modes.specs.State.{SetState, Desk, Body, AskBody, TellBody, CopyBody, TokenBody, FreezeBody, Letter, Parked, ParkedAsk, ParkedTell, first_state}
+use Rattle.lt_modes.specs.State.{SetState, Body, AskBody, TellBody, CopyBody, TokenBody, FreezeBody, Letter, Parked, ParkedAsk, ParkedTell, first_state}
 use Rattle.lt_modes.specs.Made.{Post}
-use Rattle.lt_modes.specs.Queue.{same_ask, times_in}
+use Rattle.lt_modes.specs.Queue.{same_ask}
 use Rattle.lt_modes.specs.Serving.{queue_of}
-use Rattle.lt_modes.specs.Fits.{is_at_home}
 use Rattle.lt_modes.specs.Sound.{SoundRow, SoundPending, SoundParked}
-use Rattle.lt_runs.specs.Families.{home}
 use Rattle.lt_model.specs.Homes.{IsWhole, IsRowAtHome, IsAskAtHome, IsAskOf, IsParkedAtHome, IsBodyAtHome, IsStateAtHome, IsLetterAtHome}
-use Rattle.lt_lists.specs.Below.{put, one_if}
+use Rattle.lt_lists.specs.Below.{one_if}
 use Rattle.lt_runs.specs.NodeMove.{NodeState, NodeMade, next_command, node_act, node_take}
 use Rattle.lt_runs.specs.World.{World, is_enabled, is_some_letter, opened, take_front, node_move, after}
 use Rattle.lt_runs.specs.Facts.{state_at, times_parked, places_in_state, places_in_body, place_count}
@@ -28,9 +26,8 @@ use Rattle.lt_model.specs.Moments.{Between}
 use Rattle.lt_model.specs.OnWay.{OnWay}
 use Rattle.lt_model.specs.Invariant.{BodyKept, SetKept, Kept}
 use Rattle.lt_accounts.proofs.Asks.{times_in-some, same_ask-itself}
-use Rattle.lt_model.proofs.HomesEffects.{AreAtHome}
 use Rattle.lt_model.proofs.HomesSound.{home_among}
-use Rattle.lt_model.proofs.HomesMove.{IsMoveAtHome, IsMaker, drop_count, act_home, letter_home, maker}
+use Rattle.lt_model.proofs.HomesMove.{IsMoveAtHome, drop_count, act_home, letter_home, maker}
 use Rattle.lt_model.proofs.Letters.{all_sent, before_take, mail_weight-at}
 use Rattle.lt_model.proofs.PathsMove.{has_mail_parts}
 use Rattle.lt_lists.proofs.Puts.{put-same, put-other}
@@ -40,7 +37,7 @@ use Rattle.lt_model.proofs.StandingInRuns.{stands_once}
 use Rattle.lt_lists.proofs.Sums.{sum_below-at}
 use Rattle.lt_lists.proofs.Members.{all_of}
 use Rattle.lt_model.proofs.KeptSets.{kept_stands}
-use Rattle.lt_kept.proofs.ScriptSets.{AreAlike, MadeAlike, clipped, clipped_alike, act_alike, take_alike}
+use Rattle.lt_kept.proofs.ScriptSets.{MadeAlike, clipped, act_alike, take_alike}
 
 -- at each node and in each letter of the script, for its sets, what there is is at home
 pub record HomesWithin (script : ScriptData) (w : World) : Type 0 where
@@ -73,7 +70,8 @@ standing_at_home script w s ask h some =
     (own_at_home script ask.node (state_at w s ask.node).held ask
     (All-contains (SoundPending (numbers_of script) ask.node (state_at w s ask.node).held) (state_at w s ask.node).pending ask (h.states ask.node found.0).pending found.1)).0
 
-here_at_home : (script : ScriptData) (w : World) (s x : ℕ) (ask : Ask) → SetKept script Between w s → x < script.nodes → 1 ≤ places_in_state ask (state_at w s x) → IsAskAtHome script ask
+here_at_home : (script : ScriptData) (w : World) (s x : ℕ) (ask : Ask) → SetKept script Between w s → x < script.nodes
+    → 1 ≤ places_in_state ask (state_at w s x) → IsAskAtHome script ask
 here_at_home script w s x ask h below some =
     standing_at_home script w s ask h (omega (arith, some, sum_below-at script.nodes x (λ y. places_in_state ask (state_at w s y)) below))
 
@@ -163,7 +161,8 @@ move_within script w q (Take p) whole h enabled =
     let is_there = has_mail_parts script w p q enabled in
     by_letters (w.mail p q) is_there.letter is_there.receiver (λ letter there. h.letters p q letter is_there.sender is_there.receiver there)
   where
-    by_letters : (letters : List Letter) → is_some_letter letters ≡ true → q < script.nodes → ((letter : Letter) → Contains letters letter → IsLetterAtHome script q letter)
+    by_letters : (letters : List Letter) → is_some_letter letters ≡ true → q < script.nodes
+        → ((letter : Letter) → Contains letters letter → IsLetterAtHome script q letter)
         → IsMadeWithin script q (take_front q (w.node q) letters)
     by_letters [] e below each = cc
     by_letters (letter ∷ rest) e below each =
@@ -181,7 +180,9 @@ homes_within_kept script w q step whole h enabled = record {
     | inr d ↦ subst (λ (n : NodeState). IsStateAtHome script x (n.set s))
         (sym (put-other (opened w q step).node q (node_move script w q step).node x d ∙ same_node step)) (h.states x s below under)
   ];
-  letters = λ a b letter ha hb there. all_sent (λ c d l. c < script.nodes → d < script.nodes → IsLetterAtHome script d l) q (node_move script w q step).posts (opened w q step).mail
+  letters =
+      λ a b letter ha hb there. all_sent (λ c d l. c < script.nodes → d < script.nodes → IsLetterAtHome script d l) q (node_move script w q step).posts
+      (opened w q step).mail
       (λ c d l old hc hd. h.letters c d l hc hd (before step c d l old))
       (all_weaker (λ (post : Post). IsLetterAtHome script post.to post.letter) (λ (post : Post). q < script.nodes → post.to < script.nodes → IsLetterAtHome script post.to post.letter)
       (λ (post : Post) own. λ hc hd. own) (node_move script w q step).posts made.posts) a b letter there ha hb;

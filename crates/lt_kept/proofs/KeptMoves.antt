@@ -1,63 +1,29 @@
--- Each enabled move keeps the world invariant, and so it holds in every run.
-use Rattle.std.proofs.Common.{◌≡◌, ◌≢◌, ℕ, zero, suc, ◌+◌, ◌<◌, ◌≤◌, inl, inr, List, [], ◌∷◌, length, Option, Some, None, Bool, true, false, refl, sym, ap, subst, arith, take, ◌∙◌}
-use Rattle.std.specs.Prelude.{◌⊎◌, ◌==◌, ◌||◌, not, if◌then◌else◌, Contains, All, AllPairs, IsTrue, IfSome, count_by, sum_by, is_some, slice_index_or}
-use Rattle.std.specs.List.{filter_map}
-use Rattle.std.proofs.lemmas.Bool.{cases_eq, eq-eqb, ne_eqb, eqb-true, and_from, or_right}
-use Rattle.std.proofs.lemmas.List.Elements.{All-contains, Contains-get_or}
-use Rattle.std.proofs.lemmas.List.Quantifiers.{position-Some}
-use Rattle.std.proofs.lemmas.List.Sums.{sum_by-cons, sum_by-append}
-use Rattle.lt_modes.specs.declared.mode.Mode.{Mode}
-use Rattle.lt_modes.specs.declared.ask.Ask.{Ask}
-use Rattle.lt_modes.specs.declared.parts.Row.{Row}
-use Rattle.lt_modes.specs.Script.{ScriptData}
-use Rattle.lt_modes.specs.State.{SetState, Desk, Letter, Parked, ParkedAsk, ParkedTell}
-use Rattle.lt_modes.specs.Held.{is_row_of, no_row, row_place, count_at, count_of}
-use Rattle.lt_modes.specs.Queue.{same_ask, times_in}
-use Rattle.lt_modes.specs.Serving.{queue_of}
-use Rattle.lt_modes.specs.Fits.{is_at_home, ask_if, parked_asks, asks_here, has_client, is_pending, is_known, are_apart}
-use Rattle.lt_modes.specs.Sound.{HoldsGivenUp, SoundPending, SoundHere, SoundDesk, SoundSet}
-use Rattle.lt_model.specs.Homes.{IsWhole, HasSoundHomes, IsSoundOwn, IsAskOf}
-use Rattle.lt_runs.specs.Families.{home}
-use Rattle.lt_runs.specs.World.{World, start, is_enabled, node_move, after, after_run, IsRunFrom}
-use Rattle.lt_runs.specs.Facts.{state_at, times_parked, places_in_state, place_count}
-use Rattle.lt_lists.specs.Below.{one_if, put}
-use Rattle.lt_model.specs.Moments.{Between, is_at}
-use Rattle.lt_model.specs.OnWay.{DeskIs}
-use Rattle.lt_model.specs.SoundNode.{numbers_of}
+-- Each enabled move of any world that has the invariant keeps it.
+use Rattle.std.proofs.Common.{ℕ, ◌<◌, inl, inr, length, refl, sym, ap, subst, ◌∙◌}
+use Rattle.std.proofs.lemmas.Bool.{cases_eq}
+use Rattle.lt_modes.specs.State.{Letter}
+use Rattle.lt_runs.specs.World.{World, node_move, after}
+use Rattle.lt_lists.specs.Below.{put}
 use Rattle.lt_model.specs.Timed.{Timed}
-use Rattle.lt_lists.proofs.Sums.{sum_below-at}
-use Rattle.lt_lists.proofs.Members.{list_any-at, list_any-which}
-use Rattle.lt_accounts.proofs.Asks.{times_in-some, same_ask-itself}
-use Rattle.lt_model.proofs.TokenComes.{desk_somewhere}
-use Rattle.lt_model.proofs.StandingInRuns.{stands_once}
-use Rattle.lt_ledgers.proofs.Moves.{Known, named_firm, entries_on}
-use Rattle.lt_ledgers.proofs.Runs.{two_places, ledgers_step}
+use Rattle.lt_ledgers.specs.LedgerLaws.{LedgersKept}
+use Rattle.lt_ledgers.proofs.EachMove.{moves_keep_ledgers}
 use Rattle.lt_model.proofs.KeptSets.{kept_stands, kept_timed}
 use Rattle.lt_lists.proofs.Members.{all_of, nothing_in}
 use Rattle.lt_model.proofs.NodeMoves.{after_node}
-use Rattle.lt_accounts.proofs.RowTotals.{row_count, total}
-use Rattle.lt_lists.proofs.Sums.{none_found, sum_by-zero}
-use Rattle.lt_kept.proofs.Measures.{SomeEach}
-use Rattle.lt_kept.proofs.ClientEffects.{is_asks, GivenBy, one_of_client}
 use Rattle.lt_kept.proofs.ClientMoves.{SoundClients}
-use Rattle.lt_kept.proofs.ClientRuns.{sound_clients, clients_kept}
-use Rattle.lt_kept.proofs.RowsApart.{rows_stay_apart}
+use Rattle.lt_kept.proofs.ClientsKept.{sound_clients, clients_kept}
+use Rattle.lt_kept.proofs.RowsKept.{rows_stay_apart}
 use Rattle.lt_kept.proofs.SoundStates.{SetFacts, sound_set}
 use Rattle.lt_kept.proofs.KeptHomes.{HomesWithin, kept_homes, homes_within_kept}
-use Rattle.lt_kept.proofs.KeptParked.{HeldOrComes, held_or_comes_kept, parked_for, none_parked}
-use Rattle.lt_kept.specs.Laws.{KeptStays, KeptInRuns}
-use Rattle.lt_runs.specs.Log.{Logged}
+use Rattle.lt_kept.proofs.KeptParked.{HeldOrComes, held_or_comes_kept, parked_for}
+use Rattle.lt_kept.specs.KeptLaws.{KeptStays}
 use Rattle.lt_model.specs.Paths.{Paths}
 use Rattle.lt_model.specs.Standing.{AsksStand}
-use Rattle.lt_model.specs.Invariant.{SetKept, Kept}
-use Rattle.lt_model.proofs.HomesSound.{sound_state}
 use Rattle.lt_model.proofs.TimedMove.{timed_kept}
 use Rattle.lt_model.proofs.ServedMove.{served_kept}
 use Rattle.lt_model.proofs.PathsMove.{move_kept}
 use Rattle.lt_lists.proofs.Puts.{put-same, put-other}
 use Rattle.lt_model.proofs.StandingMove.{standing_kept}
-use Rattle.lt_model.proofs.StartKept.{start_kept}
-use Rattle.lt_modes.specs.declared.moves.Step.{Step}
 
 -- each enabled move keeps the invariant
 pub kept_stays : KeptStays
@@ -89,8 +55,8 @@ kept_stays script w q step whole h enabled = record {
     timed : (s : ℕ) → s < length script.sets → Timed script later s
     timed s under = timed_kept script w s (kept_timed script w s (h.sets s under)) q step enabled
 
-    known : (s : ℕ) → s < length script.sets → Known script later s
-    known s under = ledgers_step script w s q step whole (h.sets s under) enabled
+    known : (s : ℕ) → s < length script.sets → LedgersKept script later s
+    known s under = moves_keep_ledgers script w s q step whole (h.sets s under) enabled
 
     homes : HomesWithin script later
     homes = homes_within_kept script w q step whole (kept_homes script w h) enabled
@@ -115,14 +81,3 @@ kept_stays script w q step whole h enabled = record {
       held = held s x under below;
       clients = clients;
     }
-
-run_kept : (script : ScriptData) (run : List Logged) (w : World) → IsWhole script → Kept script w → IsRunFrom script w run → (k : ℕ) → Kept script (after_run script w (take k run))
-run_kept script run w whole h is_run zero = h
-run_kept script [] w whole h is_run (suc k) = h
-run_kept script (entry ∷ rest) w whole h is_run (suc k) =
-    let q = entry.made.stamp.node in
-    run_kept script rest (after script w q entry.made.step) whole (kept_stays script w q entry.made.step whole h is_run.0.enabled) is_run.1 k
-
--- and so it holds in every run
-pub kept_in_runs : KeptInRuns
-kept_in_runs script run whole is_run k = run_kept script run (start script) whole (start_kept script whole.some_node) is_run k

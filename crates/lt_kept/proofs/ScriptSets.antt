@@ -1,6 +1,6 @@
 -- A move of a node reads and changes the sets of the script alone.
-use Rattle.std.proofs.Common.{◌≡◌, ℕ, zero, suc, ◌+◌, ◌<◌, List, [], ◌∷◌, ◌++◌, length, Option, Some, None, Bool, true, false, refl, sym, ap, subst, arith, ◌∙◌}
-use Rattle.std.specs.Prelude.{◌||◌, ◌==◌, if◌then◌else◌, nat_lt}
+use Rattle.std.proofs.Common.{◌≡◌, ℕ, ◌+◌, ◌<◌, List, [], ◌∷◌, ◌++◌, length, Option, Some, None, Bool, true, false, refl, ap, subst}
+use Rattle.std.specs.Prelude.{◌==◌, if◌then◌else◌, nat_lt}
 use Rattle.std.specs.List.{AllByRecursion}
 use Rattle.std.proofs.lemmas.Bool.{lt-ltb}
 use Rattle.lt_modes.specs.declared.command.Command.{Command}
@@ -8,11 +8,10 @@ use Rattle.lt_modes.specs.declared.command.Command.TheVariants.{Lock, Unlock, Tr
 use Rattle.lt_modes.specs.declared.stamp.Stamp.{Stamp}
 use Rattle.lt_modes.specs.Script.{ScriptData}
 use Rattle.lt_modes.specs.State.{SetState, Letter, first_state}
-use Rattle.lt_modes.specs.Made.{Made, Post}
+use Rattle.lt_modes.specs.Made.{Made}
 use Rattle.lt_modes.specs.Serving.{waits}
 use Rattle.lt_modes.specs.Telling.{finish}
 use Rattle.lt_modes.specs.SetMove.{lock, try, unlock, change, drop, take}
-use Rattle.lt_lists.specs.Below.{any_below, put}
 use Rattle.lt_runs.specs.Families.{related}
 use Rattle.lt_model.specs.Homes.{IsWhole, HasTargets}
 use Rattle.lt_runs.specs.NodeMove.{NodeState, NodeMade, node_waits, next_command, act_stamp, take_stamp, at_clock, one_made, touched, each_touched, drop_all, obey, node_act, node_take}
@@ -66,12 +65,16 @@ obey_alike script stamp client (DropAll other s) n m targets alike =
     (any_below_same (length script.sets) (λ k. waits (n.set k) other) (λ k. waits (m.set k) other) (λ k below. ap (λ (t : SetState). waits t other) (alike k below)))
     (by_waits (node_waits script n other))
   where
-    by_waits : (waiting : Bool) → MadeAlike script (drop_all waiting stamp client other s (related script s) n) (drop_all waiting stamp client other s (related script s) m)
-    by_waits true = let made = each_alike script (λ k. finish k stamp) (related script s) (related_below script s) n m alike in record { node = made.node; posts = made.posts }
-    by_waits false = let made = each_alike script (λ k. drop k stamp other) (related script s) (related_below script s) n m alike in record { node = made.node; posts = made.posts }
+    by_waits : (waiting : Bool)
+        → MadeAlike script (drop_all waiting stamp client other s (related script s) n) (drop_all waiting stamp client other s (related script s) m)
+    by_waits true =
+        let made = each_alike script (λ k. finish k stamp) (related script s) (related_below script s) n m alike in record { node = made.node; posts = made.posts }
+    by_waits false =
+        let made = each_alike script (λ k. drop k stamp other) (related script s) (related_below script s) n m alike in record { node = made.node; posts = made.posts }
 
 -- so it is in a client's move
-pub act_alike : (script : ScriptData) (q client : ℕ) (n : NodeState) → IsWhole script → MadeAlike script (node_act script q client (clipped script n)) (node_act script q client n)
+pub act_alike : (script : ScriptData) (q client : ℕ) (n : NodeState) → IsWhole script
+    → MadeAlike script (node_act script q client (clipped script n)) (node_act script q client n)
 act_alike script q client n whole = by_command (next_command script n client) refl
   where
     begins : NodeState → NodeState

@@ -1,9 +1,8 @@
 -- An ask that leaves a queue by being served conflicts with no ask that stands before it.
 use Rattle.std.proofs.Common.{◌≡◌, ◌≢◌, ℕ, zero, suc, ◌+◌, ◌<◌, inl, inr, List, [], ◌∷◌, ◌++◌, length, Option, Some, None, Bool, true, false, refl, sym, ap, subst, arith, take, ◌∙◌}
-use Rattle.std.specs.Prelude.{◌⊎◌, ◌&&◌, ◌||◌, ◌==◌, not, if◌then◌else◌, All, Contains, IsTrue, IsFalse, slice_index_or}
+use Rattle.std.specs.Prelude.{◌⊎◌, ◌||◌, not, if◌then◌else◌, All, Contains, IsTrue, IsFalse, slice_index_or}
 use Rattle.std.specs.List.{AllByRecursion}
-use Rattle.std.proofs.lemmas.Bool.{and_parts, cases_eq}
-use Rattle.std.proofs.lemmas.List.{append-nil}
+use Rattle.std.proofs.lemmas.Bool.{and_parts}
 use Rattle.std.proofs.lemmas.List.Elements.{All-nil, All-cons}
 use Rattle.lt_modes.specs.declared.mode.Mode.{Mode}
 use Rattle.lt_modes.specs.declared.stamp.Stamp.{Stamp}
@@ -19,33 +18,35 @@ use Rattle.lt_modes.specs.State.{SetState, Desk, Letter}
 use Rattle.lt_modes.specs.Made.{Made}
 use Rattle.lt_modes.specs.Queue.{no_ask}
 use Rattle.lt_modes.specs.Records.{others}
-use Rattle.lt_modes.specs.Serving.{queue_of, queue_of_desk, is_free, is_local, is_copy, is_served, next_from, next_at, next_service, ask_at, serve_one, serve, serve_up_to, serve_step}
-use Rattle.lt_modes.specs.SetMove.{locked, tried, unlocked, changed, dropped, lock, try, unlock, change, drop, take as take_letter}
+use Rattle.lt_modes.specs.Serving.{queue_of, queue_of_desk, is_free, is_local, is_copy, is_served, next_from, next_at, next_service, serve_one, serve_up_to, serve_step}
+use Rattle.lt_modes.specs.SetMove.{dropped, lock, try, unlock, change, drop, take as take_letter}
 use Rattle.lt_modes.specs.Taking.{arrive}
 use Rattle.lt_modes.specs.Telling.{finish}
 use Rattle.lt_modes.proofs.ModeAlgebra.{bars_by_table}
 use Rattle.lt_lists.specs.Below.{put}
 use Rattle.lt_lists.proofs.Puts.{put-same, put-other}
 use Rattle.lt_lists.proofs.Members.{contains_cases}
-use Rattle.lt_accounts.proofs.ModeMembers.{has-kept, has-added, has-right, none_has}
+use Rattle.lt_accounts.proofs.ModeMembers.{has-kept, has-added, has-right}
 use Rattle.lt_runs.specs.Families.{related}
-use Rattle.lt_runs.specs.NodeMove.{NodeState, node_waits, next_command, act_stamp, take_stamp, at_clock, one_made, touched, each_touched, drop_all, obey, node_take}
-use Rattle.lt_runs.specs.World.{World, is_enabled, front_stamp, move_stamp, opened, take_front, node_move, after, world_after, IsRun}
-use Rattle.lt_runs.specs.Facts.{state_at}
+use Rattle.lt_runs.specs.NodeMove.{NodeState, node_waits, next_command, act_stamp, take_stamp, at_clock, one_made, touched, each_touched, drop_all, obey}
+use Rattle.lt_runs.specs.World.{World, front_stamp, move_stamp, opened, take_front, node_move, after, world_after}
 use Rattle.lt_model.specs.Touches.{sets_of_step, sets_of_command, sets_of_front}
 use Rattle.lt_model.proofs.NodeEffects.{IsOnce, once_or_aside}
-use Rattle.lt_kept.specs.Services.{Service, services, services_up_to, services_then, lines_of_services, made_by_command, made_by_front, before_end, IsInTurn, ServesInTurn, LinesOfServices, ServedInTurn}
+use Rattle.lt_kept.specs.Services.{services_up_to, services_then, lines_of_services, made_by_command, made_by_front, before_end, IsInTurn, ServesInTurn, LinesOfServices, ServedInTurn}
 
 not_false : (t : Bool) → not t ≡ true → t ≡ false
 not_false true e = cc
 not_false false e = refl
 
 -- the ask conflicts with no mode that stands before it
-free_of : (me : ℕ) (s : SetState) (desk : Desk) (before : Modes) (ask : Ask) → is_served me s desk before ask ≡ true → (other : Mode) → IsTrue (has other before) → IsFalse (conflicts ask.mode other)
+free_of : (me : ℕ) (s : SetState) (desk : Desk) (before : Modes) (ask : Ask) → is_served me s desk before ask ≡ true → (other : Mode)
+    → IsTrue (has other before) → IsFalse (conflicts ask.mode other)
 free_of me s desk before ask e other member = by_test (conflicts ask.mode other) refl
   where
     free : has ask.mode (bars (union (others me s desk ask.node) before)) ≡ false
-    free = not_false (has ask.mode (bars (union (others me s desk ask.node) before))) (and_parts (is_free me s desk before ask) (is_local me s desk ask || is_copy me s desk ask) e).0
+    free =
+        not_false (has ask.mode (bars (union (others me s desk ask.node) before)))
+        (and_parts (is_free me s desk before ask) (is_local me s desk ask || is_copy me s desk ask) e).0
 
     by_test : (t : Bool) → conflicts ask.mode other ≡ t → t ≡ false
     by_test false f = refl

@@ -1,63 +1,41 @@
 -- What a node keeps is sound, where the parts of the invariant hold.
-use Rattle.std.proofs.Common.{◌≡◌, ◌≢◌, ℕ, zero, suc, ◌+◌, ◌<◌, ◌≤◌, inl, inr, List, [], ◌∷◌, length, Option, Some, None, Bool, true, false, refl, sym, ap, subst, arith, take, ◌∙◌}
-use Rattle.std.specs.Prelude.{◌⊎◌, ◌==◌, ◌||◌, not, if◌then◌else◌, Contains, All, AllPairs, IsTrue, IfSome, count_by, sum_by, is_some, slice_index_or}
-use Rattle.std.specs.List.{filter_map}
-use Rattle.std.proofs.lemmas.Bool.{cases_eq, eq-eqb, ne_eqb, eqb-true, and_from, or_right}
-use Rattle.std.proofs.lemmas.List.Elements.{All-contains, Contains-get_or}
+use Rattle.std.proofs.Common.{◌≡◌, ◌≢◌, ℕ, ◌<◌, ◌≤◌, List, length, Option, Some, None, Bool, false, refl, sym, ap, subst, arith, ◌∙◌}
+use Rattle.std.specs.Prelude.{◌⊎◌, if◌then◌else◌, Contains, AllPairs, IsTrue, IfSome, count_by, slice_index_or}
+use Rattle.std.proofs.lemmas.Bool.{ne_eqb}
+use Rattle.std.proofs.lemmas.List.Elements.{All-contains}
 use Rattle.std.proofs.lemmas.List.Quantifiers.{position-Some}
-use Rattle.std.proofs.lemmas.List.Sums.{sum_by-cons, sum_by-append}
 use Rattle.lt_modes.specs.declared.mode.Mode.{Mode}
 use Rattle.lt_modes.specs.declared.ask.Ask.{Ask}
 use Rattle.lt_modes.specs.declared.parts.Row.{Row}
 use Rattle.lt_modes.specs.Script.{ScriptData}
-use Rattle.lt_modes.specs.State.{SetState, Desk, Letter, Parked, ParkedAsk, ParkedTell}
+use Rattle.lt_modes.specs.State.{SetState, Desk}
 use Rattle.lt_modes.specs.Held.{is_row_of, no_row, row_place, count_at, count_of}
-use Rattle.lt_modes.specs.Queue.{same_ask, times_in}
-use Rattle.lt_modes.specs.Serving.{queue_of}
-use Rattle.lt_modes.specs.Fits.{is_at_home, ask_if, parked_asks, asks_here, has_client, is_pending, is_known, are_apart}
+use Rattle.lt_modes.specs.Queue.{times_in}
+use Rattle.lt_modes.specs.Fits.{is_at_home, asks_here}
 use Rattle.lt_modes.specs.Sound.{HoldsGivenUp, SoundPending, SoundHere, SoundDesk, SoundSet}
-use Rattle.lt_model.specs.Homes.{IsWhole, HasSoundHomes, IsSoundOwn, IsAskOf}
-use Rattle.lt_runs.specs.Families.{home}
-use Rattle.lt_runs.specs.World.{World, start, is_enabled, node_move, after, after_run, IsRunFrom}
-use Rattle.lt_runs.specs.Facts.{state_at, times_parked, places_in_state, place_count}
-use Rattle.lt_lists.specs.Below.{one_if, put}
-use Rattle.lt_model.specs.Moments.{Between, is_at}
+use Rattle.lt_model.specs.Homes.{IsWhole, HasSoundHomes, IsSoundOwn}
+use Rattle.lt_runs.specs.World.{World}
+use Rattle.lt_runs.specs.Facts.{state_at, places_in_state, place_count}
+use Rattle.lt_model.specs.Moments.{is_at}
 use Rattle.lt_model.specs.OnWay.{DeskIs}
 use Rattle.lt_model.specs.SoundNode.{numbers_of}
 use Rattle.lt_model.specs.Timed.{Timed}
-use Rattle.lt_lists.proofs.Sums.{sum_below-at}
-use Rattle.lt_lists.proofs.Members.{list_any-at, list_any-which}
-use Rattle.lt_accounts.proofs.Asks.{times_in-some, same_ask-itself}
+use Rattle.lt_lists.proofs.Sums.{sum_below-at, none_found, sum_by-zero}
+use Rattle.lt_accounts.proofs.Asks.{times_in-some}
 use Rattle.lt_model.proofs.TokenComes.{desk_somewhere}
-use Rattle.lt_model.proofs.StandingInRuns.{stands_once}
-use Rattle.lt_ledgers.proofs.Moves.{Known, named_firm, entries_on}
-use Rattle.lt_ledgers.proofs.Runs.{two_places, ledgers_step}
-use Rattle.lt_model.proofs.KeptSets.{kept_stands}
-use Rattle.lt_lists.proofs.Members.{all_of, nothing_in}
-use Rattle.lt_model.proofs.NodeMoves.{after_node}
+use Rattle.lt_ledgers.specs.LedgerLaws.{LedgersKept}
+use Rattle.lt_ledgers.proofs.OneDesk.{named_firm, entries_on}
+use Rattle.lt_lists.proofs.Members.{all_of}
 use Rattle.lt_accounts.proofs.RowTotals.{row_count, total}
-use Rattle.lt_lists.proofs.Sums.{none_found, sum_by-zero}
-use Rattle.lt_kept.proofs.Measures.{SomeEach}
-use Rattle.lt_kept.proofs.ClientEffects.{is_asks, GivenBy, one_of_client}
+use Rattle.lt_kept.proofs.ClientCounts.{SomeEach}
+use Rattle.lt_kept.proofs.ClientEffects.{is_asks, GivenBy}
 use Rattle.lt_kept.proofs.ClientMoves.{SoundClients}
-use Rattle.lt_kept.proofs.ClientRuns.{sound_clients, clients_kept}
-use Rattle.lt_kept.proofs.RowsApart.{rows_stay_apart}
 use Rattle.lt_kept.proofs.AsksApart.{OwnAsks, apart_by, one_each, here_times, standing_apart, standing_known}
-use Rattle.lt_kept.proofs.KeptHomes.{HomesWithin, kept_homes, homes_within_kept}
-use Rattle.lt_kept.proofs.KeptParked.{HeldOrComes, held_or_comes_kept, parked_for, none_parked}
-use Rattle.lt_kept.specs.Laws.{KeptStays, KeptInRuns}
-use Rattle.lt_runs.specs.Log.{Logged}
+use Rattle.lt_kept.proofs.KeptHomes.{HomesWithin}
+use Rattle.lt_kept.proofs.KeptParked.{HeldOrComes, none_parked}
 use Rattle.lt_model.specs.Paths.{Paths}
 use Rattle.lt_model.specs.Standing.{AsksStand}
-use Rattle.lt_model.specs.Invariant.{SetKept, Kept}
 use Rattle.lt_model.proofs.HomesSound.{sound_state}
-use Rattle.lt_model.proofs.TimedMove.{timed_kept}
-use Rattle.lt_model.proofs.ServedMove.{served_kept}
-use Rattle.lt_model.proofs.PathsMove.{move_kept}
-use Rattle.lt_lists.proofs.Puts.{put-same, put-other}
-use Rattle.lt_model.proofs.StandingMove.{standing_kept}
-use Rattle.lt_model.proofs.StartKept.{start_kept}
-use Rattle.lt_modes.specs.declared.moves.Step.{Step}
 
 -- what is held is counted in its first row
 counted_first : (rows : List Row) (client : ℕ) (mode : Mode) → SomeEach rows → 1 ≤ total rows client mode → 1 ≤ count_of rows client mode
@@ -78,7 +56,7 @@ pub record SetFacts (script : ScriptData) (w : World) (s x : ℕ) : Type 0 where
   pub paths : Paths script w s
   pub stood : AsksStand script w s
   pub timed : Timed script w s
-  pub known : Known script w s
+  pub known : LedgersKept script w s
   pub homes : HomesWithin script w
   pub held : HeldOrComes script w s x
   pub clients : (y : ℕ) → y < script.nodes → SoundClients script (w.node y)

@@ -1,2 +1,3 @@
-pub mod Laws
+pub mod KeptLaws
 pub mod Services
+pub mod RunLaws

@@ -2,7 +2,6 @@
 use Rattle.std.proofs.Common.{◌≡◌, ℕ, ◌<◌, inl, inr, List, [], ◌∷◌, length, Option, Some, None, Bool, true, false, refl, sym, ap, subst, ◌∙◌}
 use Rattle.std.specs.Prelude.{if◌then◌else◌, Contains, fold, nat_lt}
 use Rattle.std.specs.List.{AllByRecursion}
-use Rattle.std.proofs.lemmas.Bool.{cases_eq}
 use Rattle.std.proofs.lemmas.List.{length-set}
 use Rattle.lt_modes.specs.declared.stamp.Stamp.{Stamp}
 use Rattle.lt_modes.specs.Script.{ScriptData}
@@ -18,24 +17,20 @@ use Rattle.lt_model.specs.Moments.{Acting}
 use Rattle.lt_model.specs.OnWay.{DeskIs, copies_to}
 use Rattle.lt_model.specs.AccountRules.{IsParkedOf}
 use Rattle.lt_model.specs.Invariant.{DeskKept}
-use Rattle.lt_ledgers.specs.Ledger.{after_effect}
-use Rattle.lt_ledgers.proofs.Step.{state_here}
-use Rattle.lt_ledgers.proofs.Own.{HasDesk}
-use Rattle.lt_ledgers.proofs.Taking.{nothing_in_hand, take_copy_keeps, take_freeze_keeps, apply_keeps, route_tell_keeps}
-use Rattle.lt_ledgers.proofs.Token.{token_keeps}
+use Rattle.lt_ledgers.specs.OneEffect.{after_effect}
+use Rattle.lt_ledgers.proofs.AfterEffect.{state_here}
+use Rattle.lt_ledgers.proofs.OwnSteps.{HasDesk}
 use Rattle.lt_ledgers.proofs.InHand.{InHand}
+use Rattle.lt_ledgers.proofs.TakeCopy.{nothing_in_hand, take_copy_keeps}
+use Rattle.lt_ledgers.proofs.TakeFreeze.{take_freeze_keeps}
+use Rattle.lt_ledgers.proofs.TakeTell.{apply_keeps, route_tell_keeps}
+use Rattle.lt_ledgers.proofs.TakeToken.{token_keeps}
 use Rattle.lt_ledgers.proofs.Ledgers.{Ledger, ledger_here, kept_here, desk_stays, routed, routed_desk, with_item}
 
 -- with a letter in hand that isn't the token the desk is where it was
 desk_hand : (script : ScriptData) (w base : World) (s q : ℕ) (body : Body) (place : Option ℕ) (desk : Desk) → InHand script w base s q body
     → ((d : Desk) → TokenBody d ≡ body → ⊥) → DeskIs script w s place desk → DeskIs script base s place desk
-desk_hand script w base s q body (Some p) desk hand other h = (
-  h.0,
-  elim (cases_eq p q) [
-    | inl e ↦ ap (λ (y : ℕ). (state_at base s y).desk) e ∙ hand.desk ∙ ap (λ (y : ℕ). (state_at w s y).desk) (sym e) ∙ h.1
-    | inr d ↦ ap (λ (t : SetState). t.desk) (hand.there p d) ∙ h.1
-  ],
-)
+desk_hand script w base s q body (Some p) desk hand other h = (h.0, hand.desk p ∙ h.1)
 desk_hand script w base s q body None desk hand other h = (
   h.0,
   h.1,
@@ -52,7 +47,7 @@ ledger_hand script w base s q body hand other l kept = record {
   place = l.place;
   desk = l.desk;
   there = desk_hand script w base s q body l.place l.desk hand other l.there;
-  has = subst (HasDesk l.place l.desk q) (sym hand.desk) l.has;
+  has = subst (HasDesk l.place l.desk q) (sym (hand.desk q)) l.has;
   entries = l.entries;
   kept = kept;
 }
@@ -97,7 +92,7 @@ body_done script w base s stamp (TellBody tell) below hand firm fair l = by_desk
 
     by_desk : (o : Option Desk) → t.desk ≡ o → Ledger script (Acting q) (after_effect base q s (route s stamp false (ParkedTell tell) t)) s q (route s stamp false (ParkedTell tell) t).state.desk
     by_desk (Some desk) here =
-        let old = kept_here script (Acting q) w s q desk (subst (Ledger script (Acting q) w s q) (sym hand.desk ∙ here) l) in
+        let old = kept_here script (Acting q) w s q desk (subst (Ledger script (Acting q) w s q) (sym (hand.desk q) ∙ here) l) in
         let m : Made = silent (record t { desk = Some (tell_applied tell desk) }) in
         subst (λ (o : Option Desk). Ledger script (Acting q) (after_effect base q s (route_by s stamp false (ParkedTell tell) t o)) s q (route_by s stamp false (ParkedTell tell) t o).state.desk) (sym here)
         (ledger_here script (Acting q) (after_effect base q s m) s q (tell_applied tell desk) below (ap (λ (u : SetState). u.desk) (state_here base q s m))
@@ -110,7 +105,7 @@ body_done script w base s stamp (TellBody tell) below hand firm fair l = by_desk
           place = l.place;
           desk = l.desk;
           there = desk_stays script base q s m l.place l.desk same (desk_hand script w base s q (TellBody tell) l.place l.desk hand not_token l.there);
-          has = subst (HasDesk l.place l.desk q) (sym (same ∙ hand.desk)) l.has;
+          has = subst (HasDesk l.place l.desk q) (sym (same ∙ hand.desk q)) l.has;
           entries = l.entries;
           kept = route_tell_keeps script w base s q stamp false tell l.place l.desk below hand fair away firm l.kept;
         }
@@ -121,9 +116,9 @@ body_done script w base s stamp (CopyBody ask) below hand firm fair l =
       place = l.place;
       desk = l.desk;
       there = desk_stays script base q s m l.place l.desk refl (desk_hand script w base s q (CopyBody ask) l.place l.desk hand not_token l.there);
-      has = subst (HasDesk l.place l.desk q) (sym hand.desk) l.has;
+      has = subst (HasDesk l.place l.desk q) (sym (hand.desk q)) l.has;
       entries = l.entries;
-      kept = take_copy_keeps script w base s q ask l.place l.desk below hand (subst (HasDesk l.place l.desk q) (sym hand.desk) l.has) fair l.kept;
+      kept = take_copy_keeps script w base s q ask l.place l.desk below hand (subst (HasDesk l.place l.desk q) (sym (hand.desk q)) l.has) fair l.kept;
     }
   where
     not_token : (d : Desk) → TokenBody d ≡ CopyBody ask → ⊥
@@ -142,7 +137,7 @@ body_done script w base s stamp (FreezeBody number modes) below hand firm fair l
       place = l.place;
       desk = l.desk;
       there = desk_stays script base q s m l.place l.desk same (desk_hand script w base s q (FreezeBody number modes) l.place l.desk hand not_token l.there);
-      has = subst (HasDesk l.place l.desk q) (sym (same ∙ hand.desk)) l.has;
+      has = subst (HasDesk l.place l.desk q) (sym (same ∙ hand.desk q)) l.has;
       entries = l.entries;
       kept = take_freeze_keeps script w base s q number modes l.place l.desk below hand l.kept;
     }

@@ -1,5 +1,5 @@
 -- Freezing keeps the ledgers of the set.
-use Rattle.std.proofs.Common.{◌≡◌, ◌≢◌, ℕ, zero, suc, ◌+◌, ◌<◌, ◌≤◌, inl, inr, List, [], ◌∷◌, length, Option, Some, None, Bool, true, false, refl, sym, ap, subst, arith, ◌∙◌}
+use Rattle.std.proofs.Common.{◌≡◌, ◌≢◌, ℕ, ◌<◌, ◌≤◌, inl, inr, List, [], ◌∷◌, length, Option, Some, None, Bool, true, false, refl, sym, ap, subst, arith, ◌∙◌}
 use Rattle.std.specs.Prelude.{◌==◌, ◌⊎◌, ◌||◌, not, if◌then◌else◌, Contains, IsTrue, slice_index_or}
 use Rattle.std.specs.List.{AllByRecursion}
 use Rattle.std.proofs.lemmas.Bool.{cases_eq, eq-eqb, ne_eqb, and_parts, false≢true}
@@ -9,80 +9,35 @@ use Rattle.lt_modes.specs.Modes.{Modes}
 use Rattle.lt_modes.specs.Script.{ScriptData}
 use Rattle.lt_modes.specs.State.{SetState, Desk, Entry, Body, FreezeBody, first_entry}
 use Rattle.lt_modes.specs.Made.{Made, Post, post_of}
-use Rattle.lt_modes.specs.Places.{places_from, cons_if}
 use Rattle.lt_modes.specs.Records.{entry_of}
 use Rattle.lt_modes.specs.Freezing.{frozen_by, is_target, targets, number_after, freeze_at}
 use Rattle.lt_runs.specs.World.{World}
 use Rattle.lt_runs.specs.Facts.{state_at}
 use Rattle.lt_model.specs.Moments.{Acting, Frozen}
 use Rattle.lt_model.specs.OnWay.{tell_in, copy_in, freeze_in, tells_of, copies_to, freezes_to, account_of, news_of}
-use Rattle.lt_accounts.specs.Account.{Account, AccountKept, AreClear, counted}
+use Rattle.lt_accounts.specs.Account.{Account}
 use Rattle.lt_accounts.specs.AccountSteps.{IsGain, freezing}
 use Rattle.lt_accounts.specs.AccountPlay.{AllKept}
 use Rattle.lt_accounts.specs.News.{News, NewsKept, Notice}
 use Rattle.lt_model.specs.NewsRules.{news_with, number_by, frozen_desk}
 use Rattle.lt_model.specs.Invariant.{DeskKept}
-use Rattle.lt_accounts.proofs.AccountAsks.{freezes_kept}
 use Rattle.lt_model.proofs.AccountRules.{freezes_are_steps}
 use Rattle.lt_model.proofs.NewsRules.{freezing_is_steps}
 use Rattle.lt_accounts.proofs.NewsLemmas.{keeps_kept, sends_kept, spares_kept}
 use Rattle.lt_model.proofs.Gathered.{freezes_are_on_way}
-use Rattle.lt_lists.proofs.Members.{contains_first, contains_later, contains_cases, contains_map, contains_mapped}
+use Rattle.lt_lists.proofs.Members.{contains_map, contains_mapped}
 use Rattle.lt_lists.proofs.AllLemmas.{all_map, all_any}
-use Rattle.lt_ledgers.specs.Ledger.{after_effect, IsDeskAt}
-use Rattle.lt_ledgers.proofs.Step.{SaysNone, says_none, tells_stay, copies_stay, freezes_stay, state_here, state_there, clock_stays, account_by, news_by, comes_or_sent, comes_still, comes_sent}
-use Rattle.lt_ledgers.proofs.Played.{all_kept}
-
--- the places that pass
-pub places-which : {X : Type 0} (test : ℕ → X → Bool) (first : ℕ) (xs : List X) (d : X) (y : ℕ) → Contains (places_from test first xs) y
-    → (i : ℕ) × (y ≡ first + i) × (i < length xs) × (test y (slice_index_or xs i d) ≡ true)
-places-which test first [] d y h = absurd (omega (arith, h.1))
-places-which {X = X} test first (x ∷ xs) d y h = by_test (test first x) refl h (λ later. places-which test (first + 1) xs d y later)
-  where
-    by_test : (here : Bool) → test first x ≡ here → Contains (cons_if here first (places_from test (first + 1) xs)) y
-        → (Contains (places_from test (first + 1) xs) y → (i : ℕ) × (y ≡ first + 1 + i) × (i < length xs) × (test y (slice_index_or xs i d) ≡ true))
-        → (i : ℕ) × (y ≡ first + i) × (i < length (x ∷ xs)) × (test y (slice_index_or (x ∷ xs) i d) ≡ true)
-    by_test true e found again = elim (contains_cases first y (places_from test (first + 1) xs) found) [
-      | inl same ↦ (0, omega (arith, same), omega arith, ap (λ (k : ℕ). test k x) (sym same) ∙ e)
-      | inr later ↦ let more = again later in (suc more.0, omega (arith, more.1), omega (arith, more.2), more.3)
-    ]
-    by_test false e found again = let more = again found in (suc more.0, omega (arith, more.1), omega (arith, more.2), more.3)
-
-pub places-at : {X : Type 0} (test : ℕ → X → Bool) (first : ℕ) (xs : List X) (d : X) (i : ℕ) → i < length xs → test (first + i) (slice_index_or xs i d) ≡ true
-    → Contains (places_from test first xs) (first + i)
-places-at test first [] d i within e = absurd (omega (arith, within))
-places-at test first (x ∷ xs) d zero within e =
-    let here : test first x ≡ true = ap (λ (k : ℕ). test k x) (omega arith) ∙ e in
-    subst (λ (b : Bool). Contains (cons_if b first (places_from test (first + 1) xs)) (first + 0)) (sym here) (contains_first first (first + 0) (places_from test (first + 1) xs) (omega arith))
-places-at test first (x ∷ xs) d (suc i) within e =
-    let later = places-at test (first + 1) xs d i (omega (arith, within)) (ap (λ (k : ℕ). test k (slice_index_or xs i d)) (omega arith) ∙ e) in
-    by_test (test first x) (subst (Contains (places_from test (first + 1) xs)) (omega arith) later)
-  where
-    by_test : (here : Bool) → Contains (places_from test (first + 1) xs) (first + suc i) → Contains (cons_if here first (places_from test (first + 1) xs)) (first + suc i)
-    by_test true later = contains_later first (first + suc i) (places_from test (first + 1) xs) later
-    by_test false later = later
+use Rattle.lt_ledgers.specs.OneEffect.{after_effect, IsDeskAt}
+use Rattle.lt_model.specs.AccountRules.{account_with}
+use Rattle.lt_accounts.proofs.AllKept.{some_frozen}
+use Rattle.lt_ledgers.proofs.AfterEffect.{SaysNone, says_none, copies_stay, freezes_stay, state_here, state_there, clock_stays, comes_or_sent, comes_still, comes_sent}
+use Rattle.lt_ledgers.proofs.Seen.{all_kept, kept_by, account_as, own_stays}
+use Rattle.lt_ledgers.proofs.Quiet.{tells_stay}
+use Rattle.lt_ledgers.proofs.TargetPlaces.{places-which, places-at}
 
 number_after-later : (told : List ℕ) (number : ℕ) → number ≤ number_after told number
 number_after-later [] number = omega arith
 number_after-later (x ∷ rest) number = omega arith
-
--- accounts whose entries say what was told
-all_frozen : (n : ℕ) (accounts later : ℕ → Account) → AllKept n accounts
-    → ((x : ℕ) → x < n → (later x ≡ accounts x) ⊎ ((frozen : Modes) × (later x ≡ freezing frozen (accounts x)))) → AllKept n later
-all_frozen n accounts later h same = record {
-  kept = λ x below. elim (same x below) [
-    | inl e ↦ subst AccountKept (sym e) (h.kept x below)
-    | inr e ↦ subst AccountKept (sym e.1) (freezes_kept (accounts x) e.0 (h.kept x below)).0
-  ];
-  clear = λ x y hx hy d.
-      subst (λ (a : Modes). AreClear a (counted (later y))) (sym (counts x hx)) (subst (λ (a : Modes). AreClear (counted (accounts x)) a) (sym (counts y hy)) (h.clear x y hx hy d));
-}
-  where
-    counts : (x : ℕ) → x < n → counted (later x) ≡ counted (accounts x)
-    counts x below = elim (same x below) [
-      | inl e ↦ ap counted e
-      | inr e ↦ ap counted e.1
-    ]
 
 -- what freezing leads to
 pub record FreezeLeads (script : ScriptData) (w : World) (s : ℕ) (stamp : Stamp) (desk : Desk) : Type 0 where
@@ -92,7 +47,7 @@ pub record FreezeLeads (script : ScriptData) (w : World) (s : ℕ) (stamp : Stam
 pub freeze_keeps : (script : ScriptData) (w : World) (s : ℕ) (stamp : Stamp) (desk : Desk) → IsDeskAt script w s stamp.node desk
     → DeskKept script (Acting stamp.node) w s (Some stamp.node) desk → FreezeLeads script w s stamp desk
 freeze_keeps script w s stamp desk at h = record {
-  kept = record { accounts = kept.kept; clear = kept.clear; news = λ x below. news_kept x below (cases_eq x q) };
+  kept = kept_by script (Frozen q) later s (Some q) left kept (λ x below. news_kept x below (cases_eq x q));
   knows = ap (λ (e : Entry). e.frozen_told) (freezes_are_steps.entries q q desk (within q at.node))
       ∙ ap (λ (b : Bool). (if b || is_target q frozen q (entry_of desk q) then record (entry_of desk q) { frozen_told = frozen } else entry_of desk q).frozen_told) (eq-eqb q q refl);
 }
@@ -128,7 +83,7 @@ freeze_keeps script w s stamp desk at h = record {
     says read b none = all_map (SaysNone s read b) post told (all_any (λ (x : ℕ). SaysNone s read b (post x)) (λ x e. says_none s read (post x).letter none) told)
 
     heard_tells : (x : ℕ) → tells_of script later s x ≡ tells_of script w s x
-    heard_tells x = tells_stay script w q s m x (record { posts = λ y b. says (tell_in y) b refl; parked = refl })
+    heard_tells x = tells_stay script w q s m x (λ b. says (tell_in x) b refl) refl
 
     heard_copies : (x : ℕ) → copies_to script later s x ≡ copies_to script w s x
     heard_copies x = copies_stay script w q s m x (says copy_in x refl)
@@ -136,17 +91,11 @@ freeze_keeps script w s stamp desk at h = record {
     accounts : ℕ → Account
     accounts x = account_of script (Acting q) w s (Some q) desk x
 
-    with_state : ℕ → Entry → SetState → Account
-    with_state x entry u = account_by (w.node x).clock (x == q) (x == q) entry u (tells_of script w s x) (copies_to script w s x)
-
     account_is : (x : ℕ) → account_of script (Frozen q) later s (Some q) left x ≡ record (accounts x) { entry = entry_of left x }
     account_is x =
-        (λ i. account_by (clock_stays w q s m x i) (x == q) (x == q) (entry_of left x) (state_at later s x) (heard_tells x i) (heard_copies x i))
-        ∙ elim (cases_eq x q) [
-          | inl e ↦ ap (λ (y : ℕ). with_state x (entry_of left x) (state_at later s y)) e ∙ ap (with_state x (entry_of left x)) (state_here w q s m)
-              ∙ ap (λ (y : ℕ). with_state x (entry_of left x) (state_at w s y)) (sym e)
-          | inr d ↦ ap (with_state x (entry_of left x)) (state_there w q s m x d)
-        ]
+        (λ i. account_with (clock_stays w q s m x i) (x == q) (x == q) (entry_of left x) (state_at later s x) (heard_tells x i) (heard_copies x i))
+        ∙ account_as (w.node x).clock (x == q) (x == q) (entry_of left x) (tells_of script w s x) (copies_to script w s x) (state_at w s x) (state_at later s x)
+        (own_stays w q s m x (record { held = refl; charge = refl; pending = refl }))
 
     by_test : (x : ℕ) (b : Bool) (entry : Entry) → entry ≡ (if b then record (entry_of desk x) { frozen_told = frozen } else entry_of desk x)
         → (record (accounts x) { entry = entry } ≡ accounts x) ⊎ ((f : Modes) × (record (accounts x) { entry = entry } ≡ freezing f (accounts x)))
@@ -154,7 +103,7 @@ freeze_keeps script w s stamp desk at h = record {
     by_test x false entry e = inl (ap (λ (en : Entry). record (accounts x) { entry = en }) e)
 
     kept : AllKept script.nodes (account_of script (Frozen q) later s (Some q) left)
-    kept = all_frozen script.nodes accounts (account_of script (Frozen q) later s (Some q) left) (all_kept script (Acting q) w s (Some q) desk h) (λ x below.
+    kept = some_frozen script.nodes accounts (account_of script (Frozen q) later s (Some q) left) (all_kept script (Acting q) w s (Some q) desk h) (λ x below.
         elim (by_test x (x == q || is_target q frozen x (entry_of desk x)) (entry_of left x) (freezes_are_steps.entries q x desk (within x below))) [
           | inl e ↦ inl (account_is x ∙ e)
           | inr e ↦ inr (e.0, account_is x ∙ e.1)
@@ -200,14 +149,14 @@ freeze_keeps script w s stamp desk at h = record {
     later_number = number_after-later told desk.number
 
     before : (x : ℕ) (b : Bool) → (x == q) ≡ b → news_of script (Acting q) w s (Some q) desk x ≡ news_with (state_at w s x) (freezes_to script w s x) (entry_of desk x) desk b true
-    before x b e = λ i. news_by (state_at w s x) (freezes_to script w s x) (entry_of desk x) desk (e i) (eq-eqb q q refl i)
+    before x b e = λ i. news_with (state_at w s x) (freezes_to script w s x) (entry_of desk x) desk (e i) (eq-eqb q q refl i)
 
     news_kept : (x : ℕ) → x < script.nodes → (x ≡ q) ⊎ (x ≢ q) → NewsKept (news_of script (Frozen q) later s (Some q) left x)
     news_kept x below (inl e) =
         subst (λ (y : ℕ). NewsKept (news_of script (Frozen q) later s (Some q) left y)) (sym e)
         (subst NewsKept (sym (
-        ap (λ (u : SetState). news_by u (freezes_to script later s q) (entry_of left q) left (q == q) false) (state_here w q s m)
-        ∙ (λ i. news_by m.state (spared q (λ c. own_target (is_told q c)) i) (entry_of left q) left (eq-eqb q q refl i) false)
+        ap (λ (u : SetState). news_with u (freezes_to script later s q) (entry_of left q) left (q == q) false) (state_here w q s m)
+        ∙ (λ i. news_with m.state (spared q (λ c. own_target (is_told q c)) i) (entry_of left q) left (eq-eqb q q refl i) false)
         ∙ freezing_is_steps.keeps s stamp t desk (freezes_to script w s q) (within q at.node)))
         (keeps_kept (news_with t (freezes_to script w s q) (entry_of desk q) desk true true) (number_by q desk)
         (subst NewsKept (before q true (eq-eqb q q refl)) (h.news q at.node)) (record { here = refl; later = later_number })))
@@ -217,7 +166,7 @@ freeze_keeps script w s stamp desk at h = record {
     news_kept x below (inr d) = by_target (is_target q frozen x (entry_of desk x)) refl
       where
         there : news_of script (Frozen q) later s (Some q) left x ≡ news_with (state_at w s x) (freezes_to script later s x) (entry_of left x) left false false
-        there = λ i. news_by (state_there w q s m x d i) (freezes_to script later s x) (entry_of left x) left (ne_eqb x q d i) false
+        there = λ i. news_with (state_there w q s m x d i) (freezes_to script later s x) (entry_of left x) left (ne_eqb x q d i) false
 
         old : NewsKept (news_with (state_at w s x) (freezes_to script w s x) (entry_of desk x) desk false true)
         old = subst NewsKept (before x false (ne_eqb x q d)) (h.news x below)

@@ -21,7 +21,7 @@ use Rattle.lt_modes.specs.Taking.{arrive, take_body, take_copy}
 use Rattle.lt_modes.specs.SetMove.{ask_of, asked}
 use Rattle.lt_model.proofs.Effects.{Fact, EndEffects, ActEffects, ByEffects, route_ways, acts_by_effects}
 use Rattle.lt_lists.proofs.Members.{list_any-which}
-use Rattle.lt_ledgers.specs.Ledger.{IsHeldUp, HeldUp}
+use Rattle.lt_ledgers.specs.HeldUp.{IsHeldUp, HeldUp}
 
 abbrev pub held_up : ℕ → Fact
 held_up x t posts = HeldUp x t

@@ -1,7 +1,7 @@
 -- The ledgers of a set wherever its desk is, through the effects of a move of node q.
 use Rattle.std.proofs.Common.{◌≡◌, ℕ, ◌+◌, ◌<◌, inl, inr, [], ◌∷◌, ◌++◌, length, Option, Some, None, Bool, true, false, refl, sym, ap, subst, arith, ◌∙◌}
 use Rattle.std.specs.Prelude.{if◌then◌else◌, Contains, remove}
-use Rattle.std.proofs.lemmas.Bool.{cases_eq, eq-eqb, ne_eqb}
+use Rattle.std.proofs.lemmas.Bool.{eq-eqb, ne_eqb}
 use Rattle.std.proofs.lemmas.List.{length-set}
 use Rattle.std.proofs.lemmas.List.Elements.{Contains-get_or}
 use Rattle.lt_modes.specs.declared.mode.Mode.{Mode}
@@ -30,12 +30,12 @@ use Rattle.lt_model.specs.Invariant.{DeskKept}
 use Rattle.lt_model.proofs.AccountRules.{serves_by_rule}
 use Rattle.lt_model.proofs.PathsQuiet.{length-map_from, reversed_desk}
 use Rattle.lt_model.proofs.Effects.{route_ways, next_service-within}
-use Rattle.lt_ledgers.specs.Ledger.{after_effect, copied, IsWaiting}
-use Rattle.lt_ledgers.proofs.Step.{state_here, state_there, comes_still, comes_sent}
+use Rattle.lt_ledgers.specs.OneEffect.{after_effect, copied, IsWaiting}
+use Rattle.lt_ledgers.proofs.AfterEffect.{state_here, part_stays, comes_still, comes_sent}
 use Rattle.lt_ledgers.proofs.CopyService.{copy_service_keeps}
 use Rattle.lt_ledgers.proofs.HandOver.{hand_over_keeps}
 use Rattle.lt_ledgers.proofs.Freezes.{freeze_keeps}
-use Rattle.lt_ledgers.proofs.Own.{HasDesk, grant_keeps, unlock_keeps, drop_keeps, asked_keeps, route_ask_keeps, local_service_keeps, stays_keeps, desk_with}
+use Rattle.lt_ledgers.proofs.OwnSteps.{HasDesk, grant_keeps, unlock_keeps, drop_keeps, route_ask_keeps, asked_keeps, local_service_keeps, stays_keeps, desk_with}
 use Rattle.lt_ledgers.proofs.Tells.{tell_keeps, no_tell_keeps}
 
 -- the ledgers with the desk where it is; node q keeps this desk, or none
@@ -64,14 +64,7 @@ kept_here script moment w s q desk l = (
 -- the desk stays where it is
 pub desk_stays : (script : ScriptData) (w : World) (q s : ℕ) (m : Made) (place : Option ℕ) (desk : Desk) → m.state.desk ≡ (state_at w s q).desk → DeskIs script w s place desk
     → DeskIs script (after_effect w q s m) s place desk
-desk_stays script w q s m (Some p) desk same h = (
-  h.0,
-  elim (cases_eq p q) [
-    | inl e ↦ ap (λ (y : ℕ). (state_at (after_effect w q s m) s y).desk) e ∙ ap (λ (t : SetState). t.desk) (state_here w q s m) ∙ same
-        ∙ ap (λ (y : ℕ). (state_at w s y).desk) (sym e) ∙ h.1
-    | inr d ↦ ap (λ (t : SetState). t.desk) (state_there w q s m p d) ∙ h.1
-  ],
-)
+desk_stays script w q s m (Some p) desk same h = (h.0, part_stays (λ (t : SetState). t.desk) w q s m same p ∙ h.1)
 desk_stays script w q s m None desk same h = (h.0, h.1, comes_still script w q s m h.0 (TokenBody desk) h.2)
 
 -- an effect that leaves the desk

@@ -1,5 +1,5 @@
 -- A tell that is parked or sent on, and a tell that is made.
-use Rattle.std.proofs.Common.{◌≡◌, ◌≢◌, ℕ, ◌<◌, inl, inr, [], ◌∷◌, ◌++◌, Option, Some, None, Bool, true, false, refl, sym, ap, subst, arith, ◌∙◌}
+use Rattle.std.proofs.Common.{◌≡◌, ◌≢◌, ℕ, ◌<◌, inl, inr, [], ◌∷◌, ◌++◌, Option, None, Bool, true, false, refl, sym, ap, subst, arith, ◌∙◌}
 use Rattle.std.specs.Prelude.{◌==◌, ◌⊎◌, if◌then◌else◌, Contains}
 use Rattle.std.specs.List.{AllByRecursion, filter_map, cons_option}
 use Rattle.std.proofs.lemmas.Bool.{cases_eq, eq-eqb, ne_eqb}
@@ -17,19 +17,21 @@ use Rattle.lt_modes.specs.Telling.{tell_of, make_tell}
 use Rattle.lt_runs.specs.World.{World}
 use Rattle.lt_runs.specs.Facts.{state_at}
 use Rattle.lt_model.specs.Moments.{Between, Acting, is_at, is_moving}
-use Rattle.lt_model.specs.OnWay.{Comes, tell_if, tell_in, tell_parked, copy_in, freeze_in, tells_of, copies_to, account_of, news_of}
+use Rattle.lt_model.specs.OnWay.{Comes, tell_in, tell_parked, copy_in, freeze_in, tells_of, copies_to, account_of, news_of}
 use Rattle.lt_accounts.specs.AccountSteps.{IsGain}
 use Rattle.lt_accounts.specs.AccountPlay.{AllKept, Say, Rest}
 use Rattle.lt_accounts.specs.News.{NewsKept}
 use Rattle.lt_model.specs.Invariant.{DeskKept}
 use Rattle.lt_modes.proofs.ModeAlgebra.{same_modes-true}
-use Rattle.lt_model.proofs.Gathered.{tells_are_on_way}
+use Rattle.lt_model.proofs.Gathered.{tells_are_on_way, tell_if-other}
 use Rattle.lt_lists.proofs.Members.{contains_cases}
-use Rattle.lt_ledgers.specs.Ledger.{after_effect}
-use Rattle.lt_ledgers.proofs.Step.{SaysNone, says_none, state_here, state_there, clock_stays, copies_stay, freezes_stay, account_by, comes_or_sent, comes_still, comes_sent}
-use Rattle.lt_ledgers.proofs.Played.{all_kept}
-use Rattle.lt_ledgers.proofs.Footprint.{SameHeard, SameOwn, account_seen, one_changes, quiet_tells, news_kept_by, frozen_stays, own_same}
-use Rattle.lt_ledgers.proofs.Own.{route_same}
+use Rattle.lt_model.specs.AccountRules.{account_with}
+use Rattle.lt_accounts.proofs.AllKept.{one_changes}
+use Rattle.lt_ledgers.specs.OneEffect.{after_effect}
+use Rattle.lt_ledgers.proofs.AfterEffect.{SaysNone, says_none, state_here, state_there, clock_stays, copies_stay, freezes_stay, comes_or_sent, comes_still, comes_sent}
+use Rattle.lt_ledgers.proofs.Seen.{SameHeard, SameOwn, all_kept, kept_by, account_seen, account_as, news_seen, own_as, frozen_stays}
+use Rattle.lt_ledgers.proofs.Quiet.{tells_stay}
+use Rattle.lt_ledgers.proofs.OwnSteps.{route_same}
 
 -- the tell was parked or sent to a node of the script, and nothing else was said
 pub record TellRouted (nodes s : ℕ) (tell : Tell) (t : SetState) (m : Made) : Type 0 where
@@ -41,9 +43,6 @@ pub record TellRouted (nodes s : ℕ) (tell : Tell) (t : SetState) (m : Made) : 
   pub parked_kept : (item : Parked) → Contains t.parked item → Contains m.state.parked item
   pub parked_only : (item : Parked) → Contains m.state.parked item → Contains t.parked item ⊎ (item ≡ ParkedTell tell)
   pub posts_only : (post : Post) → Contains m.posts post → post.letter.body ≡ TellBody tell
-
-tell_if-other : (x : ℕ) (tell : Tell) → tell.node ≢ x → tell_if x tell ≡ None
-tell_if-other x tell d = ap (λ (b : Bool). if b then Some tell else None) (ne_eqb tell.node x d)
 
 -- a node whose hoped link may lead to a node is no matter: tells go by the firm link
 pub tell_routed : (nodes s : ℕ) (stamp : Stamp) (marked : Bool) (tell : Tell) (t : SetState) → t.desk ≡ None → t.firm.node < nodes
@@ -147,7 +146,7 @@ pub routed_heard : (script : ScriptData) (w : World) (q s : ℕ) (m : Made) (tel
     → SameHeard script w (after_effect w q s m) s x
 routed_heard script w q s m tell x d r = record {
   clock = clock_stays w q s m x;
-  tells = quiet_tells script w q s m x (λ b. r.others x b d) (r.parked_others x d);
+  tells = tells_stay script w q s m x (λ b. r.others x b d) (r.parked_others x d);
   copies = copies_stay script w q s m x (r.copies x);
   freezes = freezes_stay script w q s m x (r.freezes x);
 }
@@ -157,15 +156,12 @@ pub tell_keeps : (script : ScriptData) (w : World) (s : ℕ) (stamp : Stamp) (pl
     → (state_at w s stamp.node).desk ≡ None → is_at place stamp.node ≡ false → stamp.clock ≡ (w.node stamp.node).clock → (state_at w s stamp.node).firm.node < script.nodes
     → DeskKept script (Acting stamp.node) w s place desk
     → DeskKept script Between (after_effect w stamp.node s (make_tell s stamp (state_at w s stamp.node))) s place desk
-tell_keeps script w s stamp place desk below away elsewhere now named h = record {
-  accounts = kept.kept;
-  clear = kept.clear;
-  news = λ x under.
-      subst NewsKept (sym (news_kept_by script Between w later s place desk x (freezes_stay script w q s m x (r.freezes x))
-      (frozen_stays w q s m x (let same = (route_same s stamp false (ParkedTell tell) u).0 in record { number = same.number; frozen = same.frozen }))
-      ∙ ap (λ (b : Bool). record (news_of script Between w s place desk x) { serving = b }) (sym elsewhere)))
-      (h.news x under);
-}
+tell_keeps script w s stamp place desk below away elsewhere now named h =
+    kept_by script Between later s place desk kept
+    (λ x under. subst NewsKept (sym (news_seen script Between w later s place desk x (freezes_stay script w q s m x (r.freezes x))
+    (frozen_stays w q s m x (let same = (route_same s stamp false (ParkedTell tell) u).0 in record { number = same.number; frozen = same.frozen }))
+    ∙ ap (λ (b : Bool). record (news_of script Between w s place desk x) { serving = b }) (sym elsewhere)))
+    (h.news x under))
   where
     q : ℕ
     q = stamp.node
@@ -208,21 +204,18 @@ tell_keeps script w s stamp place desk below away elsewhere now named h = record
         (all_kept script (Acting q) w s place desk h) below
         (record { moves = moves; away = elsewhere; now = now; made = tells_gain script w q s m tell below r })
         (λ x under d. account_seen script Between (Acting q) w later s place place desk desk x
-        (record { heard = routed_heard script w q s m tell x (λ e. d (sym e)) r; state = state_there w q s m x d }) refl refl (sym (ne_eqb x q d)))
-        ((λ i. account_by (clock_stays w q s m q i) (is_at place q) false (entry_of desk q) (state_here w q s m i) (tells_of script later s q) (copies_stay script w q s m q (r.copies q) i))
-        ∙ own_same (w.node q).clock (is_at place q) false (entry_of desk q) (tells_of script later s q) (copies_to script w s q) u m.state own)
+        (record { heard = routed_heard script w q s m tell x (λ e. d (sym e)) r; own = own_as (state_at w s x) (state_at later s x) (state_there w q s m x d) }) refl refl (sym (ne_eqb x q d)))
+        ((λ i. account_with (clock_stays w q s m q i) (is_at place q) false (entry_of desk q) (state_here w q s m i) (tells_of script later s q) (copies_stay script w q s m q (r.copies q) i))
+        ∙ account_as (w.node q).clock (is_at place q) false (entry_of desk q) (tells_of script later s q) (copies_to script w s q) u m.state own)
 
 -- or no tell is due
 pub no_tell_keeps : (script : ScriptData) (w : World) (s q : ℕ) (place : Option ℕ) (desk : Desk) → q < script.nodes → is_at place q ≡ false
     → same_modes (bars (held_modes (state_at w s q).held)) (bars (state_at w s q).charge) ≡ true
     → DeskKept script (Acting q) w s place desk → DeskKept script Between w s place desk
 no_tell_keeps script w s q place desk below elsewhere same h =
-    let kept = one_changes script.nodes (account_of script (Acting q) w s place desk) (account_of script Between w s place desk) q Rest
+    kept_by script Between w s place desk
+    (one_changes script.nodes (account_of script (Acting q) w s place desk) (account_of script Between w s place desk) q Rest
     (all_kept script (Acting q) w s place desk h) below
     (λ away. same_modes-true (bars (held_modes (state_at w s q).held)) (bars (state_at w s q).charge) same)
-    (λ x under d. ap (λ (b : Bool). record (account_of script Between w s place desk x) { moving = b }) (sym (ne_eqb x q d))) refl in
-    record {
-      accounts = kept.kept;
-      clear = kept.clear;
-      news = λ x under. subst NewsKept (ap (λ (b : Bool). record (news_of script Between w s place desk x) { serving = b }) elsewhere) (h.news x under);
-    }
+    (λ x under d. ap (λ (b : Bool). record (account_of script Between w s place desk x) { moving = b }) (sym (ne_eqb x q d))) refl)
+    (λ x under. subst NewsKept (ap (λ (b : Bool). record (news_of script Between w s place desk x) { serving = b }) elsewhere) (h.news x under))

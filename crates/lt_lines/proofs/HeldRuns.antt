@@ -11,10 +11,9 @@ use Rattle.lt_runs.specs.Holdings.{Holding, after_line, holdings, lines_of, coun
 use Rattle.lt_model.specs.Homes.{IsWhole, Homes}
 use Rattle.lt_runs.specs.Log.{Logged}
 use Rattle.lt_runs.specs.NodeMove.{NodeState, NodeMade}
-use Rattle.lt_runs.specs.World.{World, is_enabled, node_move, after, world_after}
+use Rattle.lt_runs.specs.World.{World, is_enabled, node_move, after, world_after, IsRun}
 use Rattle.lt_lists.proofs.Puts.{put-same, put-other}
 use Rattle.lt_model.proofs.NodeMoves.{after_node}
-use Rattle.lt_runs.specs.World.{IsRun}
 use Rattle.lt_lines.proofs.AlongRuns.{along_runs}
 use Rattle.lt_lines.proofs.HeldMoves.{NodeFollows, held_at, step_follows}
 use Rattle.lt_lines.proofs.LineCounts.{count_after, lines_count}

@@ -1,13 +1,13 @@
 -- What the lines of each run tell: what is held, that it is lawful, and who waits.
 use Rattle.std.proofs.Common.{◌≡◌, ◌≢◌, ℕ, zero, suc, ◌<◌, ◌≤◌, inl, inr, List, [], ◌∷◌, length, Option, Some, None, Bool, true, false, refl, sym, ap, subst, arith, take, ◌∙◌}
-use Rattle.std.specs.Prelude.{◌⊎◌, ◌==◌, ◌||◌, not, if◌then◌else◌, Contains, slice_index_or}
+use Rattle.std.specs.Prelude.{◌⊎◌, ◌==◌, ◌||◌, not, if◌then◌else◌, Contains, slice_index_or, AllPairs}
 use Rattle.std.proofs.lemmas.Bool.{cases_lt, eq-eqb, eqb-true, false≢true, and_parts}
 use Rattle.std.proofs.lemmas.List.Elements.{All-contains}
 use Rattle.std.proofs.lemmas.List.Sums.{sum_by-cons, get_or-le-sum_by}
 use Rattle.lt_modes.specs.declared.mode.Mode.{Mode}
 use Rattle.lt_modes.specs.declared.parts.Row.{Row}
 use Rattle.lt_modes.specs.Modes.{conflicts, same_mode}
-use Rattle.lt_modes.specs.Held.{is_row_of}
+use Rattle.lt_modes.specs.Held.{is_row_of, no_row, row_place, count_at, count_of as count_in}
 use Rattle.lt_modes.specs.SetMove.{lock}
 use Rattle.lt_runs.specs.Families.{home}
 use Rattle.lt_runs.specs.Holdings.{Holding, holding, same_holding, holdings, lines_of, agree, count_of}
@@ -15,15 +15,13 @@ use Rattle.lt_model.specs.Homes.{Homes, IsRowAtHome}
 use Rattle.lt_runs.specs.World.{World, world_after}
 use Rattle.lt_accounts.proofs.Asks.{same_mode-true}
 use Rattle.lt_model.proofs.HomesMove.{homes_in_runs}
-use Rattle.lt_ledgers.proofs.Runs.{locks_never_conflict}
+use Rattle.lt_ledgers.proofs.LedgersInRuns.{locks_never_conflict}
 use Rattle.lt_accounts.proofs.RowTotals.{row_count, total}
 use Rattle.lt_lines.proofs.LineCounts.{same_holding-itself}
-use Rattle.std.specs.Prelude.{AllPairs}
-use Rattle.lt_modes.specs.Held.{no_row, row_place, count_at, count_of as count_in}
 use Rattle.std.proofs.lemmas.List.Quantifiers.{position-Some}
 use Rattle.lt_lists.proofs.Sums.{none_found, sum_by-zero}
 use Rattle.lt_runs.specs.Facts.{state_at}
-use Rattle.lt_kept.proofs.KeptMoves.{kept_in_runs}
+use Rattle.lt_kept.proofs.KeptRuns.{kept_in_runs}
 use Rattle.lt_lines.proofs.HeldRuns.{LinesHold, held_in_runs}
 use Rattle.lt_lines.proofs.WaitRuns.{WaitsTold, waits_in_runs}
 use Rattle.lt_lines.proofs.OpenWaits.{open_wait}
@@ -76,7 +74,7 @@ holdings_are_lawful script run whole is_run k i j d before within = agreed (slic
               let at_b = row_of ((w.node (home script b.client)).set b.set).held b.client b.mode (omega (arith, hb, hold.own b (omega (arith, below, sets)))) in
               let row_a = All-contains (IsRowAtHome script (home script a.client)) ((w.node (home script a.client)).set a.set).held at_a.0 (homes.states (home script a.client) a.set).rows at_a.1 in
               let row_b = All-contains (IsRowAtHome script (home script b.client)) ((w.node (home script b.client)).set b.set).held at_b.0 (homes.states (home script b.client) b.set).rows at_b.1 in
-              let no_conflict = locks_never_conflict script run whole is_run k a.set (home script a.client) (home script b.client) at_a.0 at_b.0 below
+              let no_conflict = locks_never_conflict script run whole is_run k a.set below (home script a.client) (home script b.client) at_a.0 at_b.0
               (subst (λ (x : ℕ). x < script.nodes) row_a.home (whole.homes at_a.0.client row_a.client)) (subst (λ (x : ℕ). x < script.nodes) row_b.home (whole.homes at_b.0.client row_b.client))
               at_a.1 (subst (λ (s : ℕ). Contains ((w.node (home script b.client)).set s).held at_b.0) (sym sets) at_b.1)
               (inr (λ e. false≢true (sym differ ∙ eq-eqb a.client b.client (sym at_a.2 ∙ e ∙ at_b.2)))) in

@@ -23,3 +23,8 @@ gathered-at (suc n) f k x below h = elim (cases_eq k n) [
 pub gather_none : {X : Type 0} (n : ℕ) (f : ℕ → List X) → ((k : ℕ) → f k ≡ []) → gather_below n f ≡ []
 gather_none zero f none = refl
 gather_none (suc n) f none = ap (λ xs. xs ++ f n) (gather_none n f none) ∙ none n
+
+-- the same is gathered from the same lists
+pub gather_same : {X : Type 0} (n : ℕ) (f g : ℕ → List X) → ((k : ℕ) → f k ≡ g k) → gather_below n f ≡ gather_below n g
+gather_same zero f g same = refl
+gather_same (suc n) f g same = ap (λ l. l ++ f n) (gather_same n f g same) ∙ ap (λ l. gather_below n g ++ l) (same n)

@@ -1,5 +1,5 @@
 -- A set of which nothing changes but that clocks go on: it stays kept, and a node whose clock went on may be in its move.
-use Rattle.std.proofs.Common.{◌≡◌, ℕ, zero, suc, ◌<◌, ◌≤◌, inl, inr, List, [], ◌∷◌, ◌++◌, length, Option, Some, None, Bool, true, false, refl, sym, ap, subst, arith, ◌∙◌}
+use Rattle.std.proofs.Common.{◌≡◌, ℕ, ◌<◌, ◌≤◌, inl, inr, List, [], ◌∷◌, length, Option, Some, None, Bool, true, false, refl, sym, ap, subst, arith, ◌∙◌}
 use Rattle.std.specs.Prelude.{◌==◌, if◌then◌else◌, is_some, All, Contains}
 use Rattle.std.specs.List.{filter_map, cons_option}
 use Rattle.std.proofs.lemmas.Bool.{eq-eqb, eqb-true}
@@ -8,13 +8,12 @@ use Rattle.lt_modes.specs.declared.ask.Ask.{Ask}
 use Rattle.lt_modes.specs.Modes.{Modes, bars}
 use Rattle.lt_modes.specs.Held.{held_modes}
 use Rattle.lt_modes.specs.Script.{ScriptData}
-use Rattle.lt_modes.specs.State.{SetState, Desk, Entry, Tell, Body, Letter, Parked, ParkedAsk, ParkedTell}
-use Rattle.lt_modes.specs.Records.{entry_of, record_of}
-use Rattle.lt_modes.specs.Freezing.{frozen_by}
+use Rattle.lt_modes.specs.State.{SetState, Desk, Tell, Body, Letter, Parked, ParkedAsk, ParkedTell}
+use Rattle.lt_modes.specs.Records.{entry_of}
 use Rattle.lt_modes.specs.Serving.{next_service, next_move}
 use Rattle.lt_modes.specs.Fits.{Numbers}
 use Rattle.lt_modes.specs.Sound.{IsNoLater, ChargeKept, SoundDesk, SoundSet}
-use Rattle.lt_lists.specs.Below.{gather_below, one_if}
+use Rattle.lt_lists.specs.Below.{one_if}
 use Rattle.lt_runs.specs.World.{World, after}
 use Rattle.lt_runs.specs.Facts.{state_at, tokens_in, places_in_state, places_in_body}
 use Rattle.lt_modes.specs.Queue.{times_in}
@@ -29,6 +28,10 @@ use Rattle.lt_model.specs.Invariant.{PlacesKept, IsParkedFor, DeskKept, SetKept}
 use Rattle.lt_model.specs.MomentLaws.{begun, MoveBegins, AsideStays}
 use Rattle.lt_lists.proofs.Sums.{sum_below-same}
 use Rattle.lt_lists.proofs.Members.{contains_filter, contains_filtered}
+use Rattle.lt_lists.proofs.Gathering.{gather_same}
+use Rattle.lt_model.specs.AccountRules.{account_with}
+use Rattle.lt_model.specs.NewsRules.{news_with}
+use Rattle.lt_model.proofs.Gathered.{tells_alike}
 use Rattle.lt_model.proofs.OthersStay.{same_set, others_stay}
 use Rattle.lt_model.proofs.TokenComes.{desk_somewhere}
 use Rattle.lt_model.proofs.ClocksGrow.{clocks_grow}
@@ -78,20 +81,9 @@ read_same : {X : Type 0} (s : ℕ) (read : Body → Option X) (letters others : 
 read_same s read letters others same =
     read_of_set s read letters ∙ ap (filter_map (λ (letter : Letter). read letter.body)) same ∙ sym (read_of_set s read others)
 
-gather_same : {X : Type 0} (n : ℕ) (f g : ℕ → List X) → ((k : ℕ) → f k ≡ g k) → gather_below n f ≡ gather_below n g
-gather_same zero f g same = refl
-gather_same (suc n) f g same = ap (λ l. l ++ f n) (gather_same n f g same) ∙ ap (λ l. gather_below n g ++ l) (same n)
-
 pub tells_same : (script : ScriptData) (w later : World) (s x : ℕ) → SameSet script w later s → tells_of script later s x ≡ tells_of script w s x
-tells_same script w later s x same =
-    ap (λ (l : List Tell). l ++ gather_below script.nodes (λ q. filter_map (tell_parked x) (state_at later s q).parked))
-    (gather_same script.nodes (λ p. gather_below script.nodes (λ q. filter_map (in_set s (tell_in x)) (later.mail p q)))
-    (λ p. gather_below script.nodes (λ q. filter_map (in_set s (tell_in x)) (w.mail p q)))
-    (λ p. gather_same script.nodes (λ q. filter_map (in_set s (tell_in x)) (later.mail p q)) (λ q. filter_map (in_set s (tell_in x)) (w.mail p q))
-    (λ q. read_same s (tell_in x) (later.mail p q) (w.mail p q) (same.letters p q))))
-    ∙ ap (λ (l : List Tell). gather_below script.nodes (λ p. gather_below script.nodes (λ q. filter_map (in_set s (tell_in x)) (w.mail p q))) ++ l)
-    (gather_same script.nodes (λ q. filter_map (tell_parked x) (state_at later s q).parked) (λ q. filter_map (tell_parked x) (state_at w s q).parked)
-    (λ q. ap (λ (t : SetState). filter_map (tell_parked x) t.parked) (same.states q)))
+tells_same script w later s x same = tells_alike script w later s x (λ p q. read_same s (tell_in x) (later.mail p q) (w.mail p q) (same.letters p q))
+    (λ q. ap (λ (t : SetState). filter_map (tell_parked x) t.parked) (same.states q))
 
 pub copies_same : (script : ScriptData) (w later : World) (s x : ℕ) → SameSet script w later s → copies_to script later s x ≡ copies_to script w s x
 copies_same script w later s x same = gather_same script.nodes (λ p. filter_map (in_set s copy_in) (later.mail p x)) (λ p. filter_map (in_set s copy_in) (w.mail p x))
@@ -101,25 +93,11 @@ pub freezes_same : (script : ScriptData) (w later : World) (s x : ℕ) → SameS
 freezes_same script w later s x same = gather_same script.nodes (λ p. filter_map (in_set s freeze_in) (later.mail p x)) (λ p. filter_map (in_set s freeze_in) (w.mail p x))
     (λ p. read_same s freeze_in (later.mail p x) (w.mail p x) (same.letters p x))
 
--- an account and news by what is read for them
-abbrev account_by : ℕ → Bool → Bool → Entry → SetState → List Tell → List Ask → Account
-account_by clock here moving entry t tells copies = record {
-  clock = clock;
-  held = t.held;
-  charge = t.charge;
-  pending = t.pending;
-  entry = entry;
-  tells = tells;
-  copies = copies;
-  here = here;
-  moving = moving;
-}
-
 pub account_same : (script : ScriptData) (moment : Moment) (w later : World) (s : ℕ) (place : Option ℕ) (desk : Desk) (x : ℕ) → SameSet script w later s
     → account_of script moment later s place desk x ≡ record (account_of script Between w s place desk x) { clock = (later.node x).clock; moving = is_moving moment x }
 account_same script moment w later s place desk x same =
     let clock = (later.node x).clock in
-    let make = account_by clock (is_at place x) (is_moving moment x) (entry_of desk x) in
+    let make = account_with clock (is_at place x) (is_moving moment x) (entry_of desk x) in
     ap (λ (t : SetState). make t (tells_of script later s x) (copies_to script later s x)) (same.states x)
     ∙ ap (λ (l : List Tell). make (state_at w s x) l (copies_to script later s x)) (tells_same script w later s x same)
     ∙ ap (λ (l : List Ask). make (state_at w s x) (tells_of script w s x) l) (copies_same script w later s x same)
@@ -129,24 +107,11 @@ account_goes a true clock h between goes = (ticks_kept a clock h (record { betwe
 account_goes a false clock h between goes =
     subst (λ (m : Bool). AccountKept (record a { clock = clock; moving = m })) between (ages_kept a clock h between goes)
 
-abbrev news_by : SetState → List Notice → Entry → Desk → Bool → Bool → News
-news_by t coming entry desk here serving = record {
-  number = t.number;
-  frozen = t.frozen;
-  coming = coming;
-  recorded = record_of entry;
-  told = entry.frozen_told;
-  last = desk.number;
-  wanted = frozen_by desk.queue;
-  here = here;
-  serving = serving;
-}
-
 pub news_same : (script : ScriptData) (moment : Moment) (w later : World) (s : ℕ) (place : Option ℕ) (desk : Desk) (x : ℕ) → SameSet script w later s
     → news_of script moment later s place desk x ≡ record (news_of script Between w s place desk x) { serving = is_serving moment place }
 news_same script moment w later s place desk x same =
-    ap (λ (t : SetState). news_by t (freezes_to script later s x) (entry_of desk x) desk (is_at place x) (is_serving moment place)) (same.states x)
-    ∙ ap (λ (l : List Notice). news_by (state_at w s x) l (entry_of desk x) desk (is_at place x) (is_serving moment place)) (freezes_same script w later s x same)
+    ap (λ (t : SetState). news_with t (freezes_to script later s x) (entry_of desk x) desk (is_at place x) (is_serving moment place)) (same.states x)
+    ∙ ap (λ (l : List Notice). news_with (state_at w s x) l (entry_of desk x) desk (is_at place x) (is_serving moment place)) (freezes_same script w later s x same)
 
 pub news_goes : (n : News) (serving : Bool) → NewsKept n → n.serving ≡ false → NewsKept (record n { serving = serving })
 news_goes n true h between = begins_kept n h
@@ -219,6 +184,22 @@ places_same script w later s same h = record {
   home = λ x ask below comes. h.home x ask below (comes_same script w later s x _ same.letters comes);
 }
 
+-- accounts and news of a set of which nothing changes but that clocks go on
+pub ledger_goes : (script : ScriptData) (moment : Moment) (w later : World) (s : ℕ) (place : Option ℕ) (desk : Desk) → SameSet script w later s
+    → ((x : ℕ) → Goes (is_moving moment x) (w.node x).clock (later.node x).clock) → DeskKept script Between w s place desk → DeskKept script moment later s place desk
+ledger_goes script moment w later s place desk same goes k = record {
+  accounts = λ x below.
+      subst AccountKept (sym (account_same script moment w later s place desk x same))
+      (account_goes (account_of script Between w s place desk x) (is_moving moment x) (later.node x).clock (k.accounts x below) refl (goes x));
+  clear = λ x y hx hy d.
+      subst (λ (m : Modes). AreClear m (counted (account_of script moment later s place desk y))) (sym (ap counted (account_same script moment w later s place desk x same)))
+      (subst (λ (m : Modes). AreClear (counted (account_of script Between w s place desk x)) m) (sym (ap counted (account_same script moment w later s place desk y same)))
+      (k.clear x y hx hy d));
+  news = λ x below.
+      subst NewsKept (sym (news_same script moment w later s place desk x same))
+      (news_goes (news_of script Between w s place desk x) (is_serving moment place) (k.news x below) refl);
+}
+
 -- the set stays kept, between moves or at the beginning of one
 stays_kept : (script : ScriptData) (moment : Moment) (w later : World) (s : ℕ) → SameSet script w later s
     → ((x : ℕ) → Goes (is_moving moment x) (w.node x).clock (later.node x).clock) → SetKept script Between w s → SetKept script moment later s
@@ -240,29 +221,30 @@ stays_kept script moment w later s same goes h = record {
   parked = λ x below.
       subst (λ (t : SetState). All (IsParkedFor script later s x) t.parked) (sym (same.states x))
       (All-weaker (IsParkedFor script w s x) (IsParkedFor script later s x) (λ item. parked_same script w later s x item same) (state_at w s x).parked (h.parked x below));
-  known = λ place desk is_desk. known place desk (h.known place desk (desk_same script w later s place desk same is_desk));
+  known = λ place desk is_desk. ledger_goes script moment w later s place desk same goes (h.known place desk (desk_same script w later s place desk same is_desk));
   served = λ t desk idle is_desk.
       subst (λ (u : SetState). (next_service t u ≡ None) × (next_move t u ≡ None)) (sym (same.states t))
       (h.served t desk refl (desk_same script w later s (Some t) desk same is_desk));
 }
+
+-- a move that has begun has changed one clock
+pub begun_state : (w : World) (q clock s x : ℕ) → state_at (begun w q clock) s x ≡ state_at w s x
+begun_state w q clock s x = by_node (x == q) refl
   where
-    known : (place : Option ℕ) (desk : Desk) → DeskKept script Between w s place desk → DeskKept script moment later s place desk
-    known place desk k = record {
-      accounts = λ x below.
-          subst AccountKept (sym (account_same script moment w later s place desk x same))
-          (account_goes (account_of script Between w s place desk x) (is_moving moment x) (later.node x).clock (k.accounts x below) refl (goes x));
-      clear = λ x y hx hy d.
-          subst (λ (m : Modes). AreClear m (counted (account_of script moment later s place desk y))) (sym (ap counted (account_same script moment w later s place desk x same)))
-          (subst (λ (m : Modes). AreClear (counted (account_of script Between w s place desk x)) m) (sym (ap counted (account_same script moment w later s place desk y same)))
-          (k.clear x y hx hy d));
-      news = λ x below.
-          subst NewsKept (sym (news_same script moment w later s place desk x same))
-          (news_goes (news_of script Between w s place desk x) (is_serving moment place) (k.news x below) refl);
-    }
+    by_node : (own : Bool) → (x == q) ≡ own → (if own then record (w.node q) { clock = clock } else w.node x).set s ≡ state_at w s x
+    by_node true e = ap (λ (y : ℕ). state_at w s y) (sym (eqb-true x q e))
+    by_node false e = refl
+
+pub begun_goes : (w : World) (q clock x : ℕ) → (w.node q).clock < clock → Goes (x == q) (w.node x).clock ((begun w q clock).node x).clock
+begun_goes w q clock x later = by_node (x == q) refl
+  where
+    by_node : (own : Bool) → (x == q) ≡ own → Goes own (w.node x).clock (if own then record (w.node q) { clock = clock } else w.node x).clock
+    by_node true e = subst (λ (y : ℕ). (w.node y).clock < clock) (sym (eqb-true x q e)) later
+    by_node false e = omega arith
 
 pub move_begins : MoveBegins
 move_begins script w s q clock h below later = (
-  stays_kept script (Acting q) w (begun w q clock) s (same_set script w (begun w q clock) s states (λ a b. refl) refl) goes h,
+  stays_kept script (Acting q) w (begun w q clock) s (same_set script w (begun w q clock) s (begun_state w q clock s) (λ a b. refl) refl) (λ x. begun_goes w q clock x later) h,
   record {
     asks = λ ask found. omega (arith, later, asked_by (desk_somewhere script w s h.paths) ask found);
     charge = λ away. charge_of (state_at w s q).desk away (h.states q below).desk;
@@ -276,20 +258,6 @@ move_begins script w s q clock h below later = (
         → bars (held_modes (state_at w s q).held) ≡ bars (state_at w s q).charge
     charge_of None e sound = sound
     charge_of (Some desk) e sound = cc
-
-    states : (x : ℕ) → state_at (begun w q clock) s x ≡ state_at w s x
-    states x = by_node (x == q) refl
-      where
-        by_node : (own : Bool) → (x == q) ≡ own → (if own then record (w.node q) { clock = clock } else w.node x).set s ≡ state_at w s x
-        by_node true e = ap (λ (y : ℕ). state_at w s y) (sym (eqb-true x q e))
-        by_node false e = refl
-
-    goes : (x : ℕ) → Goes (x == q) (w.node x).clock ((begun w q clock).node x).clock
-    goes x = by_node (x == q) refl
-      where
-        by_node : (own : Bool) → (x == q) ≡ own → Goes own (w.node x).clock (if own then record (w.node q) { clock = clock } else w.node x).clock
-        by_node true e = subst (λ (y : ℕ). (w.node y).clock < clock) (sym (eqb-true x q e)) later
-        by_node false e = omega arith
 
 pub aside_stays : AsideStays
 aside_stays script w s q step h enabled aside =

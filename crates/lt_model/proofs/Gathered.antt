@@ -1,7 +1,7 @@
 -- What is gathered from lists is what they have.
-use Rattle.lt_lists.proofs.Gathering.{gathered-which, gathered-at}
+use Rattle.lt_lists.proofs.Gathering.{gathered-which, gathered-at, gather_same}
 use Rattle.lt_lists.proofs.Members.{some_equal, filter_map-which, filter_map-at}
-use Rattle.std.proofs.Common.{◌≡◌, ◌≢◌, ℕ, inl, inr, List, Option, Some, None, Bool, refl, sym, ap, subst, ◌∙◌}
+use Rattle.std.proofs.Common.{◌≡◌, ◌≢◌, ℕ, inl, inr, List, ◌++◌, Option, Some, None, Bool, refl, sym, ap, subst, ◌∙◌}
 use Rattle.std.specs.Prelude.{◌⊎◌, Contains, if◌then◌else◌}
 use Rattle.std.specs.List.{filter_map}
 use Rattle.std.proofs.lemmas.Bool.{eq-eqb, ne_eqb, cases_eq}
@@ -83,6 +83,9 @@ tell_if-which x made tell e = by_node (cases_eq made.node x)
 pub tell_if-at : (x : ℕ) (tell : Tell) → tell.node ≡ x → tell_if x tell ≡ Some tell
 tell_if-at x tell same = ap (λ (b : Bool). if b then Some tell else None) (eq-eqb tell.node x same)
 
+pub tell_if-other : (x : ℕ) (tell : Tell) → tell.node ≢ x → tell_if x tell ≡ None
+tell_if-other x tell other = ap (λ (b : Bool). if b then Some tell else None) (ne_eqb tell.node x other)
+
 tell_body : (x : ℕ) (tell : Tell) (b : Body) → tell_in x b ≡ Some tell → (b ≡ TellBody tell) × (tell.node ≡ x)
 tell_body x tell (TellBody made) e = let found = tell_if-which x made tell e in (ap TellBody found.0, found.1)
 tell_body x tell (CopyBody other) e = cc
@@ -130,3 +133,15 @@ tells_are_on_way script w s x tell = (found, gathered)
           (gathered-at script.nodes (λ q. filter_map (tell_parked x) (state_at w s q).parked) h.1 tell h.2
           (filter_map-at (tell_parked x) (state_at w s h.1).parked (ParkedTell tell) tell parked (tell_if-at x tell h.0)))
     ]
+
+-- worlds whose letters and parked letters read the same have the same tells
+pub tells_alike : (script : ScriptData) (w later : World) (s x : ℕ)
+    → ((p q : ℕ) → filter_map (in_set s (tell_in x)) (later.mail p q) ≡ filter_map (in_set s (tell_in x)) (w.mail p q))
+    → ((q : ℕ) → filter_map (tell_parked x) (state_at later s q).parked ≡ filter_map (tell_parked x) (state_at w s q).parked)
+    → tells_of script later s x ≡ tells_of script w s x
+tells_alike script w later s x letters parked =
+    ap (λ (l : List Tell). l ++ gather_below script.nodes (λ q. filter_map (tell_parked x) (state_at later s q).parked))
+    (gather_same script.nodes _ _ (λ p. gather_same script.nodes (λ q. filter_map (in_set s (tell_in x)) (later.mail p q))
+    (λ q. filter_map (in_set s (tell_in x)) (w.mail p q)) (letters p)))
+    ∙ ap (λ (l : List Tell). gather_below script.nodes (λ p. gather_below script.nodes (λ q. filter_map (in_set s (tell_in x)) (w.mail p q))) ++ l)
+    (gather_same script.nodes (λ q. filter_map (tell_parked x) (state_at later s q).parked) (λ q. filter_map (tell_parked x) (state_at w s q).parked) parked)

@@ -29,9 +29,10 @@ use Rattle.lt_accounts.specs.AccountPlay.{others_counted}
 use Rattle.lt_model.specs.NewsRules.{frozen_desk}
 use Rattle.lt_accounts.specs.AccountSteps.{MayGrant, granting, unlocking, dropping, asking, answering, delivering, tell_by, telling, settling, arriving, MayRest}
 
--- the account of a node that keeps this for the set
-abbrev pub own_account : Bool → ℕ → Entry → List Tell → List Ask → SetState → Account
-own_account moving clock entry tells copies s = record {
+-- the account of a node with this clock that keeps this for the set, with the desk here or not, in its move or not,
+-- and with this entry in the desk
+abbrev pub account_with : ℕ → Bool → Bool → Entry → SetState → List Tell → List Ask → Account
+account_with clock here moving entry s tells copies = record {
   clock = clock;
   held = s.held;
   charge = s.charge;
@@ -39,9 +40,13 @@ own_account moving clock entry tells copies s = record {
   entry = entry;
   tells = tells;
   copies = copies;
-  here = is_some s.desk;
+  here = here;
   moving = moving;
 }
+
+-- the same, where the desk is here if the node keeps one
+abbrev pub own_account : Bool → ℕ → Entry → List Tell → List Ask → SetState → Account
+own_account moving clock entry tells copies s = account_with clock (is_some s.desk) moving entry s tells copies
 
 -- where the node can grant the mode, a grant may happen, as long as the charge bars what is held;
 -- at the desk, against what counts of all other nodes there

@@ -1,48 +1,31 @@
 -- At rest the first waiter of a set conflicts with a lock of another client.
-use Rattle.std.proofs.Common.{◌≡◌, ◌≢◌, ℕ, zero, suc, ◌+◌, ◌<◌, ◌≤◌, inl, inr, List, [], ◌∷◌, length, Option, Some, None, Bool, true, false, refl, sym, ap, subst, arith, take, ◌∙◌}
-use Rattle.std.specs.Prelude.{◌⊎◌, ◌||◌, ◌&&◌, ◌==◌, not, if◌then◌else◌, Contains, is_some, IsTrue, IsFalse, nat_lt, sum_by, slice_index}
-use Rattle.std.proofs.lemmas.Bool.{cases_eq, ne_eqb, eqb-true, and_parts, and_from, lt-ltb, ltb-true, false≢true, or_cases}
+use Rattle.std.proofs.Common.{◌≡◌, ℕ, ◌+◌, inl, inr, List, ◌∷◌, length, Option, Some, None, Bool, true, false, refl, sym, ap, subst, arith, ◌∙◌}
+use Rattle.std.specs.Prelude.{◌||◌, ◌&&◌, ◌==◌, not, if◌then◌else◌, Contains, IsTrue, nat_lt, slice_index}
+use Rattle.std.proofs.lemmas.Bool.{eqb-true, and_parts}
 use Rattle.std.proofs.lemmas.List.Elements.{All-contains, Contains-append_right}
-use Rattle.std.proofs.lemmas.List.Sums.{sum_by-cons}
 use Rattle.lt_modes.specs.declared.mode.Mode.{Mode}
-use Rattle.lt_modes.specs.declared.stamp.Stamp.{Stamp}
 use Rattle.lt_modes.specs.declared.ask.Ask.{Ask}
-use Rattle.lt_modes.specs.declared.parts.Row.{Row}
-use Rattle.lt_modes.specs.Modes.{Modes, conflicts, has, has_none, no_modes, union, bars, with_mode}
-use Rattle.lt_modes.specs.Script.{ScriptData}
-use Rattle.lt_modes.specs.State.{SetState, Desk, Tell, Body, TellBody, CopyBody, TokenBody, FreezeBody, Letter, Parked, ParkedAsk, ParkedTell}
-use Rattle.lt_modes.specs.Held.{other_modes, held_modes}
-use Rattle.lt_modes.specs.Queue.{modes_of_asks, same_ask, times_in}
-use Rattle.lt_modes.specs.Tells.{is_newer}
-use Rattle.lt_modes.specs.Records.{entry_of, record_of, own_owed, others}
+use Rattle.lt_modes.specs.Modes.{Modes, conflicts, has, no_modes, union, bars, with_mode}
+use Rattle.lt_modes.specs.State.{SetState, Desk, CopyBody}
+use Rattle.lt_modes.specs.Held.{other_modes}
+use Rattle.lt_modes.specs.Records.{own_owed, others}
 use Rattle.lt_modes.specs.Serving.{queue_of, queue_of_desk, is_free, is_local, is_copy, is_served, may_draw, is_clear_at_home, next_service, next_move, next_at, next_from, move_at, move_from}
-use Rattle.lt_modes.specs.Freezing.{frozen_by}
-use Rattle.lt_lists.specs.Below.{any_below, sum_below, one_if}
-use Rattle.lt_runs.specs.Families.{home as home_at}
-use Rattle.lt_runs.specs.World.{World, has_mail, is_some_letter, is_runnable, is_at_rest, world_after}
-use Rattle.lt_runs.specs.Facts.{state_at, times_parked, places_in_state, places_in_body, StandsBehind, IsLedToQueue}
-use Rattle.lt_model.specs.Moments.{Between, is_at}
-use Rattle.lt_model.specs.OnWay.{Comes, DeskIs, tells_of, freezes_to, account_of, news_of}
-use Rattle.lt_accounts.specs.Account.{Account, AccountKept, Bars, IsBelow, counted, own_of, owed_and_waiting}
-use Rattle.lt_model.specs.Paths.{Paths, HasWay}
+use Rattle.lt_runs.specs.Facts.{state_at}
+use Rattle.lt_model.specs.Moments.{Between}
+use Rattle.lt_model.specs.OnWay.{DeskIs, account_of}
+use Rattle.lt_accounts.specs.Account.{Bars}
+use Rattle.lt_model.specs.Paths.{HasWay}
 use Rattle.lt_model.specs.SoundNode.{numbers_of}
 use Rattle.lt_modes.specs.Fits.{parked_asks, asks_here}
 use Rattle.lt_modes.specs.Sound.{SoundRow, SoundHere}
-use Rattle.lt_model.specs.Standing.{IsMadeBy}
-use Rattle.lt_model.specs.Invariant.{DeskKept, IsParkedFor, SetKept}
-use Rattle.lt_modes.proofs.ModeAlgebra.{conflicts-sym, each_barred, union_bars_both, bars_by_table, every_mode-at}
-use Rattle.lt_accounts.proofs.AccountFacts.{asks_bar-which, waiting_is_copy, below_by_bars, held_below_record}
+use Rattle.lt_model.specs.Invariant.{DeskKept}
+use Rattle.lt_modes.proofs.ModeAlgebra.{union_bars_both, bars_by_table}
+use Rattle.lt_accounts.proofs.AccountFacts.{waiting_is_copy}
 use Rattle.lt_accounts.proofs.AccountPlay.{others-which}
 use Rattle.lt_model.proofs.AccountRules.{rules_count}
-use Rattle.lt_accounts.proofs.NewsLemmas.{frozen_at_rest}
-use Rattle.lt_model.proofs.Gathered.{tells_are_on_way, copies_are_on_way, freezes_are_on_way}
-use Rattle.lt_accounts.proofs.Rows.{held-which, held-at, other-which}
+use Rattle.lt_model.proofs.Gathered.{copies_are_on_way}
+use Rattle.lt_accounts.proofs.Rows.{held-which, other-which}
 use Rattle.lt_accounts.proofs.ModeMembers.{none_has}
-use Rattle.lt_model.proofs.TokenComes.{desk_somewhere}
-use Rattle.lt_model.proofs.StandingInRuns.{one_place_of}
-use Rattle.lt_lists.proofs.Sums.{sum_below-some, sum_below-none}
-use Rattle.lt_accounts.proofs.Asks.{times_in-found, same_ask-true}
-
 use Rattle.lt_rest.proofs.QuietRest.{no_letters, counts_held}
 use Rattle.lt_rest.specs.RestLaws.{IsBarred, FirstWaiterConflicts}
 
@@ -64,20 +47,24 @@ second_false true b e f = f
 second_false false b e f = cc
 
 -- the tests of the ask at place 0
-first_none : (me : ℕ) (t : SetState) (desk : Desk) (ask : Ask) (rest : List Ask) → next_from me t desk no_modes 0 (ask ∷ rest) ≡ None → move_from me t desk no_modes 0 (ask ∷ rest) ≡ None
+first_none : (me : ℕ) (t : SetState) (desk : Desk) (ask : Ask) (rest : List Ask) → next_from me t desk no_modes 0 (ask ∷ rest) ≡ None
+    → move_from me t desk no_modes 0 (ask ∷ rest) ≡ None
     → (is_served me t desk no_modes ask ≡ false) × (may_draw me t desk no_modes 0 ask ≡ false)
 first_none me t desk ask rest service draw = (by_service (is_served me t desk no_modes ask) refl service, by_draw (may_draw me t desk no_modes 0 ask) refl draw)
   where
-    by_service : (b : Bool) → is_served me t desk no_modes ask ≡ b → (if b then Some 0 else next_from me t desk (with_mode no_modes ask.mode) (0 + 1) rest) ≡ None → is_served me t desk no_modes ask ≡ false
+    by_service : (b : Bool) → is_served me t desk no_modes ask ≡ b
+        → (if b then Some 0 else next_from me t desk (with_mode no_modes ask.mode) (0 + 1) rest) ≡ None → is_served me t desk no_modes ask ≡ false
     by_service true e f = cc
     by_service false e f = e
 
-    by_draw : (b : Bool) → may_draw me t desk no_modes 0 ask ≡ b → (if b then Some 0 else move_from me t desk (with_mode no_modes ask.mode) (0 + 1) rest) ≡ None → may_draw me t desk no_modes 0 ask ≡ false
+    by_draw : (b : Bool) → may_draw me t desk no_modes 0 ask ≡ b
+        → (if b then Some 0 else move_from me t desk (with_mode no_modes ask.mode) (0 + 1) rest) ≡ None → may_draw me t desk no_modes 0 ask ≡ false
     by_draw true e f = cc
     by_draw false e f = e
 
 -- where it is free it is an own ask with which another client here conflicts
-free_own : (own other free local copy clear : Bool) → other ≡ not own → ((free && (local || copy)) ≡ false) → ((other && (free && (true || clear))) ≡ false) → free ≡ true → (own ≡ true) × (local ≡ false)
+free_own : (own other free local copy clear : Bool) → other ≡ not own → ((free && (local || copy)) ≡ false) → ((other && (free && (true || clear))) ≡ false)
+    → free ≡ true → (own ≡ true) × (local ≡ false)
 free_own own other false local copy clear o s d f = cc
 free_own own true true local copy clear o s d f = cc
 free_own true false true true copy clear o s d f = cc
@@ -137,7 +124,7 @@ first_waiter_conflicts script w s ask h rest (q, others_wait, under, queue) = by
 
         own_row : (ask.node ≡ q) → Bars (union (other_modes t.held ask.client) (own_owed q t desk)) ask.mode → IsBarred script w s ask
         own_row me bar = elim ((union_bars_both conflicts (other_modes t.held ask.client) (own_owed q t desk) ask.mode).0 bar) [
-          | inl other ↦ 
+          | inl other ↦
               let row = other-which t.held ask.client other.0 other.2 in
               record { node = q; row = row.0; within = under; held = row.1; other = row.2; conflict = subst (λ (m : Mode). IsTrue (conflicts ask.mode m)) (sym row.3) other.1 }
           | inr owed ↦
@@ -146,7 +133,9 @@ first_waiter_conflicts script w s ask h rest (q, others_wait, under, queue) = by
         ]
 
         by_free : (free : Bool) → is_free q t desk no_modes ask ≡ free → IsBarred script w s ask
-        by_free false f = of_other (bars_union-none (others q t desk ask.node) ask.mode (bars_from (union (others q t desk ask.node) no_modes) ask.mode (not_false (has ask.mode (bars (union (others q t desk ask.node) no_modes))) f)))
+        by_free false f =
+            of_other
+            (bars_union-none (others q t desk ask.node) ask.mode (bars_from (union (others q t desk ask.node) no_modes) ask.mode (not_false (has ask.mode (bars (union (others q t desk ask.node) no_modes))) f)))
         by_free true f =
             let own = free_own (ask.node == q) (not (ask.node == q)) (is_free q t desk no_modes ask) (is_local q t desk ask) (is_copy q t desk ask) (is_clear_at_home q t desk ask) refl tests.0 tests.1 f in
             let me = eqb-true ask.node q own.0 in

@@ -1,48 +1,28 @@
 -- At rest each unanswered ask is in the queue, or led to it.
-use Rattle.std.proofs.Common.{◌≡◌, ◌≢◌, ℕ, zero, suc, ◌+◌, ◌<◌, ◌≤◌, inl, inr, List, [], ◌∷◌, length, Option, Some, None, Bool, true, false, refl, sym, ap, subst, arith, take, ◌∙◌}
-use Rattle.std.specs.Prelude.{◌⊎◌, ◌||◌, ◌&&◌, ◌==◌, not, if◌then◌else◌, Contains, is_some, IsTrue, IsFalse, nat_lt, sum_by}
-use Rattle.std.proofs.lemmas.Bool.{cases_eq, ne_eqb, eqb-true, and_parts, and_from, lt-ltb, ltb-true, false≢true, or_cases}
+use Rattle.std.proofs.Common.{◌≡◌, ◌≢◌, ℕ, zero, suc, ◌<◌, ◌≤◌, inl, inr, List, [], ◌∷◌, Bool, true, false, refl, sym, ap, subst, arith}
+use Rattle.std.specs.Prelude.{◌⊎◌, ◌&&◌, ◌==◌, if◌then◌else◌, Contains, IsTrue, nat_lt, sum_by}
+use Rattle.std.proofs.lemmas.Bool.{cases_eq, eqb-true, and_parts, ltb-true, or_cases}
 use Rattle.std.proofs.lemmas.List.Elements.{All-contains}
 use Rattle.std.proofs.lemmas.List.Sums.{sum_by-cons}
-use Rattle.lt_modes.specs.declared.mode.Mode.{Mode}
 use Rattle.lt_modes.specs.declared.stamp.Stamp.{Stamp}
 use Rattle.lt_modes.specs.declared.ask.Ask.{Ask}
-use Rattle.lt_modes.specs.declared.parts.Row.{Row}
-use Rattle.lt_modes.specs.Modes.{Modes, conflicts, has, has_none, no_modes, union, bars, with_mode}
 use Rattle.lt_modes.specs.Script.{ScriptData}
-use Rattle.lt_modes.specs.State.{SetState, Desk, Tell, Body, TellBody, CopyBody, TokenBody, FreezeBody, Letter, Parked, ParkedAsk, ParkedTell}
-use Rattle.lt_modes.specs.Held.{other_modes, held_modes}
-use Rattle.lt_modes.specs.Queue.{modes_of_asks, same_ask, times_in}
+use Rattle.lt_modes.specs.State.{TokenBody, Letter, Parked, ParkedAsk, ParkedTell}
+use Rattle.lt_modes.specs.Queue.{same_ask, times_in}
 use Rattle.lt_modes.specs.Tells.{is_newer}
-use Rattle.lt_modes.specs.Records.{entry_of, record_of, own_owed, others}
-use Rattle.lt_modes.specs.Serving.{queue_of, queue_of_desk, is_free, is_local, is_copy, is_served, may_draw, is_clear_at_home, next_service, next_move, next_at, next_from, move_at, move_from}
-use Rattle.lt_modes.specs.Freezing.{frozen_by}
-use Rattle.lt_lists.specs.Below.{any_below, sum_below, one_if}
-use Rattle.lt_runs.specs.Families.{home as home_at}
-use Rattle.lt_runs.specs.World.{World, has_mail, is_some_letter, is_runnable, is_at_rest, world_after}
+use Rattle.lt_modes.specs.Serving.{queue_of}
+use Rattle.lt_lists.specs.Below.{sum_below, one_if}
+use Rattle.lt_runs.specs.World.{World, is_at_rest}
 use Rattle.lt_runs.specs.Facts.{state_at, times_parked, places_in_state, places_in_body, StandsBehind, IsLedToQueue}
-use Rattle.lt_model.specs.Moments.{Between, is_at}
-use Rattle.lt_model.specs.OnWay.{Comes, DeskIs, tells_of, freezes_to, account_of, news_of}
-use Rattle.lt_accounts.specs.Account.{Account, AccountKept, Bars, IsBelow, counted, own_of, owed_and_waiting}
-use Rattle.lt_model.specs.Paths.{Paths, HasWay}
+use Rattle.lt_model.specs.Moments.{Between}
 use Rattle.lt_model.specs.SoundNode.{numbers_of}
 use Rattle.lt_modes.specs.Sound.{SoundPending}
 use Rattle.lt_model.proofs.KeptSets.{kept_stands}
-use Rattle.lt_model.specs.Invariant.{DeskKept, IsParkedFor, SetKept}
-use Rattle.lt_modes.proofs.ModeAlgebra.{conflicts-sym, each_barred, union_bars_both, bars_by_table, every_mode-at}
-use Rattle.lt_accounts.proofs.AccountFacts.{asks_bar-which, waiting_is_copy, below_by_bars, held_below_record}
-use Rattle.lt_accounts.proofs.AccountPlay.{others-which}
-use Rattle.lt_model.proofs.AccountRules.{rules_count}
-use Rattle.lt_accounts.proofs.NewsLemmas.{frozen_at_rest}
-use Rattle.lt_model.proofs.Gathered.{tells_are_on_way, copies_are_on_way, freezes_are_on_way}
-use Rattle.lt_accounts.proofs.Rows.{held-which, held-at, other-which}
-use Rattle.lt_accounts.proofs.ModeMembers.{none_has}
-use Rattle.lt_model.proofs.TokenComes.{desk_somewhere}
+use Rattle.lt_model.specs.Invariant.{IsParkedFor, SetKept}
 use Rattle.lt_model.proofs.StandingInRuns.{one_place_of}
 use Rattle.lt_lists.proofs.Sums.{sum_below-some, sum_below-none}
 use Rattle.lt_accounts.proofs.Asks.{times_in-found, same_ask-true}
-
-use Rattle.lt_rest.proofs.QuietRest.{no_letters, counts_held}
+use Rattle.lt_rest.proofs.QuietRest.{no_letters}
 use Rattle.lt_rest.specs.RestLaws.{AsksAreLed}
 
 sum_by-none : {X : Type 0} (f : X → ℕ) (xs : List X) → ((x : X) → Contains xs x → f x ≡ 0) → sum_by f xs ≡ 0
@@ -71,7 +51,8 @@ record StandsAtRest (script : ScriptData) (w : World) (s : ℕ) (a older : Ask) 
   waits : Contains (state_at w s q).pending older
   behind : StandsBehind w s a older
 
-stands_at_rest : (script : ScriptData) (w : World) (s x : ℕ) (a : Ask) → SetKept script Between w s → IsTrue (is_at_rest script w) → x < script.nodes → Contains (state_at w s x).pending a
+stands_at_rest : (script : ScriptData) (w : World) (s x : ℕ) (a : Ask) → SetKept script Between w s → IsTrue (is_at_rest script w) → x < script.nodes
+    → Contains (state_at w s x).pending a
     → ((q : ℕ) × (q < script.nodes) × Contains (queue_of (state_at w s q)) a) ⊎ ((q : ℕ) × (older : Ask) × StandsAtRest script w s a older q)
 stands_at_rest script w s x a h rest below waits =
     let one = one_place_of script w s x a (kept_stands script w s h) below waits in
@@ -81,11 +62,13 @@ stands_at_rest script w s x a h rest below waits =
     let found = sum_below-some script.nodes (λ q. places_in_state a (state_at w s q)) (omega (arith, one, mail_none)) in
     at_node found.0 found.1 found.2 (cases_eq (times_in a (queue_of (state_at w s found.0))) 0)
   where
-    weighs_none : (p q : ℕ) (l : Letter) → p < script.nodes → Contains (w.mail p q) l → (own : Bool) → (l.set == s) ≡ own → (if own then places_in_body a l.body else 0) ≡ 0
+    weighs_none : (p q : ℕ) (l : Letter) → p < script.nodes → Contains (w.mail p q) l → (own : Bool) → (l.set == s) ≡ own
+        → (if own then places_in_body a l.body else 0) ≡ 0
     weighs_none p q l hp c true e = absurd (no_letters script w s q l.body h.paths rest (p, l, hp, record { among = c; set = eqb-true l.set s e }, refl))
     weighs_none p q l hp c false e = refl
 
-    at_node : (q : ℕ) → q < script.nodes → 0 < places_in_state a (state_at w s q) → (times_in a (queue_of (state_at w s q)) ≡ 0) ⊎ (times_in a (queue_of (state_at w s q)) ≢ 0)
+    at_node : (q : ℕ) → q < script.nodes → 0 < places_in_state a (state_at w s q)
+        → (times_in a (queue_of (state_at w s q)) ≡ 0) ⊎ (times_in a (queue_of (state_at w s q)) ≢ 0)
         → ((q : ℕ) × (q < script.nodes) × Contains (queue_of (state_at w s q)) a) ⊎ ((q : ℕ) × (older : Ask) × StandsAtRest script w s a older q)
     at_node q hq some (inr here) = inl (q, hq, times_in-found a (queue_of (state_at w s q)) (omega (arith, here)))
     at_node q hq some (inl none) = inr (held (parked_some a (state_at w s q).parked (omega (arith, some, none))))
@@ -122,7 +105,8 @@ older_before c v a older now below e = elim (or_cases (nat_lt older.clock a.cloc
       inr (omega (arith, eqb-true a.clock older.clock parts.0, now), omega (arith, ltb-true older.node a.node parts.1, below))
 ]
 
-led : (script : ScriptData) (w : World) (s : ℕ) → SetKept script Between w s → IsTrue (is_at_rest script w) → (c v x : ℕ) (a : Ask) → x < script.nodes → Contains (state_at w s x).pending a
+led : (script : ScriptData) (w : World) (s : ℕ) → SetKept script Between w s → IsTrue (is_at_rest script w) → (c v x : ℕ) (a : Ask) → x < script.nodes
+    → Contains (state_at w s x).pending a
     → IsBefore c v a.stamp → IsLedToQueue script w s a
 led script w s h rest c zero x a hx waits (inr (same, none)) = absurd (omega (arith, none))
 led script w s h rest zero v x a hx waits (inl none) = absurd (omega (arith, none))

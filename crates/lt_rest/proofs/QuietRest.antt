@@ -1,46 +1,27 @@
 -- At rest no letter is on its way, and what counts of a node is what it holds.
-use Rattle.std.proofs.Common.{◌≡◌, ◌≢◌, ℕ, zero, suc, ◌+◌, ◌<◌, ◌≤◌, inl, inr, List, [], ◌∷◌, length, Option, Some, None, Bool, true, false, refl, sym, ap, subst, arith, take, ◌∙◌}
-use Rattle.std.specs.Prelude.{◌⊎◌, ◌||◌, ◌&&◌, ◌==◌, not, if◌then◌else◌, Contains, is_some, IsTrue, IsFalse, nat_lt, sum_by}
-use Rattle.std.proofs.lemmas.Bool.{cases_eq, ne_eqb, eqb-true, and_parts, and_from, lt-ltb, ltb-true, false≢true, or_cases}
+use Rattle.std.proofs.Common.{◌≡◌, ℕ, ◌<◌, inl, inr, List, [], ◌∷◌, length, Option, Bool, true, false, refl, sym, ap, arith, ◌∙◌}
+use Rattle.std.specs.Prelude.{not, if◌then◌else◌, Contains, IsTrue}
+use Rattle.std.proofs.lemmas.Bool.{ne_eqb, and_parts, and_from, lt-ltb, false≢true}
 use Rattle.std.proofs.lemmas.List.Elements.{All-contains}
-use Rattle.std.proofs.lemmas.List.Sums.{sum_by-cons}
 use Rattle.lt_modes.specs.declared.mode.Mode.{Mode}
-use Rattle.lt_modes.specs.declared.stamp.Stamp.{Stamp}
 use Rattle.lt_modes.specs.declared.ask.Ask.{Ask}
-use Rattle.lt_modes.specs.declared.parts.Row.{Row}
-use Rattle.lt_modes.specs.Modes.{Modes, conflicts, has, has_none, no_modes, union, bars, with_mode}
+use Rattle.lt_modes.specs.Modes.{conflicts, has}
 use Rattle.lt_modes.specs.Script.{ScriptData}
-use Rattle.lt_modes.specs.State.{SetState, Desk, Tell, Body, TellBody, CopyBody, TokenBody, FreezeBody, Letter, Parked, ParkedAsk, ParkedTell}
-use Rattle.lt_modes.specs.Held.{other_modes, held_modes}
-use Rattle.lt_modes.specs.Queue.{modes_of_asks, same_ask, times_in}
-use Rattle.lt_modes.specs.Tells.{is_newer}
-use Rattle.lt_modes.specs.Records.{entry_of, record_of, own_owed, others}
-use Rattle.lt_modes.specs.Serving.{queue_of, queue_of_desk, is_free, is_local, is_copy, is_served, may_draw, is_clear_at_home, next_service, next_move, next_at, next_from, move_at, move_from}
-use Rattle.lt_modes.specs.Freezing.{frozen_by}
-use Rattle.lt_lists.specs.Below.{any_below, sum_below, one_if}
-use Rattle.lt_runs.specs.Families.{home as home_at}
-use Rattle.lt_runs.specs.World.{World, has_mail, is_some_letter, is_runnable, is_at_rest, world_after}
-use Rattle.lt_runs.specs.Facts.{state_at, times_parked, places_in_state, places_in_body, StandsBehind, IsLedToQueue}
+use Rattle.lt_modes.specs.State.{Desk, Tell, Body, TellBody, CopyBody, TokenBody, Letter, ParkedTell}
+use Rattle.lt_modes.specs.Held.{held_modes}
+use Rattle.lt_modes.specs.Queue.{modes_of_asks}
+use Rattle.lt_modes.specs.Records.{record_of}
+use Rattle.lt_lists.specs.Below.{any_below}
+use Rattle.lt_runs.specs.World.{World, has_mail, is_some_letter, is_runnable, is_at_rest}
+use Rattle.lt_runs.specs.Facts.{state_at}
 use Rattle.lt_model.specs.Moments.{Between, is_at}
-use Rattle.lt_model.specs.OnWay.{Comes, DeskIs, tells_of, freezes_to, account_of, news_of}
+use Rattle.lt_model.specs.OnWay.{Comes, DeskIs, tells_of, account_of}
 use Rattle.lt_accounts.specs.Account.{Account, AccountKept, Bars, IsBelow, counted, own_of, owed_and_waiting}
-use Rattle.lt_model.specs.Paths.{Paths, HasWay}
-use Rattle.lt_model.specs.Homes.{IsRowAtHome, IsAskAtHome, IsAskOf}
-use Rattle.lt_model.specs.Standing.{IsMadeBy}
-use Rattle.lt_model.specs.Invariant.{DeskKept, IsParkedFor, SetKept}
-use Rattle.lt_modes.proofs.ModeAlgebra.{conflicts-sym, each_barred, union_bars_both, bars_by_table, every_mode-at}
-use Rattle.lt_accounts.proofs.AccountFacts.{asks_bar-which, waiting_is_copy, below_by_bars, held_below_record}
-use Rattle.lt_accounts.proofs.AccountPlay.{others-which}
-use Rattle.lt_model.proofs.AccountRules.{rules_count}
-use Rattle.lt_accounts.proofs.NewsLemmas.{frozen_at_rest}
-use Rattle.lt_model.proofs.Gathered.{tells_are_on_way, copies_are_on_way, freezes_are_on_way}
-use Rattle.lt_accounts.proofs.Rows.{held-which, held-at, other-which}
-use Rattle.lt_accounts.proofs.ModeMembers.{none_has}
-use Rattle.lt_model.proofs.TokenComes.{desk_somewhere}
-use Rattle.lt_model.proofs.StandingInRuns.{one_place_of}
-use Rattle.lt_lists.proofs.Sums.{sum_below-some, sum_below-none}
-use Rattle.lt_accounts.proofs.Asks.{times_in-found, same_ask-true}
-
+use Rattle.lt_model.specs.Paths.{Paths}
+use Rattle.lt_model.specs.Invariant.{IsParkedFor, SetKept}
+use Rattle.lt_modes.proofs.ModeAlgebra.{union_bars_both}
+use Rattle.lt_accounts.proofs.AccountFacts.{asks_bar-which, waiting_is_copy, below_by_bars}
+use Rattle.lt_model.proofs.Gathered.{tells_are_on_way, copies_are_on_way}
 use Rattle.lt_lists.proofs.Searches.{any_below_none}
 
 -- nothing is on its way
@@ -63,7 +44,8 @@ no_letters script w s q body paths rest (p, letter, below, on, says) =
     some (first ∷ rest) c = refl
 
 -- so nothing is told
-pub no_tells : (script : ScriptData) (w : World) (s x : ℕ) (tell : Tell) → SetKept script Between w s → IsTrue (is_at_rest script w) → Contains (tells_of script w s x) tell → ⊥
+pub no_tells : (script : ScriptData) (w : World) (s x : ℕ) (tell : Tell) → SetKept script Between w s → IsTrue (is_at_rest script w)
+    → Contains (tells_of script w s x) tell → ⊥
 no_tells script w s x tell h rest c =
     let on = (tells_are_on_way script w s x tell).0 c in
     elim on.3 [
@@ -74,7 +56,8 @@ no_tells script w s x tell h rest c =
     ]
 
 -- what counts of a node is what it holds
-pub counts_held : (script : ScriptData) (w : World) (s x : ℕ) (place : Option ℕ) (desk : Desk) → SetKept script Between w s → IsTrue (is_at_rest script w) → x < script.nodes → DeskIs script w s place desk
+pub counts_held : (script : ScriptData) (w : World) (s x : ℕ) (place : Option ℕ) (desk : Desk) → SetKept script Between w s → IsTrue (is_at_rest script w)
+    → x < script.nodes → DeskIs script w s place desk
     → IsBelow (counted (account_of script Between w s place desk x)) (held_modes (state_at w s x).held)
 counts_held script w s x place desk h rest below there mode bar = by_here (is_at place x) refl bar
   where

@@ -1,6 +1,13 @@
 use Rattle.lt_kept.proofs.laws.law_run.Goals as goal
-use Rattle.lt_kept.proofs.KeptMoves.{kept_in_runs}
-use Rattle.lt_kept.proofs.ServiceOrder.{lines_are_of_services, served_in_turn}
+use Rattle.lt_model.proofs.StandingInRuns.{one_place}
+use Rattle.lt_kept.proofs.KeptRuns.{kept_in_runs, letters_fit_in_runs, first_waiter_in_runs, led_in_runs, frozen_in_runs}
 
 pub returns : goal.returns
-returns c = record { kept = kept_in_runs; lines_of_services = lines_are_of_services; served_in_turn = served_in_turn }
+returns c = record {
+  kept = kept_in_runs;
+  place = one_place;
+  letters = letters_fit_in_runs;
+  first = first_waiter_in_runs;
+  led = led_in_runs;
+  frozen = frozen_in_runs;
+}

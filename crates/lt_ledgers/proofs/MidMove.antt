@@ -1,4 +1,4 @@
--- The ledgers as facts of a move: of the state by now and of the letters sent so far.
+-- The middle of a move: the world by the state by now and the letters sent so far, and what holds of it.
 use Rattle.std.proofs.Common.{◌≡◌, ◌≢◌, ℕ, ◌+◌, ◌<◌, ◌≤◌, inl, inr, List, [], ◌++◌, Option, None, refl, sym, ap, subst, arith, ◌∙◌}
 use Rattle.std.specs.Prelude.{◌==◌, ◌⊎◌, if◌then◌else◌, Contains, slice_index_or}
 use Rattle.std.proofs.lemmas.Bool.{cases_eq, eq-eqb, ne_eqb}
@@ -27,8 +27,8 @@ use Rattle.lt_model.proofs.SmallSteps.{moves_in_steps}
 use Rattle.lt_model.proofs.StandingEffects.{places_weight, places_sent, Stands}
 use Rattle.lt_model.proofs.StandingMove.{elsewhere, unanswered, only_here}
 use Rattle.lt_model.proofs.Gathered.{copies_are_on_way}
-use Rattle.lt_ledgers.specs.Ledger.{after_effect, IsWaiting}
-use Rattle.lt_ledgers.proofs.Step.{state_here, state_there}
+use Rattle.lt_ledgers.specs.OneEffect.{after_effect, IsWaiting}
+use Rattle.lt_ledgers.proofs.AfterEffect.{state_here, state_there}
 use Rattle.lt_ledgers.proofs.Ledgers.{Ledger}
 
 abbrev pub made_of : SetState → List Post → Made

@@ -26,25 +26,22 @@ use Rattle.lt_accounts.specs.NewsSteps.{beginning, changing, arriving as arrivin
 use Rattle.lt_model.specs.Invariant.{DeskKept}
 use Rattle.lt_model.proofs.AccountRules.{tokens_arrive}
 use Rattle.lt_accounts.proofs.NewsLemmas.{begins_kept, changes_kept, news_arrive}
-use Rattle.lt_model.proofs.Gathered.{tells_are_on_way, tell_item, tell_if-at}
+use Rattle.lt_model.proofs.Gathered.{tells_are_on_way, tell_item, tell_if-at, tell_if-other}
 use Rattle.lt_lists.proofs.Members.{filter_map-which, filter_map-at, contains_first, contains_later, contains_cases}
-use Rattle.lt_ledgers.specs.Ledger.{after_effect}
-use Rattle.lt_ledgers.proofs.Step.{state_here, state_there, clock_stays, copies_stay, freezes_stay, account_by, comes_or_sent, comes_still}
-use Rattle.lt_ledgers.proofs.Played.{all_kept, kept_as, kept_by, reordered}
-use Rattle.lt_ledgers.proofs.Footprint.{one_changes, news_kept_by, frozen_stays}
-
-tell_if-other : (x : ℕ) (tell : Tell) → tell.node ≢ x → tell_if x tell ≡ None
-tell_if-other x tell d = ap (λ (b : Bool). if b then Some tell else None) (ne_eqb tell.node x d)
+use Rattle.lt_accounts.proofs.AllKept.{same_kept, one_changes, all_reordered}
+use Rattle.lt_ledgers.specs.OneEffect.{after_effect}
+use Rattle.lt_ledgers.proofs.AfterEffect.{state_here, state_there, clock_stays, copies_stay, freezes_stay, comes_or_sent, comes_still}
+use Rattle.lt_ledgers.proofs.Seen.{all_kept, kept_by, own_stays, news_seen, frozen_stays}
 
 -- the tells of these parked letters are applied in order
 applied : (n : ℕ) (items : List Parked) (accounts : ℕ → Account) (tells : ℕ → List Tell) → AllByRecursion (IsParkedOf n) items → AllKept n accounts
     → ((x : ℕ) → (accounts x).tells ≡ tells x ++ filter_map (tell_parked x) items)
     → AllKept n (λ x. record (accounts x) { entry = told_by_parked x items (accounts x).entry; tells = tells x })
 applied n [] accounts tells named h same =
-    kept_as n accounts (λ x. record (accounts x) { tells = tells x }) h (λ x below. ap (λ l. record (accounts x) { tells = l }) (sym (same x ∙ append-nil (tells x))))
+    same_kept n accounts (λ x. record (accounts x) { tells = tells x }) h (λ x below. ap (λ l. record (accounts x) { tells = l }) (sym (same x ∙ append-nil (tells x))))
 applied n (ParkedAsk ask ∷ rest) accounts tells named h same = applied n rest accounts tells named.1 h same
 applied n (ParkedTell tell ∷ rest) accounts tells named h same =
-    kept_as n (λ x. record (next x) { entry = told_by_parked x rest (next x).entry; tells = tells x })
+    same_kept n (λ x. record (next x) { entry = told_by_parked x rest (next x).entry; tells = tells x })
     (λ x. record (accounts x) { entry = told_by_parked x (ParkedTell tell ∷ rest) (accounts x).entry; tells = tells x })
     (applied n rest next tells named.1 next_kept (λ x. refl))
     (λ x below. ap (λ (e : Entry). record (accounts x) { entry = e; tells = tells x }) (by_node x (cases_eq tell.node x)))
@@ -114,9 +111,9 @@ pub token_keeps : (script : ScriptData) (w : World) (s q : ℕ) (desk : Desk) �
     → DeskKept script (Acting q) (after_effect w q s (silent (take_token q desk (state_at w s q)))) s (Some q) (fold dealt desk (state_at w s q).parked)
 token_keeps script w s q desk below entries named h =
     kept_by script (Acting q) later s (Some q) left
-    (λ x. record (second x) { entry = told_by_parked x t.parked (entry_of desk x); tells = tells_of script later s x })
-    (applied script.nodes t.parked second (λ x. tells_of script later s x) named second_kept (λ x. refl))
-    (λ x under. is_account x)
+    (same_kept script.nodes (λ x. record (second x) { entry = told_by_parked x t.parked (entry_of desk x); tells = tells_of script later s x })
+    (account_of script (Acting q) later s (Some q) left)
+    (applied script.nodes t.parked second (λ x. tells_of script later s x) named second_kept (λ x. refl)) (λ x under. is_account x))
     (λ x under. news_kept x under (cases_eq x q))
   where
     t : SetState
@@ -179,22 +176,24 @@ token_keeps script w s q desk below entries named h =
         ]
 
     second_kept : AllKept script.nodes second
-    second_kept = reordered script.nodes first (λ x. tells_of script later s x ++ filter_map (tell_parked x) t.parked) (copies_to script w s) first_kept
+    second_kept = all_reordered script.nodes first (λ x. tells_of script later s x ++ filter_map (tell_parked x) t.parked) (copies_to script w s) first_kept
         (λ x under. (record { only = was x; kept = is x }, record { only = λ y c. c; kept = λ y c. c }))
-
-    with_state : ℕ → Entry → SetState → Account
-    with_state x entry u = account_by (w.node x).clock (x == q) (x == q) entry u (tells_of script later s x) (copies_to script w s x)
 
     is_account : (x : ℕ) → account_of script (Acting q) later s (Some q) left x ≡ record (second x) { entry = told_by_parked x t.parked (entry_of desk x); tells = tells_of script later s x }
     is_account x =
-        (λ i. account_by (clock_stays w q s m x i) (x == q) (x == q) (tokens_arrive.parked x t.parked desk (subst (λ (n : ℕ). AllByRecursion (IsParkedOf n) t.parked) (sym entries) named) i)
-        (state_at later s x) (tells_of script later s x) (copies_stay script w q s m x tt i))
-        ∙ elim (cases_eq x q) [
-          | inl e ↦ ap (λ (y : ℕ). with_state x (told_by_parked x t.parked (entry_of desk x)) (state_at later s y)) e
-              ∙ ap (with_state x (told_by_parked x t.parked (entry_of desk x))) (state_here w q s m)
-              ∙ ap (λ (y : ℕ). with_state x (told_by_parked x t.parked (entry_of desk x)) (state_at w s y)) (sym e)
-          | inr d ↦ ap (with_state x (told_by_parked x t.parked (entry_of desk x))) (state_there w q s m x d)
-        ]
+        let own = own_stays w q s m x (record { held = refl; charge = refl; pending = refl }) in
+        let entry = tokens_arrive.parked x t.parked desk (subst (λ (n : ℕ). AllByRecursion (IsParkedOf n) t.parked) (sym entries) named) in
+        λ i. record {
+          clock = clock_stays w q s m x i;
+          held = own.held i;
+          charge = own.charge i;
+          pending = own.pending i;
+          entry = entry i;
+          tells = tells_of script later s x;
+          copies = copies_stay script w q s m x tt i;
+          here = x == q;
+          moving = x == q;
+        }
 
     told_same : (x : ℕ) → (entry_of left x).frozen_told ≡ (entry_of desk x).frozen_told
     told_same x =
@@ -208,7 +207,7 @@ token_keeps script w s q desk below entries named h =
     is_news : (x : ℕ) (b : Bool) → (x == q) ≡ b
         → news_of script (Acting q) later s (Some q) left x ≡ changing (record_of (entry_of left x)) (frozen_by left.queue) (record (old x) { here = b; serving = true })
     is_news x b e =
-        news_kept_by script (Acting q) w later s (Some q) left x (freezes_stay script w q s m x tt) (frozen_stays w q s m x (record { number = refl; frozen = refl }))
+        news_seen script (Acting q) w later s (Some q) left x (freezes_stay script w q s m x tt) (frozen_stays w q s m x (record { number = refl; frozen = refl }))
         ∙ (λ i. record (changing (record_of (entry_of left x)) (frozen_by left.queue) (old x)) { told = told_same x i; last = number_leaves t.parked desk i; here = e i; serving = eq-eqb q q refl i })
 
     news_kept : (x : ℕ) → x < script.nodes → (x ≡ q) ⊎ (x ≢ q) → NewsKept (news_of script (Acting q) later s (Some q) left x)

@@ -1,49 +1,38 @@
--- What is parked is held up, in every run.
-use Rattle.std.proofs.Common.{◌≡◌, ◌≢◌, ℕ, zero, suc, ◌+◌, ◌<◌, inl, inr, List, [], ◌∷◌, length, Option, Some, None, true, false, refl, sym, ap, subst, arith, take, ◌∙◌}
+-- A move leaves what is parked at its node held up.
+use Rattle.std.proofs.Common.{◌≡◌, ◌≢◌, ℕ, ◌+◌, ◌<◌, inl, inr, List, [], ◌∷◌, Option, Some, None, true, false, refl, sym, ap, subst, arith, ◌∙◌}
 use Rattle.std.specs.Prelude.{◌⊎◌, Contains, is_some, All, IsTrue, nat_lt}
 use Rattle.std.proofs.lemmas.Bool.{cases_eq, le-ltb, false≢true}
-use Rattle.std.proofs.lemmas.List.Elements.{All-from_recursion, All-weaker, All-nil}
+use Rattle.std.proofs.lemmas.List.Elements.{All-from_recursion}
 use Rattle.lt_modes.specs.declared.ask.Ask.{Ask}
 use Rattle.lt_modes.specs.declared.moves.Step.{Step}
 use Rattle.lt_modes.specs.declared.moves.Step.TheVariants.{Act, Take}
 use Rattle.lt_modes.specs.Modes.{is_taking}
 use Rattle.lt_modes.specs.Script.{ScriptData}
-use Rattle.lt_modes.specs.State.{SetState, Desk, CopyBody, Letter, Parked, ParkedAsk, ParkedTell, first_state}
+use Rattle.lt_modes.specs.State.{SetState, Desk, CopyBody, Letter}
 use Rattle.lt_modes.specs.Queue.{without}
 use Rattle.lt_modes.specs.SetMove.{take as take_letter}
 use Rattle.lt_modes.specs.Taking.{arrive}
 use Rattle.lt_lists.specs.Below.{put}
-use Rattle.lt_runs.specs.Log.{Logged}
 use Rattle.lt_runs.specs.NodeMove.{NodeState, next_command, act_stamp, take_stamp, at_clock, one_made, node_act, node_take}
-use Rattle.lt_runs.specs.World.{World, start, is_enabled, is_some_letter, take_front, after, after_run, world_after, IsRunFrom}
+use Rattle.lt_runs.specs.World.{World, is_enabled, is_some_letter, take_front, after}
 use Rattle.lt_runs.specs.Facts.{state_at}
 use Rattle.lt_model.specs.OnWay.{OnWay, IsCopyTo}
 use Rattle.lt_model.specs.Paths.{Paths, HasWay}
 use Rattle.lt_model.specs.Standing.{AsksStand}
-use Rattle.lt_model.specs.Homes.{IsWhole, Homes}
+use Rattle.lt_model.specs.Homes.{IsWhole}
 use Rattle.lt_model.specs.Touches.{sets_of_command, sets_of_front}
-use Rattle.lt_model.specs.Invariant.{IsParkedFor}
 use Rattle.lt_model.proofs.Effects.{take_by_effects}
 use Rattle.lt_model.proofs.NodeEffects.{IsOfSet, once_or_aside, obey_by_effects}
 use Rattle.lt_model.proofs.OthersStay.{others_stay}
 use Rattle.lt_lists.proofs.Puts.{put-same, put-other}
-use Rattle.lt_model.proofs.PathsMove.{has_mail_parts, move_kept}
-use Rattle.lt_model.proofs.HomesMove.{homes_kept, homes_start}
-use Rattle.lt_model.proofs.StandingMove.{standing_kept}
-use Rattle.lt_model.proofs.StandingInRuns.{standing_in_runs}
-use Rattle.lt_model.proofs.StartKept.{start_kept, paths_start}
-use Rattle.lt_model.proofs.TokenComes.{desk_somewhere, token_comes}
+use Rattle.lt_model.proofs.PathsMove.{has_mail_parts}
+use Rattle.lt_model.proofs.TokenComes.{desk_somewhere}
 use Rattle.lt_accounts.proofs.AccountFacts.{same_by_stamp}
 use Rattle.lt_accounts.proofs.Unanswered.{without_kept}
 use Rattle.lt_model.proofs.Gathered.{copies_are_on_way}
-use Rattle.lt_ledgers.specs.Ledger.{IsHeldUp, HeldUp, ParkedInRuns}
-use Rattle.lt_ledgers.proofs.Moves.{Known}
-use Rattle.lt_ledgers.proofs.Runs.{known_kept}
-use Rattle.lt_ledgers.proofs.HeldUps.{held_up, none_held, held_ends, held_moves, arrive_held}
-
--- so it is at each node
-abbrev pub HeldAt : ScriptData → World → ℕ → Type 0
-HeldAt script w s = (x : ℕ) → x < script.nodes → HeldUp x (state_at w s x)
+use Rattle.lt_ledgers.specs.HeldUp.{HeldUp}
+use Rattle.lt_ledgers.specs.LedgerLaws.{LedgersKept}
+use Rattle.lt_ledgers.proofs.HeldUps.{held_up, held_ends, held_moves, arrive_held}
 
 held_of_set : (s q : ℕ) → IsOfSet s (held_up q)
 held_of_set s q t posts more others h = h
@@ -54,7 +43,7 @@ other_state script w s q (Act client) x d = ap (λ (k : NodeState). k.set s) (pu
 other_state script w s q (Take p) x d = ap (λ (k : NodeState). k.set s) (put-other w.node q (take_front q (w.node q) (w.mail p q)).node x d)
 
 -- no copy is for a taking mode
-copy_not_taking : (script : ScriptData) (w : World) (s q : ℕ) (ask : Ask) → Paths script w s → Known script w s → q < script.nodes → IsCopyTo script w s q ask → is_taking ask.mode ≡ false
+copy_not_taking : (script : ScriptData) (w : World) (s q : ℕ) (ask : Ask) → Paths script w s → LedgersKept script w s → q < script.nodes → IsCopyTo script w s q ask → is_taking ask.mode ≡ false
 copy_not_taking script w s q ask paths known below comes =
     let found = desk_somewhere script w s paths in
     let copy = (copies_are_on_way script w s q ask).1 comes in
@@ -91,7 +80,7 @@ taken_held s q letter n set arrived =
     subst (HeldUp q) (sym here) ended
 
 -- what is parked at the mover stays held up
-pub own_held : (script : ScriptData) (w : World) (s q : ℕ) (step : Step) → IsWhole script → Paths script w s → AsksStand script w s → Known script w s → HeldUp q (state_at w s q)
+pub own_held : (script : ScriptData) (w : World) (s q : ℕ) (step : Step) → IsWhole script → Paths script w s → AsksStand script w s → LedgersKept script w s → HeldUp q (state_at w s q)
     → IsTrue (is_enabled script w q step) → HeldUp q (state_at (after script w q step) s q)
 own_held script w s q (Act client) whole paths stood known h enabled =
     let n = w.node q in
@@ -139,61 +128,3 @@ own_held script w s q (Take p) whole paths stood known h enabled =
       | inr other ↦ subst (HeldUp q)
           (sym ((others_stay script w s q (Take p) (subst (λ (l : List Letter). All (λ set. set ≢ s) (sets_of_front l)) (sym e) (All-from_recursion (λ set. set ≢ s) (letter.set ∷ []) (other, tt)))).states q)) h
     ]
-
-pub held_kept : (script : ScriptData) (w : World) (s : ℕ) → IsWhole script → Paths script w s → AsksStand script w s → Known script w s → HeldAt script w s
-    → (q : ℕ) (step : Step) → IsTrue (is_enabled script w q step) → HeldAt script (after script w q step) s
-held_kept script w s whole paths stood known h q step enabled x below = elim (cases_eq x q) [
-  | inl e ↦ subst (λ (y : ℕ). HeldUp y (state_at (after script w q step) s y)) (sym e)
-      (own_held script w s q step whole paths stood known (subst (λ (y : ℕ). HeldUp y (state_at w s y)) e (h x below)) enabled)
-  | inr d ↦ subst (HeldUp x) (sym (other_state script w s q step x d)) (h x below)
-]
-
--- what holds of a set of each world of a run
-pub record Good (script : ScriptData) (w : World) (s : ℕ) : Type 0 where
-  pub paths : Paths script w s
-  pub stood : AsksStand script w s
-  pub homes : Homes script w
-  pub known : Known script w s
-  pub held : HeldAt script w s
-
-pub good_kept : (script : ScriptData) (w : World) (s : ℕ) → IsWhole script → Good script w s → (q : ℕ) (step : Step) → IsTrue (is_enabled script w q step) → Good script (after script w q step) s
-good_kept script w s whole g q step enabled = record {
-  paths = move_kept script w s whole.some_node g.paths q step enabled;
-  stood = standing_kept script w s whole.some_node g.paths g.stood q step enabled;
-  homes = homes_kept script w whole g.homes q step enabled;
-  known = known_kept script w s whole g.paths g.stood g.homes g.known q step enabled;
-  held = held_kept script w s whole g.paths g.stood g.known g.held q step enabled;
-}
-
-run_good : (script : ScriptData) (s : ℕ) → IsWhole script → (run : List Logged) (w : World) → Good script w s → IsRunFrom script w run → (k : ℕ) → Good script (after_run script w (take k run)) s
-run_good script s whole run w g is_run zero = g
-run_good script s whole [] w g is_run (suc k) = g
-run_good script s whole (entry ∷ rest) w g is_run (suc k) =
-    run_good script s whole rest (after script w entry.made.stamp.node entry.made.step) (good_kept script w s whole g entry.made.stamp.node entry.made.step is_run.0.enabled) is_run.1 k
-
-pub good_in_runs : (script : ScriptData) (run : List Logged) → IsWhole script → IsRunFrom script (start script) run → (k s : ℕ) → s < length script.sets → Good script (world_after script (take k run)) s
-good_in_runs script run whole is_run k s below = run_good script s whole run (start script) (record {
-  paths = paths_start script s whole.some_node;
-  stood = standing_in_runs script run whole.some_node is_run 0 s;
-  homes = homes_start script;
-  known = ((start_kept script whole.some_node).sets s below).known;
-  held = λ x under. none_held x (first_state script.nodes x) refl;
-}) is_run k
-
-pub parked_in_runs : ParkedInRuns
-parked_in_runs script run whole is_run k s x below under =
-    let w = world_after script (take k run) in
-    let g = good_in_runs script run whole is_run k s below in
-    let h = g.held x under in
-    (by_desk w g (state_at w s x).desk refl h, h.none)
-  where
-    by_item : (w : World) → Paths script w s → (state_at w s x).desk ≡ None → (item : Parked) → IsHeldUp x (state_at w s x) item → IsParkedFor script w s x item
-    by_item w paths away (ParkedTell tell) me = token_comes script w s x paths under away me
-    by_item w paths away (ParkedAsk ask) h = elim h [
-      | inl me ↦ inl (token_comes script w s x paths under away me)
-      | inr behind ↦ inr behind
-    ]
-
-    by_desk : (w : World) → Good script w s → (o : Option Desk) → (state_at w s x).desk ≡ o → HeldUp x (state_at w s x) → All (IsParkedFor script w s x) (state_at w s x).parked
-    by_desk w g (Some desk) here h = subst (λ (l : List Parked). All (IsParkedFor script w s x) l) (sym (h.none (ap is_some here))) (All-nil (IsParkedFor script w s x))
-    by_desk w g None away h = All-weaker (IsHeldUp x (state_at w s x)) (IsParkedFor script w s x) (by_item w g.paths away) (state_at w s x).parked h.held

@@ -28,10 +28,10 @@ use Rattle.lt_accounts.proofs.Asks.{times_in-some}
 use Rattle.lt_model.proofs.Effects.{Fact, HoldsOf, EndEffects, ActEffects, ByEffects, route_ways, acts_by_effects}
 use Rattle.lt_model.proofs.StandingEffects.{Stands, stands, standing_ends, standing_acts}
 use Rattle.lt_model.proofs.StandingMove.{elsewhere, unanswered, only_here}
-use Rattle.lt_ledgers.specs.Ledger.{after_effect, IsWaiting}
-use Rattle.lt_ledgers.proofs.Step.{clock_stays}
+use Rattle.lt_ledgers.specs.OneEffect.{after_effect, IsWaiting}
+use Rattle.lt_ledgers.proofs.AfterEffect.{clock_stays}
 use Rattle.lt_ledgers.proofs.Ledgers.{Ledger, FrozenHere, Ended, granted, unlocked, all_dropped, waited, serves, freezes, stays, leaves, tells, tells_not}
-use Rattle.lt_ledgers.proofs.MoveFacts.{made_of, world_of, again, leads, at_now, Scene, queue_waits, no_copy, Mid, Begun}
+use Rattle.lt_ledgers.proofs.MidMove.{made_of, world_of, leads, at_now, Scene, queue_waits, no_copy, Mid, Begun}
 
 -- the place of the ask that draws the desk is one of the queue
 move_within : (me : ℕ) (s : SetState) (desk : Desk) (before : Modes) (place : ℕ) (queue : List Ask) (k : ℕ) → move_from me s desk before place queue ≡ Some k → k < place + length queue

@@ -1,12 +1,11 @@
--- The whole invariant through moves and runs, as statements.
-use Rattle.std.specs.Prelude.{◌<◌, ◌+◌, ◌^◌, ℕ, List, length, take, Contains, IsTrue}
+-- The whole invariant through a move, as statements.
+use Rattle.std.specs.Prelude.{◌<◌, ◌+◌, ◌^◌, ℕ, Contains, IsTrue}
 use Rattle.lt_modes.specs.declared.moves.Step.{Step}
 use Rattle.lt_modes.specs.Script.{ScriptData}
 use Rattle.lt_modes.specs.State.{Letter}
 use Rattle.lt_modes.specs.Fits.{fits}
-use Rattle.lt_runs.specs.Log.{Logged}
 use Rattle.lt_model.specs.Homes.{IsWhole}
-use Rattle.lt_runs.specs.World.{World, is_enabled, after, world_after, IsRun}
+use Rattle.lt_runs.specs.World.{World, is_enabled, after}
 use Rattle.lt_runs.specs.Facts.{state_at}
 use Rattle.lt_model.specs.SoundNode.{numbers_of}
 use Rattle.lt_model.specs.Invariant.{Kept}
@@ -22,8 +21,3 @@ LettersFit = (script : ScriptData) (w : World) (p q : ℕ) (letter : Letter) →
     → p < script.nodes → q < script.nodes → Contains (w.mail p q) letter
     → letter.stamp.clock + 1 < 2 ^ 32 → (w.node q).clock + 1 < 2 ^ 32
     → IsTrue (fits (numbers_of script) q (w.node q).clock (state_at w letter.set q) letter)
-
--- the invariant holds after each prefix of each run
-abbrev pub KeptInRuns : Type 0
-KeptInRuns = (script : ScriptData) (run : List Logged) → IsWhole script → IsRun script run → (k : ℕ)
-    → Kept script (world_after script (take k run))

@@ -1,4 +1,4 @@
--- Effects of a node on its own account keep the ledgers.
+-- Effects of a node on its own account keep the ledgers: grants, unlocks, drops, asks, and answers at the desk.
 use Rattle.std.proofs.Common.{◌≡◌, ℕ, ◌<◌, [], ◌∷◌, ◌++◌, length, Option, Some, None, Bool, true, false, refl, sym, ap, subst, ◌∙◌}
 use Rattle.std.specs.Prelude.{◌==◌, ◌&&◌, not, if◌then◌else◌, Contains, IsFalse, is_some, remove}
 use Rattle.std.specs.List.{filter_map}
@@ -25,15 +25,15 @@ use Rattle.lt_model.specs.Moments.{Between, Acting, Frozen, is_at}
 use Rattle.lt_model.specs.OnWay.{tell_parked, tells_of, copies_to, account_of, news_of}
 use Rattle.lt_accounts.specs.AccountSteps.{MayGrant, MayAnswer}
 use Rattle.lt_accounts.specs.AccountPlay.{AllKept, Wait, Grant, Unlock, Drop, Answer, Rest, others_counted}
-use Rattle.lt_model.specs.AccountRules.{own_account, IsLocallyFree}
+use Rattle.lt_model.specs.AccountRules.{own_account, IsLocallyFree, account_with}
 use Rattle.lt_accounts.specs.News.{NewsKept}
 use Rattle.lt_model.specs.Invariant.{DeskKept}
 use Rattle.lt_model.proofs.AccountRules.{grants_by_rule, rules_count}
 use Rattle.lt_model.proofs.Effects.{route_ways}
-use Rattle.lt_ledgers.specs.Ledger.{after_effect}
-use Rattle.lt_ledgers.proofs.Step.{account_by}
-use Rattle.lt_ledgers.proofs.Played.{all_kept}
-use Rattle.lt_ledgers.proofs.Footprint.{QuietMade, SameOwn, SameFrozen, quiet_heard, own_happens, own_stays, own_same, frozen_stays, news_change, news_stay_kept, one_changes}
+use Rattle.lt_ledgers.specs.OneEffect.{after_effect}
+use Rattle.lt_accounts.proofs.AllKept.{one_changes}
+use Rattle.lt_ledgers.proofs.Seen.{SameOwn, SameFrozen, all_kept, kept_by, account_as, news_change, frozen_stays}
+use Rattle.lt_ledgers.proofs.Quiet.{QuietMade, quiet_heard, own_happens, accounts_stay, news_stay}
 
 -- the desk is at node q, which keeps this of it, or the desk is elsewhere
 abbrev pub HasDesk : Option ℕ → Desk → ℕ → Option Desk → Type 0
@@ -51,7 +51,7 @@ pub own_is : (script : ScriptData) (w : World) (s q : ℕ) (place : Option ℕ) 
 own_is script w s q place desk has_desk =
     let here = here_is place desk q (state_at w s q).desk has_desk in
     let moving = eq-eqb q q refl in
-    λ i. account_by (w.node q).clock (here i) (moving i) (entry_of desk q) (state_at w s q) (tells_of script w s q) (copies_to script w s q)
+    λ i. account_with (w.node q).clock (here i) (moving i) (entry_of desk q) (state_at w s q) (tells_of script w s q) (copies_to script w s q)
 
 -- a grant at once
 pub grant_keeps : (script : ScriptData) (w : World) (s q client : ℕ) (mode : Mode) (gives_up : Option Mode) (place : Option ℕ) (desk : Desk) → q < script.nodes
@@ -60,9 +60,9 @@ pub grant_keeps : (script : ScriptData) (w : World) (s q client : ℕ) (mode : M
     → DeskKept script (Acting q) w s place desk
     → DeskKept script (Acting q) (after_effect w q s (silent (given client mode gives_up (state_at w s q)))) s place desk
 grant_keeps script w s q client mode gives_up place desk below has_desk entries can charge h =
-    let kept = own_happens script (Acting q) w q s m place desk desk (Grant client mode gives_up) quiet (λ x. refl) below (all_kept script (Acting q) w s place desk h)
-    (eq-eqb q q refl, may) refl in
-    record { accounts = kept.kept; clear = kept.clear; news = λ x under. news_stay_kept script (Acting q) w q s m place desk x quiet (record { number = refl; frozen = refl }) (h.news x under) }
+    kept_by script (Acting q) (after_effect w q s m) s place desk
+    (own_happens script (Acting q) w q s m place desk desk (Grant client mode gives_up) quiet (λ x. refl) below (all_kept script (Acting q) w s place desk h)
+    (eq-eqb q q refl, may) refl) (λ x under. news_stay script (Acting q) w q s m place desk x quiet (record { number = refl; frozen = refl }) (h.news x under))
   where
     t : SetState
     t = state_at w s q
@@ -93,8 +93,9 @@ pub unlock_keeps : (script : ScriptData) (w : World) (s q client : ℕ) (mode : 
     → DeskKept script (Acting q) w s place desk
     → DeskKept script (Acting q) (after_effect w q s (silent (record (state_at w s q) { held = take_lock (state_at w s q).held client mode }))) s place desk
 unlock_keeps script w s q client mode place desk below h =
-    let kept = own_happens script (Acting q) w q s m place desk desk (Unlock client mode) quiet (λ x. refl) below (all_kept script (Acting q) w s place desk h) (eq-eqb q q refl) refl in
-    record { accounts = kept.kept; clear = kept.clear; news = λ x under. news_stay_kept script (Acting q) w q s m place desk x quiet (record { number = refl; frozen = refl }) (h.news x under) }
+    kept_by script (Acting q) (after_effect w q s m) s place desk
+    (own_happens script (Acting q) w q s m place desk desk (Unlock client mode) quiet (λ x. refl) below (all_kept script (Acting q) w s place desk h) (eq-eqb q q refl) refl)
+    (λ x under. news_stay script (Acting q) w q s m place desk x quiet (record { number = refl; frozen = refl }) (h.news x under))
   where
     m : Made
     m = silent (record (state_at w s q) { held = take_lock (state_at w s q).held client mode })
@@ -106,8 +107,9 @@ unlock_keeps script w s q client mode place desk below h =
 pub drop_keeps : (script : ScriptData) (w : World) (s q client : ℕ) (place : Option ℕ) (desk : Desk) → q < script.nodes
     → DeskKept script (Acting q) w s place desk → DeskKept script (Acting q) (after_effect w q s (silent (dropped client (state_at w s q)))) s place desk
 drop_keeps script w s q client place desk below h =
-    let kept = own_happens script (Acting q) w q s m place desk desk (Drop client) quiet (λ x. refl) below (all_kept script (Acting q) w s place desk h) (eq-eqb q q refl) refl in
-    record { accounts = kept.kept; clear = kept.clear; news = λ x under. news_stay_kept script (Acting q) w q s m place desk x quiet (record { number = refl; frozen = refl }) (h.news x under) }
+    kept_by script (Acting q) (after_effect w q s m) s place desk
+    (own_happens script (Acting q) w q s m place desk desk (Drop client) quiet (λ x. refl) below (all_kept script (Acting q) w s place desk h) (eq-eqb q q refl) refl)
+    (λ x under. news_stay script (Acting q) w q s m place desk x quiet (record { number = refl; frozen = refl }) (h.news x under))
   where
     m : Made
     m = silent (dropped client (state_at w s q))
@@ -163,7 +165,7 @@ entries_with (Some kept) desk ask x = refl
 ask_news : (script : ScriptData) (w : World) (s q : ℕ) (m : Made) (place : Option ℕ) (desk : Desk) (ask : Ask) (o : Option Desk) → HasDesk place desk q o
     → QuietMade (state_at w s q) m → SameFrozen (state_at w s q) m.state → (x : ℕ) → NewsKept (news_of script (Acting q) w s place desk x)
     → NewsKept (news_of script (Acting q) (after_effect w q s m) s place (desk_with o desk (ParkedAsk ask)) x)
-ask_news script w s q m place desk ask None away quiet frozen x h = news_stay_kept script (Acting q) w q s m place desk x quiet frozen h
+ask_news script w s q m place desk ask None away quiet frozen x h = news_stay script (Acting q) w q s m place desk x quiet frozen h
 ask_news script w s q m place desk ask (Some kept) (at, same) quiet frozen x h =
     subst (λ (p : Option ℕ). NewsKept (news_of script (Acting q) (after_effect w q s m) s p (dealt desk (ParkedAsk ask)) x)) (sym at)
     (news_change script w (after_effect w q s m) s q (dealt desk (ParkedAsk ask)) desk x (quiet_heard script w q s m x quiet).freezes (frozen_stays w q s m x frozen) refl refl
@@ -177,13 +179,10 @@ route_ask_keeps script w s q stamp marked ask place desk has_desk h =
     let t = state_at w s q in
     let m = route s stamp marked (ParkedAsk ask) t in
     let same = route_same s stamp marked (ParkedAsk ask) t in
-    let kept = own_stays script (Acting q) w q s m place (desk_with t.desk desk (ParkedAsk ask)) desk (ask_quiet s stamp marked ask t) same.1 (entries_with t.desk desk ask)
-    (all_kept script (Acting q) w s place desk h) in
-    record {
-      accounts = kept.kept;
-      clear = kept.clear;
-      news = λ x under. ask_news script w s q m place desk ask t.desk has_desk (ask_quiet s stamp marked ask t) same.0 x (h.news x under);
-    }
+    kept_by script (Acting q) (after_effect w q s m) s place (desk_with t.desk desk (ParkedAsk ask))
+    (accounts_stay script (Acting q) w q s m place (desk_with t.desk desk (ParkedAsk ask)) desk (ask_quiet s stamp marked ask t) same.1 (entries_with t.desk desk ask)
+    (all_kept script (Acting q) w s place desk h))
+    (λ x under. ask_news script w s q m place desk ask t.desk has_desk (ask_quiet s stamp marked ask t) same.0 x (h.news x under))
 
 -- a client waits, and its ask is routed
 pub asked_keeps : (script : ScriptData) (w : World) (s q : ℕ) (stamp : Stamp) (ask : Ask) (place : Option ℕ) (desk : Desk) → q < script.nodes
@@ -191,11 +190,9 @@ pub asked_keeps : (script : ScriptData) (w : World) (s q : ℕ) (stamp : Stamp) 
     → ((own : Ask) → Contains (state_at w s q).pending own → own.stamp.clock < (w.node q).clock)
     → DeskKept script (Acting q) w s place desk
     → DeskKept script (Acting q) (after_effect w q s (asked s stamp ask (state_at w s q))) s place (desk_with (state_at w s q).desk desk (ParkedAsk ask))
-asked_keeps script w s q stamp ask place desk below has_desk now first h = record {
-  accounts = kept.kept;
-  clear = kept.clear;
-  news = λ x under. ask_news script w s q m place desk ask t.desk has_desk quiet frozen x (h.news x under);
-}
+asked_keeps script w s q stamp ask place desk below has_desk now first h =
+    kept_by script (Acting q) (after_effect w q s m) s place (desk_with t.desk desk (ParkedAsk ask)) kept
+    (λ x under. ask_news script w s q m place desk ask t.desk has_desk quiet frozen x (h.news x under))
   where
     t : SetState
     t = state_at w s q
@@ -218,7 +215,7 @@ asked_keeps script w s q stamp ask place desk below has_desk now first h = recor
     kept : AllKept script.nodes (account_of script (Acting q) (after_effect w q s m) s place (desk_with t.desk desk (ParkedAsk ask)))
     kept = own_happens script (Acting q) w q s m place (desk_with t.desk desk (ParkedAsk ask)) desk (Wait ask) quiet (entries_with t.desk desk ask) below
         (all_kept script (Acting q) w s place desk h) (record { moves = eq-eqb q q refl; now = now; first = first })
-        (own_same (w.node q).clock (is_at place q) (q == q) (entry_of desk q) (tells_of script w s q) (copies_to script w s q) more m.state own)
+        (account_as (w.node q).clock (is_at place q) (q == q) (entry_of desk q) (tells_of script w s q) (copies_to script w s q) more m.state own)
 
 -- the desk's node grants an ask of its own
 pub local_service_keeps : (script : ScriptData) (w : World) (s q k : ℕ) (desk : Desk) → q < script.nodes → (state_at w s q).desk ≡ Some desk
@@ -226,12 +223,10 @@ pub local_service_keeps : (script : ScriptData) (w : World) (s q k : ℕ) (desk 
     → Contains (state_at w s q).pending (ask_at (state_at w s q) k) → (Contains (copies_to script w s q) (ask_at (state_at w s q) k) → ⊥)
     → DeskKept script (Acting q) w s (Some q) desk
     → DeskKept script (Acting q) (after_effect w q s (serve_local s k (state_at w s q))) s (Some q) (record desk { queue = remove (queue_of (state_at w s q)) k })
-local_service_keeps script w s q k desk below at entries free waits alone h = record {
-  accounts = kept.kept;
-  clear = kept.clear;
-  news = λ x under. news_change script w (after_effect w q s m) s q left desk x (quiet_heard script w q s m x quiet).freezes (frozen_stays w q s m x (record { number = refl; frozen = refl })) refl refl
-      (h.news x under);
-}
+local_service_keeps script w s q k desk below at entries free waits alone h =
+    kept_by script (Acting q) (after_effect w q s m) s (Some q) left kept
+    (λ x under. news_change script w (after_effect w q s m) s q left desk x (quiet_heard script w q s m x quiet).freezes
+    (frozen_stays w q s m x (record { number = refl; frozen = refl })) refl refl (h.news x under))
   where
     t : SetState
     t = state_at w s q
@@ -270,7 +265,8 @@ local_service_keeps script w s q k desk below at entries free waits alone h = re
 pub stays_keeps : (script : ScriptData) (w : World) (s q : ℕ) (desk : Desk) → q < script.nodes
     → DeskKept script (Frozen q) w s (Some q) desk → DeskKept script Between w s (Some q) desk
 stays_keeps script w s q desk below h =
-    let kept = one_changes script.nodes (account_of script (Frozen q) w s (Some q) desk) (account_of script Between w s (Some q) desk) q Rest
+    kept_by script Between w s (Some q) desk
+    (one_changes script.nodes (account_of script (Frozen q) w s (Some q) desk) (account_of script Between w s (Some q) desk) q Rest
     (all_kept script (Frozen q) w s (Some q) desk h) below (λ away. let no : true ≡ false = sym (eq-eqb q q refl) ∙ away in cc)
-    (λ x under d. ap (λ (b : Bool). record (account_of script Between w s (Some q) desk x) { moving = b }) (sym (ne_eqb x q d))) refl in
-    record { accounts = kept.kept; clear = kept.clear; news = h.news }
+    (λ x under d. ap (λ (b : Bool). record (account_of script Between w s (Some q) desk x) { moving = b }) (sym (ne_eqb x q d))) refl)
+    h.news
