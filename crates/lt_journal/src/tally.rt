@@ -1,58 +1,27 @@
-ghost use Rattle.std.specs.Prelude.{◌≡◌, ◌≤◌, ◌+◌, ◌^◌, length, OnErr, IfOk, OnOk, fold, slice_set};
-ghost use Rattle.lt_runs.specs.Text.{Outcome as AnyOutcome, with_lock, less_lock, with_waiting, after_event, first_outcome, outcome_of, events_of};
-ghost use Rattle.lt_journal.specs.Counts.{Tells};
+ghost use Rattle.std.specs.Prelude.{◌≡◌, ◌≤◌, ◌+◌, ◌^◌, ◌++◌, ◌∷◌, [], List, length, OnErr, IfOk, OnOk, slice_set};
+ghost use Rattle.lt_modes.specs.declared.event.Event.{Event as AnyEvent};
+ghost use Rattle.lt_modes.specs.declared.event.Event.TheVariants.{Grant, Change};
+ghost use Rattle.lt_runs.specs.Holdings.{holdings, lines_of};
+ghost use Rattle.lt_journal.specs.LockTable.{IsTallied};
 
 use crate::table::{Holding, Table};
 use lt_merge::Run;
-use lt_modes::{Event, Mode};
+use lt_modes::{Event, Link, Mode};
 use lt_script::Script;
 use std::alloc::{AllocError, Global};
 use std::marker::Model;
 
-/// What a client waits for.
-#[derive(Clone, Copy, Debug)]
-pub struct Waiting {
-    pub set: u8,
-    pub mode: Mode,
-}
-
-impl Model for Waiting {
-    ghost use Rattle.lt_runs.specs.Text.{Waiting as WaitingData};
-
-    ghost Value = { WaitingData };
-
-    ghost view = { λ w. record { set = w.set; mode = w.mode } };
-
-    ghost inverse = { λ w. record { set = w.set; mode = w.mode } };
-}
-
-/// Where a set's token went last.
-#[derive(Clone, Copy, Debug)]
-pub struct Owner {
-    pub node: u8,
-    pub epoch: u64,
-}
-
-impl Model for Owner {
-    ghost use Rattle.lt_runs.specs.Text.{Owner as OwnerData};
-
-    ghost Value = { OwnerData };
-
-    ghost view = { λ o. record { node = o.node; epoch = o.epoch } };
-
-    ghost inverse = { λ o. record { node = o.node; epoch = o.epoch } };
-}
-
-/// What events come to: how many locks are held, what each client waits for, and each set's owner.
+/// What events come to: how many locks are held, what each client waits for, and where each set's token went
+/// last.
 #[derive(Debug, Drop)]
 pub struct Tally {
     pub held: Table,
-    pub waiting: Vec<Option<Waiting>>,
-    pub owners: Vec<Owner>,
+    pub waiting: Vec<Option<Holding>>,
+    pub owners: Vec<Link>,
 }
 
 impl Model for Tally {
-    ghost use Rattle.lt_journal.specs.Counts.{Tally as TallyData};
+    ghost use Rattle.lt_journal.specs.LockTable.{Tally as TallyData};
 
     ghost Value = { TallyData };
 
@@ -62,26 +31,28 @@ impl Model for Tally {
 impl Tally {
     /// What no events come to.
     fn new(alloc: Global, script: &Script) -> Result<Tally, AllocError>
-        ensures { IfOk result (λ tally. Tells script.now tally (first_outcome script.now)) }
+        ensures { IfOk result (λ tally. IsTallied script.now tally []) }
     {
         Ok(Tally {
             held: Table::new(alloc, script)?,
             waiting: vec![in alloc; None; usize::from(script.clients())]?,
-            owners: vec![in alloc; Owner { node: 0, epoch: 0 }; usize::from(script.sets())]?,
+            owners: vec![in alloc; Link { node: 0, epoch: 0 }; usize::from(script.sets())]?,
         })
     }
 
     /// Takes one event more into account. It fails where more locks are held than a number can say.
     fn apply(&mut self, script: &Script, event: Event) -> Result<(), AllocError>
-        ensures applied { OnOk result ((outcome : AnyOutcome)
-            → Tells script.now self.old outcome
-            → Tells script.now self.new (after_event script.now outcome event)) }
-        ensures full { OnErr result ((outcome : AnyOutcome)
-            → Tells script.now self.old outcome → 2 ^ 64 ≤ length outcome.held + 1) }
+        ensures applied { OnOk result ((events : List AnyEvent)
+            → IsTallied script.now self.old events
+            → IsTallied script.now self.new (events ++ event ∷ [])) }
+        ensures full { OnErr result ((events : List AnyEvent)
+            → IsTallied script.now self.old events → 2 ^ 64 ≤ length (holdings script.now events) + 1) }
     {
         match event {
             Event::Grant { client, set, mode } => self.grant(script, client, set, mode)?,
-            Event::Wait { client, set, mode } => self.wait(client, Some(Waiting { set, mode })),
+            Event::Wait { client, set, mode } => {
+                self.wait(client, Some(Holding { client, set, mode }));
+            }
             Event::Try {
                 client,
                 set,
@@ -102,7 +73,7 @@ impl Tally {
                 mode,
             } => self.change(script, client, set, gives_up, mode)?,
             Event::DropAll { other, set, .. } => self.held.drop_all(script, other, set),
-            Event::Token { set, to, epoch } => self.own(set, Owner { node: to, epoch }),
+            Event::Token { set, to, epoch } => self.own(set, Link { node: to, epoch }),
             Event::NotHeld { .. }
             | Event::Busy { .. }
             | Event::Copy { .. }
@@ -113,11 +84,11 @@ impl Tally {
 
     // Adds a lock, for which its client waits no more.
     fn grant(&mut self, script: &Script, client: u16, set: u8, mode: Mode) -> Result<(), AllocError>
-        ensures granted { OnOk result ((outcome : AnyOutcome)
-            → Tells script.now self.old outcome
-            → Tells script.now self.new (with_waiting (with_lock outcome client set mode) client None)) }
-        ensures full { OnErr result ((outcome : AnyOutcome)
-            → Tells script.now self.old outcome → 2 ^ 64 ≤ length outcome.held + 1) }
+        ensures granted { OnOk result ((events : List AnyEvent)
+            → IsTallied script.now self.old events
+            → IsTallied script.now self.new (events ++ Grant client set mode ∷ [])) }
+        ensures full { OnErr result ((events : List AnyEvent)
+            → IsTallied script.now self.old events → 2 ^ 64 ≤ length (holdings script.now events) + 1) }
     {
         self.held.add(script, Holding { client, set, mode })?;
         self.wait(client, None);
@@ -133,12 +104,11 @@ impl Tally {
         gives_up: Mode,
         mode: Mode,
     ) -> Result<(), AllocError>
-        ensures changed { OnOk result ((outcome : AnyOutcome)
-            → Tells script.now self.old outcome
-            → Tells script.now self.new
-            (with_waiting (with_lock (less_lock outcome client set gives_up) client set mode) client None)) }
-        ensures full { OnErr result ((outcome : AnyOutcome)
-            → Tells script.now self.old outcome → 2 ^ 64 ≤ length outcome.held + 1) }
+        ensures changed { OnOk result ((events : List AnyEvent)
+            → IsTallied script.now self.old events
+            → IsTallied script.now self.new (events ++ Change client set gives_up mode ∷ [])) }
+        ensures full { OnErr result ((events : List AnyEvent)
+            → IsTallied script.now self.old events → 2 ^ 64 ≤ length (holdings script.now events) + 1) }
     {
         let old = Holding {
             client,
@@ -150,7 +120,7 @@ impl Tally {
     }
 
     // The client now waits for this, or for nothing.
-    fn wait(&mut self, client: u16, waiting: Option<Waiting>)
+    fn wait(&mut self, client: u16, waiting: Option<Holding>)
         ensures { self.new ≡ record self.old { waiting = slice_set self.old.waiting client waiting } }
     {
         let place = usize::from(client);
@@ -159,8 +129,8 @@ impl Tally {
         }
     }
 
-    // The set now has this owner.
-    fn own(&mut self, set: u8, owner: Owner)
+    // The set's token now went there.
+    fn own(&mut self, set: u8, owner: Link)
         ensures { self.new ≡ record self.old { owners = slice_set self.old.owners set owner } }
     {
         let place = usize::from(set);
@@ -172,7 +142,7 @@ impl Tally {
 
 /// What a run comes to.
 pub fn tally_of(alloc: Global, script: &Script, run: &Run) -> Result<Tally, AllocError>
-    ensures { IfOk result (λ tally. Tells script.now tally (outcome_of script.now run.now.entries)) }
+    ensures { IfOk result (λ tally. IsTallied script.now tally (lines_of run.now.entries)) }
 {
     let mut tally = Tally::new(alloc, script)?;
     apply_run(&mut tally, script, run)?;
@@ -181,10 +151,9 @@ pub fn tally_of(alloc: Global, script: &Script, run: &Run) -> Result<Tally, Allo
 
 // Takes the events of all moves into account. It fails only where a run has more events than a number can say.
 fn apply_run(tally: &mut Tally, script: &Script, run: &Run) -> Result<(), AllocError>
-    requires { Tells script.now tally.old (first_outcome script.now) }
-    ensures applied { OnOk result
-        (Tells script.now tally.new (outcome_of script.now run.now.entries)) }
-    ensures full { OnErr result (2 ^ 64 ≤ length (events_of run.now.entries) + 1) }
+    requires { IsTallied script.now tally.old [] }
+    ensures applied { OnOk result (IsTallied script.now tally.new (lines_of run.now.entries)) }
+    ensures full { OnErr result (2 ^ 64 ≤ length (lines_of run.now.entries) + 1) }
 {
     for k in 0..run.len() {
         apply_all(tally, script, run.events(k))?;
@@ -194,12 +163,12 @@ fn apply_run(tally: &mut Tally, script: &Script, run: &Run) -> Result<(), AllocE
 
 // Takes the events into account, in order.
 fn apply_all(tally: &mut Tally, script: &Script, events: &[Event]) -> Result<(), AllocError>
-    ensures applied { OnOk result ((outcome : AnyOutcome)
-        → Tells script.now tally.old outcome
-        → Tells script.now tally.new (fold (after_event script.now) outcome events.now)) }
-    ensures full { OnErr result ((outcome : AnyOutcome)
-        → Tells script.now tally.old outcome
-        → 2 ^ 64 ≤ length outcome.held + length events.now + 1) }
+    ensures applied { OnOk result ((before : List AnyEvent)
+        → IsTallied script.now tally.old before
+        → IsTallied script.now tally.new (before ++ events.now)) }
+    ensures full { OnErr result ((before : List AnyEvent)
+        → IsTallied script.now tally.old before
+        → 2 ^ 64 ≤ length before + length events.now + 1) }
 {
     for event in events {
         tally.apply(script, *event)?;
