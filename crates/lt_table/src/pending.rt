@@ -53,7 +53,7 @@ impl Pending {
         ensures listed { result ≡ is_listed self.now stamp }
         ensures unanswered { (asks : List Ask) → stamps_of asks ≡ self.now → result ≡ is_unanswered asks stamp }
     {
-        self.place(stamp).is_some()
+        is_listed(self.stamps.as_slice(), stamp)
     }
 
     /// Adds the stamp as the last one.
@@ -82,11 +82,7 @@ impl Pending {
     pub fn copied(&self) -> Pending
         ensures { result ≡ self.now }
     {
-        let mut stamps = ArrayVec::new();
-        for &stamp in self.stamps.as_slice() {
-            stamps.push(stamp);
-        }
-        Pending { stamps }
+        copy_of(self.stamps.as_slice())
     }
 
     fn place(&self, stamp: Stamp) -> Option<usize>
@@ -96,4 +92,21 @@ impl Pending {
         self.stamps.as_slice().iter().position(|listed| stamp.clock == listed.clock
             && stamp.node == listed.node)
     }
+}
+
+fn copy_of(listed: &[Stamp]) -> Pending
+    requires { length listed.now ≤ 16 }
+    ensures { result ≡ listed.now }
+{
+    let mut stamps = ArrayVec::new();
+    for &stamp in listed {
+        stamps.push(stamp);
+    }
+    Pending { stamps }
+}
+
+fn is_listed(stamps: &[Stamp], stamp: Stamp) -> bool
+    ensures { result ≡ is_listed stamps.now stamp }
+{
+    stamps.iter().any(|listed| stamp.clock == listed.clock && stamp.node == listed.node)
 }
