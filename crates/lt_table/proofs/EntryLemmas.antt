@@ -1,5 +1,5 @@
 -- Entries by place: what is seen of them, and their room.
-use Rattle.std.proofs.Common.{◌≡◌, ℕ, zero, suc, ◌+◌, ◌^◌, ◌<◌, ◌≤◌, List, [], ◌∷◌, length, map, take, subst, sym, add-one, arith, refl, ap, ◌∙◌}
+use Rattle.std.proofs.Common.{◌≡◌, ℕ, zero, suc, ◌+◌, ◌<◌, ◌≤◌, List, [], ◌∷◌, length, map, take, subst, sym, add-one, arith, refl, ap, ◌∙◌}
 use Rattle.std.specs.Prelude.{slice_index_or, slice_set}
 use Rattle.lt_modes.specs.State as rules
 use Rattle.lt_table.specs.declared.entry.Entry.{Entry}

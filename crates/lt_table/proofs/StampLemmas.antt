@@ -1,6 +1,6 @@
 -- Stamps of asks, and the asks.
-use Rattle.std.proofs.Common.{◌≡◌, ◌∙◌, ℕ, zero, suc, ◌+◌, Bool, true, false, List, [], ◌∷◌, length, map, refl, ap, sym, arith}
-use Rattle.std.specs.Prelude.{Option, Some, None, is_some, position, remove, nat_lt, ◌||◌, ◌==◌, if◌then◌else◌, not}
+use Rattle.std.proofs.Common.{◌≡◌, ◌∙◌, ℕ, zero, suc, ◌+◌, Bool, true, false, List, [], ◌∷◌, length, refl, ap, sym, arith}
+use Rattle.std.specs.Prelude.{Some, None, is_some, position, remove, nat_lt, ◌||◌, ◌==◌, if◌then◌else◌, not}
 use Rattle.std.specs.List.{list_any, position_or_len}
 use Rattle.std.proofs.lemmas.Bool.Decides.{nat_tests}
 use Rattle.std.proofs.lemmas.List.{length-map}

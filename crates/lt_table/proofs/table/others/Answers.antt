@@ -1,4 +1,4 @@
-use Rattle.std.proofs.Common.{◌≡◌, ◌∙◌, ℕ, ◌+◌, length, add-one, arith, subst, ap, refl}
+use Rattle.std.proofs.Common.{◌≡◌, ℕ, ◌+◌, length, add-one, arith, subst, ap, refl}
 use Rattle.std.specs.Prelude.{◌==◌, if◌then◌else◌}
 use Rattle.std.proofs.lemmas.List.{length-map}
 use Rattle.lt_modes.specs.Modes.{Modes, union, no_modes}

@@ -1,6 +1,6 @@
-use Rattle.std.proofs.Common.{◌≡◌, ◌<◌, ◌∙◌, length, map, ap, arith, rules}
+use Rattle.std.proofs.Common.{◌<◌, length, ap, arith, rules}
 use Rattle.lt_modes.specs.Serving.{owing}
-use Rattle.lt_table.specs.Seen.{entry_seen, spare_of, spare_in}
+use Rattle.lt_table.specs.Seen.{spare_of}
 use Rattle.lt_table.specs.TableData.{ask_with}
 use Rattle.lt_table.proofs.EntryLemmas.{spare_at, spare_set, entries_put}
 use Rattle.lt_table.proofs.table.Table.owe.Goals as goal

@@ -1,4 +1,4 @@
-use Rattle.std.proofs.Common.{◌≡◌, ◌<◌, ◌∙◌, length, ap, arith, rules}
+use Rattle.std.proofs.Common.{◌<◌, ◌∙◌, length, ap, arith, rules}
 use Rattle.lt_modes.specs.HandingOver.{settled}
 use Rattle.lt_table.specs.Seen.{entry_seen, spare_of}
 use Rattle.lt_table.proofs.StampLemmas.{settled_is}

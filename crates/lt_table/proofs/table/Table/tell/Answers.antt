@@ -1,4 +1,4 @@
-use Rattle.std.proofs.Common.{◌≡◌, ◌<◌, length, ap, arith, rules}
+use Rattle.std.proofs.Common.{◌<◌, length, ap, arith, rules}
 use Rattle.lt_modes.specs.State.{Tell}
 use Rattle.lt_modes.specs.Tells.{told}
 use Rattle.lt_table.specs.Seen.{spare_of}
