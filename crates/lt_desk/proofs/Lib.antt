@@ -1,0 +1,4 @@
+mod SeenLemmas
+mod BarsLemmas
+mod PlaceLemmas
+mod FreezeLemmas
