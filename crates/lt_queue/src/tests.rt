@@ -13,6 +13,12 @@ fn ask(client: u16, mode: Mode, holder: bool) -> Ask {
     }
 }
 
+fn enter(queue: &mut Queue, ask: Ask) {
+    if queue.len() < queue.room() {
+        queue.insert(ask);
+    }
+}
+
 #[test]
 fn puts_holders_before_the_others(rt: HostRuntime) -> Result<(), Fail> {
     for (holders, order) in [
@@ -24,10 +30,13 @@ fn puts_holders_before_the_others(rt: HostRuntime) -> Result<(), Fail> {
     ] {
         let mut queue = Queue::new(rt.alloc(), 3)?;
         for client in 0..3u16 {
-            queue.insert(ask(client, Mode::Read, holders[client as usize]));
+            enter(
+                &mut queue,
+                ask(client, Mode::Read, holders[client as usize]),
+            );
         }
         assert_eq!(rt; queue.len(), 3);
-        for k in 0..3u32 {
+        for k in 0..queue.len() {
             assert_eq!(rt; queue.get(k).client, order[k as usize], "{holders:?}");
         }
     }
@@ -39,8 +48,8 @@ fn tells_conflicts_by_place(rt: HostRuntime) -> Result<(), Fail> {
     let mut queue = Queue::new(rt.alloc(), 3)?;
     assert_eq!(rt; (queue.room(), queue.len()), (3, 0));
     assert!(rt; queue.frozen().is_empty());
-    queue.insert(ask(0, Mode::IntentionRead, false));
-    queue.insert(ask(1, Mode::Read, false));
+    enter(&mut queue, ask(0, Mode::IntentionRead, false));
+    enter(&mut queue, ask(1, Mode::Read, false));
     assert_eq!(rt; (queue.place(true), queue.place(false)), (0, 2));
     for (k, mode, clear) in [
         (0, Mode::Write, true),
@@ -49,10 +58,12 @@ fn tells_conflicts_by_place(rt: HostRuntime) -> Result<(), Fail> {
         (2, Mode::IntentionWrite, false),
         (2, Mode::Upgrade, true),
     ] {
+        assert!(rt; k <= queue.len());
         assert_eq!(rt; queue.clear_before(k, mode), clear, "{mode:?} before {k}");
     }
     let barred = ModeSet::one(Mode::IntentionWrite).with(Mode::Write);
     assert!(rt; queue.frozen() == barred);
+    assert!(rt; 1 < queue.len());
     assert_eq!(rt; queue.remove(1).client, 1);
     assert!(rt; queue.frozen() == ModeSet::one(Mode::Write));
     assert_eq!(rt; (queue.room(), queue.len()), (3, 1));

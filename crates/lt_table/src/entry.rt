@@ -1,9 +1,11 @@
-ghost use Rattle.std.specs.Prelude.{◌≡◌, ◌≤◌, ◌<◌, ◌+◌, ℕ, OnOk, vec_len, vec_capacity};
-ghost use Rattle.lt_modes.specs.Records.{record_of, modes_of_owed};
+ghost use Rattle.std.specs.Prelude.{◌≡◌, ◌≤◌, ◌<◌, ◌+◌, ℕ, List, OnOk, vec_len, vec_capacity};
+ghost use Rattle.lt_modes.specs.Records.{record_of, modes_of_owed, still_owed};
+ghost use Rattle.lt_modes.specs.declared.ask.Ask.{Ask};
 ghost use Rattle.lt_modes.specs.State.{first_entry};
 ghost use Rattle.lt_modes.specs.Tells.{told, is_newer, is_open};
 ghost use Rattle.lt_modes.specs.Serving.{owing};
-ghost use Rattle.lt_table.specs.TableData.{ask_with, owed_listed, owed_open, settled_by};
+ghost use Rattle.lt_modes.specs.HandingOver.{stamps_of};
+ghost use Rattle.lt_table.specs.TableData.{ask_with, owed_listed, owed_open, settled_by, told_frozen};
 ghost use Rattle.lt_table.specs.Seen.{entry_seen, spare_of};
 
 use crate::pending::Pending;
@@ -53,17 +55,11 @@ impl Entry {
         self.reported.union(owed_modes(self.owed.as_slice()))
     }
 
-    /// The modes of the owed asks whose stamps are listed.
+    /// The modes of the owed asks that are unanswered, where these are the stamps of the unanswered ones.
     pub(crate) fn owed_in(&self, pending: &Pending) -> ModeSet
-        ensures { result ≡ modes_of_owed (owed_listed pending.now (entry_seen self.now).owed) }
+        ensures { (asks : List Ask) → stamps_of asks ≡ pending.now → result ≡ modes_of_owed (still_owed asks (entry_seen self.now).owed) }
     {
-        let mut modes = ModeSet::empty();
-        for copy in &self.owed {
-            if pending.has(copy.stamp) {
-                modes = modes.with(copy.mode);
-            }
-        }
-        modes
+        listed_modes(self.owed.as_slice(), pending)
     }
 
     /// Applies a tell of the entry's node, where it is newer than the last one.
@@ -86,6 +82,13 @@ impl Entry {
         ensures spare { spare_of self.old ≤ spare_of self.new + 1 }
     {
         self.owed.push_reserved(Owed { stamp, mode });
+    }
+
+    pub(crate) fn tell_frozen(&mut self, modes: ModeSet)
+        ensures entry { entry_seen self.new ≡ told_frozen modes (entry_seen self.old) }
+        ensures spare { spare_of self.new ≡ spare_of self.old }
+    {
+        self.frozen_told = modes;
     }
 
     /// What the node tells of itself as it hands the desk over.
@@ -112,6 +115,18 @@ fn owed_modes(owed: &[Owed]) -> ModeSet
 {
     owed.iter()
         .fold(ModeSet::empty(), |modes, copy| modes.with(copy.mode))
+}
+
+fn listed_modes(owed: &[Owed], pending: &Pending) -> ModeSet
+    ensures { result ≡ modes_of_owed (owed_listed pending.now owed.now) }
+{
+    let mut modes = ModeSet::empty();
+    for copy in owed {
+        if pending.has(copy.stamp) {
+            modes = modes.with(copy.mode);
+        }
+    }
+    modes
 }
 
 // The owed asks that may still be unanswered after a tell stay.

@@ -4,6 +4,8 @@
 mod entry;
 mod pending;
 mod table;
+#[cfg(test)]
+mod tests;
 
 pub use pending::Pending;
 pub use table::Table;

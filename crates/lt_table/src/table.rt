@@ -1,13 +1,14 @@
-ghost use Rattle.std.specs.Prelude.{◌≡◌, ◌≤◌, ◌<◌, ◌+◌, List, length, map, replicate, IfOk, OnOk};
+ghost use Rattle.std.specs.Prelude.{◌≡◌, ◌≤◌, ◌<◌, ◌+◌, List, length, map, replicate, IfOk, OnOk, if◌then◌else◌, ◌==◌};
+ghost use Rattle.lt_modes.specs.Modes.{no_modes};
 ghost use Rattle.lt_modes.specs.declared.ask.Ask.{Ask};
 ghost use Rattle.lt_modes.specs.State.{SetState, Desk, first_entry};
 ghost use Rattle.lt_modes.specs.Held.{held_modes};
-ghost use Rattle.lt_modes.specs.Records.{record_of, modes_of_owed, still_owed, own_part, others};
+ghost use Rattle.lt_modes.specs.Records.{record_of, modes_of_owed, still_owed, own_part, modes_at, others};
 ghost use Rattle.lt_modes.specs.Tells.{told, is_newer};
 ghost use Rattle.lt_modes.specs.Serving.{owing};
 ghost use Rattle.lt_modes.specs.HandingOver.{stamps_of, settled};
 ghost use Rattle.lt_table.specs.TableData.{entry_at, put_by, ask_with, told_frozen};
-ghost use Rattle.lt_table.specs.Seen.{entry_seen};
+ghost use Rattle.lt_table.specs.Seen.{entry_seen, spare_in};
 
 use crate::entry::{Entry, is_newer};
 use crate::pending::Pending;
@@ -39,11 +40,9 @@ impl Table {
     pub fn new(alloc: Global, nodes: u8) -> Result<Table, AllocError>
         ensures { IfOk result (λ table. table.entries ≡ replicate nodes first_entry) }
     {
-        let mut entries = Vec::new(alloc);
-        for _node in 0..nodes {
-            entries.push(Entry::new(alloc))?;
-        }
-        Ok(Table { entries })
+        Ok(Table {
+            entries: first_entries(alloc, nodes)?,
+        })
     }
 
     /// The number of entries.
@@ -59,10 +58,7 @@ impl Table {
         ensures spare { OnOk result (asks ≤ self.new.spare) }
         ensures kept { self.old.spare ≤ self.new.spare }
     {
-        for entry in &mut self.entries {
-            entry.reserve(asks)?;
-        }
-        Ok(())
+        reserve(&mut self.entries, asks)
     }
 
     /// The record of a node: the modes that it reported, and those of its owed asks.
@@ -114,10 +110,7 @@ impl Table {
     pub fn owed_in(&self, node: u8, pending: &Pending) -> ModeSet
         ensures { (asks : List Ask) → stamps_of asks ≡ pending.now → result ≡ modes_of_owed (still_owed asks (entry_at self.now.entries node).owed) }
     {
-        match self.entries.get(usize::from(node)) {
-            Some(entry) => entry.owed_in(pending),
-            None => ModeSet::empty(),
-        }
+        owed_at(self.entries.as_slice(), usize::from(node), pending)
     }
 
     /// The modes that the node was last told to be frozen.
@@ -136,7 +129,7 @@ impl Table {
     {
         let x = usize::from(node);
         if x < self.entries.len() {
-            self.entries[x].frozen_told = modes;
+            self.entries[x].tell_frozen(modes);
         }
     }
 
@@ -161,6 +154,15 @@ fn record_at(entries: &[Entry], x: usize) -> ModeSet
     }
 }
 
+fn owed_at(entries: &[Entry], x: usize, pending: &Pending) -> ModeSet
+    ensures { (asks : List Ask) → stamps_of asks ≡ pending.now → result ≡ modes_of_owed (still_owed asks (entry_at (map entry_seen entries.now) x).owed) }
+{
+    match entries.get(x) {
+        Some(entry) => entry.owed_in(pending),
+        None => ModeSet::empty(),
+    }
+}
+
 fn told_at(entries: &[Entry], x: usize) -> Stamp
     ensures { result ≡ (entry_at (map entry_seen entries.now) x).told_at }
 {
@@ -175,10 +177,44 @@ fn others(entries: &[Entry], node: usize, me: usize, own: ModeSet) -> ModeSet
 {
     let mut all = ModeSet::empty();
     for x in 0..entries.len() {
-        if x != node {
-            let modes = if x == me { own } else { record_at(entries, x) };
-            all = all.union(modes);
-        }
+        all = all.union(counted(entries, x, node, me, own));
     }
     all
+}
+
+// What counts of node x, where this node counts nothing.
+fn counted(entries: &[Entry], x: usize, node: usize, me: usize, own: ModeSet) -> ModeSet
+    ensures { (s : SetState) (desk : Desk) → desk.entries ≡ map entry_seen entries.now → own_part me s desk ≡ own
+        → result ≡ (if x == node then no_modes else modes_at me s desk x) }
+{
+    if x == node {
+        ModeSet::empty()
+    } else if x == me {
+        own
+    } else {
+        record_at(entries, x)
+    }
+}
+
+fn first_entries(alloc: Global, nodes: u8) -> Result<Vec<Entry>, AllocError>
+    ensures entries { IfOk result (λ es. map entry_seen es.items ≡ replicate nodes first_entry) }
+    ensures length { IfOk result (λ es. length es.items ≡ nodes) }
+{
+    let mut entries = Vec::new(alloc);
+    for _node in 0..nodes {
+        entries.push(Entry::new(alloc))?;
+    }
+    Ok(entries)
+}
+
+fn reserve(entries: &mut Vec<Entry>, asks: u32) -> Result<(), AllocError>
+    ensures entries { map entry_seen entries.new.items ≡ map entry_seen entries.old.items }
+    ensures length { length entries.new.items ≡ length entries.old.items }
+    ensures spare { OnOk result (asks ≤ spare_in entries.new.items) }
+    ensures kept { spare_in entries.old.items ≤ spare_in entries.new.items }
+{
+    for x in 0..entries.len() {
+        entries[x].reserve(asks)?;
+    }
+    Ok(())
 }
