@@ -1,11 +1,11 @@
 -- A freeze, node by node.
-use Rattle.std.proofs.Common.{◌≡◌, ◌≢◌, ℕ, zero, suc, ◌+◌, ◌^◌, ◌%◌, ◌*◌, ◌<◌, ◌≤◌, Bool, true, false, List, [], ◌∷◌, length, Contains, inl, inr, refl, sym, ap, ◌∙◌, subst, arith, add-one, bit_or, bit_and, slice_index_or, slice_set, if◌then◌else◌, w64, nat_lt}
+use Rattle.std.proofs.Common.{◌≡◌, ◌≢◌, ℕ, zero, suc, ◌+◌, ◌^◌, ◌%◌, ◌*◌, ◌<◌, Bool, true, false, List, [], ◌∷◌, length, Contains, inl, inr, refl, sym, ap, ◌∙◌, subst, arith, add-one, bit_or, bit_and, slice_index_or, slice_set, if◌then◌else◌, w64, nat_lt}
 use Rattle.std.specs.Prelude.{◌&&◌, ◌||◌, ◌==◌, ◌↔◌, IsBitSet}
 use Rattle.std.specs.Int.{bit_at}
-use Rattle.std.proofs.lemmas.Bool.{cases_eq, and_parts, and_from, eq-eqb, ne_eqb, lt-ltb, ltb-true, ltb-false}
+use Rattle.std.proofs.lemmas.Bool.{cases_eq, and_parts, and_from, eq-eqb, ne_eqb, lt-ltb, ltb-true}
 use Rattle.std.proofs.lemmas.Bool.Decides.{nat_tests}
 use Rattle.std.proofs.lemmas.List.{set-get_or}
-use Rattle.std.proofs.lemmas.List.Elements.{Contains-append_right, Contains-append_cases, Contains-get_or}
+use Rattle.std.proofs.lemmas.List.Elements.{Contains-append_right, Contains-append_cases}
 use Rattle.std.proofs.lemmas.Nat.{pow_pos}
 use Rattle.std.proofs.lemmas.Nat.Bits.{bit_at-lt, bit_at-zero, bit_at_set_same, bit_at_set_other, same_from_bits, and_pow}
 use Rattle.lt_modes.specs.Modes.{Modes}
@@ -204,27 +204,27 @@ bit_if_one false e = absurd (omega arith)
 -- the mask has the targets' bits
 pub mask_is : (test : ℕ → Entry → Bool) (es : List Entry) (nodes : ℕ) → HasBits test (length es) es nodes
     → (x : ℕ) → IsBitSet nodes x ↔ Contains (places_from test 0 es) x
-mask_is test es nodes bits x =
-    ( λ set.
-        let both = and_parts _ _ (bit_if_one (nat_lt x (length es) && test x (entry_at es x)) (sym (bits x) ∙ set_bit nodes x set)) in
-        in_places test x 0 x es (ltb-true x (length es) both.0) (omega arith) both.1
-    , λ has.
-        let at = out_places test 0 x es has in
-        let here : at.place ≡ x = omega (arith, at.is) in
-        let within : x < length es = omega (arith, here, at.within) in
-        let passes : test x (entry_at es x) ≡ true = ap (λ y. test x (entry_at es y)) (sym here) ∙ at.passes in
-        bit_set nodes x (bits x ∙ ap (λ b. bit_if b 1) (and_from _ _ (lt-ltb x (length es) within) passes))
-    )
+mask_is test es nodes bits x = (
+  λ set.
+      let both = and_parts _ _ (bit_if_one (nat_lt x (length es) && test x (entry_at es x)) (sym (bits x) ∙ set_bit nodes x set)) in
+      in_places test x 0 x es (ltb-true x (length es) both.0) (omega arith) both.1,
+  λ has.
+      let at = out_places test 0 x es has in
+      let here : at.place ≡ x = omega (arith, at.is) in
+      let within : x < length es = omega (arith, here, at.within) in
+      let passes : test x (entry_at es x) ≡ true = ap (λ y. test x (entry_at es y)) (sym here) ∙ at.passes in
+      bit_set nodes x (bits x ∙ ap (λ b. bit_if b 1) (and_from _ _ (lt-ltb x (length es) within) passes)),
+)
 
 -- the number rises where the mask has a bit
 pub number_is : (told : List ℕ) (nodes : ℕ) → ((x : ℕ) → IsBitSet nodes x ↔ Contains told x) → (number : ℕ)
     → number_after told number ≡ (if nodes == 0 then number else number + 1)
 number_is [] nodes is number =
     let none : (x : ℕ) → bit_at nodes x ≡ bit_at 0 x = λ x.
-        elim (cases_eq (bit_at nodes x) 1) [
-          | inl one ↦ absurd (omega (arith, ((is x).0 (bit_set nodes x one)).1))
-          | inr other ↦ zero_or_one (bit_at nodes x) (bit_at-lt nodes x) other ∙ sym (bit_at-zero x)
-        ] in
+    elim (cases_eq (bit_at nodes x) 1) [
+      | inl one ↦ absurd (omega (arith, ((is x).0 (bit_set nodes x one)).1))
+      | inr other ↦ zero_or_one (bit_at nodes x) (bit_at-lt nodes x) other ∙ sym (bit_at-zero x)
+    ] in
     rw (eq-eqb nodes 0 (same_from_bits nodes 0 none)) refl
 number_is (x ∷ rest) nodes is number =
     let some : nodes ≢ 0 = λ none. (is x).1 (0, omega arith, refl) (no_bit nodes x (ap (λ n. bit_at n x) none ∙ bit_at-zero x)) in
@@ -246,7 +246,7 @@ pub desk_told : (me : ℕ) (modes : Modes) (desk : Desk) (nodes number : ℕ) (e
     → record desk { number = number; entries = entries } ≡ told_desk me desk
 desk_told me modes desk nodes number entries same bits next made =
     let numbers : number ≡ number_after (targets me modes desk) desk.number =
-        next ∙ sym (number_is (targets me modes desk) nodes (mask_is (is_target me modes) desk.entries nodes bits) desk.number) in
+    next ∙ sym (number_is (targets me modes desk) nodes (mask_is (is_target me modes) desk.entries nodes bits) desk.number) in
     let told = λ (frozen : Modes). record desk {
       number = number_after (targets me frozen desk) desk.number;
       entries = map_from (frozen_entry me frozen) 0 desk.entries;

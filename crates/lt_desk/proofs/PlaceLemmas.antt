@@ -1,5 +1,5 @@
 -- One place of the queue further.
-use Rattle.std.proofs.Common.{◌≡◌, ℕ, zero, suc, ◌+◌, ◌<◌, Bool, true, false, List, [], ◌∷◌, length, drop, drop-cons, Some, arith, refl, add-one, slice_index_or, if◌then◌else◌}
+use Rattle.std.proofs.Common.{◌≡◌, ℕ, ◌+◌, ◌<◌, true, false, List, length, drop, drop-cons, Some, refl, add-one, slice_index_or}
 use Rattle.lt_modes.specs.declared.ask.Ask.{Ask}
 use Rattle.lt_modes.specs.Modes.{Modes, with_mode}
 use Rattle.lt_modes.specs.Queue.{no_ask}

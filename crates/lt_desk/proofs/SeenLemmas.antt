@@ -1,5 +1,5 @@
 -- The rules of serving read no more of a state than its rows, the entries, and what the desk's node is still owed.
-use Rattle.std.proofs.Common.{◌≡◌, ℕ, zero, suc, ◌+◌, Bool, List, [], ◌∷◌, length, Option, Some, None, refl, ap, sym, ◌∙◌, if◌then◌else◌, slice_index_or}
+use Rattle.std.proofs.Common.{◌≡◌, ℕ, zero, suc, ◌+◌, Bool, List, [], ◌∷◌, length, Some, refl, ap, sym, ◌∙◌, if◌then◌else◌, slice_index_or}
 use Rattle.std.specs.Prelude.{◌==◌, ◌&&◌, ◌||◌, not, filter, take}
 use Rattle.std.specs.List.{list_any}
 use Rattle.lt_modes.specs.declared.mode.Mode.{Mode}
@@ -65,7 +65,7 @@ pub reads_seen : (sight : Sight) (me : ℕ) (desk : Desk) (rows : List Row) (sta
     → (s : SetState) → IsSeen desk rows stamps s → ReadsSame me (state_of sight) s (desk_of sight) desk
 reads_seen sight me desk rows stamps held pending table s seen =
     let same : stamps_of (asks_of sight.pending.now) ≡ stamps_of s.pending =
-        stamps_given sight.pending.now ∙ pending ∙ sym seen.unanswered in
+    stamps_given sight.pending.now ∙ pending ∙ sym seen.unanswered in
     record {
       held = held ∙ sym seen.rows;
       entries = table;
@@ -100,27 +100,27 @@ pub next_same : (me : ℕ) (s t : SetState) (d e : Desk) → ReadsSame me s t d 
 next_same me s t d e same before k [] = refl
 next_same me s t d e same before k (ask ∷ rest) =
     λ i. if served_same me s t d e same before ask i
-        then Some k
-        else next_same me s t d e same (with_mode before ask.mode) (k + 1) rest i
+    then Some k
+    else next_same me s t d e same (with_mode before ask.mode) (k + 1) rest i
 
 pub move_same : (me : ℕ) (s t : SetState) (d e : Desk) → ReadsSame me s t d e → (before : Modes) (k : ℕ) (asks : List Ask)
     → move_from me s d before k asks ≡ move_from me t e before k asks
 move_same me s t d e same before k [] = refl
 move_same me s t d e same before k (ask ∷ rest) =
     λ i. if draw_same me s t d e same before k ask i
-        then Some k
-        else move_same me s t d e same (with_mode before ask.mode) (k + 1) rest i
+    then Some k
+    else move_same me s t d e same (with_mode before ask.mode) (k + 1) rest i
 
 pub picked_same : (me : ℕ) (s t : SetState) (d e : Desk) → ReadsSame me s t d e
     → s.desk ≡ Some d → t.desk ≡ Some e → d.queue ≡ e.queue → picked me s ≡ picked me t
 picked_same me s t d e same here there queue =
     let queues : queue_of s ≡ queue_of t = ap queue_of_desk here ∙ queue ∙ sym (ap queue_of_desk there) in
     let nexts : next_service me s ≡ next_service me t =
-        ap (next_at me s) here ∙ next_same me s t d e same no_modes 0 d.queue
-        ∙ ap (next_from me t e no_modes 0) queue ∙ sym (ap (next_at me t) there) in
+    ap (next_at me s) here ∙ next_same me s t d e same no_modes 0 d.queue
+    ∙ ap (next_from me t e no_modes 0) queue ∙ sym (ap (next_at me t) there) in
     let moves : next_move me s ≡ next_move me t =
-        ap (move_at me s) here ∙ move_same me s t d e same no_modes 0 d.queue
-        ∙ ap (move_from me t e no_modes 0) queue ∙ sym (ap (move_at me t) there) in
+    ap (move_at me s) here ∙ move_same me s t d e same no_modes 0 d.queue
+    ∙ ap (move_from me t e no_modes 0) queue ∙ sym (ap (move_at me t) there) in
     λ i. picked_by me (queues i) (nexts i) (moves i)
 
 pub join_same : (me : ℕ) (s t : SetState) (d e : Desk) → ReadsSame me s t d e
@@ -129,8 +129,8 @@ pub join_same : (me : ℕ) (s t : SetState) (d e : Desk) → ReadsSame me s t d 
 join_same me s t d e same here there queue client mode =
     let clear = λ (held : List Row) (joins : Bool). not (has mode (bars (other_modes held client))) && joins in
     let joins : may_join me s client mode (Some d) ≡ may_join me t client mode (Some e) =
-        λ i. not (has mode (bars (union (others_same me s t d e same me i) (union (same.owed i)
-            (modes_of_asks (take (place (queue i) (list_any (is_of client) (same.held i))) (queue i))))))) in
+    λ i. not (has mode (bars (union (others_same me s t d e same me i) (union (same.owed i)
+    (modes_of_asks (take (place (queue i) (list_any (is_of client) (same.held i))) (queue i))))))) in
     ap (λ desk. clear s.held (may_join me s client mode desk)) here
     ∙ (λ i. clear (same.held i) (joins i))
     ∙ sym (ap (λ desk. clear t.held (may_join me t client mode desk)) there)

@@ -1,5 +1,5 @@
 -- What the desk does next, as one value.
-use Rattle.std.specs.Prelude.{ℕ, ◌==◌, List, Option, Some, None, if◌then◌else◌, slice_index_or}
+use Rattle.std.specs.Prelude.{ℕ, ◌<◌, ◌==◌, List, Option, Some, None, if◌then◌else◌, slice_index_or}
 use Rattle.lt_modes.specs.declared.ask.Ask.{Ask}
 use Rattle.lt_modes.specs.State.{SetState}
 use Rattle.lt_modes.specs.Queue.{no_ask}
@@ -16,3 +16,10 @@ picked_by me queue None None = Nothing
 -- the next service; where there is none, the next move of the desk
 abbrev pub picked : ℕ → SetState → Pick
 picked me s = picked_by me (queue_of s) (next_service me s) (next_move me s)
+
+-- its place is one of a queue of this length
+abbrev pub IsWithin : ℕ → Pick → Type 0
+IsWithin n Nothing = Unit {0}
+IsWithin n (Local k) = k < n
+IsWithin n (Copy k) = k < n
+IsWithin n (Move k) = k < n

@@ -6,10 +6,10 @@ ghost use Rattle.lt_modes.specs.Records.{entry_of, own_part};
 ghost use Rattle.lt_modes.specs.Tells.{is_newer, tell_applied};
 ghost use Rattle.lt_modes.specs.Granting.{is_holder};
 ghost use Rattle.lt_modes.specs.Serving.{owed_at};
-ghost use Rattle.lt_modes.specs.Freezing.{frozen_by};
+ghost use Rattle.lt_modes.specs.Freezing.{frozen_by, freeze, freeze_with};
 ghost use Rattle.lt_modes.specs.HandingOver.{leaving};
 ghost use Rattle.lt_desk.specs.Seen.{IsSeen, joins_at_desk};
-ghost use Rattle.lt_desk.specs.Picks.{picked};
+ghost use Rattle.lt_desk.specs.Picks.{picked, IsWithin};
 ghost use Rattle.lt_desk.specs.Freezes.{told_nodes, told_desk};
 
 use crate::freezes::{Targets, next_number, tell_targets};
@@ -159,13 +159,22 @@ impl Desk {
 
     /// What the desk does next.
     pub fn pick(&self, me: u8, held: &Held, pending: &Pending) -> Pick
-        ensures { (s : SetState) → IsSeen self.now.desk held.now.rows pending.now s → result ≡ picked me s }
+        ensures next { (s : SetState) → IsSeen self.now.desk held.now.rows pending.now s → result ≡ picked me s }
+        ensures within { IsWithin (length self.now.desk.queue) result }
     {
         self.sight(me, held, pending).pick()
     }
 
     /// Whether nothing stands against the mode for a client of the desk's node, where the client holds a lock or not.
-    pub fn would_grant(&self, me: u8, held: &Held, pending: &Pending, client: u16, mode: Mode, holder: bool) -> bool
+    pub fn would_grant(
+        &self,
+        me: u8,
+        held: &Held,
+        pending: &Pending,
+        client: u16,
+        mode: Mode,
+        holder: bool,
+    ) -> bool
         ensures { (s : SetState) → IsSeen self.now.desk held.now.rows pending.now s → is_holder s client ≡ holder → result ≡ joins_at_desk me s client mode }
     {
         self.sight(me, held, pending)
@@ -182,6 +191,7 @@ impl Desk {
     /// Tells the nodes that have a record which modes the waiting asks keep from being granted there.
     pub fn freeze(&mut self, me: u8) -> Targets
         requires { self.old.desk.number + 1 < 2 ^ 64 }
+        ensures made { (set : ℕ) (stamp : AnyStamp) (s : SetState) → stamp.node ≡ me → s.desk ≡ Some self.old.desk → freeze set stamp s ≡ freeze_with set stamp s self.old.desk result.modes (told_nodes me self.old.desk) result.number }
         ensures desk { self.new ≡ record self.old { desk = told_desk me self.old.desk } }
         ensures number { result.number ≡ self.new.desk.number }
         ensures modes { result.modes ≡ frozen_by self.old.desk.queue }

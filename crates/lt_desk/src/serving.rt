@@ -1,6 +1,6 @@
 ghost use Rattle.std.specs.Prelude.{◌≡◌, ◌<◌, length, IfSome};
 ghost use Rattle.lt_modes.specs.Serving.{is_free, is_local, is_clear_at_home, is_copy, is_served, next_service, may_draw, next_move};
-ghost use Rattle.lt_desk.specs.Picks.{picked};
+ghost use Rattle.lt_desk.specs.Picks.{picked, IsWithin};
 ghost use Rattle.lt_desk.specs.Sights.{state_of, desk_of};
 
 use crate::pick::Pick;
@@ -9,7 +9,8 @@ use lt_modes::{Ask, ModeSet};
 
 impl Sight<'_> {
     pub(crate) fn pick(&self) -> Pick
-        ensures { result ≡ picked self.now.me (state_of self.now) }
+        ensures next { result ≡ picked self.now.me (state_of self.now) }
+        ensures within { IsWithin (length self.now.queue.now.asks) result }
     {
         if let Some(k) = self.next_service() {
             if self.queue.get(k).node == self.me {

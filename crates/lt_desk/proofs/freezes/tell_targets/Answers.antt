@@ -15,7 +15,7 @@ loop-x-preserved c =
     let inv = c.loop-x.invariant in
     let within : x < length es = omega (arith, c.loop-x-test.true, c.nodes-x-end.ensures) in
     let target : c.tell_node.result ≡ test x (entry_at es x) =
-        c.tell_node.ensures.target ∙ ap (λ all. test x (entry_at all x)) inv.entries ∙ ap (test x) (entry_first f x 0 es) in
+    c.tell_node.ensures.target ∙ ap (λ all. test x (entry_at all x)) inv.entries ∙ ap (test x) (entry_first f x 0 es) in
     record {
       entries = ap (λ (t : TableData). t.entries) c.tell_node.ensures.table ∙ ap (put_by x (f x)) inv.entries ∙ first_put f x es within;
       spare = ap (λ (t : TableData). t.spare) c.tell_node.ensures.table ∙ inv.spare;

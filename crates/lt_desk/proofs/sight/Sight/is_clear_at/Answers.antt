@@ -1,6 +1,6 @@
 use Rattle.std.proofs.Common.{◌≡◌, ◌∙◌, true, false, ap, sym, rules, take}
 use Rattle.std.specs.Prelude.{not}
-use Rattle.lt_modes.specs.Modes.{Modes, has, bars, union}
+use Rattle.lt_modes.specs.Modes.{has, bars, union}
 use Rattle.lt_modes.specs.Queue.{modes_of_asks}
 use Rattle.lt_modes.specs.Records.{own_owed, others}
 use Rattle.lt_desk.specs.Sights.{state_of, desk_of}

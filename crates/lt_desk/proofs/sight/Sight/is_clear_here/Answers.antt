@@ -1,4 +1,4 @@
-use Rattle.std.proofs.Common.{◌≡◌, ◌∙◌, true, ap, sym, rules}
+use Rattle.std.proofs.Common.{◌≡◌, ◌∙◌, true, ap, rules}
 use Rattle.std.specs.Prelude.{not}
 use Rattle.lt_modes.specs.Modes.{has, bars}
 use Rattle.lt_modes.specs.Held.{other_modes}
