@@ -1,5 +1,5 @@
 -- A freeze, node by node.
-use Rattle.std.proofs.Common.{◌≡◌, ◌≢◌, ℕ, zero, suc, ◌+◌, ◌^◌, ◌%◌, ◌*◌, ◌<◌, Bool, true, false, List, [], ◌∷◌, length, Contains, inl, inr, refl, sym, ap, ◌∙◌, subst, arith, add-one, bit_or, bit_and, slice_index_or, slice_set, if◌then◌else◌, w64, nat_lt}
+use Rattle.std.proofs.Common.{◌≡◌, ◌≢◌, ℕ, zero, suc, ◌+◌, ◌^◌, ◌%◌, ◌*◌, ◌<◌, Bool, true, false, List, [], ◌∷◌, length, Some, Contains, inl, inr, refl, sym, ap, ◌∙◌, subst, arith, add-one, bit_or, bit_and, slice_index_or, slice_set, if◌then◌else◌, w64, nat_lt}
 use Rattle.std.specs.Prelude.{◌&&◌, ◌||◌, ◌==◌, ◌↔◌, IsBitSet}
 use Rattle.std.specs.Int.{bit_at}
 use Rattle.std.proofs.lemmas.Bool.{cases_eq, and_parts, and_from, eq-eqb, ne_eqb, lt-ltb, ltb-true}
@@ -10,9 +10,10 @@ use Rattle.std.proofs.lemmas.Nat.{pow_pos}
 use Rattle.std.proofs.lemmas.Nat.Bits.{bit_at-lt, bit_at-zero, bit_at_set_same, bit_at_set_other, same_from_bits, and_pow}
 use Rattle.lt_modes.specs.Modes.{Modes}
 use Rattle.lt_modes.specs.Masks.{bit_if}
-use Rattle.lt_modes.specs.State.{Desk, Entry, first_entry}
+use Rattle.lt_modes.specs.State.{SetState, Desk, Entry, first_entry}
+use Rattle.lt_modes.specs.declared.stamp.Stamp.{Stamp}
 use Rattle.lt_modes.specs.Places.{places_from, map_from, cons_if}
-use Rattle.lt_modes.specs.Freezing.{number_after, frozen_by, targets, is_target, frozen_entry}
+use Rattle.lt_modes.specs.Freezing.{number_after, freeze, freeze_at, freeze_with, frozen_by, targets, is_target, frozen_entry}
 use Rattle.lt_table.specs.TableData.{entry_at, put_by, told_frozen}
 use Rattle.lt_desk.specs.Freezes.{HasBits, told_nodes, told_desk}
 
@@ -238,6 +239,13 @@ nodes_told me modes desk nodes same bits x =
     subst (λ frozen. IsBitSet nodes x ↔ Contains (targets me frozen desk) x) same
     (mask_is (is_target me modes) desk.entries nodes bits x)
 
+number_told : (me : ℕ) (modes : Modes) (desk : Desk) (nodes number : ℕ)
+    → HasBits (is_target me modes) (length desk.entries) desk.entries nodes
+    → number ≡ (if nodes == 0 then desk.number else desk.number + 1)
+    → number ≡ number_after (targets me modes desk) desk.number
+number_told me modes desk nodes number bits next =
+    next ∙ sym (number_is (targets me modes desk) nodes (mask_is (is_target me modes) desk.entries nodes bits) desk.number)
+
 -- the desk with the next number, and with the entries that were made
 pub desk_told : (me : ℕ) (modes : Modes) (desk : Desk) (nodes number : ℕ) (entries : List Entry) → modes ≡ frozen_by desk.queue
     → HasBits (is_target me modes) (length desk.entries) desk.entries nodes
@@ -245,10 +253,24 @@ pub desk_told : (me : ℕ) (modes : Modes) (desk : Desk) (nodes number : ℕ) (e
     → entries ≡ map_from (frozen_entry me modes) 0 desk.entries
     → record desk { number = number; entries = entries } ≡ told_desk me desk
 desk_told me modes desk nodes number entries same bits next made =
-    let numbers : number ≡ number_after (targets me modes desk) desk.number =
-    next ∙ sym (number_is (targets me modes desk) nodes (mask_is (is_target me modes) desk.entries nodes bits) desk.number) in
+    let numbers = number_told me modes desk nodes number bits next in
     let told = λ (frozen : Modes). record desk {
       number = number_after (targets me frozen desk) desk.number;
       entries = map_from (frozen_entry me frozen) 0 desk.entries;
     } in
     (λ i. record desk { number = numbers i; entries = made i }) ∙ ap told same
+
+-- the freeze has the mask's nodes and the next number
+pub freeze_made : (me set : ℕ) (stamp : Stamp) (s : SetState) (desk : Desk) (modes : Modes) (nodes number : ℕ)
+    → stamp.node ≡ me → s.desk ≡ Some desk → modes ≡ frozen_by desk.queue
+    → HasBits (is_target me modes) (length desk.entries) desk.entries nodes
+    → number ≡ (if nodes == 0 then desk.number else desk.number + 1)
+    → freeze set stamp s ≡ freeze_with set stamp s desk modes (told_nodes me desk) number
+freeze_made me set stamp s desk modes nodes number node here same bits next =
+    let numbers : number ≡ number_after (told_nodes me desk) desk.number =
+    number_told me modes desk nodes number bits next
+    ∙ ap (λ frozen. number_after (targets me frozen desk) desk.number) same in
+    let told : number_after (told_nodes stamp.node desk) desk.number ≡ number =
+    ap (λ x. number_after (told_nodes x desk) desk.number) node ∙ sym numbers in
+    let frozen : frozen_by desk.queue ≡ modes = sym same in
+    ap (freeze_at set stamp s) here ∙ (λ i. freeze_with set stamp s desk (frozen i) (told_nodes (node i) desk) (told i))
