@@ -15,7 +15,7 @@ use Rattle.lt_modes.specs.declared.stamp.Stamp.{Stamp}
 use Rattle.lt_modes.specs.Places.{places_from, map_from, cons_if}
 use Rattle.lt_modes.specs.Freezing.{number_after, freeze, freeze_at, freeze_with, frozen_by, targets, is_target, frozen_entry}
 use Rattle.lt_table.specs.TableData.{entry_at, put_by, told_frozen}
-use Rattle.lt_desk.specs.Freezes.{HasBits, told_nodes, told_desk}
+use Rattle.lt_desk.specs.Freezes.{HasBits, bits_from, told_nodes, told_desk}
 
 -- what f makes of the first i entries and their places, and the others as they are
 unfoldable pub map_first : (ℕ → Entry → Entry) → ℕ → ℕ → List Entry → List Entry
@@ -31,12 +31,6 @@ pub first_all : (f : ℕ → Entry → Entry) (k : ℕ) (es : List Entry) → ma
 unfolding map_first
 first_all f k [] = refl
 first_all f k (e ∷ es) = ap (λ rest. f k e ∷ rest) (first_all f (k + 1) es)
-
-pub length-first : (f : ℕ → Entry → Entry) (i k : ℕ) (es : List Entry) → length (map_first f i k es) ≡ length es
-unfolding map_first
-length-first f zero k es = refl
-length-first f (suc i) k [] = refl
-length-first f (suc i) k (e ∷ es) = ap suc (length-first f i (k + 1) es)
 
 -- the entry at place i isn't among the first i
 pub entry_first : (f : ℕ → Entry → Entry) (i k : ℕ) (es : List Entry) → entry_at (map_first f i k es) i ≡ entry_at es i
@@ -230,6 +224,36 @@ number_is [] nodes is number =
 number_is (x ∷ rest) nodes is number =
     let some : nodes ≢ 0 = λ none. (is x).1 (0, omega arith, refl) (no_bit nodes x (ap (λ n. bit_at n x) none ∙ bit_at-zero x)) in
     rw (ne_eqb nodes 0 some) refl
+
+bit_test : (b : Bool) → b ≡ (bit_if b 1 == 1)
+bit_test true = refl
+bit_test false = refl
+
+places_are_bits : (test : ℕ → Entry → Bool) (k nodes : ℕ) (es : List Entry)
+    → ((x i : ℕ) → x ≡ k + i → i < length es → bit_at nodes x ≡ bit_if (test x (entry_at es i)) 1)
+    → places_from test k es ≡ bits_from (length es) k nodes
+places_are_bits test k nodes [] bits = refl
+places_are_bits test k nodes (e ∷ es) bits =
+    let first : test k e ≡ (bit_at nodes k == 1) =
+    bit_test (test k e) ∙ ap (λ b. b == 1) (sym (bits k 0 (omega arith) (omega arith))) in
+    let rest = places_are_bits test (k + 1) nodes es (λ x i at h. bits x (suc i) (omega (arith, at)) (omega (arith, h))) in
+    λ i. cons_if (first i) k (rest i)
+
+-- the targets are the mask's bits in order
+bits_in_order : (test : ℕ → Entry → Bool) (es : List Entry) (nodes : ℕ) → HasBits test (length es) es nodes
+    → places_from test 0 es ≡ bits_from (length es) 0 nodes
+bits_in_order test es nodes bits =
+    places_are_bits test 0 nodes es (λ x i at h.
+    let here : x ≡ i = omega (arith, at) in
+    let within : x < length es = omega (arith, here, h) in
+    bits x ∙ ap (λ below. bit_if (below && test x (entry_at es x)) 1) (lt-ltb x (length es) within)
+    ∙ ap (λ y. bit_if (test x (entry_at es y)) 1) here)
+
+pub told_in_order : (me : ℕ) (modes : Modes) (desk : Desk) (nodes : ℕ) → modes ≡ frozen_by desk.queue
+    → HasBits (is_target me modes) (length desk.entries) desk.entries nodes
+    → told_nodes me desk ≡ bits_from (length desk.entries) 0 nodes
+told_in_order me modes desk nodes same bits =
+    ap (λ frozen. targets me frozen desk) (sym same) ∙ bits_in_order (is_target me modes) desk.entries nodes bits
 
 -- the mask has the nodes that are told
 pub nodes_told : (me : ℕ) (modes : Modes) (desk : Desk) (nodes : ℕ) → modes ≡ frozen_by desk.queue

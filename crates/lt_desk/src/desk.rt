@@ -10,7 +10,7 @@ ghost use Rattle.lt_modes.specs.Freezing.{frozen_by, freeze, freeze_with};
 ghost use Rattle.lt_modes.specs.HandingOver.{leaving};
 ghost use Rattle.lt_desk.specs.Seen.{IsSeen, joins_at_desk};
 ghost use Rattle.lt_desk.specs.Picks.{picked, IsWithin};
-ghost use Rattle.lt_desk.specs.Freezes.{told_nodes, told_desk};
+ghost use Rattle.lt_desk.specs.Freezes.{told_nodes, told_desk, bits_from};
 
 use crate::freezes::{Targets, next_number, tell_targets};
 use crate::pick::Pick;
@@ -119,7 +119,8 @@ impl Desk {
     /// Puts a new ask at its place in the queue.
     pub fn enter(&mut self, ask: Ask)
         requires { length self.old.desk.queue < self.old.room }
-        ensures { self.new ≡ record self.old { desk = record self.old.desk { queue = entered self.old.desk.queue ask } } }
+        ensures { self.new
+            ≡ record self.old { desk = record self.old.desk { queue = entered self.old.desk.queue ask } } }
     {
         self.queue.insert(ask);
     }
@@ -127,7 +128,8 @@ impl Desk {
     /// Applies a tell of a node; false where it isn't newer than the last one.
     pub fn tell(&mut self, node: u8, modes: ModeSet, pending: &Pending, told: Stamp) -> bool
         ensures answer { result ≡ is_newer told (entry_of self.old.desk node).told_at }
-        ensures desk { self.new.desk ≡ tell_applied (record { node = node; modes = modes; pending = pending.now; stamp = told }) self.old.desk }
+        ensures desk { self.new.desk
+            ≡ tell_applied (record { node = node; modes = modes; pending = pending.now; stamp = told }) self.old.desk }
         ensures room { self.new.room ≡ self.old.room }
         ensures spare { self.old.spare ≤ self.new.spare }
     {
@@ -138,7 +140,8 @@ impl Desk {
     pub fn grant(&mut self, k: u32) -> Ask
         requires { k < length self.old.desk.queue }
         ensures ask { result ≡ slice_index_or self.old.desk.queue k no_ask }
-        ensures desk { self.new ≡ record self.old { desk = record self.old.desk { queue = remove self.old.desk.queue k } } }
+        ensures desk { self.new
+            ≡ record self.old { desk = record self.old.desk { queue = remove self.old.desk.queue k } } }
     {
         self.queue.remove(k)
     }
@@ -159,7 +162,8 @@ impl Desk {
 
     /// What the desk does next.
     pub fn pick(&self, me: u8, held: &Held, pending: &Pending) -> Pick
-        ensures next { (s : SetState) → IsSeen self.now.desk held.now.rows pending.now s → result ≡ picked me s }
+        ensures next { (s : SetState) → IsSeen self.now.desk held.now.rows pending.now s
+            → result ≡ picked me s }
         ensures within { IsWithin (length self.now.desk.queue) result }
     {
         self.sight(me, held, pending).pick()
@@ -175,7 +179,8 @@ impl Desk {
         mode: Mode,
         holder: bool,
     ) -> bool
-        ensures { (s : SetState) → IsSeen self.now.desk held.now.rows pending.now s → is_holder s client ≡ holder → result ≡ joins_at_desk me s client mode }
+        ensures { (s : SetState) → IsSeen self.now.desk held.now.rows pending.now s
+            → is_holder s client ≡ holder → result ≡ joins_at_desk me s client mode }
     {
         self.sight(me, held, pending)
             .would_grant(client, mode, holder)
@@ -183,7 +188,8 @@ impl Desk {
 
     /// What the desk's node holds, and what it is still owed.
     pub fn own_part(&self, me: u8, held: &Held, pending: &Pending) -> ModeSet
-        ensures { (s : SetState) → IsSeen self.now.desk held.now.rows pending.now s → result ≡ own_part me s self.now.desk }
+        ensures { (s : SetState) → IsSeen self.now.desk held.now.rows pending.now s
+            → result ≡ own_part me s self.now.desk }
     {
         self.sight(me, held, pending).own_part()
     }
@@ -191,11 +197,14 @@ impl Desk {
     /// Tells the nodes that have a record which modes the waiting asks keep from being granted there.
     pub fn freeze(&mut self, me: u8) -> Targets
         requires { self.old.desk.number + 1 < 2 ^ 64 }
-        ensures made { (set : ℕ) (stamp : AnyStamp) (s : SetState) → stamp.node ≡ me → s.desk ≡ Some self.old.desk → freeze set stamp s ≡ freeze_with set stamp s self.old.desk result.modes (told_nodes me self.old.desk) result.number }
+        ensures made { (set : ℕ) (stamp : AnyStamp) (s : SetState) → stamp.node ≡ me → s.desk ≡ Some self.old.desk
+            → freeze set stamp s
+            ≡ freeze_with set stamp s self.old.desk result.modes (told_nodes me self.old.desk) result.number }
         ensures desk { self.new ≡ record self.old { desk = told_desk me self.old.desk } }
         ensures number { result.number ≡ self.new.desk.number }
         ensures modes { result.modes ≡ frozen_by self.old.desk.queue }
         ensures nodes { (x : ℕ) → IsBitSet result.nodes x ↔ Contains (told_nodes me self.old.desk) x }
+        ensures order { told_nodes me self.old.desk ≡ bits_from (length self.old.desk.entries) 0 result.nodes }
     {
         let modes = self.queue.frozen();
         let nodes = tell_targets(&mut self.table, me, modes);
@@ -210,7 +219,8 @@ impl Desk {
     /// Makes the desk what its node leaves as it goes to another one.
     pub fn hand_over(&mut self, me: u8, held: &Held, pending: &Pending, stamp: Stamp)
         requires { self.old.desk.epoch < stamp.clock }
-        ensures desk { (s : SetState) → IsSeen self.old.desk held.now.rows pending.now s → stamp.node ≡ me → self.new.desk ≡ leaving stamp s self.old.desk }
+        ensures desk { (s : SetState) → IsSeen self.old.desk held.now.rows pending.now s
+            → stamp.node ≡ me → self.new.desk ≡ leaving stamp s self.old.desk }
         ensures room { self.new.room ≡ self.old.room }
         ensures spare { self.old.spare ≤ self.new.spare }
     {
