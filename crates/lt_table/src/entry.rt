@@ -57,14 +57,16 @@ impl Entry {
 
     /// The modes of the owed asks that are unanswered, where these are the stamps of the unanswered ones.
     pub(crate) fn owed_in(&self, pending: &Pending) -> ModeSet
-        ensures { (asks : List Ask) → stamps_of asks ≡ pending.now → result ≡ modes_of_owed (still_owed asks (entry_seen self.now).owed) }
+        ensures { (asks : List Ask) → stamps_of asks ≡ pending.now
+            → result ≡ modes_of_owed (still_owed asks (entry_seen self.now).owed) }
     {
         listed_modes(self.owed.as_slice(), pending)
     }
 
     /// Applies a tell of the entry's node, where it is newer than the last one.
     pub(crate) fn tell(&mut self, modes: ModeSet, pending: &Pending, stamp: Stamp)
-        ensures entry { (node : ℕ) → entry_seen self.new ≡ told (record { node = node; modes = modes; pending = pending.now; stamp = stamp }) (entry_seen self.old) }
+        ensures entry { (node : ℕ) → entry_seen self.new
+            ≡ told (record { node = node; modes = modes; pending = pending.now; stamp = stamp }) (entry_seen self.old) }
         ensures spare { spare_of self.old ≤ spare_of self.new }
     {
         if is_newer(stamp, self.told_at) {

@@ -1,4 +1,5 @@
-//! What the desk knows of each node: the modes that it reported, the asks that it owes word of, and what it was told to be frozen.
+//! What the desk knows of each node: the modes that it reported, the asks that it owes word of,
+//! and what it was told to be frozen.
 #![tactic(auto)]
 
 mod entry;

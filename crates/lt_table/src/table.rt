@@ -70,7 +70,8 @@ impl Table {
 
     /// What counts of all nodes but this one: their records, and for node `me` its own part.
     pub fn others(&self, node: u8, me: u8, own: ModeSet) -> ModeSet
-        ensures { (s : SetState) (desk : Desk) → desk.entries ≡ self.now.entries → own_part me s desk ≡ own → result ≡ others me s desk node }
+        ensures { (s : SetState) (desk : Desk) → desk.entries ≡ self.now.entries → own_part me s desk ≡ own
+            → result ≡ others me s desk node }
     {
         others(
             self.entries.as_slice(),
@@ -83,7 +84,8 @@ impl Table {
     /// Applies a tell of a node; false where it isn't newer than the last one.
     pub fn tell(&mut self, node: u8, modes: ModeSet, pending: &Pending, stamp: Stamp) -> bool
         ensures answer { result ≡ is_newer stamp (entry_at self.old.entries node).told_at }
-        ensures entries { self.new.entries ≡ put_by node (told (record { node = node; modes = modes; pending = pending.now; stamp = stamp })) self.old.entries }
+        ensures entries { self.new.entries
+            ≡ put_by node (told (record { node = node; modes = modes; pending = pending.now; stamp = stamp })) self.old.entries }
         ensures spare { self.old.spare ≤ self.new.spare }
     {
         let x = usize::from(node);
@@ -108,7 +110,8 @@ impl Table {
 
     /// The modes of the node's owed asks that are unanswered, where these are the stamps of the unanswered ones.
     pub fn owed_in(&self, node: u8, pending: &Pending) -> ModeSet
-        ensures { (asks : List Ask) → stamps_of asks ≡ pending.now → result ≡ modes_of_owed (still_owed asks (entry_at self.now.entries node).owed) }
+        ensures { (asks : List Ask) → stamps_of asks ≡ pending.now
+            → result ≡ modes_of_owed (still_owed asks (entry_at self.now.entries node).owed) }
     {
         owed_at(self.entries.as_slice(), usize::from(node), pending)
     }
@@ -135,7 +138,8 @@ impl Table {
 
     /// What the node tells of itself as it hands the desk over: its modes, and the stamps of its unanswered asks.
     pub fn settle(&mut self, node: u8, modes: ModeSet, pending: &Pending, stamp: Stamp)
-        ensures entries { (s : SetState) → held_modes s.held ≡ modes → stamps_of s.pending ≡ pending.now → self.new.entries ≡ put_by node (settled stamp s) self.old.entries }
+        ensures entries { (s : SetState) → held_modes s.held ≡ modes → stamps_of s.pending ≡ pending.now
+            → self.new.entries ≡ put_by node (settled stamp s) self.old.entries }
         ensures spare { self.old.spare ≤ self.new.spare }
     {
         let x = usize::from(node);
@@ -155,7 +159,8 @@ fn record_at(entries: &[Entry], x: usize) -> ModeSet
 }
 
 fn owed_at(entries: &[Entry], x: usize, pending: &Pending) -> ModeSet
-    ensures { (asks : List Ask) → stamps_of asks ≡ pending.now → result ≡ modes_of_owed (still_owed asks (entry_at (map entry_seen entries.now) x).owed) }
+    ensures { (asks : List Ask) → stamps_of asks ≡ pending.now
+        → result ≡ modes_of_owed (still_owed asks (entry_at (map entry_seen entries.now) x).owed) }
 {
     match entries.get(x) {
         Some(entry) => entry.owed_in(pending),
@@ -173,7 +178,8 @@ fn told_at(entries: &[Entry], x: usize) -> Stamp
 }
 
 fn others(entries: &[Entry], node: usize, me: usize, own: ModeSet) -> ModeSet
-    ensures { (s : SetState) (desk : Desk) → desk.entries ≡ map entry_seen entries.now → own_part me s desk ≡ own → result ≡ others me s desk node }
+    ensures { (s : SetState) (desk : Desk) → desk.entries ≡ map entry_seen entries.now → own_part me s desk ≡ own
+        → result ≡ others me s desk node }
 {
     let mut all = ModeSet::empty();
     for x in 0..entries.len() {
