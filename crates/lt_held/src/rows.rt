@@ -1,7 +1,6 @@
-ghost use Rattle.std.specs.Prelude.{◌≡◌, ◌+◌, ◌*◌, ◌≤◌, ◌<◌, length, IfSome, ◌==◌, not, List};
-ghost use Rattle.std.specs.List.{list_any};
-ghost use Rattle.lt_modes.specs.Held.{row_place, count_of, is_of, held_modes, own_modes, other_modes, locks_of};
-ghost use Rattle.lt_held.specs.HeldData.{AreRows, most_locks};
+ghost use Rattle.std.specs.Prelude.{◌≡◌, ◌<◌, length, IfSome};
+ghost use Rattle.lt_modes.specs.Held.{row_place, held_modes, own_modes, other_modes, locks_of};
+ghost use Rattle.lt_held.specs.HeldData.{AreRows};
 
 use lt_modes::{Mode, ModeSet, Row};
 
