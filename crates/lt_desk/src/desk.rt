@@ -103,7 +103,8 @@ impl Desk {
 
     /// The number of asks that wait.
     pub fn len(&self) -> u32
-        ensures { result ≡ length self.now.desk.queue }
+        ensures length { result ≡ length self.now.desk.queue }
+        ensures within { result ≤ self.now.room }
     {
         self.queue.len()
     }
