@@ -9,7 +9,7 @@ use Rattle.lt_modes.specs.declared.moves.Step.TheVariants.{Act, Take}
 use Rattle.lt_modes.specs.declared.parts.Row.{Row}
 use Rattle.lt_modes.specs.declared.parts.Hoped.{Hoped}
 use Rattle.lt_modes.specs.declared.parts.Owed.{Owed}
-use Rattle.lt_modes.specs.Modes.{Modes}
+use Rattle.lt_modes.specs.Modes.{Modes, no_modes}
 use Rattle.lt_modes.specs.State.{SetState, Letter, Entry}
 use Rattle.lt_modes.specs.Script.{ScriptData}
 use Rattle.lt_runs.specs.NodeMove.{NodeState}
@@ -44,6 +44,30 @@ pub record Moment : Type 0 where
 
 abbrev pub stamp : ℕ → ℕ → Stamp
 stamp clock node = record { clock = clock; node = node }
+
+-- what the desk knows of a node of which it was told nothing
+abbrev pub blank : Entry
+blank = record {
+  reported = no_modes;
+  owed = [];
+  told_at = stamp 0 0;
+  pending = [];
+  frozen_told = no_modes;
+}
+
+-- what a node without the desk keeps for a set that nothing has touched there
+abbrev pub untouched : SetState
+untouched = record {
+  held = [];
+  charge = no_modes;
+  frozen = no_modes;
+  number = 0;
+  firm = record { node = 0; epoch = 0 };
+  hoped = None;
+  pending = [];
+  parked = [];
+  desk = None;
+}
 
 abbrev pub held_row : ℕ → Mode → ℕ → Row
 held_row client mode count = record { client = client; mode = mode; count = count }

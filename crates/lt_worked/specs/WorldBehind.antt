@@ -1,16 +1,16 @@
--- Asks follow the token, and asks of one node go by different links.
+-- A worked world: asks that follow the token.
 use Rattle.std.specs.Prelude.{true, false, [], ◌∷◌, None, codes}
 use Rattle.lt_modes.specs.declared.mode.Mode.TheVariants.{IntentionRead, Read, Upgrade, IntentionWrite, Write}
 use Rattle.lt_modes.specs.declared.command.Command.TheVariants.{Lock, Unlock, Change}
 use Rattle.lt_modes.specs.declared.event.Event.TheVariants.{Grant, Wait, Unlock as Unlocked, Change as Changed, Copy, Freeze, Token}
 use Rattle.lt_modes.specs.declared.moves.Step.TheVariants.{Take}
 use Rattle.lt_modes.specs.Modes.{no_modes, all_modes, modes_in}
-use Rattle.lt_modes.specs.State.{AskBody, TokenBody, first_state, first_entry}
+use Rattle.lt_modes.specs.State.{AskBody, TokenBody}
 use Rattle.lt_runs.specs.Holdings.{holding}
 use Rattle.lt_worked.specs.Worked.{Worked, set_of, client_of, act, take, holds, owner}
-use Rattle.lt_worked.specs.Moment.{Moment, stamp, hoped, entry, new_ask, turn}
+use Rattle.lt_worked.specs.Moment.{Moment, blank, untouched, stamp, hoped, entry, new_ask, turn}
 
--- Asks follow the token, and asks of one node go by different links.
+-- Asks follow the token to its new node, and by a hoped link.
 abbrev pub asks_behind_token : Worked
 asks_behind_token = record {
   script = record {
@@ -167,7 +167,7 @@ asks_behind_token_after_17 = record {
         clock = 0;
         made = 0 ∷ 0 ∷ 0 ∷ 0 ∷ 0 ∷ 0 ∷ 0 ∷ [];
         sets =
-            first_state 4 3 ∷
+            untouched ∷
             [];
       } ∷
       [];
@@ -228,9 +228,9 @@ asks_behind_token_after_17 = record {
                 queue = new_ask 3 Write (stamp 1 1) ∷ [];
                 entries =
                     entry no_modes [] (stamp 2 0) [] (modes_in (IntentionWrite ∷ Write ∷ [])) ∷
-                    first_entry ∷
+                    blank ∷
                     entry no_modes [] (stamp 8 2) (stamp 2 2 ∷ []) all_modes ∷
-                    first_entry ∷
+                    blank ∷
                     [];
               });
             } ∷

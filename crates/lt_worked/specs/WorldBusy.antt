@@ -1,14 +1,14 @@
--- A client that waits in another family is busy.
+-- A worked world: a drop of a client that waits.
 use Rattle.std.specs.Prelude.{false, [], ◌∷◌, Some, None, codes}
 use Rattle.lt_modes.specs.declared.mode.Mode.TheVariants.{IntentionRead, Read, Upgrade, IntentionWrite, Write}
 use Rattle.lt_modes.specs.declared.command.Command.TheVariants.{Lock, Unlock, DropAll}
 use Rattle.lt_modes.specs.declared.event.Event.TheVariants.{Grant, Wait, Unlock as Unlocked, DropAll as Dropped, Busy, Copy, Freeze, Token}
 use Rattle.lt_modes.specs.declared.moves.Step.TheVariants.{Act, Take}
 use Rattle.lt_modes.specs.Modes.{no_modes, all_modes, modes_in}
-use Rattle.lt_modes.specs.State.{AskBody, TellBody, CopyBody, FreezeBody, first_state, first_entry}
+use Rattle.lt_modes.specs.State.{AskBody, TellBody, CopyBody, FreezeBody}
 use Rattle.lt_runs.specs.Holdings.{holding}
 use Rattle.lt_worked.specs.Worked.{Worked, set_of, client_of, act, take, holds, owner}
-use Rattle.lt_worked.specs.Moment.{Moment, stamp, held_row, hoped, owed, entry, new_ask, turn}
+use Rattle.lt_worked.specs.Moment.{Moment, blank, untouched, stamp, held_row, hoped, owed, entry, new_ask, turn}
 
 -- A client that waits in another family is busy.
 abbrev pub busy_in_another_set : Worked
@@ -208,7 +208,7 @@ busy_in_another_set_after_38 = record {
                 entries =
                     entry no_modes [] (stamp 5 0) [] all_modes ∷
                     entry no_modes [] (stamp 0 0) [] (modes_in (Upgrade ∷ IntentionWrite ∷ Write ∷ [])) ∷
-                    first_entry ∷
+                    blank ∷
                     [];
               });
             } ∷
@@ -228,7 +228,7 @@ busy_in_another_set_after_38 = record {
                 entries =
                     entry no_modes [] (stamp 4 0) [] all_modes ∷
                     entry no_modes [] (stamp 0 0) [] all_modes ∷
-                    first_entry ∷
+                    blank ∷
                     [];
               });
             } ∷
@@ -249,7 +249,7 @@ busy_in_another_set_after_38 = record {
               parked = [];
               desk = None;
             } ∷
-            first_state 3 2 ∷
+            untouched ∷
             record {
               held = [];
               charge = no_modes;

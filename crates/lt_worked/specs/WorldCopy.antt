@@ -1,15 +1,15 @@
--- A copy is out, and the token comes another way: a grant at the desk does not forget it.
+-- A worked world: a copy and the token by different ways.
 use Rattle.std.specs.Prelude.{false, [], ◌∷◌, Some, None, codes}
 use Rattle.lt_modes.specs.declared.mode.Mode.TheVariants.{IntentionRead, Read, Upgrade, IntentionWrite, Write}
 use Rattle.lt_modes.specs.declared.command.Command.TheVariants.{Lock, Try, Unlock}
 use Rattle.lt_modes.specs.declared.event.Event.TheVariants.{Grant, Wait, Try as Tried, Unlock as Unlocked, Copy, Freeze, Token}
 use Rattle.lt_modes.specs.declared.moves.Step.TheVariants.{Act, Take}
 use Rattle.lt_modes.specs.Modes.{no_modes, modes_in}
-use Rattle.lt_modes.specs.State.{AskBody, CopyBody, FreezeBody, first_entry}
+use Rattle.lt_modes.specs.State.{AskBody, CopyBody, FreezeBody}
 use Rattle.lt_worked.specs.Worked.{Worked, set_of, client_of, act, take, holds, owner}
-use Rattle.lt_worked.specs.Moment.{Moment, stamp, owed, entry, new_ask, turn}
+use Rattle.lt_worked.specs.Moment.{Moment, blank, stamp, owed, entry, new_ask, turn}
 
--- A copy is out, and the token comes another way: a grant at the desk does not forget it.
+-- A copy is out, and the token comes another way: a grant at the desk does not forget the copy.
 abbrev pub copy_before_token : Worked
 copy_before_token = record {
   script = record {
@@ -102,7 +102,7 @@ copy_before_token_after_10 = record {
                 queue = [];
                 entries =
                     entry no_modes [] (stamp 4 0) [] no_modes ∷
-                    first_entry ∷
+                    blank ∷
                     entry no_modes (owed (stamp 1 2) Read ∷ []) (stamp 0 0) [] no_modes ∷
                     [];
               });

@@ -1,13 +1,12 @@
--- A drop counts locks, and not rows.
+-- A worked world: a drop of several locks of one mode.
 use Rattle.std.specs.Prelude.{false, [], ◌∷◌, Some, None, codes}
 use Rattle.lt_modes.specs.declared.mode.Mode.TheVariants.{IntentionRead, Read, Upgrade, IntentionWrite, Write}
 use Rattle.lt_modes.specs.declared.command.Command.TheVariants.{Lock, Unlock, DropAll}
 use Rattle.lt_modes.specs.declared.event.Event.TheVariants.{Grant, Wait, Unlock as Unlocked, NotHeld, DropAll as Dropped, Busy, Copy, Token}
 use Rattle.lt_modes.specs.declared.moves.Step.TheVariants.{Act}
 use Rattle.lt_modes.specs.Modes.{no_modes, modes_in}
-use Rattle.lt_modes.specs.State.{first_state, first_entry}
 use Rattle.lt_worked.specs.Worked.{Worked, set_of, client_of, act, take, holds, owner}
-use Rattle.lt_worked.specs.Moment.{Moment, stamp, held_row, entry, new_ask, turn}
+use Rattle.lt_worked.specs.Moment.{Moment, blank, untouched, stamp, held_row, entry, new_ask, turn}
 
 -- A drop counts locks, and not rows.
 abbrev pub drop_counts_locks : Worked
@@ -159,10 +158,17 @@ drop_counts_locks_after_24 = record {
                 epoch = 0;
                 number = 0;
                 queue = [];
-                entries = first_entry ∷ first_entry ∷ [];
+                entries = blank ∷ blank ∷ [];
               });
             } ∷
-            first_state 2 0 ∷
+            record untouched {
+              desk = Some (record {
+                epoch = 0;
+                number = 0;
+                queue = [];
+                entries = blank ∷ blank ∷ [];
+              });
+            } ∷
             [];
       } ∷
       record {
@@ -193,8 +199,8 @@ drop_counts_locks_after_24 = record {
                     [];
               });
             } ∷
-            first_state 2 1 ∷
-            first_state 2 1 ∷
+            untouched ∷
+            untouched ∷
             [];
       } ∷
       [];

@@ -1,14 +1,14 @@
--- Asks go by hoped links while the token of their set is on its way.
-use Rattle.std.specs.Prelude.{true, false, [], ◌∷◌, None, codes}
+-- A worked world: hoped links.
+use Rattle.std.specs.Prelude.{true, false, [], ◌∷◌, Some, None, codes}
 use Rattle.lt_modes.specs.declared.mode.Mode.TheVariants.{IntentionRead, Read, Upgrade, IntentionWrite, Write}
 use Rattle.lt_modes.specs.declared.command.Command.TheVariants.{Lock, Unlock, Change, DropAll}
 use Rattle.lt_modes.specs.declared.event.Event.TheVariants.{Grant, Wait, Unlock as Unlocked, Change as Changed, DropAll as Dropped, Token}
 use Rattle.lt_modes.specs.declared.moves.Step.TheVariants.{Take}
 use Rattle.lt_modes.specs.Modes.{no_modes, all_modes, modes_in}
-use Rattle.lt_modes.specs.State.{AskBody, TokenBody, first_state}
+use Rattle.lt_modes.specs.State.{AskBody, TokenBody}
 use Rattle.lt_runs.specs.Holdings.{holding}
 use Rattle.lt_worked.specs.Worked.{Worked, set_of, client_of, act, take, holds, owner}
-use Rattle.lt_worked.specs.Moment.{Moment, stamp, hoped, entry, new_ask, turn}
+use Rattle.lt_worked.specs.Moment.{Moment, blank, untouched, stamp, hoped, entry, new_ask, turn}
 
 -- Asks go by hoped links while the token of their set is on its way.
 abbrev pub asks_by_hoped_links : Worked
@@ -101,7 +101,14 @@ asks_by_hoped_links_after_21 = record {
               parked = [];
               desk = None;
             } ∷
-            first_state 3 0 ∷
+            record untouched {
+              desk = Some (record {
+                epoch = 0;
+                number = 0;
+                queue = [];
+                entries = blank ∷ blank ∷ blank ∷ [];
+              });
+            } ∷
             [];
       } ∷
       record {
@@ -147,7 +154,7 @@ asks_by_hoped_links_after_21 = record {
               parked = [];
               desk = None;
             } ∷
-            first_state 3 2 ∷
+            untouched ∷
             [];
       } ∷
       [];

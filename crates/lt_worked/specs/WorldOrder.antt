@@ -1,14 +1,14 @@
--- A drop goes through its sets in order.
+-- A worked world: a drop in two sets.
 use Rattle.std.specs.Prelude.{true, false, [], ◌∷◌, Some, None, codes}
 use Rattle.lt_modes.specs.declared.mode.Mode.TheVariants.{IntentionRead, Read, Upgrade, IntentionWrite, Write}
 use Rattle.lt_modes.specs.declared.command.Command.TheVariants.{Lock, Try, Unlock, Change, DropAll}
 use Rattle.lt_modes.specs.declared.event.Event.TheVariants.{Grant, Wait, Try as Tried, Unlock as Unlocked, Change as Changed, DropAll as Dropped, Busy, Copy, Freeze, Token}
 use Rattle.lt_modes.specs.declared.moves.Step.TheVariants.{Act, Take}
 use Rattle.lt_modes.specs.Modes.{no_modes, all_modes, modes_in}
-use Rattle.lt_modes.specs.State.{TellBody, CopyBody, first_state, first_entry}
+use Rattle.lt_modes.specs.State.{TellBody, CopyBody}
 use Rattle.lt_runs.specs.Holdings.{holding}
 use Rattle.lt_worked.specs.Worked.{Worked, set_of, client_of, act, take, holds, owner}
-use Rattle.lt_worked.specs.Moment.{Moment, stamp, held_row, owed, entry, new_ask, turn}
+use Rattle.lt_worked.specs.Moment.{Moment, blank, untouched, stamp, held_row, owed, entry, new_ask, turn}
 
 -- A drop goes through its sets in order.
 abbrev pub drop_in_order : Worked
@@ -133,21 +133,13 @@ drop_in_order_after_24 = record {
               parked = [];
               desk = None;
             } ∷
-            record {
-              held = [];
-              charge = no_modes;
-              frozen = no_modes;
-              number = 0;
-              firm = owner 0 0;
-              hoped = None;
-              pending = [];
-              parked = [];
+            record untouched {
               desk = Some (record {
                 epoch = 0;
                 number = 0;
                 queue = [];
                 entries =
-                    first_entry ∷
+                    blank ∷
                     entry no_modes (owed (stamp 14 1) IntentionRead ∷ []) (stamp 0 0) [] no_modes ∷
                     entry no_modes (owed (stamp 2 2) Read ∷ []) (stamp 0 0) [] no_modes ∷
                     [];
@@ -175,7 +167,7 @@ drop_in_order_after_24 = record {
                 entries =
                     entry no_modes [] (stamp 12 0) [] all_modes ∷
                     entry no_modes [] (stamp 0 0) [] all_modes ∷
-                    first_entry ∷
+                    blank ∷
                     [];
               });
             } ∷
@@ -207,7 +199,7 @@ drop_in_order_after_24 = record {
               parked = [];
               desk = None;
             } ∷
-            first_state 3 2 ∷
+            untouched ∷
             [];
       } ∷
       [];

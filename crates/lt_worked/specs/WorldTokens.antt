@@ -1,16 +1,16 @@
--- Two tokens and a tell are on their way from one node to another.
-use Rattle.std.specs.Prelude.{true, false, [], ◌∷◌, None, codes}
+-- A worked world: two tokens on their way.
+use Rattle.std.specs.Prelude.{true, false, [], ◌∷◌, Some, None, codes}
 use Rattle.lt_modes.specs.declared.mode.Mode.TheVariants.{Read, Upgrade, IntentionWrite, Write}
 use Rattle.lt_modes.specs.declared.command.Command.TheVariants.{Lock, Try, Unlock, Change, DropAll}
 use Rattle.lt_modes.specs.declared.event.Event.TheVariants.{Grant, Wait, Try as Tried, Unlock as Unlocked, NotHeld, Change as Changed, DropAll as Dropped, Freeze, Token}
 use Rattle.lt_modes.specs.declared.moves.Step.TheVariants.{Act, Take}
 use Rattle.lt_modes.specs.Modes.{no_modes, modes_in}
-use Rattle.lt_modes.specs.State.{AskBody, TellBody, TokenBody, first_state, first_entry}
+use Rattle.lt_modes.specs.State.{AskBody, TellBody, TokenBody}
 use Rattle.lt_runs.specs.Holdings.{holding}
 use Rattle.lt_worked.specs.Worked.{Worked, set_of, client_of, act, take, holds, owner}
-use Rattle.lt_worked.specs.Moment.{Moment, stamp, entry, new_ask, turn}
+use Rattle.lt_worked.specs.Moment.{Moment, blank, untouched, stamp, entry, new_ask, turn}
 
--- Two tokens and a tell are on their way from one node to another.
+-- Two tokens and a tell go from one node to another, and asks are behind them.
 abbrev pub tokens_on_way : Worked
 tokens_on_way = record {
   script = record {
@@ -90,7 +90,14 @@ tokens_on_way_after_11 = record {
         clock = 6;
         made = 0 ∷ 0 ∷ 3 ∷ 0 ∷ 0 ∷ [];
         sets =
-            first_state 4 0 ∷
+            record untouched {
+              desk = Some (record {
+                epoch = 0;
+                number = 0;
+                queue = [];
+                entries = blank ∷ blank ∷ blank ∷ blank ∷ [];
+              });
+            } ∷
             record {
               held = [];
               charge = no_modes;
@@ -119,7 +126,7 @@ tokens_on_way_after_11 = record {
         clock = 3;
         made = 2 ∷ 0 ∷ 0 ∷ 0 ∷ 1 ∷ [];
         sets =
-            first_state 4 1 ∷
+            untouched ∷
             record {
               held = [];
               charge = no_modes;
@@ -148,7 +155,7 @@ tokens_on_way_after_11 = record {
         clock = 3;
         made = 0 ∷ 1 ∷ 0 ∷ 2 ∷ 0 ∷ [];
         sets =
-            first_state 4 2 ∷
+            untouched ∷
             record {
               held = [];
               charge = no_modes;
@@ -177,9 +184,9 @@ tokens_on_way_after_11 = record {
         clock = 0;
         made = 0 ∷ 0 ∷ 0 ∷ 0 ∷ 0 ∷ [];
         sets =
-            first_state 4 3 ∷
-            first_state 4 3 ∷
-            first_state 4 3 ∷
+            untouched ∷
+            untouched ∷
+            untouched ∷
             [];
       } ∷
       [];
@@ -198,9 +205,9 @@ tokens_on_way_after_11 = record {
                 queue = new_ask 4 Upgrade (stamp 2 1) ∷ [];
                 entries =
                     entry no_modes [] (stamp 3 0) [] (modes_in (Upgrade ∷ IntentionWrite ∷ Write ∷ [])) ∷
-                    first_entry ∷
-                    first_entry ∷
-                    first_entry ∷
+                    blank ∷
+                    blank ∷
+                    blank ∷
                     [];
               });
             } ∷
@@ -214,9 +221,9 @@ tokens_on_way_after_11 = record {
                 queue = new_ask 0 Upgrade (stamp 3 1) ∷ [];
                 entries =
                     entry (modes_in (Read ∷ [])) [] (stamp 4 0) [] (modes_in (Upgrade ∷ IntentionWrite ∷ Write ∷ [])) ∷
-                    first_entry ∷
-                    first_entry ∷
-                    first_entry ∷
+                    blank ∷
+                    blank ∷
+                    blank ∷
                     [];
               });
             } ∷
