@@ -11,3 +11,4 @@ pub mod WorldBusy
 pub mod WorldDrop
 pub mod WorldOrder
 pub mod WorldCopy
+pub mod WorldExamples

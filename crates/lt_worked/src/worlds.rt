@@ -8,6 +8,7 @@ ghost use Rattle.lt_worked.specs.WorldBusy.{busy_in_another_set, busy_in_another
 ghost use Rattle.lt_worked.specs.WorldDrop.{drop_counts_locks, drop_counts_locks_after_24};
 ghost use Rattle.lt_worked.specs.WorldOrder.{drop_in_order, drop_in_order_after_24};
 ghost use Rattle.lt_worked.specs.WorldCopy.{copy_before_token, copy_before_token_after_10};
+ghost use Rattle.lt_worked.specs.WorldExamples.{copies_and_freezes_after_19, token_comes_back_after_13, old_freeze_after_16};
 
 /// The runs: these moves in this order are enabled in turn, with these stamps and lines, to the end.
 pub fn law_worlds_runs()
@@ -29,4 +30,7 @@ pub fn law_worlds_midway()
     ensures drop_counts_locks { StandsSo drop_counts_locks_after_24 }
     ensures drop_in_order { StandsSo drop_in_order_after_24 }
     ensures copy_before_token { StandsSo copy_before_token_after_10 }
+    ensures copies_and_freezes { StandsSo copies_and_freezes_after_19 }
+    ensures token_comes_back { StandsSo token_comes_back_after_13 }
+    ensures old_freeze { StandsSo old_freeze_after_16 }
 {}
