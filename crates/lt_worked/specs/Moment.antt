@@ -14,7 +14,7 @@ use Rattle.lt_modes.specs.State.{SetState, Letter, Entry}
 use Rattle.lt_modes.specs.Script.{ScriptData}
 use Rattle.lt_runs.specs.NodeMove.{NodeState}
 use Rattle.lt_runs.specs.World.{World, world_after, is_enabled, is_waiting, is_at_rest, anyone_waits}
-use Rattle.lt_runs.specs.Order.{Turn, pick, count_turns}
+use Rattle.lt_runs.specs.FixedOrder.{Turn, pick, count_turns}
 use Rattle.lt_worked.specs.Worked.{Worked}
 
 -- a node: its clock, how many commands each client of the script has made at it, and its sets
