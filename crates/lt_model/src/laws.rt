@@ -1,7 +1,7 @@
 ghost use Rattle.lt_model.specs.MomentLaws.{MoveBegins, AsideStays, MovesInSteps};
 ghost use Rattle.lt_model.specs.PathEffects.{EffectsOnPath};
 ghost use Rattle.lt_model.specs.HomeLaws.{HomesKept, HomesInRuns, HomesSound, LinesInRuns, FewAdded};
-ghost use Rattle.lt_model.specs.Laws.{StartKept, StartLines, PathsKept, PathsInRuns, DeskSomewhere, TokenComes, OneToken, OthersStay, ClockMoves, OtherClocksStay, StampsKept, ClocksInRuns, TimedKept, TimedInRuns, StandingKept, StandingInRuns, StandsOnce, OnePlace, ServedKept, ServedInRuns, TryIsExact};
+ghost use Rattle.lt_model.specs.Laws.{StartKept, StartLines, PathsKept, PathsInRuns, DeskSomewhere, TokenComes, OneToken, OthersStay, ClockMoves, OtherClocksStay, StampsKept, ClocksInRuns, TimedKept, TimedInRuns, StandingKept, StandingInRuns, StandsOnce, OnePlace, ServedKept, ServedInRuns, TryIsExact, TriesAreExact, TriesInRuns};
 
 /// The world invariant holds at the start of each script.
 pub fn law_start()
@@ -64,9 +64,11 @@ pub fn law_served()
     ensures run { ServedInRuns }
 {}
 
-/// A `try` is answered with `true` exactly where the client's node can grant the mode.
+/// A `try` is answered with `true` exactly where the client's node can grant the mode, and nothing else is answered so.
 pub fn law_exact_try()
-    ensures { TryIsExact }
+    ensures tells { TryIsExact }
+    ensures only { TriesAreExact }
+    ensures run { TriesInRuns }
 {}
 
 /// A node has locks and unanswered asks of its own clients alone, and letters are of sets of the script.
