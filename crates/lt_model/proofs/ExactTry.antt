@@ -63,7 +63,7 @@ try_is_exact script w q client s mode e =
     e (obey_answered script (act_stamp q (w.node q)) client (next_command script (w.node q) client) n) in
     (answered.0, answered.1)
 
--- no `try` line is as it has to be
+-- a line that is no `try` line need not answer one
 any_exact : (script : ScriptData) (w : World) (q : ℕ) (step : Step) (line : Event) → IsNoTry line → IsExactTry script w q step line
 any_exact script w q step (Try client s mode got) none = absurd none
 any_exact script w q step (Grant client s mode) none = tt

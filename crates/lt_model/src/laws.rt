@@ -1,4 +1,4 @@
-ghost use Rattle.lt_model.specs.MomentLaws.{MoveBegins, AsideStays, MovesInSteps};
+ghost use Rattle.lt_model.specs.MomentLaws.{MoveBegins, AsideStays, MovesInSteps, MovesAreParts};
 ghost use Rattle.lt_model.specs.PathEffects.{EffectsOnPath};
 ghost use Rattle.lt_model.specs.HomeLaws.{HomesKept, HomesInRuns, HomesSound, LinesInRuns, FewAdded};
 ghost use Rattle.lt_model.specs.Laws.{StartKept, StartLines, PathsKept, PathsInRuns, DeskSomewhere, TokenComes, OneToken, OthersStay, ClockMoves, OtherClocksStay, StampsKept, ClocksInRuns, TimedKept, TimedInRuns, StandingKept, StandingInRuns, StandsOnce, OnePlace, ServedKept, ServedInRuns, TryIsExact, TriesAreExact, TriesInRuns};
@@ -10,11 +10,12 @@ pub fn law_start()
 {}
 
 /// A set that is kept is kept in the middle form when a move begins, and as it was when a move doesn't touch it; and a move is
-/// a sequence of small steps of the world.
+/// made of its parts: on each set that it touches, the rule of the command or of the letter, and then the end of the move.
 pub fn law_moment()
     ensures begins { MoveBegins }
     ensures aside { AsideStays }
     ensures steps { MovesInSteps }
+    ensures parts { MovesAreParts }
 {}
 
 /// Links lead to the token of a set, of which there is one, and no enabled move changes that.
