@@ -1,6 +1,6 @@
 ghost use Rattle.lt_model.specs.MomentLaws.{MoveBegins, AsideStays, MovesInSteps, MovesAreParts};
 ghost use Rattle.lt_model.specs.PathEffects.{EffectsOnPath};
-ghost use Rattle.lt_model.specs.HomeLaws.{HomesKept, HomesInRuns, HomesSound, LinesInRuns, FewAdded};
+ghost use Rattle.lt_model.specs.HomeLaws.{HomesKept, HomesInRuns, HomesSound, StampsApart, LinesInRuns, FewAdded};
 ghost use Rattle.lt_model.specs.Laws.{StartKept, StartLines, PathsKept, PathsInRuns, DeskSomewhere, TokenComes, OneToken, OthersStay, ClockMoves, OtherClocksStay, StampsKept, ClocksInRuns, TimedKept, TimedInRuns, StandingKept, StandingInRuns, StandsOnce, OnePlace, ServedKept, ServedInRuns, TryIsExact, TriesAreExact, TriesInRuns};
 
 /// The world invariant holds at the start of each script.
@@ -72,11 +72,12 @@ pub fn law_exact_try()
     ensures run { TriesInRuns }
 {}
 
-/// A node has locks and unanswered asks of its own clients alone, and letters are of sets of the script.
+/// A node has locks and unanswered asks of its own clients alone, made in its own moves, and letters are of sets of the script.
 pub fn law_homes()
     ensures step { HomesKept }
     ensures run { HomesInRuns }
     ensures sound { HomesSound }
+    ensures stamps { StampsApart }
 {}
 
 /// In a run of so many moves each line names what is of the script, no number in it is above the number of moves,
