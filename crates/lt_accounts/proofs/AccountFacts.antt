@@ -131,9 +131,6 @@ copies_below_now a mode bar = (union_bars_both conflicts a.charge (modes_of_asks
 pub held_below_record : (a : Account) → AccountKept a → a.here ≡ false → IsBelow (held_modes a.held) (record_of a.entry)
 held_below_record a h away mode bar = (h.cover away).record_bound mode (held_below_now a h away mode bar)
 
-pub copies_below_record : (a : Account) → AccountKept a → a.here ≡ false → IsBelow (modes_of_asks a.copies) (record_of a.entry)
-copies_below_record a h away mode bar = (h.cover away).record_bound mode (copies_below_now a mode bar)
-
 -- clocks
 pub no_later_at_all : (moving : Bool) (clock k : ℕ) → IsNoLater moving clock k → k ≤ clock
 no_later_at_all false clock k h = h

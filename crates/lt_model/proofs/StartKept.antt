@@ -1,7 +1,7 @@
 -- The start of each script has the invariant.
 use Rattle.lt_accounts.proofs.FirstAccount.{empty_account, empty_is_kept}
 use Rattle.lt_accounts.proofs.ModeMembers.{none_has}
-use Rattle.lt_lists.proofs.Sums.{sum_zero, sum_same, sum_first}
+use Rattle.lt_lists.proofs.Sums.{sum_below-none, sum_first}
 use Rattle.lt_lists.proofs.Gathering.{gather_none}
 use Rattle.lt_lists.proofs.Members.{none_in, all_none}
 use Rattle.std.proofs.Common.{◌≡◌, ◌≢◌, ℕ, zero, suc, ◌<◌, inl, inr, List, [], ◌∷◌, ◌++◌, length, Option, Some, None, Bool, true, false, refl, sym, ap, subst, arith, ◌∙◌}
@@ -80,8 +80,8 @@ sound_if numbers q false h = record {
 
 clients_start : (script : ScriptData) (q : ℕ) → ClientsKept script ((start script).node q)
 clients_start script q = record {
-  one_ask = λ client. omega (arith, sum_zero (length script.sets));
-  counts = λ client. omega (arith, sum_zero (length script.sets));
+  one_ask = λ client. omega (arith, sum_below-none (length script.sets) (λ k. 0) (λ k below. refl));
+  counts = λ client. omega (arith, sum_below-none (length script.sets) (λ k. 0) (λ k below. refl));
 }
 
 no_comes : {A : Type 0} (script : ScriptData) (s q : ℕ) (body : Body) → Comes script (start script) s q body → A
@@ -186,7 +186,7 @@ sum_tokens (suc n) nodes h = sum_first n (λ q. one_if (is_some (state_if nodes 
     ap (λ (b : Bool). one_if (is_some (state_if nodes b).desk)) (ne_eqb (suc k) 0 (λ e. omega (arith, e))))
 
 letters_zero : (n : ℕ) → sum_below n (λ p. sum_below n (λ q. 0)) ≡ 0
-letters_zero n = sum_same n _ _ (λ p. sum_zero n) ∙ sum_zero n
+letters_zero n = sum_below-none n (λ p. sum_below n (λ q. 0)) (λ p below. sum_below-none n (λ q. 0) (λ q under. refl))
 
 places_if : (ask : Ask) (nodes : ℕ) (here : Bool) → places_in_state ask (state_if nodes here) ≡ 0
 places_if ask nodes true = refl
@@ -196,8 +196,8 @@ pub places_start : (script : ScriptData) (s : ℕ) (ask : Ask)
     → place_count script (start script) s ask ≡ sum_below script.nodes (λ x. times_in ask (state_at (start script) s x).pending)
 places_start script s ask = omega (
   arith,
-  sum_same script.nodes (λ q. places_in_state ask (state_if script.nodes (q == 0))) (λ q. 0) (λ q. places_if ask script.nodes (q == 0)),
-  sum_zero script.nodes,
+  sum_below-none script.nodes (λ q. places_in_state ask (state_if script.nodes (q == 0))) (λ q below. places_if ask script.nodes (q == 0)),
+  sum_below-none script.nodes (λ q. 0) (λ q below. refl),
   letters_zero script.nodes,
 )
 
