@@ -1,4 +1,7 @@
-pub mod Counts
+pub mod Words
+pub mod RunLines
+pub mod Text
+pub mod LineFits
 pub mod Grammar
 pub mod Split
-pub mod RunLines
+pub mod LockTable

@@ -1,6 +1,6 @@
 ghost use Rattle.std.specs.Prelude.{◌≡◌, slice_get};
-ghost use Rattle.lt_modes.specs.Script.{set_name, client_name, family_at};
-ghost use Rattle.lt_runs.specs.Text.{is_related};
+ghost use Rattle.lt_modes.specs.Script.{set_name, client_name};
+ghost use Rattle.lt_runs.specs.Families.{family, is_related};
 
 use lt_script::Script;
 
@@ -33,9 +33,9 @@ pub fn is_related(script: &Script, set: u8, other: u8) -> bool
     family(script, set) == family(script, other)
 }
 
-// The number of the first set of the set's family, or 0 where the script has no such set.
+// The number of the first set of the set's family; 0 of a set that the script doesn't have.
 fn family(script: &Script, set: u8) -> u8
-    ensures { result ≡ family_at script.now.sets set }
+    ensures { result ≡ family script.now set }
 {
     if set < script.sets() {
         script.family(set)
