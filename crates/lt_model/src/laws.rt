@@ -45,7 +45,8 @@ pub fn law_clocks()
     ensures run { ClocksInRuns }
 {}
 
-/// Epochs, freeze numbers and stamps that are kept or said are no younger than the clock of who keeps or says them.
+/// The epochs of firm links and desks and the freeze numbers that a node keeps are no younger than its clock; a letter is no
+/// younger than its sender, nor are its link, its tell's stamp, its freeze number and its desk younger than the letter.
 pub fn law_timed()
     ensures step { TimedKept }
     ensures run { TimedInRuns }
