@@ -5,7 +5,7 @@ use Rattle.std.specs.Option.{option_map}
 use Rattle.std.specs.Fmt.{decimal}
 use Rattle.std.specs.Str.{bytes_eq}
 use Rattle.std.specs.Str.Parse.{digits_value}
-use Rattle.std.proofs.lemmas.Bool.{cases_Bool, and_parts, leb-true, ltb-true, ne_eqb}
+use Rattle.std.proofs.lemmas.Bool.{cases_Bool, not-true, and_parts, leb-true, ltb-true, ne_eqb}
 use Rattle.std.proofs.lemmas.List.Quantifiers.{position-Some}
 use Rattle.std.proofs.lemmas.Option.{slice_get-get_or}
 use Rattle.std.proofs.lemmas.Slice.Eq.{bytes_eq-Decides}
@@ -51,14 +51,10 @@ number_found word n e = elim (cases_Bool (is_numeral word 10 && not (has_leading
       let parts = and_parts (nat_lt 0 (length word) && nat_le (length word) 10) (are_digits word) numeral.0 in
       let sizes = and_parts (nat_lt 0 (length word)) (nat_le (length word) 10) parts.0 in
       let some = ltb-true 0 (length word) sizes.0 in
-      sym (decimal_value word (ne_eqb (length word) 0 (λ h. omega (arith, h, some))) (leb-true (length word) 10 sizes.1) parts.1 (not_true (has_leading_zero word) numeral.1)
+      sym (decimal_value word (ne_eqb (length word) 0 (λ h. omega (arith, h, some))) (leb-true (length word) 10 sizes.1) parts.1 (not-true (has_leading_zero word) numeral.1)
       ∙ ap decimal value)
   | inr other ↦ absurd (let h = rw other at e in cc)
 ]
-  where
-    not_true : (b : Bool) → not b ≡ true → b ≡ false
-    not_true true h = absurd (cc)
-    not_true false h = refl
 
 client_found : (script : ScriptData) (word : List ℕ) (k : ℕ) → client_number script word ≡ Some k → client_name script k ≡ word
 client_found script word k e =
