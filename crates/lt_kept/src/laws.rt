@@ -11,7 +11,7 @@ pub fn law_step()
 {}
 
 /// What holds after each prefix of each run.
-pub fn law_run()
+pub fn law_kept_in_runs()
     ensures kept { KeptInRuns }
     ensures place { OnePlace }
     ensures letters { LettersFitInRuns }

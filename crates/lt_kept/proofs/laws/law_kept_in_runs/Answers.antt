@@ -1,4 +1,4 @@
-use Rattle.lt_kept.proofs.laws.law_run.Goals as goal
+use Rattle.lt_kept.proofs.laws.law_kept_in_runs.Goals as goal
 use Rattle.lt_model.proofs.StandingInRuns.{one_place}
 use Rattle.lt_kept.proofs.KeptRuns.{kept_in_runs, letters_fit_in_runs, first_waiter_in_runs, led_in_runs, frozen_in_runs}
 

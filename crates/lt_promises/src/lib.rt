@@ -1,0 +1,6 @@
+//! What the service promises of every run of every script.
+#![tactic(auto)]
+
+mod laws;
+
+pub use laws::law_run;
