@@ -26,7 +26,8 @@ use Rattle.lt_ledgers.proofs.OwnSteps.{route_same}
 use Rattle.lt_ledgers.proofs.MoveEffects.{both}
 use Rattle.lt_accounts.proofs.RowTotals.{row_count, total, total_taken, total_dropped}
 use Rattle.lt_kept.proofs.ClientCounts.{each_some, some_taken, some_dropped, locks_added, locks_fewer, locks_dropped, asks_pushed}
-use Rattle.lt_kept.proofs.ClientEffects.{is_asks, is_new, GivenBy, Clients, clients, same_clients, asks_some, others_given, some_given}
+use Rattle.lt_lists.proofs.Sums.{counted_some}
+use Rattle.lt_kept.proofs.ClientEffects.{is_asks, is_new, GivenBy, Clients, clients, same_clients, others_given, some_given}
 
 -- a count of rows is a part of the total
 pub count_within : (rows : List Row) (client : ℕ) (mode : Mode) → count_of rows client mode ≤ total rows client mode
@@ -52,7 +53,7 @@ abbrev pub idle : ℕ → SetState → Fact
 idle client first t posts = Clients (λ c. 0) first t × IsIdle client t
 
 pub no_ask_of : (client : ℕ) (t : SetState) → IsIdle client t → (ask : Ask) → Contains t.pending ask → ask.client ≢ client
-no_ask_of client t none ask there same = omega (arith, none, asks_some client t.pending ask there same)
+no_ask_of client t none ask there same = omega (arith, none, counted_some (is_asks client) t.pending ask there (eq-eqb ask.client client same))
 
 more_allowed : (bonus more : ℕ → ℕ) (first t : SetState) → ((c : ℕ) → bonus c ≤ more c) → Clients bonus first t → Clients more first t
 more_allowed bonus more first t grows h = record {
