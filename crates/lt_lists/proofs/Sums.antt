@@ -62,14 +62,6 @@ sum_below-some (suc n) f h = elim (cases_eq (f n) 0) [
   | inr some ↦ (n, omega arith, omega (arith, some))
 ]
 
-pub sum_zero : (n : ℕ) → sum_below n (λ k. 0) ≡ 0
-sum_zero zero = refl
-sum_zero (suc n) = omega (arith, sum_zero n)
-
-pub sum_same : (n : ℕ) (f g : ℕ → ℕ) → ((k : ℕ) → f k ≡ g k) → sum_below n f ≡ sum_below n g
-sum_same zero f g e = refl
-sum_same (suc n) f g e = omega (arith, sum_same n f g e, e n)
-
 pub sum_first : (n : ℕ) (f : ℕ → ℕ) → f 0 ≡ 1 → ((k : ℕ) → f (suc k) ≡ 0) → sum_below (suc n) f ≡ 1
 sum_first zero f first rest = omega (arith, first)
 sum_first (suc n) f first rest = omega (arith, sum_first n f first rest, rest n)
