@@ -1,6 +1,6 @@
-pub mod LineWords
+pub mod Words
 pub mod RunLines
-pub mod RunText
+pub mod Text
 pub mod LineFits
 pub mod Grammar
 pub mod Split

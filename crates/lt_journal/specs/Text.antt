@@ -5,7 +5,7 @@ use Rattle.lt_modes.specs.Script.{ScriptData}
 use Rattle.lt_runs.specs.Log.{Logged}
 use Rattle.lt_journal.specs.declared.line.Line.{Line}
 use Rattle.lt_journal.specs.declared.line.Line.TheVariants.{Bad}
-use Rattle.lt_journal.specs.LineWords.{spaced, line, line_words}
+use Rattle.lt_journal.specs.Words.{spaced, line, line_words}
 use Rattle.lt_journal.specs.RunLines.{run_lines}
 
 -- the text of a line
