@@ -1,22 +1,13 @@
--- What a run promises where it comes to rest, in the words of its lines, as statements.
-use Rattle.std.specs.Prelude.{◌≡◌, ◌↔◌, ◌<◌, true, ℕ, List, length, take, IsTrue}
+-- Who waits, in the words of the lines of a run, as statements.
+use Rattle.std.specs.Prelude.{◌≡◌, ◌↔◌, ◌<◌, true, ℕ, List, length, take}
 use Rattle.lt_modes.specs.declared.mode.Mode.{Mode}
-use Rattle.lt_modes.specs.declared.ask.Ask.{Ask}
 use Rattle.lt_modes.specs.declared.event.Event.{Event}
 use Rattle.lt_modes.specs.Script.{ScriptData}
 use Rattle.lt_runs.specs.Holdings.{lines_of}
 use Rattle.lt_runs.specs.Log.{Logged}
-use Rattle.lt_runs.specs.World.{world_after, IsRun, is_at_rest, anyone_waits}
-use Rattle.lt_runs.specs.Facts.{IsFirstWaiter}
+use Rattle.lt_runs.specs.World.{world_after, IsRun, anyone_waits}
 use Rattle.lt_model.specs.Homes.{IsWhole}
-use Rattle.lt_rest.specs.RestLaws.{IsBarredByLines}
 use Rattle.lt_lines.specs.LineLaws.{HasOpenWait}
-
--- at rest the first waiter of a set conflicts with a lock that by the lines another client holds there
-abbrev pub FirstWaiterIsBarred : Type 0
-FirstWaiterIsBarred = (script : ScriptData) (run : List Logged) → IsWhole script → IsRun script run → (k s : ℕ) (ask : Ask)
-    → s < length script.sets → IsTrue (is_at_rest script (world_after script (take k run)))
-    → IsFirstWaiter script (world_after script (take k run)) s ask → IsBarredByLines script (lines_of (take k run)) s ask
 
 -- by these lines some client of the script waits
 abbrev pub HasWaiter : ScriptData → List Event → Type 0

@@ -1,13 +1,12 @@
 ghost use Rattle.lt_model.specs.Laws.{OneToken, OnePlace, TriesInRuns};
 ghost use Rattle.lt_kept.specs.RunLaws.{KeptInRuns, LettersFitInRuns, LedInRuns, FrozenInRuns};
 ghost use Rattle.lt_kept.specs.Services.{ServedInTurn};
-ghost use Rattle.lt_lines.specs.LineLaws.{LinesTellHeld, HoldingsAreLawful, LinesTellWaits, LinesTellOwners};
-ghost use Rattle.lt_promises.specs.Promises.{FirstWaiterIsBarred, SomebodyWaits};
+ghost use Rattle.lt_lines.specs.LineLaws.{LinesTellHeld, HoldingsAreLawful, LinesTellWaits, LinesTellOwners, FirstWaiterByLines};
+ghost use Rattle.lt_promises.specs.Promises.{SomebodyWaits};
 
 use lt_kept::{law_kept_in_runs, law_order};
 use lt_lines::law_lines_tell;
 use lt_model::{law_exact_try, law_one_place, law_one_token};
-use lt_rest::law_rest;
 
 /// What holds after each prefix of each run of each script whose commands name what is of it.
 ///
@@ -24,7 +23,7 @@ pub fn law_run()
     ensures waits { LinesTellWaits }
     ensures tries { TriesInRuns }
     ensures in_turn { ServedInTurn }
-    ensures first { FirstWaiterIsBarred }
+    ensures first { FirstWaiterByLines }
     ensures led { LedInRuns }
     ensures frozen { FrozenInRuns }
     ensures somebody { SomebodyWaits }
@@ -35,7 +34,6 @@ pub fn law_run()
     law_kept_in_runs();
     law_order();
     law_lines_tell();
-    law_rest();
     law_one_token();
     law_one_place();
     law_exact_try();

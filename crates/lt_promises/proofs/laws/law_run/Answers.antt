@@ -4,13 +4,6 @@ use Rattle.lt_runs.specs.World.{world_after}
 use Rattle.lt_promises.proofs.Waiters.{some_waiter}
 use Rattle.lt_promises.proofs.laws.law_run.Goals as goal
 
-pub returns-clause-first : goal.returns-clause-first
-returns-clause-first c = λ script run whole is_run k s ask below rest waiter.
-    let kept = c.law_kept_in_runs.ensures.kept script run whole is_run k in
-    c.law_rest.ensures.lines script (lines_of (take k run)) (world_after script (take k run)) s ask (kept.sets s below)
-    (c.law_lines_tell.ensures.kept script run whole is_run k) below
-    (c.law_rest.ensures.first script (world_after script (take k run)) s ask (kept.sets s below) rest waiter)
-
 pub returns-clause-somebody : goal.returns-clause-somebody
 returns-clause-somebody c = λ script run whole is_run k.
     some_waiter script (lines_of (take k run)) (world_after script (take k run))
