@@ -1,6 +1,6 @@
 ghost use Rattle.std.specs.Prelude.{◌≡◌, ◌<◌, length, IfSome};
 ghost use Rattle.lt_modes.specs.Modes.{no_modes};
-ghost use Rattle.lt_core.specs.LoneServing.{is_served, next_from, answer_event};
+ghost use Rattle.lt_lone.specs.LoneServing.{is_served, next_from, answer_event};
 
 use crate::held;
 use lt_modes::{Ask, Event, ModeSet, Row};

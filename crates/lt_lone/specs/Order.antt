@@ -3,13 +3,13 @@ use Rattle.std.specs.Prelude.{ℕ, ◌==◌, if◌then◌else◌}
 use Rattle.lt_modes.specs.declared.stamp.Stamp.{Stamp}
 use Rattle.lt_modes.specs.State.{SetState}
 use Rattle.lt_modes.specs.Held.{count_of}
-use Rattle.lt_core.specs.Granting.{can_grant}
-use Rattle.lt_core.specs.LoneServing.{Made}
-use Rattle.lt_core.specs.SetMove.{lock, unlock}
-use Rattle.lt_core.specs.declared.order.Order.{Order}
-use Rattle.lt_core.specs.declared.order.Order.TheVariants.{Lock, Unlock}
-use Rattle.lt_core.specs.declared.order.Answer.{Answer}
-use Rattle.lt_core.specs.declared.order.Answer.TheVariants.{Granted, Waits, Unlocked, NotHeld}
+use Rattle.lt_lone.specs.Granting.{can_grant}
+use Rattle.lt_lone.specs.LoneServing.{Made}
+use Rattle.lt_lone.specs.SetMove.{lock, unlock}
+use Rattle.lt_lone.specs.declared.order.Order.{Order}
+use Rattle.lt_lone.specs.declared.order.Order.TheVariants.{Lock, Unlock}
+use Rattle.lt_lone.specs.declared.order.Answer.{Answer}
+use Rattle.lt_lone.specs.declared.order.Answer.TheVariants.{Granted, Waits, Unlocked, NotHeld}
 
 -- what the client is told
 abbrev pub answer_of : ℕ → Order → SetState → Answer

@@ -5,7 +5,7 @@ use Rattle.std.proofs.lemmas.List.Edits.{length-remove}
 use Rattle.lt_modes.specs.declared.event.Event.{Event}
 use Rattle.lt_modes.specs.Queue.{no_ask}
 use Rattle.lt_modes.specs.State.{SetState, Desk}
-use Rattle.lt_core.specs.LoneServing.{Made, queue_of, queue_of_desk, put_queue, next_service, served, answer_event, serve, serve_step, serve_up_to}
+use Rattle.lt_lone.specs.LoneServing.{Made, queue_of, queue_of_desk, put_queue, next_service, served, answer_event, serve, serve_step, serve_up_to}
 
 -- a queue that is put is the queue of that desk
 queue-put : (queue : List _) (desk : Option Desk) (k : ℕ) → k < length (queue_of_desk desk) → queue_of_desk (put_queue queue desk) ≡ queue

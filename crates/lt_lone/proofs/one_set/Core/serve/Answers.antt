@@ -1,8 +1,8 @@
 use Rattle.std.proofs.Common.{◌≡◌, ◌<◌, ◌∙◌, Some, length, arith, sym, ap}
 use Rattle.std.proofs.lemmas.List.{length_push}
-use Rattle.lt_core.specs.LoneServing.{queue_of, next_service}
-use Rattle.lt_core.proofs.ServingLemmas.{state_kept, events_kept}
-use Rattle.lt_core.proofs.one_set.Core.serve.Goals as goal
+use Rattle.lt_lone.specs.LoneServing.{queue_of, next_service}
+use Rattle.lt_lone.proofs.ServingLemmas.{state_kept, events_kept}
+use Rattle.lt_lone.proofs.one_set.Core.serve.Goals as goal
 
 pub loop-k-preserved : goal.loop-k-preserved
 loop-k-preserved c =

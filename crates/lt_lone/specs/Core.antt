@@ -3,7 +3,7 @@ use Rattle.std.specs.Prelude.{◌≡◌, ℕ, ◌+◌, ◌≤◌, List, length}
 use Rattle.lt_modes.specs.declared.event.Event.{Event}
 use Rattle.lt_modes.specs.State.{SetState}
 use Rattle.lt_modes.specs.Held.{locks_in}
-use Rattle.lt_core.specs.LoneServing.{queue_of}
+use Rattle.lt_lone.specs.LoneServing.{queue_of}
 
 -- the node and the set, the set's state, and at least so much room for further rows and asks
 pub record CoreData : Type 0 where

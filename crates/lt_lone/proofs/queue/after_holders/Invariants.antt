@@ -1,6 +1,6 @@
 use Rattle.std.proofs.Common.{◌≡◌, ◌≤◌, drop}
 use Rattle.lt_modes.specs.Queue.{after_holders_from}
-use Rattle.lt_core.proofs.queue.after_holders.Given as goal
+use Rattle.lt_lone.proofs.queue.after_holders.Given as goal
 
 abbrev pub invariant-loop-k : goal.invariant-loop-k
 invariant-loop-k l = record {

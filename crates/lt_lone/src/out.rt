@@ -15,7 +15,7 @@ pub struct Out {
 impl Model for Out {
     ghost use Rattle.std.specs.Prelude.{◌-◌};
     ghost use Rattle.std.specs.VecDeque.{deque_len, deque_capacity};
-    ghost use Rattle.lt_core.specs.Core.{OutData};
+    ghost use Rattle.lt_lone.specs.Core.{OutData};
 
     ghost Value = { OutData };
 

@@ -1,7 +1,7 @@
 use Rattle.std.proofs.Common.{◌≡◌, ◌+◌, ◌≤◌, ◌++◌, length}
-use Rattle.lt_core.specs.LoneServing.{queue_of, serve}
-use Rattle.lt_core.specs.Core.{RoomToServe, SamePlace, load_of}
-use Rattle.lt_core.proofs.one_set.Core.serve.Given as goal
+use Rattle.lt_lone.specs.LoneServing.{queue_of, serve}
+use Rattle.lt_lone.specs.Core.{RoomToServe, SamePlace, load_of}
+use Rattle.lt_lone.proofs.one_set.Core.serve.Given as goal
 
 abbrev pub invariant-loop-k : goal.invariant-loop-k
 invariant-loop-k l = record {

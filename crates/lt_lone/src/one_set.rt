@@ -1,11 +1,11 @@
 ghost use Rattle.std.specs.Prelude.{◌≡◌, ◌+◌, ◌≤◌, ◌<◌, ◌^◌, [], ◌∷◌, ◌++◌, length, OnOk, IfSome, slice_index_or};
 ghost use Rattle.lt_modes.specs.State.{lone_state};
-ghost use Rattle.lt_core.specs.Granting.{can_grant};
-ghost use Rattle.lt_core.specs.LoneServing.{queue_of, waits, next_service, served, answer_event, serve};
+ghost use Rattle.lt_lone.specs.Granting.{can_grant};
+ghost use Rattle.lt_lone.specs.LoneServing.{queue_of, waits, next_service, served, answer_event, serve};
 ghost use Rattle.lt_modes.specs.Queue.{no_ask};
-ghost use Rattle.lt_core.specs.SetMove.{granted, asked, lock_ask, locked, unlocked};
-ghost use Rattle.lt_core.specs.Core.{load_of, RoomToMove, RoomToServe, SamePlace};
-ghost use Rattle.lt_core.specs.Order.{answer_of, move_of};
+ghost use Rattle.lt_lone.specs.SetMove.{granted, asked, lock_ask, locked, unlocked};
+ghost use Rattle.lt_lone.specs.Core.{load_of, RoomToMove, RoomToServe, SamePlace};
+ghost use Rattle.lt_lone.specs.Order.{answer_of, move_of};
 ghost use Rattle.lt_modes.specs.Held.{add_lock};
 
 use crate::order::{Answer, Order};
@@ -30,7 +30,7 @@ pub struct Core {
 impl Model for Core {
     ghost use Rattle.std.specs.Prelude.{◌-◌, min, vec_len, vec_capacity};
     ghost use Rattle.lt_modes.specs.State.{lone_state};
-    ghost use Rattle.lt_core.specs.Core.{CoreData};
+    ghost use Rattle.lt_lone.specs.Core.{CoreData};
 
     ghost Value = { CoreData };
 

@@ -7,8 +7,8 @@ use Rattle.lt_modes.specs.declared.event.Event.TheVariants.{Grant, Wait, Unlock,
 use Rattle.lt_modes.specs.State.{SetState}
 use Rattle.lt_modes.specs.Held.{count_of, add_lock, take_lock}
 use Rattle.lt_modes.specs.Queue.{entered}
-use Rattle.lt_core.specs.Granting.{is_holder, can_grant}
-use Rattle.lt_core.specs.LoneServing.{Made, queue_of, put_queue, serve}
+use Rattle.lt_lone.specs.Granting.{is_holder, can_grant}
+use Rattle.lt_lone.specs.LoneServing.{Made, queue_of, put_queue, serve}
 
 -- the client gets the lock
 abbrev pub granted : ℕ → ℕ → Mode → SetState → Made
