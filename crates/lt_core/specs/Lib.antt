@@ -1,0 +1,4 @@
+pub mod CoreData
+pub mod Steps
+pub mod Unanswered
+pub mod Notices

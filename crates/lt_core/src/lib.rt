@@ -1,0 +1,14 @@
+//! One lock set at one node: its locks, its links, its unanswered asks, what waits for the token, and the desk.
+#![tactic(auto)]
+
+mod handing;
+mod one_set;
+mod order;
+mod routing;
+mod serving;
+mod taking;
+mod telling;
+mod unanswered;
+
+pub use one_set::Core;
+pub use order::{Answer, Order};

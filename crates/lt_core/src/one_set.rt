@@ -1,0 +1,248 @@
+ghost use Rattle.std.specs.Prelude.{◌≡◌, ◌+◌, ◌≤◌, ◌<◌, ◌^◌, length, map, filter_map, IfOk, OnOk, is_some};
+ghost use Rattle.lt_modes.specs.State.{first_state};
+ghost use Rattle.lt_modes.specs.Held.{locks_of};
+ghost use Rattle.lt_modes.specs.Serving.{queue_of, waits};
+ghost use Rattle.lt_modes.specs.Fits.{has_client, parked_asks, ask_if};
+ghost use Rattle.lt_modes.specs.Made.{post_of};
+ghost use Rattle.lt_letter.specs.Seen.{letter_seen, post_seen, body_seen, parked_seen};
+ghost use Rattle.lt_letter.specs.Hands.{asks_in, RoomIn};
+ghost use Rattle.lt_core.specs.CoreData.{HasMemory, waiting};
+
+use crate::unanswered::Unanswered;
+use lt_desk::Desk;
+use lt_held::Held;
+use lt_letter::{Body, Letter, Parked, Post};
+use lt_link::Links;
+use lt_modes::{Link, ModeSet, Stamp};
+use std::alloc::{AllocError, Global};
+use std::collections::VecDeque;
+use std::marker::Model;
+
+/// One lock set at one node.
+#[derive(Drop)]
+pub struct Core {
+    pub(crate) set: u8,
+    pub(crate) held: Held,
+    // The modes that the desk knows of, or was told, as those of this node.
+    pub(crate) charge: ModeSet,
+    // The modes of the last freeze, and its number.
+    pub(crate) frozen: ModeSet,
+    pub(crate) number: u64,
+    // Where the desk is believed to be, and which node this is.
+    pub(crate) links: Links,
+    pub(crate) pending: Unanswered,
+    // The asks and tells that wait for the token, in order.
+    pub(crate) parked: VecDeque<Parked>,
+    pub(crate) desk: Option<Desk>,
+}
+
+impl Model for Core {
+    ghost use Rattle.std.specs.Prelude.{◌-◌, map};
+    ghost use Rattle.std.specs.VecDeque.{deque_len, deque_capacity};
+    ghost use Rattle.lt_letter.specs.Seen.{parked_seen};
+    ghost use Rattle.lt_core.specs.CoreData.{CoreData, desk_seen, room_by};
+
+    ghost Value = { CoreData };
+
+    ghost view = { λ c. record {
+      node = c.links.me;
+      set = c.set;
+      state = record {
+        held = c.held.rows;
+        charge = c.charge;
+        frozen = c.frozen;
+        number = c.number;
+        firm = c.links.firm;
+        hoped = c.links.hoped;
+        pending = c.pending;
+        parked = map parked_seen c.parked.items;
+        desk = desk_seen c.desk;
+      };
+      room = room_by c.desk c.held.spare;
+      row_room = c.held.spare;
+      parked_room = deque_capacity c.parked - deque_len c.parked;
+    } };
+}
+
+impl Core {
+    /// What a node keeps for a set at the start: node 0 has the desk.
+    pub fn new(
+        alloc: Global,
+        nodes: u8,
+        clients: u16,
+        node: u8,
+        set: u8,
+    ) -> Result<Core, AllocError>
+        requires { nodes ≤ 64 }
+        ensures state { IfOk result (λ core. core.state ≡ first_state nodes node) }
+        ensures place { IfOk result (λ core. (core.node ≡ node) × (core.set ≡ set)) }
+    {
+        let desk = if node == 0 {
+            Some(Desk::new(alloc, nodes, clients)?)
+        } else {
+            None
+        };
+        Ok(Core {
+            set,
+            held: Held::new(alloc)?,
+            charge: ModeSet::empty(),
+            frozen: ModeSet::empty(),
+            number: 0,
+            links: Links::new(node),
+            pending: Unanswered::new(alloc)?,
+            parked: VecDeque::new(alloc),
+            desk,
+        })
+    }
+
+    /// Makes room for one move that takes no letter.
+    pub fn reserve(&mut self) -> Result<(), AllocError>
+        requires few { waiting self.old.state + 2 < 2 ^ 32 }
+        ensures state { self.new.state ≡ self.old.state }
+        ensures place { (self.new.node ≡ self.old.node) × (self.new.set ≡ self.old.set) }
+        ensures room { OnOk result (HasMemory 0 self.new) }
+    {
+        self.reserve_with(0)
+    }
+
+    /// Makes room for the move that takes the letter, here and in the desk that it brings.
+    pub fn reserve_for(&mut self, letter: &mut Letter) -> Result<(), AllocError>
+        requires few { waiting self.old.state + asks_in letter.old.body + 2 < 2 ^ 32 }
+        ensures state { self.new.state ≡ self.old.state }
+        ensures place { (self.new.node ≡ self.old.node) × (self.new.set ≡ self.old.set) }
+        ensures letter { letter_seen letter.new ≡ letter_seen letter.old }
+        ensures room { OnOk result (HasMemory (asks_in letter.new.body) self.new) }
+        ensures desk { OnOk result (RoomIn (waiting self.new.state + asks_in letter.new.body + 2) letter.new.body) }
+    {
+        let brought = letter.asks();
+        let asks = self.waiting() + brought + 2;
+        self.reserve_with(brought)?;
+        letter.reserve(asks)?;
+        Ok(())
+    }
+
+    // Makes room for one move, to which a letter brings so many asks.
+    fn reserve_with(&mut self, brought: u32) -> Result<(), AllocError>
+        requires few { waiting self.old.state + brought + 2 < 2 ^ 32 }
+        ensures state { self.new.state ≡ self.old.state }
+        ensures place { (self.new.node ≡ self.old.node) × (self.new.set ≡ self.old.set) }
+        ensures room { OnOk result (HasMemory brought self.new) }
+    {
+        let asks = self.waiting() + brought + 2;
+        self.held.reserve(asks)?;
+        self.parked.reserve(2)?;
+        match &mut self.desk {
+            Some(desk) => desk.reserve_for(asks),
+            None => Ok(()),
+        }
+    }
+
+    /// How many asks wait here, in the queue and for the token.
+    pub fn waiting(&self) -> u32
+        requires { waiting self.now.state < 2 ^ 32 }
+        ensures { result ≡ waiting self.now.state }
+    {
+        let here = match &self.desk {
+            Some(desk) => desk.len(),
+            None => 0,
+        };
+        here + count_asks(&self.parked)
+    }
+
+    pub fn has_desk(&self) -> bool
+        ensures { result ≡ is_some self.now.state.desk }
+    {
+        self.desk.is_some()
+    }
+
+    /// How many locks the client holds.
+    pub fn held_count(&self, client: u16) -> u32
+        ensures { result ≡ locks_of self.now.state.held client }
+    {
+        self.held.locks_of(client)
+    }
+
+    /// Whether an ask of the client is unanswered.
+    pub fn waits(&self, client: u16) -> bool
+        ensures { result ≡ waits self.now.state client }
+    {
+        self.pending.has_client(client)
+    }
+
+    /// Whether an ask of the client waits here for the token.
+    pub fn parks(&self, client: u16) -> bool
+        ensures { result ≡ has_client client (parked_asks self.now.state) }
+    {
+        has_parked(&self.parked, client)
+    }
+
+    /// Whether an ask of the client is in the queue of the desk here.
+    pub fn queues(&self, client: u16) -> bool
+        ensures { result ≡ has_client client (queue_of self.now.state) }
+    {
+        match &self.desk {
+            Some(desk) => has_queued(desk, client),
+            None => false,
+        }
+    }
+
+    pub(crate) fn firm(&self) -> Link
+        ensures { result ≡ self.now.state.firm }
+    {
+        let (node, epoch) = self.links.firm();
+        Link { node, epoch }
+    }
+
+    /// A letter from here to a node.
+    pub(crate) fn post(&self, to: u8, body: Body, stamp: Stamp) -> Post
+        ensures { post_seen result ≡ post_of self.now.set stamp self.now.state to (body_seen body) }
+    {
+        let letter = Letter {
+            stamp,
+            set: self.set,
+            link: self.firm(),
+            body,
+        };
+        Post { to, letter }
+    }
+}
+
+// How many asks are parked.
+fn count_asks(parked: &VecDeque<Parked>) -> u32
+    requires { length (filter_map ask_if (map parked_seen parked.now.items)) < 2 ^ 32 }
+    ensures { result ≡ length (filter_map ask_if (map parked_seen parked.now.items)) }
+{
+    let mut asks = 0;
+    for item in parked.iter() {
+        if let Parked::Ask(_) = item {
+            asks += 1;
+        }
+    }
+    asks
+}
+
+// Whether an ask of the client is parked.
+fn has_parked(parked: &VecDeque<Parked>, client: u16) -> bool
+    ensures { result ≡ has_client client (filter_map ask_if (map parked_seen parked.now.items)) }
+{
+    for item in parked.iter() {
+        if let Parked::Ask(ask) = item {
+            if ask.client == client {
+                return true;
+            }
+        }
+    }
+    false
+}
+
+// Whether an ask of the client is in the desk's queue.
+fn has_queued(desk: &Desk, client: u16) -> bool
+    ensures { result ≡ has_client client desk.now.desk.queue }
+{
+    for k in 0..desk.len() {
+        if desk.ask(k).client == client {
+            return true;
+        }
+    }
+    false
+}
