@@ -1,4 +1,5 @@
 pub mod CoreData
 pub mod Steps
+pub mod Orders
 pub mod Unanswered
 pub mod Notices

@@ -1,6 +1,8 @@
 //! One lock set at one node: its locks, its links, its unanswered asks, what waits for the token, and the desk.
 #![tactic(auto)]
 
+mod act;
+mod granting;
 mod handing;
 mod one_set;
 mod order;
