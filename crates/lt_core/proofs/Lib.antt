@@ -1,0 +1,4 @@
+pub mod AskLemmas
+pub mod RoomLemmas
+pub mod ServingLemmas
+pub mod NoticeLemmas

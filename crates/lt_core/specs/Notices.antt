@@ -20,6 +20,10 @@ notices set stamp s frozen number told = record {
 abbrev pub has_node : ℕ → ℕ → Bool
 has_node mask x = not (bit_and mask (2 ^ x) == 0)
 
+-- the node alone, where the mask has it
+abbrev pub node_if : ℕ → ℕ → List ℕ
+node_if mask x = cons_if (has_node mask x) x []
+
 -- the nodes of a mask, of n nodes from x on
 abbrev pub nodes_in : ℕ → ℕ → ℕ → List ℕ
 nodes_in mask x zero = []

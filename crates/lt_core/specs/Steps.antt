@@ -1,10 +1,8 @@
 -- Steps of a rule that functions of a core make.
-use Rattle.std.specs.Prelude.{ℕ, [], ◌∷◌, Option, Some, None}
-use Rattle.lt_modes.specs.declared.stamp.Stamp.{Stamp}
+use Rattle.std.specs.Prelude.{Bool, false, ◌==◌, ℕ, [], ◌∷◌}
 use Rattle.lt_modes.specs.declared.ask.Ask.{Ask}
-use Rattle.lt_modes.specs.declared.event.Event.TheVariants.{Copy}
-use Rattle.lt_modes.specs.State.{SetState, Desk, Parked, ParkedAsk, ParkedTell, CopyBody}
-use Rattle.lt_modes.specs.Made.{Made, post_of}
+use Rattle.lt_modes.specs.State.{SetState, Parked, ParkedAsk, ParkedTell}
+use Rattle.lt_modes.specs.Made.{Made}
 use Rattle.lt_modes.specs.Queue.{without}
 use Rattle.lt_modes.specs.Serving.{answered, answer_event}
 use Rattle.lt_modes.specs.SetMove.{answers}
@@ -18,3 +16,7 @@ answer_ask set ask s =
 abbrev pub ask_count : Parked → ℕ
 ask_count (ParkedAsk ask) = 1
 ask_count (ParkedTell tell) = 0
+
+abbrev pub is_ask_of : ℕ → Parked → Bool
+is_ask_of client (ParkedAsk ask) = ask.client == client
+is_ask_of client (ParkedTell tell) = false

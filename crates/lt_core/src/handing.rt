@@ -1,11 +1,11 @@
-ghost use Rattle.std.specs.Prelude.{◌≡◌, ◌+◌, ◌≤◌, ◌<◌, [], ◌∷◌, length, Some, IfSome, slice_index_or};
+ghost use Rattle.std.specs.Prelude.{◌≡◌, ◌+◌, ◌≤◌, ◌<◌, length, Some, None, IfSome, slice_index_or};
 ghost use Rattle.lt_modes.specs.Queue.{no_ask};
 ghost use Rattle.lt_modes.specs.Serving.{queue_of, next_move};
 ghost use Rattle.lt_modes.specs.Freezing.{freeze};
 ghost use Rattle.lt_modes.specs.HandingOver.{hand_over, hand_over_to};
 ghost use Rattle.lt_letter.specs.OutData.{FitsOut, out_after};
 ghost use Rattle.lt_core.specs.CoreData.{Does, HasRoom, epoch_of};
-ghost use Rattle.lt_core.specs.Notices.{notices, nodes_in, has_node};
+ghost use Rattle.lt_core.specs.Notices.{notices, nodes_in, node_if, has_node};
 
 use crate::one_set::Core;
 use lt_desk::{Desk, Targets};
@@ -38,17 +38,19 @@ impl Core {
         ensures { out.new ≡ out_after (notices self.now.set stamp self.now.state targets.now.modes targets.now.number (nodes_in targets.now.nodes 0 nodes)) out.old }
     {
         for x in 0..nodes {
-            if has_node(targets.nodes, x) {
-                self.send_notice(x, targets, stamp, out);
-            }
+            self.send_notice(x, targets, stamp, out);
         }
     }
 
-    // The node is sent the frozen modes.
+    // The node is sent the frozen modes, where it is of the mask.
     fn send_notice(&self, to: u8, targets: &Targets, stamp: Stamp, out: &mut Out)
-        requires { FitsOut (notices self.now.set stamp self.now.state targets.now.modes targets.now.number (to ∷ [])) out.old }
-        ensures { out.new ≡ out_after (notices self.now.set stamp self.now.state targets.now.modes targets.now.number (to ∷ [])) out.old }
+        requires node { to < 64 }
+        requires fits { FitsOut (notices self.now.set stamp self.now.state targets.now.modes targets.now.number (node_if targets.now.nodes to)) out.old }
+        ensures { out.new ≡ out_after (notices self.now.set stamp self.now.state targets.now.modes targets.now.number (node_if targets.now.nodes to)) out.old }
     {
+        if !has_node(targets.nodes, to) {
+            return;
+        }
         out.push_event(Event::Freeze {
             set: self.set,
             to,
@@ -92,6 +94,7 @@ impl Core {
     fn send_desk(&mut self, k: u32, mut desk: Desk, stamp: Stamp, out: &mut Out)
         requires within { k < length desk.desk.queue }
         requires node { stamp.node ≡ self.old.node }
+        requires gone { self.old.state.desk ≡ None }
         requires epoch { desk.desk.epoch < stamp.clock }
         requires fits { FitsOut (hand_over_to self.old.set stamp self.old.state (slice_index_or desk.desk.queue k no_ask).node (Some desk.desk)) out.old }
         ensures does { Does (hand_over_to self.old.set stamp self.old.state (slice_index_or desk.desk.queue k no_ask).node (Some desk.desk)) self.old out.old self.new out.new }
@@ -101,7 +104,6 @@ impl Core {
         let epoch = desk.epoch();
         self.charge = self.held.modes();
         self.links.set(to, epoch);
-        self.desk = None;
         out.push_event(Event::Token {
             set: self.set,
             to,

@@ -7,6 +7,7 @@ ghost use Rattle.lt_modes.specs.Made.{post_of};
 ghost use Rattle.lt_letter.specs.Seen.{letter_seen, post_seen, body_seen, parked_seen};
 ghost use Rattle.lt_letter.specs.Hands.{asks_in, RoomIn};
 ghost use Rattle.lt_core.specs.CoreData.{HasMemory, waiting};
+ghost use Rattle.lt_core.specs.Steps.{ask_count, is_ask_of};
 
 use crate::unanswered::Unanswered;
 use lt_desk::Desk;
@@ -213,26 +214,38 @@ fn count_asks(parked: &VecDeque<Parked>) -> u32
     ensures { result ≡ length (filter_map ask_if (map parked_seen parked.now.items)) }
 {
     let mut asks = 0;
-    for item in parked.iter() {
-        if let Parked::Ask(_) = item {
-            asks += 1;
-        }
+    for k in 0..parked.len() {
+        asks += asks_of(&parked[k]);
     }
     asks
 }
 
+// How many asks it is.
+fn asks_of(item: &Parked) -> u32
+    ensures { result ≡ ask_count (parked_seen item.now) }
+{
+    match item {
+        Parked::Ask(_) => 1,
+        Parked::Tell(_) => 0,
+    }
+}
+
 // Whether an ask of the client is parked.
+#[tactic(auto, using(crate::proofs::AskLemmas::client_parked))]
 fn has_parked(parked: &VecDeque<Parked>, client: u16) -> bool
     ensures { result ≡ has_client client (filter_map ask_if (map parked_seen parked.now.items)) }
 {
-    for item in parked.iter() {
-        if let Parked::Ask(ask) = item {
-            if ask.client == client {
-                return true;
-            }
-        }
+    parked.iter().any(|item| is_of(item, client))
+}
+
+// Whether it is an ask of the client.
+fn is_of(item: &Parked, client: u16) -> bool
+    ensures { result ≡ is_ask_of client (parked_seen item.now) }
+{
+    match item {
+        Parked::Ask(ask) => ask.client == client,
+        Parked::Tell(_) => false,
     }
-    false
 }
 
 // Whether an ask of the client is in the desk's queue.
