@@ -2,3 +2,6 @@ pub mod AskLemmas
 pub mod RoomLemmas
 pub mod ServingLemmas
 pub mod NoticeLemmas
+pub mod OrderLemmas
+pub mod BoundLemmas
+pub mod FitsLemmas

@@ -17,8 +17,10 @@ first_rest : (set : ℕ) (stamp : Stamp) (s : SetState) (frozen : Modes) (number
     → out_after (notices set stamp s frozen number rest) (out_after (notices set stamp s frozen number (cons_if told x [])) out)
     ≡ out_after (notices set stamp s frozen number (cons_if told x rest)) out
 first_rest set stamp s frozen number true x rest out =
-    rw (append_assoc out.posts (notices set stamp s frozen number (x ∷ [])).posts (notices set stamp s frozen number rest).posts,
-        append_assoc out.events (notices set stamp s frozen number (x ∷ [])).events (notices set stamp s frozen number rest).events) refl
+    rw (
+      append_assoc out.posts (notices set stamp s frozen number (x ∷ [])).posts (notices set stamp s frozen number rest).posts,
+      append_assoc out.events (notices set stamp s frozen number (x ∷ [])).events (notices set stamp s frozen number rest).events,
+    ) refl
 first_rest set stamp s frozen number false x rest out = rw (append-nil out.posts, append-nil out.events) refl
 
 -- there is room for the first of these

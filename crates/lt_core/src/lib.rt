@@ -2,8 +2,11 @@
 #![tactic(auto)]
 
 mod act;
+mod fits;
 mod granting;
 mod handing;
+mod laws;
+mod numbers;
 mod one_set;
 mod order;
 mod routing;
@@ -12,5 +15,7 @@ mod taking;
 mod telling;
 mod unanswered;
 
+pub use laws::law_room_to_send;
+pub use numbers::Numbers;
 pub use one_set::Core;
 pub use order::{Answer, Order};

@@ -239,7 +239,7 @@ fn has_parked(parked: &VecDeque<Parked>, client: u16) -> bool
 }
 
 // Whether it is an ask of the client.
-fn is_of(item: &Parked, client: u16) -> bool
+pub(crate) fn is_of(item: &Parked, client: u16) -> bool
     ensures { result ≡ is_ask_of client (parked_seen item.now) }
 {
     match item {
