@@ -20,9 +20,9 @@ use Rattle.lt_modes.specs.State.{SetState, Desk}
 use Rattle.lt_modes.specs.Held.{is_of, is_row_of, gather, own_modes, other_modes, no_row, one_more, one_less, row_place, add_at, add_lock, take_at, take_lock, count_of}
 use Rattle.lt_modes.specs.Queue.{no_ask, modes_of_asks}
 use Rattle.lt_modes.proofs.ModeAlgebra.{conflicts-sym, has-modes_by, has-itself, union_has_both, bars_by_table, covers_by_table}
-use Rattle.lt_core.specs.Granting.{can_grant, may_join, asks_before}
-use Rattle.lt_core.specs.LoneServing.{Made, queue_of, is_served, next_from, next_service, give_up, served, serve, serve_step, serve_up_to}
-use Rattle.lt_core.specs.SetMove.{lock, unlock, locked, unlocked, granted, asked, lock_ask}
+use Rattle.lt_lone.specs.Granting.{can_grant, may_join, asks_before}
+use Rattle.lt_lone.specs.LoneServing.{Made, queue_of, is_served, next_from, next_service, give_up, served, serve, serve_step, serve_up_to}
+use Rattle.lt_lone.specs.SetMove.{lock, unlock, locked, unlocked, granted, asked, lock_ask}
 use Rattle.lt_runs.specs.Log.{Logged}
 use Rattle.lt_lists.specs.Below.{put}
 use Rattle.lt_accounts.proofs.Asks.{same_mode-true}

@@ -10,7 +10,7 @@ use Rattle.lt_modes.specs.Serving.{move_from, may_draw}
 use Rattle.lt_modes.specs.Freezing.{freeze}
 use Rattle.lt_modes.specs.HandingOver.{hand_over, hand_over_for}
 use Rattle.lt_modes.specs.Telling.{finish}
-use Rattle.lt_core.specs.LoneServing.{Made as MadeAlone, serve as serve_alone}
+use Rattle.lt_lone.specs.LoneServing.{Made as MadeAlone, serve as serve_alone}
 use Rattle.lt_alone.specs.Frozen.{frozen_told, with_frozen}
 use Rattle.lt_alone.proofs.LoneSet.{LoneSet, AreHere, state_of}
 use Rattle.lt_alone.proofs.Served.{SameMade, desk_of, here_at_clock, same_serve}

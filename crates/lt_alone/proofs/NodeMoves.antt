@@ -9,8 +9,8 @@ use Rattle.lt_modes.specs.Script.{ScriptData}
 use Rattle.lt_modes.specs.State.{SetState}
 use Rattle.lt_modes.specs.Made.{Made}
 use Rattle.lt_modes.specs.SetMove.{lock, unlock}
-use Rattle.lt_core.specs.LoneServing.{Made as MadeAlone}
-use Rattle.lt_core.specs.SetMove.{lock as lock_alone, unlock as unlock_alone}
+use Rattle.lt_lone.specs.LoneServing.{Made as MadeAlone}
+use Rattle.lt_lone.specs.SetMove.{lock as lock_alone, unlock as unlock_alone}
 use Rattle.lt_lists.specs.Below.{put}
 use Rattle.lt_runs.specs.Families.{commands_of}
 use Rattle.lt_runs.specs.NodeMove.{NodeState, NodeMade, act_stamp, at_clock, one_made, touched, obey, node_act}

@@ -11,7 +11,7 @@ use Rattle.lt_modes.specs.Held.{other_modes}
 use Rattle.lt_modes.specs.Queue.{no_ask, without}
 use Rattle.lt_modes.specs.Made.{Made, then_do}
 use Rattle.lt_modes.specs.Serving.{is_served, next_from, next_service, serve, serve_up_to, serve_step, serve_one, serve_local, ask_at, answer_event}
-use Rattle.lt_core.specs.LoneServing.{Made as MadeAlone, is_served as is_served_alone, next_from as next_from_alone, next_service as next_service_alone, answered as answered_alone, serve as serve_alone, serve_up_to as serve_alone_up_to, serve_step as serve_step_alone}
+use Rattle.lt_lone.specs.LoneServing.{Made as MadeAlone, is_served as is_served_alone, next_from as next_from_alone, next_service as next_service_alone, answered as answered_alone, serve as serve_alone, serve_up_to as serve_alone_up_to, serve_step as serve_step_alone}
 use Rattle.lt_alone.specs.Frozen.{frozen_told, told_entry}
 use Rattle.lt_alone.proofs.LoneSet.{LoneSet, AreHere, state_of, here-at, here-remove}
 use Rattle.lt_alone.proofs.Modes.{free_of_both}

@@ -12,8 +12,8 @@ use Rattle.lt_modes.specs.Made.{then_do}
 use Rattle.lt_modes.specs.Granting.{can_grant, is_holder}
 use Rattle.lt_modes.specs.SetMove.{lock, unlock, granted, asked, ask_of, answers}
 use Rattle.lt_modes.specs.Telling.{finish}
-use Rattle.lt_core.specs.Granting.{can_grant as can_grant_alone}
-use Rattle.lt_core.specs.SetMove.{lock as lock_alone, unlock as unlock_alone, then_serve, granted as granted_alone, asked as asked_alone, lock_ask}
+use Rattle.lt_lone.specs.Granting.{can_grant as can_grant_alone}
+use Rattle.lt_lone.specs.SetMove.{lock as lock_alone, unlock as unlock_alone, then_serve, granted as granted_alone, asked as asked_alone, lock_ask}
 use Rattle.lt_alone.specs.Frozen.{frozen_told, with_frozen}
 use Rattle.lt_alone.proofs.LoneSet.{LoneSet, AreHere, state_of, here-insert}
 use Rattle.lt_alone.proofs.Modes.{free_of_both}

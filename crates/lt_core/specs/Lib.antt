@@ -1,5 +1,7 @@
-pub mod Granting
-pub mod SetMove
-pub mod Core
-pub mod Order
-pub mod LoneServing
+pub mod CoreData
+pub mod Steps
+pub mod Orders
+pub mod Bound
+pub mod Tests
+pub mod Unanswered
+pub mod Notices

@@ -1,17 +1,21 @@
-//! One lock set at one node: its held locks, its unanswered asks and the desk's queue.
-//!
-//! So far the script has one node, so the desk never leaves it, and no letter is sent.
+//! One lock set at one node: its locks, its links, its unanswered asks, what waits for the token, and the desk.
 #![tactic(auto)]
 
-mod held;
+mod act;
+mod fits;
+mod granting;
+mod handing;
+mod laws;
+mod numbers;
 mod one_set;
 mod order;
-mod out;
-mod queue;
+mod routing;
 mod serving;
-#[cfg(test)]
-mod tests;
+mod taking;
+mod telling;
+mod unanswered;
 
+pub use laws::law_room_to_send;
+pub use numbers::Numbers;
 pub use one_set::Core;
 pub use order::{Answer, Order};
-pub use out::Out;

@@ -1,240 +1,261 @@
-ghost use Rattle.std.specs.Prelude.{◌≡◌, ◌+◌, ◌≤◌, ◌<◌, ◌^◌, [], ◌∷◌, ◌++◌, length, OnOk, IfSome, slice_index_or};
-ghost use Rattle.lt_modes.specs.State.{lone_state};
-ghost use Rattle.lt_core.specs.Granting.{can_grant};
-ghost use Rattle.lt_core.specs.LoneServing.{queue_of, waits, next_service, served, answer_event, serve};
-ghost use Rattle.lt_modes.specs.Queue.{no_ask};
-ghost use Rattle.lt_core.specs.SetMove.{granted, asked, lock_ask, locked, unlocked};
-ghost use Rattle.lt_core.specs.Core.{load_of, RoomToMove, RoomToServe, SamePlace};
-ghost use Rattle.lt_core.specs.Order.{answer_of, move_of};
-ghost use Rattle.lt_modes.specs.Held.{add_lock};
+ghost use Rattle.std.specs.Prelude.{◌≡◌, ◌+◌, ◌≤◌, ◌<◌, ◌^◌, length, map, filter_map, IfOk, OnOk, is_some};
+ghost use Rattle.lt_modes.specs.State.{first_state};
+ghost use Rattle.lt_modes.specs.Held.{locks_of};
+ghost use Rattle.lt_modes.specs.Serving.{queue_of, waits};
+ghost use Rattle.lt_modes.specs.Fits.{has_client, parked_asks, ask_if};
+ghost use Rattle.lt_modes.specs.Made.{post_of};
+ghost use Rattle.lt_letter.specs.Seen.{letter_seen, post_seen, body_seen, parked_seen};
+ghost use Rattle.lt_letter.specs.Hands.{asks_in, RoomIn};
+ghost use Rattle.lt_core.specs.CoreData.{HasMemory, waiting};
+ghost use Rattle.lt_core.specs.Steps.{ask_count, is_ask_of};
 
-use crate::order::{Answer, Order};
-use crate::out::Out;
-use crate::{held, queue, serving};
-use lt_modes::{Ask, Event, Mode, Row, Stamp};
+use crate::unanswered::Unanswered;
+use lt_desk::Desk;
+use lt_held::Held;
+use lt_letter::{Body, Letter, Parked, Post};
+use lt_link::Links;
+use lt_modes::{Link, ModeSet, Stamp};
 use std::alloc::{AllocError, Global};
+use std::collections::VecDeque;
 use std::marker::Model;
 
-/// One lock set at the node that has its desk.
+/// One lock set at one node.
 #[derive(Drop)]
 pub struct Core {
-    node: u8,
-    set: u8,
-    held: Vec<Row>,
-    // The unanswered asks of the node's clients, in the order in which they were made.
-    pending: Vec<Ask>,
-    // The same asks in the order in which they are served.
-    queue: Vec<Ask>,
+    pub(crate) set: u8,
+    pub(crate) held: Held,
+    // The modes that the desk knows of, or was told, as those of this node.
+    pub(crate) charge: ModeSet,
+    // The modes of the last freeze, and its number.
+    pub(crate) frozen: ModeSet,
+    pub(crate) number: u64,
+    // Where the desk is believed to be, and which node this is.
+    pub(crate) links: Links,
+    pub(crate) pending: Unanswered,
+    // The asks and tells that wait for the token, in order.
+    pub(crate) parked: VecDeque<Parked>,
+    pub(crate) desk: Option<Desk>,
 }
 
 impl Model for Core {
-    ghost use Rattle.std.specs.Prelude.{◌-◌, min, vec_len, vec_capacity};
-    ghost use Rattle.lt_modes.specs.State.{lone_state};
-    ghost use Rattle.lt_core.specs.Core.{CoreData};
+    ghost use Rattle.std.specs.Prelude.{◌-◌, map};
+    ghost use Rattle.std.specs.VecDeque.{deque_len, deque_capacity};
+    ghost use Rattle.lt_letter.specs.Seen.{parked_seen};
+    ghost use Rattle.lt_core.specs.CoreData.{CoreData, desk_seen, room_by};
 
     ghost Value = { CoreData };
 
     ghost view = { λ c. record {
-      node = c.node;
+      node = c.links.me;
       set = c.set;
-      state = lone_state c.held.items c.pending.items c.queue.items;
-      row_room = vec_capacity c.held - vec_len c.held;
-      ask_room = min (vec_capacity c.pending - vec_len c.pending) (vec_capacity c.queue - vec_len c.queue);
+      state = record {
+        held = c.held.rows;
+        charge = c.charge;
+        frozen = c.frozen;
+        number = c.number;
+        firm = c.links.firm;
+        hoped = c.links.hoped;
+        pending = c.pending;
+        parked = map parked_seen c.parked.items;
+        desk = desk_seen c.desk;
+      };
+      room = room_by c.desk c.held.spare;
+      row_room = c.held.spare;
+      parked_room = deque_capacity c.parked - deque_len c.parked;
     } };
 }
 
 impl Core {
-    /// The set at the start: nobody holds a lock, and nobody waits.
-    pub fn new(alloc: Global, node: u8, set: u8) -> Core
-        ensures start { result.state ≡ lone_state [] [] [] }
-        ensures place { (result.node ≡ node) × (result.set ≡ set) }
+    /// What a node keeps for a set at the start: node 0 has the desk.
+    pub fn new(
+        alloc: Global,
+        nodes: u8,
+        clients: u16,
+        node: u8,
+        set: u8,
+    ) -> Result<Core, AllocError>
+        requires { nodes ≤ 64 }
+        ensures state { IfOk result (λ core. core.state ≡ first_state nodes node) }
+        ensures place { IfOk result (λ core. (core.node ≡ node) × (core.set ≡ set)) }
     {
-        Core {
-            node,
+        let desk = if node == 0 {
+            Some(Desk::new(alloc, nodes, clients)?)
+        } else {
+            None
+        };
+        Ok(Core {
             set,
-            held: Vec::new(alloc),
-            pending: Vec::new(alloc),
-            queue: Vec::new(alloc),
+            held: Held::new(alloc)?,
+            charge: ModeSet::empty(),
+            frozen: ModeSet::empty(),
+            number: 0,
+            links: Links::new(node),
+            pending: Unanswered::new(alloc)?,
+            parked: VecDeque::new(alloc),
+            desk,
+        })
+    }
+
+    /// Makes room for one move that takes no letter.
+    pub fn reserve(&mut self) -> Result<(), AllocError>
+        requires few { waiting self.old.state + 2 < 2 ^ 32 }
+        ensures state { self.new.state ≡ self.old.state }
+        ensures place { (self.new.node ≡ self.old.node) × (self.new.set ≡ self.old.set) }
+        ensures room { OnOk result (HasMemory 0 self.new) }
+    {
+        self.reserve_with(0)
+    }
+
+    /// Makes room for the move that takes the letter, here and in the desk that it brings.
+    pub fn reserve_for(&mut self, letter: &mut Letter) -> Result<(), AllocError>
+        requires few { waiting self.old.state + asks_in letter.old.body + 2 < 2 ^ 32 }
+        ensures state { self.new.state ≡ self.old.state }
+        ensures place { (self.new.node ≡ self.old.node) × (self.new.set ≡ self.old.set) }
+        ensures letter { letter_seen letter.new ≡ letter_seen letter.old }
+        ensures room { OnOk result (HasMemory (asks_in letter.new.body) self.new) }
+        ensures desk { OnOk result (RoomIn (waiting self.new.state + asks_in letter.new.body + 2) letter.new.body) }
+    {
+        let brought = letter.asks();
+        let asks = self.waiting() + brought + 2;
+        self.reserve_with(brought)?;
+        letter.reserve(asks)?;
+        Ok(())
+    }
+
+    // Makes room for one move, to which a letter brings so many asks.
+    fn reserve_with(&mut self, brought: u32) -> Result<(), AllocError>
+        requires few { waiting self.old.state + brought + 2 < 2 ^ 32 }
+        ensures state { self.new.state ≡ self.old.state }
+        ensures place { (self.new.node ≡ self.old.node) × (self.new.set ≡ self.old.set) }
+        ensures room { OnOk result (HasMemory brought self.new) }
+    {
+        let asks = self.waiting() + brought + 2;
+        self.held.reserve(asks)?;
+        self.parked.reserve(2)?;
+        match &mut self.desk {
+            Some(desk) => desk.reserve_for(asks),
+            None => Ok(()),
         }
     }
 
-    /// Makes room for one move, here and in `out`.
-    pub fn reserve(&mut self, out: &mut Out) -> Result<(), AllocError>
-        ensures room { OnOk result (RoomToMove self.new out.new) }
-        ensures state { self.new.state ≡ self.old.state }
-        ensures place { SamePlace self.old self.new }
-        ensures events { out.new.events ≡ out.old.events }
+    /// How many asks wait here, in the queue and for the token.
+    pub fn waiting(&self) -> u32
+        requires { waiting self.now.state < 2 ^ 32 }
+        ensures { result ≡ waiting self.now.state }
     {
-        let waiting = self.queue.len();
-        out.reserve(waiting + 2)?;
-        self.held.reserve(waiting + 1)?;
-        self.pending.reserve(1)?;
-        self.queue.reserve(1)
+        let here = match &self.desk {
+            Some(desk) => desk.len(),
+            None => 0,
+        };
+        here + count_asks(&self.parked)
     }
 
-    /// The number of asks that wait.
-    pub fn waiting(&self) -> usize
-        ensures { result ≡ length (queue_of self.now.state) }
+    pub fn has_desk(&self) -> bool
+        ensures { result ≡ is_some self.now.state.desk }
     {
-        self.queue.len()
+        self.desk.is_some()
+    }
+
+    /// How many locks the client holds.
+    pub fn held_count(&self, client: u16) -> u32
+        ensures { result ≡ locks_of self.now.state.held client }
+    {
+        self.held.locks_of(client)
     }
 
     /// Whether an ask of the client is unanswered.
     pub fn waits(&self, client: u16) -> bool
         ensures { result ≡ waits self.now.state client }
     {
-        self.pending.iter().any(|ask| ask.client == client)
+        self.pending.has_client(client)
     }
 
-    /// Makes one move: what the client's order does, and then the services that it allows.
-    pub fn act(&mut self, client: u16, order: Order, stamp: Stamp, out: &mut Out) -> Answer
-        requires room { RoomToMove self.old out.old }
-        requires load { load_of self.old.state + 1 < 2 ^ 32 }
-        requires node { stamp.node ≡ self.old.node }
-        ensures answer { result ≡ answer_of client order self.old.state }
-        ensures state { self.new.state ≡ (move_of self.old.set stamp client order self.old.state).state }
-        ensures events { out.new.events ≡ out.old.events ++ (move_of self.old.set stamp client order self.old.state).events }
-        ensures place { SamePlace self.old self.new }
-        ensures load { load_of self.new.state ≤ load_of self.old.state + 1 }
-        ensures few { length out.new.events ≤ length out.old.events + length (queue_of self.old.state) + 2 }
+    /// Whether an ask of the client waits here for the token.
+    pub fn parks(&self, client: u16) -> bool
+        ensures { result ≡ has_client client (parked_asks self.now.state) }
     {
-        let answer = match order {
-            Order::Lock(mode) => self.lock(client, mode, stamp, out),
-            Order::Unlock(mode) => self.unlock(client, mode, out),
-        };
-        self.serve(out);
-        answer
+        has_parked(&self.parked, client)
     }
 
-    fn lock(&mut self, client: u16, mode: Mode, stamp: Stamp, out: &mut Out) -> Answer
-        requires room { RoomToMove self.old out.old }
-        requires load { load_of self.old.state + 1 < 2 ^ 32 }
-        requires node { stamp.node ≡ self.old.node }
-        ensures answer { result ≡ answer_of client (Order.Lock mode) self.old.state }
-        ensures state { self.new.state ≡ (locked self.old.set stamp client mode self.old.state).state }
-        ensures events { out.new.events ≡ out.old.events ++ (locked self.old.set stamp client mode self.old.state).events }
-        ensures place { SamePlace self.old self.new }
-        ensures room { RoomToServe self.new out.new }
-        ensures load { load_of self.new.state ≤ load_of self.old.state + 1 }
-        ensures few { length out.new.events + length (queue_of self.new.state) ≤ length out.old.events + length (queue_of self.old.state) + 2 }
+    /// Whether an ask of the client is in the queue of the desk here.
+    pub fn queues(&self, client: u16) -> bool
+        ensures { result ≡ has_client client (queue_of self.now.state) }
     {
-        let set = self.set;
-        if self.can_grant(client, mode) {
-            self.grant(client, mode);
-            out.push_event(Event::Grant { client, set, mode });
-            Answer::Granted
-        } else {
-            self.ask(client, mode, stamp);
-            out.push_event(Event::Wait { client, set, mode });
-            Answer::Waits
+        match &self.desk {
+            Some(desk) => has_queued(desk, client),
+            None => false,
         }
     }
 
-    fn unlock(&mut self, client: u16, mode: Mode, out: &mut Out) -> Answer
-        requires room { RoomToMove self.old out.old }
-        ensures answer { result ≡ answer_of client (Order.Unlock mode) self.old.state }
-        ensures state { self.new.state ≡ (unlocked self.old.set client mode self.old.state).state }
-        ensures events { out.new.events ≡ out.old.events ++ (unlocked self.old.set client mode self.old.state).events }
-        ensures place { SamePlace self.old self.new }
-        ensures room { RoomToServe self.new out.new }
-        ensures load { load_of self.new.state ≤ load_of self.old.state }
-        ensures few { length out.new.events + length (queue_of self.new.state) ≤ length out.old.events + length (queue_of self.old.state) + 2 }
+    pub(crate) fn firm(&self) -> Link
+        ensures { result ≡ self.now.state.firm }
     {
-        let set = self.set;
-        if held::count(&self.held, client, mode) == 0 {
-            out.push_event(Event::NotHeld { client, set, mode });
-            Answer::NotHeld
-        } else {
-            held::take(&mut self.held, client, mode);
-            out.push_event(Event::Unlock { client, set, mode });
-            Answer::Unlocked
-        }
+        let (node, epoch) = self.links.firm();
+        Link { node, epoch }
     }
 
-    // Whether the client can have a lock of this mode at once.
-    fn can_grant(&self, client: u16, mode: Mode) -> bool
-        ensures { result ≡ can_grant self.now.state client mode }
+    /// A letter from here to a node.
+    pub(crate) fn post(&self, to: u8, body: Body, stamp: Stamp) -> Post
+        ensures { post_seen result ≡ post_of self.now.set stamp self.now.state to (body_seen body) }
     {
-        let place = queue::place(&self.queue, held::is_holder(&self.held, client));
-        let (before, _) = self.queue.split_at(place);
-        let against = held::others(&self.held, client).union(queue::modes(before));
-        held::own(&self.held, client).covers(mode) || !against.bars().has(mode)
-    }
-
-    fn grant(&mut self, client: u16, mode: Mode)
-        requires room { 1 ≤ self.old.row_room }
-        requires load { load_of self.old.state + 1 < 2 ^ 32 }
-        ensures state { self.new.state ≡ record self.old.state { held = add_lock self.old.state.held client mode } }
-        ensures place { SamePlace self.old self.new }
-        ensures room { self.old.row_room ≤ self.new.row_room + 1 }
-        ensures load { load_of self.new.state ≡ load_of self.old.state + 1 }
-    {
-        held::add(&mut self.held, client, mode);
-    }
-
-    // The client waits, and its ask enters the queue.
-    fn ask(&mut self, client: u16, mode: Mode, stamp: Stamp)
-        requires room { 1 ≤ self.old.ask_room }
-        requires node { stamp.node ≡ self.old.node }
-        ensures state { self.new.state ≡ (asked self.old.set (lock_ask stamp client mode self.old.state) self.old.state).state }
-        ensures place { SamePlace self.old self.new }
-        ensures room { self.old.row_room ≤ self.new.row_room }
-        ensures length { length (queue_of self.new.state) ≡ length (queue_of self.old.state) + 1 }
-    {
-        let ask = Ask {
-            client,
-            node: self.node,
-            mode,
-            gives_up: None,
-            holder: held::is_holder(&self.held, client),
+        let letter = Letter {
             stamp,
+            set: self.set,
+            link: self.firm(),
+            body,
         };
-        self.pending.push_reserved(ask);
-        queue::enter(&mut self.queue, ask);
+        Post { to, letter }
     }
+}
 
-    // Services until there is none.
-    #[tactic(auto, using(crate::proofs::ServingLemmas::serve_more, crate::proofs::ServingLemmas::serve_none))]
-    fn serve(&mut self, out: &mut Out)
-        requires room { RoomToServe self.old out.old }
-        requires load { load_of self.old.state < 2 ^ 32 }
-        ensures state { self.new.state ≡ (serve self.old.set self.old.state).state }
-        ensures events { out.new.events ≡ out.old.events ++ (serve self.old.set self.old.state).events }
-        ensures place { SamePlace self.old self.new }
-        ensures load { load_of self.new.state ≤ load_of self.old.state }
-        ensures few { length out.new.events ≤ length out.old.events + length (queue_of self.old.state) }
-    {
-        while let Some(k) = self.next_service() {
-            let event = self.serve_at(k);
-            out.push_event(event);
+// How many asks are parked.
+fn count_asks(parked: &VecDeque<Parked>) -> u32
+    requires { length (filter_map ask_if (map parked_seen parked.now.items)) < 2 ^ 32 }
+    ensures { result ≡ length (filter_map ask_if (map parked_seen parked.now.items)) }
+{
+    let mut asks = 0;
+    for k in 0..parked.len() {
+        asks += asks_of(&parked[k]);
+    }
+    asks
+}
+
+// How many asks it is.
+fn asks_of(item: &Parked) -> u32
+    ensures { result ≡ ask_count (parked_seen item.now) }
+{
+    match item {
+        Parked::Ask(_) => 1,
+        Parked::Tell(_) => 0,
+    }
+}
+
+// Whether an ask of the client is parked.
+#[tactic(auto, using(crate::proofs::AskLemmas::client_parked))]
+fn has_parked(parked: &VecDeque<Parked>, client: u16) -> bool
+    ensures { result ≡ has_client client (filter_map ask_if (map parked_seen parked.now.items)) }
+{
+    parked.iter().any(|item| is_of(item, client))
+}
+
+// Whether it is an ask of the client.
+pub(crate) fn is_of(item: &Parked, client: u16) -> bool
+    ensures { result ≡ is_ask_of client (parked_seen item.now) }
+{
+    match item {
+        Parked::Ask(ask) => ask.client == client,
+        Parked::Tell(_) => false,
+    }
+}
+
+// Whether an ask of the client is in the desk's queue.
+fn has_queued(desk: &Desk, client: u16) -> bool
+    ensures { result ≡ has_client client desk.now.desk.queue }
+{
+    for k in 0..desk.len() {
+        if desk.ask(k).client == client {
+            return true;
         }
     }
-
-    fn next_service(&self) -> Option<usize>
-        ensures next { result ≡ next_service self.now.state }
-        ensures within { IfSome result (λ k. k < length (queue_of self.now.state)) }
-    {
-        serving::next(&self.held, &self.queue)
-    }
-
-    // Grants the ask at this place of the queue.
-    fn serve_at(&mut self, k: usize) -> Event
-        requires within { k < length (queue_of self.old.state) }
-        requires room { 1 ≤ self.old.row_room }
-        requires load { load_of self.old.state < 2 ^ 32 }
-        ensures event { result ≡ answer_event self.old.set (slice_index_or (queue_of self.old.state) k no_ask) }
-        ensures state { self.new.state ≡ served self.old.state k }
-        ensures place { SamePlace self.old self.new }
-        ensures room { self.old.row_room ≤ self.new.row_room + 1 }
-        ensures length { length (queue_of self.new.state) + 1 ≡ length (queue_of self.old.state) }
-        ensures load { load_of self.new.state ≤ load_of self.old.state }
-    {
-        let ask = self.queue.remove(k);
-        queue::forget(&mut self.pending, ask.stamp);
-        if let Some(gives_up) = ask.gives_up {
-            held::take(&mut self.held, ask.client, gives_up);
-        }
-        held::add(&mut self.held, ask.client, ask.mode);
-        serving::answer(self.set, &ask)
-    }
+    false
 }

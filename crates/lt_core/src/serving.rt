@@ -1,35 +1,148 @@
-ghost use Rattle.std.specs.Prelude.{◌≡◌, ◌<◌, length, IfSome};
-ghost use Rattle.lt_modes.specs.Modes.{no_modes};
-ghost use Rattle.lt_core.specs.LoneServing.{is_served, next_from, answer_event};
+ghost use Rattle.std.specs.Prelude.{◌≡◌, ◌+◌, ◌≤◌, ◌<◌, length, remove, IfSome};
+ghost use Rattle.lt_modes.specs.Held.{add_lock, locks_in};
+ghost use Rattle.lt_modes.specs.Serving.{queue_of, put_queue, next_service, ask_at, answer_event, serve_one, serve_copy, serve, give_up};
+ghost use Rattle.lt_held.specs.HeldData.{most_locks};
+ghost use Rattle.lt_desk.specs.Picks.{picked, IsWithin};
+ghost use Rattle.lt_letter.specs.OutData.{FitsOut};
+ghost use Rattle.lt_core.specs.CoreData.{Does, HasRoom};
+ghost use Rattle.lt_core.specs.Steps.{answer_ask};
 
-use crate::held;
-use lt_modes::{Ask, Event, ModeSet, Row};
+use crate::one_set::Core;
+use lt_desk::Pick;
+use lt_held::{Held, law_rows};
+use lt_letter::{Body, Out};
+use lt_modes::{Ask, Event, Mode, Stamp};
 
-// Whether nothing stands against the ask, where `before` are the modes of the asks before it.
-fn is_served(rows: &[Row], before: ModeSet, ask: &Ask) -> bool
-    ensures { result ≡ is_served rows.now before ask.now }
-{
-    let against = held::others(rows, ask.client).union(before);
-    !against.bars().has(ask.mode)
+impl Core {
+    /// Services until there is none.
+    pub(crate) fn serve(&mut self, stamp: Stamp, out: &mut Out)
+        requires node { stamp.node ≡ self.old.node }
+        requires room { HasRoom 0 stamp.clock self.old }
+        requires fits { FitsOut (serve self.old.set stamp self.old.state) out.old }
+        ensures does { Does (serve self.old.set stamp self.old.state) self.old out.old self.new out.new }
+        ensures room { HasRoom 0 stamp.clock self.new }
+    {
+        while let Some(k) = self.next_service() {
+            self.serve_one(k, stamp, out);
+        }
+    }
+
+    // The place of the ask that is served next.
+    fn next_service(&self) -> Option<u32>
+        ensures next { result ≡ next_service self.now.node self.now.state }
+        ensures within { IfSome result (λ k. k < length (queue_of self.now.state)) }
+    {
+        match self.pick() {
+            Pick::Local(k) | Pick::Copy(k) => Some(k),
+            Pick::Move(_) | Pick::Nothing => None,
+        }
+    }
+
+    // What the desk does next, where it is here.
+    fn pick(&self) -> Pick
+        ensures next { result ≡ picked self.now.node self.now.state }
+        ensures within { IsWithin (length (queue_of self.now.state)) result }
+    {
+        match &self.desk {
+            Some(desk) => desk.pick(self.links.me(), &self.held, self.pending.stamps()),
+            None => Pick::Nothing,
+        }
+    }
+
+    // Serves the ask at a place of the queue.
+    fn serve_one(&mut self, k: u32, stamp: Stamp, out: &mut Out)
+        requires node { stamp.node ≡ self.old.node }
+        requires within { k < length (queue_of self.old.state) }
+        requires room { HasRoom 0 stamp.clock self.old }
+        requires fits { FitsOut (serve_one self.old.set stamp k self.old.state) out.old }
+        ensures does { Does (serve_one self.old.set stamp k self.old.state) self.old out.old self.new out.new }
+        ensures room { HasRoom 0 stamp.clock self.new }
+    {
+        if self.ask(k).node == stamp.node {
+            let ask = self.take_out(k);
+            self.answer(&ask, out);
+        } else {
+            self.send_copy(k, stamp, out);
+        }
+    }
+
+    // The ask at a place of the queue.
+    fn ask(&self, k: u32) -> Ask
+        requires { k < length (queue_of self.now.state) }
+        ensures { result ≡ ask_at self.now.state k }
+    {
+        match &self.desk {
+            Some(desk) => desk.ask(k),
+            None => unreachable!(),
+        }
+    }
+
+    // Takes the ask at a place out of the queue.
+    fn take_out(&mut self, k: u32) -> Ask
+        requires { k < length (queue_of self.old.state) }
+        ensures ask { result ≡ ask_at self.old.state k }
+        ensures core { self.new ≡ record self.old { state = record self.old.state { desk = put_queue (remove (queue_of self.old.state) k) self.old.state.desk } } }
+    {
+        match &mut self.desk {
+            Some(desk) => desk.grant(k),
+            None => unreachable!(),
+        }
+    }
+
+    /// The ask's client gets the lock and waits no more.
+    pub(crate) fn answer(&mut self, ask: &Ask, out: &mut Out)
+        requires room { 0 < self.old.room }
+        requires locks { locks_in self.old.state.held + 1 ≤ most_locks }
+        requires fits { FitsOut (answer_ask self.old.set ask.now self.old.state) out.old }
+        ensures does { Does (answer_ask self.old.set ask.now self.old.state) self.old out.old self.new out.new }
+        ensures room { (self.old.room ≤ self.new.room + 1) × (self.new.parked_room ≡ self.old.parked_room) }
+        ensures locks { locks_in self.new.state.held ≤ locks_in self.old.state.held + 1 }
+    {
+        self.pending.forget(ask.stamp);
+        give(&mut self.held, ask.client, ask.mode, ask.gives_up);
+        out.push_event(answer_event(self.set, ask));
+    }
+
+    // The node of the ask at a place of the queue is sent the mode, and owes word of it.
+    fn send_copy(&mut self, k: u32, stamp: Stamp, out: &mut Out)
+        requires within { k < length (queue_of self.old.state) }
+        requires room { 0 < self.old.room }
+        requires fits { FitsOut (serve_copy self.old.set stamp k (ask_at self.old.state k) self.old.state) out.old }
+        ensures does { Does (serve_copy self.old.set stamp k (ask_at self.old.state k) self.old.state) self.old out.old self.new out.new }
+        ensures room { (self.old.room ≤ self.new.room + 1) × (self.new.parked_room ≡ self.old.parked_room) }
+    {
+        let Some(desk) = &mut self.desk else {
+            unreachable!()
+        };
+        let ask = desk.copy(k);
+        out.push_event(Event::Copy {
+            set: self.set,
+            to: ask.node,
+            client: ask.client,
+            mode: ask.mode,
+        });
+        let post = self.post(ask.node, Body::Copy(ask), stamp);
+        out.push_letter(post);
+    }
 }
 
-/// The place of the ask that is served next.
-pub(crate) fn next(rows: &[Row], queue: &[Ask]) -> Option<usize>
-    ensures next { result ≡ next_from rows.now no_modes 0 queue.now }
-    ensures within { IfSome result (λ k. k < length queue.now) }
+/// The client gets a lock, and gives up one where it changes a mode.
+pub(crate) fn give(held: &mut Held, client: u16, mode: Mode, gives_up: Option<Mode>)
+    requires spare { 1 ≤ held.old.spare }
+    requires locks { locks_in held.old.rows + 1 ≤ most_locks }
+    ensures rows { held.new.rows ≡ add_lock (give_up held.old.rows client gives_up) client mode }
+    ensures total { locks_in held.new.rows ≤ locks_in held.old.rows + 1 }
+    ensures spare { held.old.spare ≤ held.new.spare + 1 }
 {
-    let mut before = ModeSet::empty();
-    for (k, ask) in queue.iter().enumerate() {
-        if is_served(rows, before, ask) {
-            return Some(k);
-        }
-        before = before.with(ask.mode);
+    if let Some(gives_up) = gives_up {
+        held.take(client, gives_up);
     }
-    None
+    law_rows();
+    held.add(client, mode);
 }
 
 /// The line that tells that the ask is granted.
-pub(crate) fn answer(set: u8, ask: &Ask) -> Event
+fn answer_event(set: u8, ask: &Ask) -> Event
     ensures { result ≡ answer_event set ask.now }
 {
     match ask.gives_up {

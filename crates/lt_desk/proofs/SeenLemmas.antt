@@ -111,6 +111,12 @@ move_same me s t d e same before k (ask ∷ rest) =
     then Some k
     else move_same me s t d e same (with_mode before ask.mode) (k + 1) rest i
 
+pub next_move_same : (me : ℕ) (s t : SetState) (d e : Desk) → ReadsSame me s t d e
+    → s.desk ≡ Some d → t.desk ≡ Some e → d.queue ≡ e.queue → next_move me s ≡ next_move me t
+next_move_same me s t d e same here there queue =
+    ap (move_at me s) here ∙ move_same me s t d e same no_modes 0 d.queue
+    ∙ ap (move_from me t e no_modes 0) queue ∙ sym (ap (move_at me t) there)
+
 pub picked_same : (me : ℕ) (s t : SetState) (d e : Desk) → ReadsSame me s t d e
     → s.desk ≡ Some d → t.desk ≡ Some e → d.queue ≡ e.queue → picked me s ≡ picked me t
 picked_same me s t d e same here there queue =
@@ -118,10 +124,7 @@ picked_same me s t d e same here there queue =
     let nexts : next_service me s ≡ next_service me t =
     ap (next_at me s) here ∙ next_same me s t d e same no_modes 0 d.queue
     ∙ ap (next_from me t e no_modes 0) queue ∙ sym (ap (next_at me t) there) in
-    let moves : next_move me s ≡ next_move me t =
-    ap (move_at me s) here ∙ move_same me s t d e same no_modes 0 d.queue
-    ∙ ap (move_from me t e no_modes 0) queue ∙ sym (ap (move_at me t) there) in
-    λ i. picked_by me (queues i) (nexts i) (moves i)
+    λ i. picked_by me (queues i) (nexts i) (next_move_same me s t d e same here there queue i)
 
 pub join_same : (me : ℕ) (s t : SetState) (d e : Desk) → ReadsSame me s t d e
     → s.desk ≡ Some d → t.desk ≡ Some e → d.queue ≡ e.queue → (client : ℕ) (mode : Mode)

@@ -1,11 +1,11 @@
-ghost use Rattle.std.specs.Prelude.{◌≡◌, ◌+◌, ◌≤◌, ◌<◌, ◌^◌, ◌↔◌, ℕ, Some, Contains, IsBitSet, IfOk, OnOk, length, remove, slice_index_or};
+ghost use Rattle.std.specs.Prelude.{◌≡◌, ◌+◌, ◌≤◌, ◌<◌, ◌^◌, ◌↔◌, ℕ, Some, Contains, IsBitSet, IfOk, IfSome, OnOk, length, remove, slice_index_or};
 ghost use Rattle.lt_modes.specs.declared.stamp.Stamp.{Stamp as AnyStamp};
 ghost use Rattle.lt_modes.specs.State.{SetState, first_desk};
 ghost use Rattle.lt_modes.specs.Queue.{entered, no_ask};
 ghost use Rattle.lt_modes.specs.Records.{entry_of, own_part};
 ghost use Rattle.lt_modes.specs.Tells.{is_newer, tell_applied};
 ghost use Rattle.lt_modes.specs.Granting.{is_holder};
-ghost use Rattle.lt_modes.specs.Serving.{owed_at};
+ghost use Rattle.lt_modes.specs.Serving.{owed_at, next_move};
 ghost use Rattle.lt_modes.specs.Freezing.{frozen_by, freeze, freeze_with};
 ghost use Rattle.lt_modes.specs.HandingOver.{leaving};
 ghost use Rattle.lt_desk.specs.Seen.{IsSeen, joins_at_desk};
@@ -71,6 +71,16 @@ impl Desk {
         ensures kept { self.old.spare ≤ self.new.spare }
     {
         let asks = self.queue.room();
+        self.table.reserve(asks)
+    }
+
+    /// Makes room for so many asks in all, in the queue and as owed ones of each node.
+    pub fn reserve_for(&mut self, asks: u32) -> Result<(), AllocError>
+        ensures desk { self.new.desk ≡ self.old.desk }
+        ensures room { OnOk result (asks ≤ self.new.room) }
+        ensures spare { OnOk result (asks ≤ self.new.spare) }
+    {
+        self.queue.reserve(asks)?;
         self.table.reserve(asks)
     }
 
@@ -168,6 +178,14 @@ impl Desk {
         ensures within { IsWithin (length self.now.desk.queue) result }
     {
         self.sight(me, held, pending).pick()
+    }
+
+    /// The place of the ask to whose node the desk moves, where no service is left.
+    pub fn next_move(&self, me: u8, held: &Held, pending: &Pending) -> Option<u32>
+        ensures place { (s : SetState) → IsSeen self.now.desk held.now.rows pending.now s → result ≡ next_move me s }
+        ensures within { IfSome result (λ k. k < length self.now.desk.queue) }
+    {
+        self.sight(me, held, pending).next_move()
     }
 
     /// Whether nothing stands against the mode for a client of the desk's node, where the client holds a lock or not.

@@ -44,7 +44,7 @@ impl Sight<'_> {
 
     // The place of the ask to whose node the desk moves, once no service is left.
     #[tactic(auto, using(crate::proofs::PlaceLemmas::move_found, crate::proofs::PlaceLemmas::move_later))]
-    fn next_move(&self) -> Option<u32>
+    pub(crate) fn next_move(&self) -> Option<u32>
         ensures place { result ≡ next_move self.now.me (state_of self.now) }
         ensures within { IfSome result (λ k. k < length self.now.queue.now.asks) }
     {

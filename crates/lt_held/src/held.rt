@@ -61,6 +61,13 @@ impl Held {
         }
     }
 
+    /// How many locks the client holds.
+    pub fn locks_of(&self, client: u16) -> u32
+        ensures { result ≡ locks_of self.now.rows client }
+    {
+        rows::locks(&self.rows, client)
+    }
+
     /// The modes that are held.
     pub fn modes(&self) -> ModeSet
         ensures { result ≡ held_modes self.now.rows }

@@ -41,6 +41,13 @@ impl Links {
         }
     }
 
+    /// The node that keeps the links.
+    pub fn me(&self) -> u8
+        ensures { result ≡ self.now.me }
+    {
+        self.me
+    }
+
     /// Takes over the link of a letter, where it is newer.
     pub fn learn(&mut self, node: u8, epoch: u64)
         ensures me { self.new.me ≡ self.old.me }

@@ -1,4 +1,4 @@
-ghost use Rattle.std.specs.Prelude.{◌≡◌, ◌<◌, ◌≤◌, [], not, length, take, remove, slice_index_or, IfOk};
+ghost use Rattle.std.specs.Prelude.{◌≡◌, ◌<◌, ◌≤◌, [], not, length, take, remove, slice_index_or, IfOk, OnOk, OnErr};
 ghost use Rattle.lt_modes.specs.Modes.{has, bars};
 ghost use Rattle.lt_modes.specs.Queue.{place, after_holders_from, entered, modes_of_asks, no_ask};
 ghost use Rattle.lt_modes.specs.Freezing.{frozen_by};
@@ -30,6 +30,17 @@ impl Queue {
     {
         let asks = Vec::with_capacity(alloc, usize::from(clients))?;
         Ok(Queue { asks })
+    }
+
+    /// Makes places for so many asks in all.
+    pub fn reserve(&mut self, asks: u32) -> Result<(), AllocError>
+        ensures asks { self.new.asks ≡ self.old.asks }
+        ensures room { OnOk result (asks ≤ self.new.room) }
+        ensures kept { self.old.room ≤ self.new.room }
+        ensures unchanged { OnErr result (self.new ≡ self.old) }
+    {
+        let more = asks.saturating_sub(self.len());
+        self.asks.reserve_exact(more as usize)
     }
 
     pub fn len(&self) -> u32

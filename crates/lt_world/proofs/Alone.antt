@@ -5,8 +5,8 @@ use Rattle.std.proofs.lemmas.Bool.{and_parts, eqb-true}
 use Rattle.lt_modes.specs.Script.{ScriptData}
 use Rattle.lt_modes.specs.State.{lone_state}
 use Rattle.lt_script.specs.Script.{IsScript}
-use Rattle.lt_core.specs.LoneServing.{waits}
-use Rattle.lt_core.specs.Core.{CoreData, OutData}
+use Rattle.lt_lone.specs.LoneServing.{waits}
+use Rattle.lt_lone.specs.Core.{CoreData, OutData}
 use Rattle.lt_runs.specs.Log.{Logged}
 use Rattle.lt_world.specs.OneNode.{World, world_after, commands_of, is_waiting, is_runnable, is_at_rest, anyone_waits}
 use Rattle.lt_runs.specs.Families.{home}

@@ -13,9 +13,9 @@ use Rattle.lt_modes.specs.declared.moves.Step.{Step}
 use Rattle.lt_modes.specs.declared.moves.Step.TheVariants.{Act, Take}
 use Rattle.lt_modes.specs.Script.{ScriptData}
 use Rattle.lt_modes.specs.State.{SetState}
-use Rattle.lt_core.specs.declared.order.Order.{Order}
-use Rattle.lt_core.specs.Core.{CoreData, OutData, SamePlace, load_of}
-use Rattle.lt_core.specs.Order.{move_of}
+use Rattle.lt_lone.specs.declared.order.Order.{Order}
+use Rattle.lt_lone.specs.Core.{CoreData, OutData, SamePlace, load_of}
+use Rattle.lt_lone.specs.Order.{move_of}
 use Rattle.lt_runs.specs.Log.{Logged}
 use Rattle.lt_lists.specs.Below.{put}
 use Rattle.lt_world.specs.OneNode.{World, NodeState, NodeMade, start, world_after, made_by, is_enabled, is_runnable, is_some_letter, commands_of, command_if, act_stamp, obeyed, touched, next_command, node_move, logged}

@@ -5,7 +5,7 @@ use Rattle.lt_modes.specs.declared.mode.Mode.TheVariants.{IntentionRead}
 use Rattle.lt_modes.specs.declared.command.Command.{Command}
 use Rattle.lt_modes.specs.declared.command.Command.TheVariants.{Lock, Unlock}
 use Rattle.lt_modes.specs.Script.{ScriptData}
-use Rattle.lt_core.specs.Core.{CoreData, OutData, load_of}
+use Rattle.lt_lone.specs.Core.{CoreData, OutData, load_of}
 use Rattle.lt_world.specs.declared.limits.TheConstants.{MAX_MOVES}
 use Rattle.lt_runs.specs.Log.{Logged}
 use Rattle.lt_world.specs.OneNode.{World, NodeState, IsRun, world_after, is_runnable, is_at_rest, commands_of}

@@ -10,8 +10,8 @@ use Rattle.lt_modes.specs.declared.moves.Step.TheVariants.{Act, Take}
 use Rattle.lt_modes.specs.declared.event.Event.{Event}
 use Rattle.lt_modes.specs.Script.{ScriptData}
 use Rattle.lt_modes.specs.State.{SetState, Letter, lone_state}
-use Rattle.lt_core.specs.LoneServing.{Made, waits}
-use Rattle.lt_core.specs.SetMove.{lock, unlock}
+use Rattle.lt_lone.specs.LoneServing.{Made, waits}
+use Rattle.lt_lone.specs.SetMove.{lock, unlock}
 use Rattle.lt_runs.specs.Log.{Logged}
 use Rattle.lt_lists.specs.Below.{any_below, put}
 

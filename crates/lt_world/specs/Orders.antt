@@ -6,11 +6,11 @@ use Rattle.lt_modes.specs.declared.command.Command.{Command}
 use Rattle.lt_modes.specs.declared.command.Command.TheVariants.{Lock, Unlock}
 use Rattle.lt_modes.specs.declared.moves.Step.TheVariants.{Act}
 use Rattle.lt_modes.specs.declared.event.Event.{Event}
-use Rattle.lt_core.specs.LoneServing.{Made}
-use Rattle.lt_core.specs.declared.order.Order.{Order}
-use Rattle.lt_core.specs.declared.order.Order.TheVariants.{Lock as LockOrder, Unlock as UnlockOrder}
-use Rattle.lt_core.specs.Core.{CoreData}
-use Rattle.lt_core.specs.Order.{move_of}
+use Rattle.lt_lone.specs.LoneServing.{Made}
+use Rattle.lt_lone.specs.declared.order.Order.{Order}
+use Rattle.lt_lone.specs.declared.order.Order.TheVariants.{Lock as LockOrder, Unlock as UnlockOrder}
+use Rattle.lt_lone.specs.Core.{CoreData}
+use Rattle.lt_lone.specs.Order.{move_of}
 use Rattle.lt_runs.specs.Log.{Logged}
 use Rattle.lt_world.specs.Fields.{Progress, next_of}
 

@@ -1,12 +1,12 @@
 ghost use Rattle.std.specs.Prelude.{◌≡◌, ◌+◌, ◌<◌, ◌≤◌, ◌^◌, ◌++◌, [], ◌∷◌, length, IsTrue, OnOk, slice_set};
-ghost use Rattle.lt_core.specs.LoneServing.{queue_of};
-ghost use Rattle.lt_core.specs.Core.{RoomToMove, SamePlace, load_of};
+ghost use Rattle.lt_lone.specs.LoneServing.{queue_of};
+ghost use Rattle.lt_lone.specs.Core.{RoomToMove, SamePlace, load_of};
 ghost use Rattle.lt_world.specs.Orders.{order_of, moved, entry_of};
 ghost use Rattle.lt_world.specs.Fields.{locks_or_unlocks, progress_of, next_of, one_more};
 ghost use Rattle.lt_world.specs.Recording.{with_events};
 
 use crate::client::Client;
-use lt_core::{Core, Order, Out};
+use lt_lone::{Core, Order, Out};
 use lt_merge::Run;
 use lt_modes::{Command, Move, Stamp, Step};
 use std::alloc::AllocError;

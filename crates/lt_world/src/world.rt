@@ -10,7 +10,7 @@ ghost use Rattle.lt_world.specs.declared.limits.TheConstants.{MAX_MOVES};
 use crate::choice::Choice;
 use crate::client::{Client, clients_of};
 use crate::moving::{act, make_room};
-use lt_core::{Core, Out};
+use lt_lone::{Core, Out};
 use lt_merge::Run;
 use lt_modes::{Stamp, Step};
 use lt_script::Script;

@@ -1,16 +1,16 @@
-use Rattle.std.proofs.Common.{◌≡◌, ◌+◌, ◌≤◌, ◌++◌, length}
-use Rattle.lt_core.specs.LoneServing.{queue_of, serve}
-use Rattle.lt_core.specs.Core.{RoomToServe, SamePlace, load_of}
+use Rattle.std.proofs.Common.{◌≡◌, length}
+use Rattle.lt_modes.specs.Serving.{queue_of, serve}
+use Rattle.lt_letter.specs.OutData.{out_after}
+use Rattle.lt_core.specs.CoreData.{HasRoom}
 use Rattle.lt_core.proofs.one_set.Core.serve.Given as goal
 
 abbrev pub invariant-loop-k : goal.invariant-loop-k
 invariant-loop-k l = record {
-  state : (serve l.self.set l.self.state).state ≡ (serve l.initial.self.set l.initial.self.state).state;
-  events : l.out.events ++ (serve l.self.set l.self.state).events ≡ l.initial.out.events ++ (serve l.initial.self.set l.initial.self.state).events;
-  room : RoomToServe l.self l.out;
-  place : SamePlace l.initial.self l.self;
-  few : length l.out.events + length (queue_of l.self.state) ≤ length l.initial.out.events + length (queue_of l.initial.self.state);
-  load : load_of l.self.state ≤ load_of l.initial.self.state;
+  node : l.self.node ≡ l.initial.self.node;
+  set : l.self.set ≡ l.initial.self.set;
+  state : (serve l.self.set l.stamp l.self.state).state ≡ (serve l.initial.self.set l.stamp l.initial.self.state).state;
+  sent : out_after (serve l.self.set l.stamp l.self.state) l.out ≡ out_after (serve l.initial.self.set l.stamp l.initial.self.state) l.initial.out;
+  room : HasRoom 0 l.stamp.clock l.self;
 }
 
 abbrev pub decreases-loop-k : goal.decreases-loop-k

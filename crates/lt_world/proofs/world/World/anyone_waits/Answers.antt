@@ -1,5 +1,5 @@
 use Rattle.std.proofs.Common.{◌≡◌, ◌<◌, ◌∙◌, true, length, arith, sym, subst}
-use Rattle.lt_core.specs.LoneServing.{waits}
+use Rattle.lt_lone.specs.LoneServing.{waits}
 use Rattle.lt_world.specs.OneNode.{world_after, anyone_waits}
 use Rattle.lt_world.specs.Fields.{WorldData}
 use Rattle.lt_world.proofs.Alone.{someone_waits}

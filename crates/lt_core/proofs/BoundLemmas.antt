@@ -1,0 +1,306 @@
+-- No move sends out more than its bound.
+use Rattle.std.proofs.Common.{◌≡◌, ℕ, zero, suc, ◌+◌, ◌≤◌, Bool, true, false, List, [], ◌∷◌, length, length-append, Option, Some, None, arith, refl, sym, ap, subst, if◌then◌else◌, ◌==◌, ◌∙◌}
+use Rattle.std.specs.Prelude.{slice_set, remove}
+use Rattle.std.proofs.lemmas.List.{length-map}
+use Rattle.std.specs.Prelude.{insert, ◌&&◌, not}
+use Rattle.std.proofs.lemmas.List.Edits.{length-insert}
+use Rattle.lt_modes.specs.declared.mode.Mode.{Mode}
+use Rattle.lt_modes.specs.declared.parts.Hoped.{Hoped}
+use Rattle.lt_modes.specs.Modes.{bars, same_modes, is_taking}
+use Rattle.lt_modes.specs.State.{Parked, ParkedAsk, ParkedTell}
+use Rattle.lt_modes.specs.Held.{held_modes}
+use Rattle.lt_modes.specs.Queue.{place, after_holders_from}
+use Rattle.lt_modes.specs.Tells.{told}
+use Rattle.lt_modes.specs.Records.{entry_of}
+use Rattle.lt_modes.specs.Granting.{can_grant}
+use Rattle.lt_modes.specs.Serving.{queue_of_desk}
+use Rattle.std.proofs.Common.{◌++◌}
+use Rattle.lt_core.proofs.AskLemmas.{asks_last, asks_first, count_few}
+use Rattle.lt_core.specs.Steps.{ask_count}
+use Rattle.lt_letter.specs.OutData.{OutData, FitsOut}
+use Rattle.lt_core.specs.declared.order.Order.{Order}
+use Rattle.lt_core.specs.declared.order.Order.TheVariants.{Lock, Try, Unlock, Change, DropAll}
+use Rattle.lt_core.specs.Orders.{ordered, move_of}
+use Rattle.lt_core.specs.Bound.{RoomToSend, brought, EndsFit, OrdersFit, TakesFit}
+use Rattle.lt_core.proofs.OrderLemmas.{move_is}
+use Rattle.lt_modes.specs.Made.{silent}
+use Rattle.lt_core.specs.Bound.{most}
+use Rattle.lt_modes.specs.Routing.{dealt, Way, Parks, Goes, way, sent_on, route_by}
+use Rattle.lt_modes.specs.Telling.{make_tell, tell_of, finish, finish_by}
+use Rattle.lt_modes.specs.SetMove.{granted, asked, ask_of, answers, given, change_held}
+use Rattle.lt_modes.specs.declared.event.Event.TheVariants as event
+use Rattle.lt_modes.specs.Taking.{take_body, arrive}
+use Rattle.lt_modes.specs.Modes.{Modes}
+use Rattle.lt_modes.specs.declared.parts.Link.{Link}
+use Rattle.lt_modes.specs.State.{Letter, Body, AskBody, TellBody, CopyBody, TokenBody, FreezeBody}
+use Rattle.lt_modes.specs.Held.{count_of, take_lock}
+use Rattle.lt_modes.specs.Fits.{ask_if}
+use Rattle.lt_modes.specs.Routing.{learn}
+use Rattle.std.specs.Prelude.{fold, filter_map, nat_lt}
+use Rattle.lt_modes.specs.declared.stamp.Stamp.{Stamp}
+use Rattle.lt_modes.specs.declared.ask.Ask.{Ask}
+use Rattle.lt_modes.specs.State.{SetState, Desk, Entry}
+use Rattle.lt_modes.specs.Made.{Made, then_do}
+use Rattle.lt_modes.specs.Places.{places_from, cons_if}
+use Rattle.lt_modes.specs.Serving.{queue_of, next_service, next_move, ask_at, serve, serve_one, serve_local, serve_copy, serve_step, serve_up_to, owed_at, put_queue}
+use Rattle.lt_modes.specs.Freezing.{freeze, freeze_at, targets, is_target, frozen_by}
+use Rattle.lt_modes.specs.HandingOver.{hand_over, hand_over_to, hand_over_for}
+use Rattle.lt_modes.specs.Telling.{attend}
+use Rattle.lt_core.specs.Bound.{nodes_of}
+
+-- so many letters and event lines at most
+abbrev AtMost : ℕ → Made → Type 0
+AtMost n made = (length made.posts ≤ n) × (length made.events ≤ n)
+
+most_then : (m n : ℕ) (made : Made) (rule : SetState → Made) → AtMost m made → AtMost n (rule made.state) → AtMost (m + n) (then_do made rule)
+most_then m n made rule a b = (
+  omega (arith, a.0, b.0, length-append made.posts (rule made.state).posts),
+  omega (arith, a.1, b.1, length-append made.events (rule made.state).events),
+)
+
+most_one : (set : ℕ) (stamp : Stamp) (k : ℕ) (s : SetState) (b : Bool) → AtMost 1 (if b then serve_local set k s else serve_copy set stamp k (ask_at s k) s)
+most_one set stamp k s true = (omega arith, omega arith)
+most_one set stamp k s false = (omega arith, omega arith)
+
+most_step : (n set : ℕ) (stamp : Stamp) (s : SetState) (pick : Option ℕ) (again : (t : SetState) → AtMost n (serve_up_to n set stamp t))
+    → AtMost (1 + n) (serve_step set stamp (serve_up_to n set stamp) s pick)
+most_step n set stamp s None again = (omega arith, omega arith)
+most_step n set stamp s (Some k) again =
+    most_then 1 n (serve_one set stamp k s) (serve_up_to n set stamp) (most_one set stamp k s ((ask_at s k).node == stamp.node)) (again (serve_one set stamp k s).state)
+
+pub most_served : (n set : ℕ) (stamp : Stamp) (s : SetState) → AtMost n (serve_up_to n set stamp s)
+most_served zero set stamp s = (omega arith, omega arith)
+most_served (suc n) set stamp s =
+    let m = most_step n set stamp s (next_service stamp.node s) (most_served n set stamp) in
+    (omega (arith, m.0), omega (arith, m.1))
+
+-- the number of entries doesn't change
+length_set : (es : List Entry) (x : ℕ) (e : Entry) → length (slice_set es x e) ≡ length es
+length_set [] x e = refl
+length_set (f ∷ es) zero e = refl
+length_set (f ∷ es) (suc x) e = ap suc (length_set es x e)
+
+nodes_put : (q : List Ask) (d : Option Desk) → nodes_of (put_queue q d) ≡ nodes_of d
+nodes_put q None = refl
+nodes_put q (Some d) = refl
+
+nodes_owed : (ask : Ask) (k : ℕ) (d : Option Desk) → nodes_of (owed_at ask k d) ≡ nodes_of d
+nodes_owed ask k None = refl
+nodes_owed ask k (Some d) = length_set d.entries ask.node _
+
+nodes_one : (set : ℕ) (stamp : Stamp) (k : ℕ) (s : SetState) (b : Bool) → nodes_of (if b then serve_local set k s else serve_copy set stamp k (ask_at s k) s).state.desk ≡ nodes_of s.desk
+nodes_one set stamp k s true = nodes_put (remove (queue_of s) k) s.desk
+nodes_one set stamp k s false = nodes_owed (ask_at s k) k s.desk
+
+nodes_step : (n set : ℕ) (stamp : Stamp) (s : SetState) (pick : Option ℕ) (again : (t : SetState) → nodes_of (serve_up_to n set stamp t).state.desk ≡ nodes_of t.desk)
+    → nodes_of (serve_step set stamp (serve_up_to n set stamp) s pick).state.desk ≡ nodes_of s.desk
+nodes_step n set stamp s None again = refl
+nodes_step n set stamp s (Some k) again = again (serve_one set stamp k s).state ∙ nodes_one set stamp k s ((ask_at s k).node == stamp.node)
+
+nodes_served : (n set : ℕ) (stamp : Stamp) (s : SetState) → nodes_of (serve_up_to n set stamp s).state.desk ≡ nodes_of s.desk
+nodes_served zero set stamp s = refl
+nodes_served (suc n) set stamp s = nodes_step n set stamp s (next_service stamp.node s) (nodes_served n set stamp)
+
+few_if : (b : Bool) (k : ℕ) (xs : List ℕ) → length (cons_if b k xs) ≤ length xs + 1
+few_if true k xs = omega arith
+few_if false k xs = omega arith
+
+few_places : (test : ℕ → Entry → Bool) (k : ℕ) (es : List Entry) → length (places_from test k es) ≤ length es
+few_places test k [] = omega arith
+few_places test k (e ∷ es) = omega (arith, few_if (test k e) k (places_from test (k + 1) es), few_places test (k + 1) es)
+
+most_frozen : (set : ℕ) (stamp : Stamp) (s : SetState) (d : Option Desk) → AtMost (nodes_of d) (freeze_at set stamp s d)
+most_frozen set stamp s None = (omega arith, omega arith)
+most_frozen set stamp s (Some d) =
+    let told = targets stamp.node (frozen_by d.queue) d in
+    let few : length told ≤ length d.entries = few_places (is_target stamp.node (frozen_by d.queue)) 0 d.entries in
+    (subst (λ n. n ≤ length d.entries) (sym (length-map told _)) few, subst (λ n. n ≤ length d.entries) (sym (length-map told _)) few)
+
+most_to : (set : ℕ) (stamp : Stamp) (s : SetState) (v : ℕ) (d : Option Desk) → AtMost 1 (hand_over_to set stamp s v d)
+most_to set stamp s v None = (omega arith, omega arith)
+most_to set stamp s v (Some d) = (omega arith, omega arith)
+
+most_for : (set : ℕ) (stamp : Stamp) (s : SetState) (pick : Option ℕ) → AtMost 1 (hand_over_for set stamp s pick)
+most_for set stamp s None = (omega arith, omega arith)
+most_for set stamp s (Some k) = most_to set stamp s (ask_at s k).node s.desk
+
+most_attended : (set : ℕ) (stamp : Stamp) (s : SetState) → AtMost (length (queue_of s) + nodes_of s.desk + 1) (attend set stamp s)
+most_attended set stamp s =
+    let first = serve set stamp s in
+    let second = freeze set stamp first.state in
+    let frozen : AtMost (nodes_of s.desk) second = subst (λ n. AtMost n second) (nodes_served (length (queue_of s)) set stamp s) (most_frozen set stamp first.state first.state.desk) in
+    most_then (length (queue_of s) + nodes_of s.desk) 1 (then_do first (freeze set stamp)) (hand_over set stamp)
+    (most_then (length (queue_of s)) (nodes_of s.desk) first (freeze set stamp) (most_served (length (queue_of s)) set stamp s) frozen)
+    (most_for set stamp second.state (next_move stamp.node second.state))
+
+-- one letter at most leads an ask or a tell on
+most_way : (set : ℕ) (stamp : Stamp) (item : Parked) (s : SetState) (w : Way) → (length (sent_on set stamp item s w).posts ≤ 1) × (length (sent_on set stamp item s w).events ≤ 0)
+most_way set stamp item s Parks = (omega arith, omega arith)
+most_way set stamp item s (Goes to marked) = (omega arith, omega arith)
+
+most_routed : (set : ℕ) (stamp : Stamp) (marked : Bool) (item : Parked) (s : SetState) (d : Option Desk)
+    → (length (route_by set stamp marked item s d).posts ≤ 1) × (length (route_by set stamp marked item s d).events ≤ 0)
+most_routed set stamp marked item s None = most_way set stamp item s (way stamp.node marked item s)
+most_routed set stamp marked item s (Some d) = (omega arith, omega arith)
+
+most_told : (set : ℕ) (stamp : Stamp) (s : SetState) (b : Bool) → AtMost 1 (if b then silent s else make_tell set stamp s)
+most_told set stamp s true = (omega arith, omega arith)
+most_told set stamp s false =
+    let t : SetState = record s { charge = held_modes s.held } in
+    let m = most_routed set stamp false (ParkedTell (tell_of stamp s)) t t.desk in
+    (m.0, omega (arith, m.1))
+
+-- the end of a move
+most_ended : (set : ℕ) (stamp : Stamp) (s : SetState) (d : Option Desk) → s.desk ≡ d → AtMost (most s) (finish_by set stamp s d)
+most_ended set stamp s None e =
+    let m = most_told set stamp s (same_modes (bars (held_modes s.held)) (bars s.charge)) in
+    (omega (arith, m.0), omega (arith, m.1))
+most_ended set stamp s (Some d) e =
+    let m = most_attended set stamp s in
+    (omega (arith, m.0), omega (arith, m.1))
+
+most_finished : (set : ℕ) (stamp : Stamp) (s : SetState) → AtMost (most s) (finish set stamp s)
+most_finished set stamp s = most_ended set stamp s s.desk refl
+
+-- one ask more waits at most, where an ask or a tell is dealt with
+within_by : (k found : ℕ) (b : Bool) → found ≤ k → (if b then k + 1 else found) ≤ k + 1
+within_by k found true h = omega arith
+within_by k found false h = omega (arith, h)
+
+within_from : (k found : ℕ) (queue : List Ask) → found ≤ k → after_holders_from k found queue ≤ k + length queue
+within_from k found [] h = omega (arith, h)
+within_from k found (ask ∷ rest) h =
+    omega (arith, within_from (k + 1) (if ask.holder then k + 1 else found) rest (within_by k found ask.holder h))
+
+place_within : (queue : List Ask) (holder : Bool) → place queue holder ≤ length queue
+place_within queue true = omega (arith, within_from 0 0 queue (omega arith))
+place_within queue false = omega arith
+
+entered_by : (queue : List Ask) (ask : Ask) (holder : Bool) → length (insert queue (place queue holder) ask) ≤ length queue + 1
+entered_by queue ask holder = omega (arith, length-insert queue (place queue holder) ask (place_within queue holder))
+
+waits_dealt : (desk : Desk) (item : Parked) → (length (dealt desk item).queue ≤ length desk.queue + ask_count item) × (length (dealt desk item).entries ≡ length desk.entries)
+waits_dealt desk (ParkedAsk ask) = (entered_by desk.queue ask ask.holder, refl)
+waits_dealt desk (ParkedTell tell) = (omega arith, length_set desk.entries tell.node (told tell (entry_of desk tell.node)))
+
+waits_reversed : (me : ℕ) (item : Parked) (s : SetState) (b : Bool) (hoped : Option Hoped) → most (if b then record s { hoped = hoped } else s) ≤ most s + 1
+waits_reversed me item s true hoped = omega arith
+waits_reversed me item s false hoped = omega arith
+
+waits_sent : (set : ℕ) (stamp : Stamp) (item : Parked) (s : SetState) (w : Way) → most (sent_on set stamp item s w).state ≤ most s + 1
+waits_sent set stamp item s Parks = omega (arith, asks_last s.parked item, count_few item)
+waits_sent set stamp (ParkedAsk ask) s (Goes to marked) =
+    waits_reversed stamp.node (ParkedAsk ask) s (is_taking ask.mode && not (ask.node == stamp.node)) (Some (record { node = ask.node; stamp = ask.stamp }))
+waits_sent set stamp (ParkedTell tell) s (Goes to marked) = omega arith
+
+waits_routed : (set : ℕ) (stamp : Stamp) (marked : Bool) (item : Parked) (s : SetState) (d : Option Desk) → s.desk ≡ d → most (route_by set stamp marked item s d).state ≤ most s + 1
+waits_routed set stamp marked item s None e = waits_sent set stamp item s (way stamp.node marked item s)
+waits_routed set stamp marked item s (Some d) e =
+    omega (arith, (waits_dealt d item).0, (waits_dealt d item).1, count_few item, ap (λ o. length (queue_of_desk o)) e, ap nodes_of e)
+
+-- a first part of a move: at most one letter and one line, and n places more for its end
+abbrev Starts : ℕ → SetState → Made → Type 0
+Starts n s first = AtMost 1 first × (most first.state ≤ most s + n)
+
+most_move : (n set : ℕ) (stamp : Stamp) (s : SetState) (first : Made) → Starts n s first → AtMost (most s + n + 1) (then_do first (finish set stamp))
+most_move n set stamp s first h =
+    let m = most_then 1 (most first.state) first (finish set stamp) h.0 (most_finished set stamp first.state) in
+    (omega (arith, m.0, h.1), omega (arith, m.1, h.1))
+
+-- what an order does before the end of its move
+most_routed_ask : (set : ℕ) (stamp : Stamp) (ask : Ask) (s : SetState) → Starts 1 s (asked set stamp ask s)
+most_routed_ask set stamp ask s =
+    let t : SetState = record s { pending = s.pending ++ ask ∷ [] } in
+    let m = most_routed set stamp false (ParkedAsk ask) t t.desk in
+    ((omega (arith, m.0), omega (arith, m.1)), waits_routed set stamp false (ParkedAsk ask) t t.desk refl)
+
+most_locked : (set : ℕ) (stamp : Stamp) (client : ℕ) (mode : Mode) (s : SetState) (b : Bool)
+    → Starts 1 s (if b then granted set client mode s else asked set stamp (ask_of stamp client mode None s) s)
+most_locked set stamp client mode s true = ((omega arith, omega arith), omega arith)
+most_locked set stamp client mode s false = most_routed_ask set stamp (ask_of stamp client mode None s) s
+
+most_tried : (set client : ℕ) (mode : Mode) (s : SetState) (b : Bool)
+    → Starts 1 s (if b then answers (event.Try client set mode true) (given client mode None s) else answers (event.Try client set mode false) s)
+most_tried set client mode s true = ((omega arith, omega arith), omega arith)
+most_tried set client mode s false = ((omega arith, omega arith), omega arith)
+
+most_unlocked : (set client : ℕ) (mode : Mode) (s : SetState) (b : Bool)
+    → Starts 1 s (if b then answers (event.NotHeld client set mode) s else answers (event.Unlock client set mode) (record s { held = take_lock s.held client mode }))
+most_unlocked set client mode s true = ((omega arith, omega arith), omega arith)
+most_unlocked set client mode s false = ((omega arith, omega arith), omega arith)
+
+most_change_held : (set : ℕ) (stamp : Stamp) (client : ℕ) (gives_up mode : Mode) (s : SetState) (b : Bool)
+    → Starts 1 s (if b then answers (event.Change client set gives_up mode) (given client mode (Some gives_up) s) else asked set stamp (ask_of stamp client mode (Some gives_up) s) s)
+most_change_held set stamp client gives_up mode s true = ((omega arith, omega arith), omega arith)
+most_change_held set stamp client gives_up mode s false = most_routed_ask set stamp (ask_of stamp client mode (Some gives_up) s) s
+
+most_changed : (set : ℕ) (stamp : Stamp) (client : ℕ) (gives_up mode : Mode) (s : SetState) (b : Bool)
+    → Starts 1 s (if b then answers (event.NotHeld client set gives_up) s else change_held set stamp client gives_up mode s)
+most_changed set stamp client gives_up mode s true = ((omega arith, omega arith), omega arith)
+most_changed set stamp client gives_up mode s false = most_change_held set stamp client gives_up mode s (can_grant stamp.node s client mode)
+
+most_ordered : (stamp : Stamp) (client : ℕ) (order : Order) (set : ℕ) (s : SetState) → Starts 1 s (ordered stamp client order set s)
+most_ordered stamp client (Lock mode) set s = most_locked set stamp client mode s (can_grant stamp.node s client mode)
+most_ordered stamp client (Try mode) set s = most_tried set client mode s (can_grant stamp.node s client mode)
+most_ordered stamp client (Unlock mode) set s = most_unlocked set client mode s (count_of s.held client mode == 0)
+most_ordered stamp client (Change gives_up mode) set s = most_changed set stamp client gives_up mode s (count_of s.held client gives_up == 0)
+most_ordered stamp client DropAll set s = ((omega arith, omega arith), omega arith)
+
+-- what a letter does before the end of its move
+waits_fold : (items : List Parked) (desk : Desk)
+    → (length (fold dealt desk items).queue ≤ length desk.queue + length (filter_map ask_if items)) × (length (fold dealt desk items).entries ≡ length desk.entries)
+waits_fold [] desk = (omega arith, refl)
+waits_fold (item ∷ rest) desk =
+    let now = waits_dealt desk item in
+    let later = waits_fold rest (dealt desk item) in
+    (omega (arith, later.0, now.0, asks_first item rest), later.1 ∙ now.1)
+
+most_frozen_by : (number : ℕ) (modes : Modes) (s : SetState) (b : Bool) → most (if b then record s { frozen = modes; number = number } else s) ≤ most s
+most_frozen_by number modes s true = omega arith
+most_frozen_by number modes s false = omega arith
+
+most_learnt : (link : Link) (s : SetState) (b : Bool) → most (if b then record s { firm = link; hoped = None } else s) ≤ most s
+most_learnt link s true = omega arith
+most_learnt link s false = omega arith
+
+most_body : (set : ℕ) (stamp : Stamp) (body : Body) (s : SetState) → Starts (brought body + 1) s (take_body set stamp body s)
+most_body set stamp (AskBody ask marked) s =
+    let m = most_routed set stamp marked (ParkedAsk ask) s s.desk in
+    ((omega (arith, m.0), omega (arith, m.1)), omega (arith, waits_routed set stamp marked (ParkedAsk ask) s s.desk refl))
+most_body set stamp (TellBody tell) s =
+    let m = most_routed set stamp false (ParkedTell tell) s s.desk in
+    ((omega (arith, m.0), omega (arith, m.1)), omega (arith, waits_routed set stamp false (ParkedTell tell) s s.desk refl))
+most_body set stamp (CopyBody ask) s = ((omega arith, omega arith), omega arith)
+most_body set stamp (TokenBody desk) s =
+    let m = waits_fold s.parked desk in
+    ((omega arith, omega arith), omega (arith, m.0, m.1))
+most_body set stamp (FreezeBody number modes) s = ((omega arith, omega arith), omega (arith, most_frozen_by number modes s (nat_lt s.number number)))
+
+most_arrived : (stamp : Stamp) (letter : Letter) (s : SetState) → Starts (brought letter.body + 1) s (arrive stamp letter s)
+most_arrived stamp letter s =
+    let m = most_body letter.set stamp letter.body (learn letter.link s) in
+    (m.0, omega (arith, m.1, most_learnt letter.link s (nat_lt s.firm.epoch letter.link.epoch)))
+
+-- what is within the bound fits where there is room for so much
+fits_most : (n : ℕ) (made : Made) (out : OutData) → AtMost n made → RoomToSend n out → FitsOut made out
+fits_most n made out a room = record {
+  posts = omega (arith, a.0, room.posts, length-append out.posts made.posts);
+  events = omega (arith, a.1, room.events, length-append out.events made.events);
+}
+
+pub ends_fit : EndsFit
+ends_fit set stamp s out room = fits_most (most s) (finish set stamp s) out (most_finished set stamp s) room
+
+pub orders_fit : OrdersFit
+orders_fit stamp client order set s out room =
+    let first = ordered stamp client order set s in
+    subst (λ (made : Made). FitsOut made out) (sym (move_is stamp client order set s))
+    (fits_most (most s + 1 + 1) (then_do first (finish set stamp)) out (most_move 1 set stamp s first (most_ordered stamp client order set s))
+    (record { posts = omega (arith, room.posts); events = omega (arith, room.events) }))
+
+pub takes_fit : TakesFit
+takes_fit stamp letter s out room =
+    let first = arrive stamp letter s in
+    fits_most (most s + (brought letter.body + 1) + 1) (then_do first (finish letter.set stamp)) out
+    (most_move (brought letter.body + 1) letter.set stamp s first (most_arrived stamp letter s))
+    (record { posts = omega (arith, room.posts); events = omega (arith, room.events) })

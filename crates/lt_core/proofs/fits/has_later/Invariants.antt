@@ -1,0 +1,6 @@
+use Rattle.std.proofs.Common.{◌≡◌, drop}
+use Rattle.lt_modes.specs.Fits.{has_client}
+use Rattle.lt_core.proofs.fits.has_later.Given as goal
+
+abbrev pub invariant-loop-k : goal.invariant-loop-k
+invariant-loop-k l = has_client l.client (drop l.k l.desk.desk.queue) ≡ has_client l.client (drop l.from l.desk.desk.queue)

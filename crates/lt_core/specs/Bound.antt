@@ -1,0 +1,51 @@
+-- How much one move can send out.
+use Rattle.std.specs.Prelude.{ℕ, ◌+◌, ◌≤◌, Option, Some, None, length}
+use Rattle.lt_modes.specs.declared.stamp.Stamp.{Stamp}
+use Rattle.lt_modes.specs.State.{SetState, Desk, Letter, Body, AskBody, TellBody, CopyBody, TokenBody, FreezeBody}
+use Rattle.lt_modes.specs.SetMove.{take}
+use Rattle.lt_modes.specs.Telling.{finish}
+use Rattle.lt_letter.specs.OutData.{OutData, FitsOut}
+use Rattle.lt_core.specs.declared.order.Order.{Order}
+use Rattle.lt_core.specs.CoreData.{waiting}
+use Rattle.lt_core.specs.Orders.{move_of}
+
+-- the nodes that the desk knows, where it is here
+abbrev pub nodes_of : Option Desk → ℕ
+nodes_of None = 0
+nodes_of (Some desk) = length desk.entries
+
+-- so many letters at most, and so many event lines, come from the end of a move: one for each ask that waits,
+-- one for each node, and the token or a tell
+abbrev pub most : SetState → ℕ
+most s = waiting s + nodes_of s.desk + 1
+
+-- so many asks and nodes come with what a letter says
+abbrev pub brought : Body → ℕ
+brought (AskBody ask marked) = 0
+brought (TellBody tell) = 0
+brought (CopyBody ask) = 0
+brought (TokenBody desk) = length desk.queue + length desk.entries
+brought (FreezeBody number modes) = 0
+
+-- room for so many letters more, and so many event lines
+pub record RoomToSend (n : ℕ) (out : OutData) : Type 0 where
+  pub posts : length out.posts + n ≤ out.post_room
+  pub events : length out.events + n ≤ out.event_room
+
+-- what the end of a move makes fits
+abbrev pub EndsFit : Type 0
+EndsFit = (set : ℕ) (stamp : Stamp) (s : SetState) (out : OutData) → RoomToSend (most s) out → FitsOut (finish set stamp s) out
+
+-- what an order makes fits
+abbrev pub OrdersFit : Type 0
+OrdersFit =
+    (stamp : Stamp) (client : ℕ) (order : Order) (set : ℕ) (s : SetState) (out : OutData)
+    → RoomToSend (most s + 2) out
+    → FitsOut (move_of stamp client order set s) out
+
+-- what a letter makes where it is taken fits
+abbrev pub TakesFit : Type 0
+TakesFit =
+    (stamp : Stamp) (letter : Letter) (s : SetState) (out : OutData)
+    → RoomToSend (most s + brought letter.body + 2) out
+    → FitsOut (take stamp letter s) out

@@ -1,0 +1,85 @@
+-- What contracts see of a core, and what a step of it does.
+use Rattle.std.specs.Prelude.{◌≡◌, ℕ, ◌+◌, ◌≤◌, ◌<◌, length, min, Option, Some, None}
+use Rattle.lt_modes.specs.State.{SetState, Desk}
+use Rattle.lt_modes.specs.Made.{Made}
+use Rattle.lt_modes.specs.Held.{locks_in}
+use Rattle.lt_modes.specs.Serving.{queue_of}
+use Rattle.lt_modes.specs.Fits.{parked_asks}
+use Rattle.lt_held.specs.HeldData.{most_locks}
+use Rattle.lt_desk.specs.DeskData.{DeskData}
+use Rattle.lt_letter.specs.declared.letter.Body.{Body}
+use Rattle.lt_letter.specs.declared.letter.Body.TheVariants.{Ask, Tell, Copy, Token, Freeze}
+use Rattle.lt_letter.specs.OutData.{OutData, out_after}
+
+-- the node, the set and its state; for how many waiting asks there is room, for how many rows more, and for how many letters more that wait for the token
+pub record CoreData : Type 0 where
+  pub node : ℕ
+  pub set : ℕ
+  pub state : SetState
+  pub room : ℕ
+  pub row_room : ℕ
+  pub parked_room : ℕ
+
+abbrev pub desk_seen : Option DeskData → Option Desk
+desk_seen None = None
+desk_seen (Some d) = Some d.desk
+
+-- the least of the rows' room and, where the desk is here, the places of its queue and what each node may owe
+abbrev pub room_by : Option DeskData → ℕ → ℕ
+room_by None rows = rows
+room_by (Some d) rows = min d.room (min d.spare rows)
+
+-- the core after a rule, and what it sent out, are what the rule makes
+pub record Does (made : Made) (old : CoreData) (had : OutData) (new : CoreData) (out : OutData) : Type 0 where
+  pub node : new.node ≡ old.node
+  pub set : new.set ≡ old.set
+  pub state : new.state ≡ made.state
+  pub sent : out ≡ out_after made had
+
+-- how many asks wait here: in the queue, and parked
+abbrev pub waiting : SetState → ℕ
+waiting s = length (queue_of s) + length (parked_asks s)
+
+abbrev pub epoch_of : Option Desk → ℕ
+epoch_of None = 0
+epoch_of (Some desk) = desk.epoch
+
+abbrev pub number_of : Option Desk → ℕ
+number_of None = 0
+number_of (Some desk) = desk.number
+
+-- in a move with this clock there is room for what waits here and k asks and tells more
+pub record HasRoom (k clock : ℕ) (core : CoreData) : Type 0 where
+  pub rows : waiting core.state + k ≤ core.room
+  pub parked : k ≤ core.parked_room
+  pub locks : locks_in core.state.held + waiting core.state + k ≤ most_locks
+  pub epoch : epoch_of core.state.desk < clock
+  pub number : number_of core.state.desk < clock
+
+-- room for an ask of one more client, too
+pub record RoomToAsk (clock : ℕ) (core : CoreData) : Type 0 where
+  pub move : HasRoom 2 clock core
+  pub pending : length core.state.pending < 16
+
+-- room for this desk, which a letter brings
+pub record RoomForDesk (clock : ℕ) (core : CoreData) (d : DeskData) : Type 0 where
+  pub places : waiting core.state + length d.desk.queue + 1 ≤ d.room
+  pub owed : waiting core.state + length d.desk.queue + 1 ≤ d.spare
+  pub rows : waiting core.state + length d.desk.queue + 1 ≤ core.row_room
+  pub locks : locks_in core.state.held + waiting core.state + length d.desk.queue + 1 ≤ most_locks
+  pub epoch : d.desk.epoch < clock
+  pub number : d.desk.number < clock
+
+-- room for what a letter brings, where it brings a desk
+abbrev pub RoomForBody : ℕ → CoreData → Body → Type 0
+RoomForBody clock core (Ask ask by_hoped) = Unit {0}
+RoomForBody clock core (Tell tell) = Unit {0}
+RoomForBody clock core (Copy ask) = Unit {0}
+RoomForBody clock core (Token d) = RoomForDesk clock core d
+RoomForBody clock core (Freeze news) = Unit {0}
+
+-- memory for one move, to which a letter brings so many asks
+pub record HasMemory (brought : ℕ) (core : CoreData) : Type 0 where
+  pub asks : waiting core.state + brought + 2 ≤ core.room
+  pub rows : waiting core.state + brought + 2 ≤ core.row_room
+  pub parked : 2 ≤ core.parked_room

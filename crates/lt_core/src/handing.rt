@@ -1,0 +1,123 @@
+ghost use Rattle.std.specs.Prelude.{◌≡◌, ◌+◌, ◌≤◌, ◌<◌, length, Some, None, IfSome, slice_index_or};
+ghost use Rattle.lt_modes.specs.Queue.{no_ask};
+ghost use Rattle.lt_modes.specs.Serving.{queue_of, next_move};
+ghost use Rattle.lt_modes.specs.Freezing.{freeze};
+ghost use Rattle.lt_modes.specs.HandingOver.{hand_over, hand_over_to};
+ghost use Rattle.lt_letter.specs.OutData.{FitsOut, out_after};
+ghost use Rattle.lt_core.specs.CoreData.{Does, HasRoom, epoch_of};
+ghost use Rattle.lt_core.specs.Notices.{notices, nodes_in, node_if, has_node};
+
+use crate::one_set::Core;
+use lt_desk::{Desk, Targets};
+use lt_letter::{Body, News, Out};
+use lt_modes::{Event, Stamp};
+
+impl Core {
+    /// The desk's node tells the targets, and keeps the frozen modes itself.
+    pub(crate) fn freeze(&mut self, stamp: Stamp, out: &mut Out)
+        requires node { stamp.node ≡ self.old.node }
+        requires room { HasRoom 0 stamp.clock self.old }
+        requires fits { FitsOut (freeze self.old.set stamp self.old.state) out.old }
+        ensures does { Does (freeze self.old.set stamp self.old.state) self.old out.old self.new out.new }
+        ensures epoch { epoch_of self.new.state.desk ≡ epoch_of self.old.state.desk }
+    {
+        let Some(desk) = &mut self.desk else {
+            return;
+        };
+        let targets = desk.freeze(stamp.node);
+        let nodes = desk.nodes();
+        self.frozen = targets.modes;
+        self.number = targets.number;
+        self.send_notices(&targets, nodes, stamp, out);
+    }
+
+    // The nodes of the mask, which are below this number, are sent the frozen modes.
+    fn send_notices(&self, targets: &Targets, nodes: u8, stamp: Stamp, out: &mut Out)
+        requires nodes { nodes ≤ 64 }
+        requires fits { FitsOut (notices self.now.set stamp self.now.state targets.now.modes targets.now.number (nodes_in targets.now.nodes 0 nodes)) out.old }
+        ensures { out.new ≡ out_after (notices self.now.set stamp self.now.state targets.now.modes targets.now.number (nodes_in targets.now.nodes 0 nodes)) out.old }
+    {
+        for x in 0..nodes {
+            self.send_notice(x, targets, stamp, out);
+        }
+    }
+
+    // The node is sent the frozen modes, where it is of the mask.
+    fn send_notice(&self, to: u8, targets: &Targets, stamp: Stamp, out: &mut Out)
+        requires node { to < 64 }
+        requires fits { FitsOut (notices self.now.set stamp self.now.state targets.now.modes targets.now.number (node_if targets.now.nodes to)) out.old }
+        ensures { out.new ≡ out_after (notices self.now.set stamp self.now.state targets.now.modes targets.now.number (node_if targets.now.nodes to)) out.old }
+    {
+        if !has_node(targets.nodes, to) {
+            return;
+        }
+        out.push_event(Event::Freeze {
+            set: self.set,
+            to,
+            number: targets.number,
+            modes: targets.modes,
+        });
+        let news = News {
+            number: targets.number,
+            modes: targets.modes,
+        };
+        let post = self.post(to, Body::Freeze(news), stamp);
+        out.push_letter(post);
+    }
+
+    /// The desk goes to the node of the ask that draws it, where there is one.
+    pub(crate) fn hand_over(&mut self, stamp: Stamp, out: &mut Out)
+        requires node { stamp.node ≡ self.old.node }
+        requires epoch { epoch_of self.old.state.desk < stamp.clock }
+        requires fits { FitsOut (hand_over self.old.set stamp self.old.state) out.old }
+        ensures does { Does (hand_over self.old.set stamp self.old.state) self.old out.old self.new out.new }
+    {
+        if let Some(k) = self.next_move() {
+            if let Some(desk) = self.desk.take() {
+                self.send_desk(k, desk, stamp, out);
+            }
+        }
+    }
+
+    // The place of the ask to whose node the desk moves.
+    fn next_move(&self) -> Option<u32>
+        ensures next { result ≡ next_move self.now.node self.now.state }
+        ensures within { IfSome result (λ k. k < length (queue_of self.now.state)) }
+    {
+        match &self.desk {
+            Some(desk) => desk.next_move(self.links.me(), &self.held, self.pending.stamps()),
+            None => None,
+        }
+    }
+
+    // The desk goes to the node of the ask at this place.
+    fn send_desk(&mut self, k: u32, mut desk: Desk, stamp: Stamp, out: &mut Out)
+        requires within { k < length desk.desk.queue }
+        requires node { stamp.node ≡ self.old.node }
+        requires gone { self.old.state.desk ≡ None }
+        requires epoch { desk.desk.epoch < stamp.clock }
+        requires fits { FitsOut (hand_over_to self.old.set stamp self.old.state (slice_index_or desk.desk.queue k no_ask).node (Some desk.desk)) out.old }
+        ensures does { Does (hand_over_to self.old.set stamp self.old.state (slice_index_or desk.desk.queue k no_ask).node (Some desk.desk)) self.old out.old self.new out.new }
+    {
+        let to = desk.ask(k).node;
+        desk.hand_over(stamp.node, &self.held, self.pending.stamps(), stamp);
+        let epoch = desk.epoch();
+        self.charge = self.held.modes();
+        self.links.set(to, epoch);
+        out.push_event(Event::Token {
+            set: self.set,
+            to,
+            epoch,
+        });
+        let post = self.post(to, Body::Token(desk), stamp);
+        out.push_letter(post);
+    }
+}
+
+// Whether the mask has this node.
+fn has_node(mask: u64, x: u8) -> bool
+    requires { x < 64 }
+    ensures { result ≡ has_node mask x }
+{
+    mask & (1 << x) != 0
+}

@@ -1,0 +1,84 @@
+ghost use Rattle.std.specs.Prelude.{◌≡◌};
+ghost use Rattle.lt_modes.specs.Modes.{same_modes, is_within};
+ghost use Rattle.lt_modes.specs.Telling.{make_tell, tell, attend, finish};
+ghost use Rattle.lt_letter.specs.OutData.{FitsOut};
+ghost use Rattle.lt_core.specs.CoreData.{Does, HasRoom};
+
+use crate::one_set::Core;
+use lt_letter::{Out, Parked, Tell};
+use lt_modes::{Mode, ModeSet, Stamp};
+
+impl Core {
+    /// The end of a move: the desk's turn where it is here, else a tell where one is due.
+    pub(crate) fn finish(&mut self, stamp: Stamp, out: &mut Out)
+        requires node { stamp.node ≡ self.old.node }
+        requires room { HasRoom 1 stamp.clock self.old }
+        requires fits { FitsOut (finish self.old.set stamp self.old.state) out.old }
+        ensures does { Does (finish self.old.set stamp self.old.state) self.old out.old self.new out.new }
+    {
+        if self.desk.is_some() {
+            self.attend(stamp, out);
+        } else {
+            self.tell(stamp, out);
+        }
+    }
+
+    // The desk's turn: services, then freezes, then the token.
+    fn attend(&mut self, stamp: Stamp, out: &mut Out)
+        requires node { stamp.node ≡ self.old.node }
+        requires room { HasRoom 0 stamp.clock self.old }
+        requires fits { FitsOut (attend self.old.set stamp self.old.state) out.old }
+        ensures does { Does (attend self.old.set stamp self.old.state) self.old out.old self.new out.new }
+    {
+        self.serve(stamp, out);
+        self.freeze(stamp, out);
+        self.hand_over(stamp, out);
+    }
+
+    // A tell where the held modes bar other modes than the charge does.
+    fn tell(&mut self, stamp: Stamp, out: &mut Out)
+        requires node { stamp.node ≡ self.old.node }
+        requires room { HasRoom 1 stamp.clock self.old }
+        requires fits { FitsOut (tell self.old.set stamp self.old.state) out.old }
+        ensures does { Does (tell self.old.set stamp self.old.state) self.old out.old self.new out.new }
+    {
+        if !same(self.held.modes().bars(), self.charge.bars()) {
+            self.make_tell(stamp, out);
+        }
+    }
+
+    // The node tells the desk what it holds, and its charge is what it told.
+    fn make_tell(&mut self, stamp: Stamp, out: &mut Out)
+        requires node { stamp.node ≡ self.old.node }
+        requires room { HasRoom 1 stamp.clock self.old }
+        requires fits { FitsOut (make_tell self.old.set stamp self.old.state) out.old }
+        ensures does { Does (make_tell self.old.set stamp self.old.state) self.old out.old self.new out.new }
+    {
+        let modes = self.held.modes();
+        self.charge = modes;
+        let tell = Tell {
+            node: stamp.node,
+            modes,
+            pending: self.pending.stamps().copied(),
+            stamp,
+        };
+        self.route(false, Parked::Tell(tell), stamp, out);
+    }
+}
+
+// Whether the sets have the same members.
+fn same(a: ModeSet, b: ModeSet) -> bool
+    ensures { result ≡ same_modes a b }
+{
+    is_within(a, b) && is_within(b, a)
+}
+
+fn is_within(a: ModeSet, b: ModeSet) -> bool
+    ensures { result ≡ is_within a b }
+{
+    (!a.has(Mode::IntentionRead) || b.has(Mode::IntentionRead))
+        && (!a.has(Mode::Read) || b.has(Mode::Read))
+        && (!a.has(Mode::Upgrade) || b.has(Mode::Upgrade))
+        && (!a.has(Mode::IntentionWrite) || b.has(Mode::IntentionWrite))
+        && (!a.has(Mode::Write) || b.has(Mode::Write))
+}

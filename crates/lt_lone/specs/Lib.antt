@@ -1,0 +1,5 @@
+pub mod Granting
+pub mod SetMove
+pub mod Core
+pub mod Order
+pub mod LoneServing
