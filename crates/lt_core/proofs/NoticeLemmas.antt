@@ -8,7 +8,7 @@ use Rattle.lt_modes.specs.declared.stamp.Stamp.{Stamp}
 use Rattle.lt_modes.specs.Made.{Made}
 use Rattle.lt_modes.specs.Places.{places_from, cons_if}
 use Rattle.lt_table.specs.TableData.{entry_at}
-use Rattle.lt_desk.proofs.FreezeLemmas.{in_places, out_places}
+use Rattle.lt_desk.proofs.MaskLemmas.{in_places, out_places}
 use Rattle.lt_letter.specs.OutData.{OutData, FitsOut, out_after}
 use Rattle.lt_core.specs.Notices.{notices, nodes_in, node_if, has_node}
 
