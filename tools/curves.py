@@ -40,6 +40,7 @@ def points(curve):
 
 
 def distance(one, other):
+    """How far two points are from each other."""
     return ((one[0] - other[0]) ** 2 + (one[1] - other[1]) ** 2) ** 0.5
 
 

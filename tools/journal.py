@@ -2,8 +2,10 @@
 import re
 import sys
 from dataclasses import dataclass, field
+from pathlib import Path
 from typing import NamedTuple, Optional
 
+MOST_NODES = 16
 MODES = ['intention_read', 'read', 'upgrade', 'intention_write', 'write']
 CONFLICTS = {
     'intention_read': {'write'},
@@ -48,10 +50,12 @@ class Event(NamedTuple):
 
     @property
     def text(self):
+        """The line itself."""
         return ' '.join([self.kind] + self.words)
 
     @property
     def set(self):
+        """The set that the line names."""
         form = {**EVENTS, **CLOSING}[self.kind]
         return self.words[form.index('s')]
 
@@ -90,6 +94,7 @@ class Letter:
 
 @dataclass
 class Journal:
+    name: str
     script: Script
     moves: list
     closing: list
@@ -97,6 +102,7 @@ class Journal:
 
     @property
     def is_cut(self):
+        """Whether the run was cut, so that letters may be left."""
         return [line.kind for line in self.closing] == ['cut']
 
 
@@ -124,15 +130,23 @@ def read_script(data):
 
 
 def read_script_line(script, words):
-    if words[0] == 'nodes':
-        script.nodes = int(words[1])
-    elif words[0] == 'set':
+    """Takes the words of one line into the script."""
+    if words[0] == 'nodes' and len(words) == 2:
+        script.nodes = within(words[1], 1, MOST_NODES)
+    elif words[0] == 'set' and (len(words) == 2 or words[2] == 'with'):
         script.family[words[1]] = script.family[words[3]] if words[2:] else words[1]
-    elif words[0] == 'client':
-        script.node_of[words[1]] = int(words[3])
+    elif words[0] == 'client' and words[2] == 'at':
+        script.node_of[words[1]] = within(words[3], 0, script.nodes - 1)
         script.commands[words[1]] = []
     else:
         script.commands[words[0]].append(read_command(script, words))
+
+
+def within(word, least, most):
+    """The number of a word, from the least to the most."""
+    if not least <= int(word) <= most:
+        raise ValueError
+    return int(word)
 
 
 def read_command(script, words):
@@ -166,12 +180,13 @@ def lines_of(data):
 
 
 def is_number(word):
+    """Whether a word is a number without leading zeros."""
     return re.fullmatch('0|[1-9][0-9]{0,9}', word) is not None
 
 
-def read_journal(script, data):
+def read_journal(name, script, data):
     """The moves and the closing lines of a text."""
-    journal = Journal(script, [], [])
+    journal = Journal(name, script, [], [])
     for number, line in enumerate(lines_of(data), 1):
         words = line.split(' ')
         if words[0] == 'move' and not journal.closing:
@@ -187,6 +202,7 @@ def read_journal(script, data):
 
 
 def read_move(script, words, line, number):
+    """The move of a line whose first word is `move`."""
     is_act = has_form(script, words[1:3] + words[4:], 'npc') and words[3] == 'act'
     is_take = has_form(script, words[1:3] + words[4:], 'npp') and words[3] == 'take'
     if not is_act and not is_take:
@@ -196,6 +212,7 @@ def read_move(script, words, line, number):
 
 
 def unfit(line, what):
+    """The fault of a journal, with the number of its line."""
     return Fault(f"the journal doesn't fit the script: line {line}: {what}")
 
 
@@ -208,19 +225,21 @@ def serve(tool, usage, write):
         return 0 if is_help() else 1
     try:
         script = read_script(text_of(sys.argv[1]))
-        text = write(read_journal(script, text_of(sys.argv[2])))
-        print(text, end='')
+        text = write(read_journal(Path(sys.argv[1]).stem, script, text_of(sys.argv[2])))
     except (Fault, OSError) as fault:
-        print(f'{tool}: {fault}', file=sys.stderr)
+        what = f'{fault.filename}: {fault.strerror}' if isinstance(fault, OSError) else fault
+        print(f'{tool}: {what}', file=sys.stderr)
         return 1
+    print(text, end='')
     return 0
 
 
 def is_help():
+    """Whether the words ask for help."""
     return sys.argv[1:] in (['--help'], ['-h'])
 
 
 def text_of(path):
-    """The text of a file of printable ASCII, whatever its comments hold."""
+    """The text of a file; a byte outside ASCII, as in a comment, is a letter of its own."""
     with open(path, encoding='latin-1', newline='\n') as file:
         return file.read()

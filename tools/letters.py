@@ -32,6 +32,7 @@ def bars(modes):
 
 
 def is_taking(mode):
+    """Whether a mode conflicts with itself."""
     return mode in CONFLICTS[mode]
 
 
@@ -46,6 +47,7 @@ class Core:
     pending: dict = field(default_factory=dict)      # the ask of a client
 
     def modes(self):
+        """The modes that are held."""
         return {mode for (_, mode), count in self.held.items() if count}
 
 
@@ -122,6 +124,7 @@ class Follower:
         return [letter.set]
 
     def take_copy(self, move, core, lines, ask):
+        """The grant that a Copy brings."""
         if not lines or lines[0].kind not in ('grant', 'change') or lines[0].words[0] != ask.client:
             raise unfit(move.line, f'a Copy for {ask.client} grants its ask')
         self.answer(core, lines.popleft())
@@ -129,11 +132,13 @@ class Follower:
             core.charge.add(ask.mode)
 
     def tick(self, move, clock):
+        """The clock after a move, which is to be one more than this."""
         if move.clock != clock + 1:
             raise unfit(move.line, f'the clock is {clock + 1} here')
         self.clocks[move.node] = move.clock
 
     def waits(self, client):
+        """Whether a client waits in any set."""
         node = self.script.node_of[client]
         return any(client in self.cores[node, name].pending for name in self.script.family)
 
@@ -167,6 +172,7 @@ class Follower:
             core.held[client, modes[0]] += 1
 
     def drop(self, event):
+        """Drops all locks of a client in a family."""
         _, client, name, _ = event.words
         for other in self.script.family_of(name):
             held = self.cores[self.script.node_of[client], other].held
@@ -215,6 +221,7 @@ class Follower:
             core.hoped = (ask.node, ask.stamp)
 
     def send(self, move, name, core, to, kind, text, ask=None, by_hoped=False):
+        """Puts a letter on its way, with the link of its sender."""
         letter = Letter(kind, name, to, move, core.firm, text, ask, by_hoped)
         self.letters.append(letter)
         self.on_way[move.node, to].append(letter)
