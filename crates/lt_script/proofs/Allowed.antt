@@ -1,16 +1,16 @@
 -- What a line without fault may add.
-use Rattle.std.proofs.Common.{◌≡◌, ℕ, ◌<◌, ◌≤◌, ◌==◌, ◌||◌, Bool, true, false, not, List, [], ◌∷◌, length, Option, Some, None, cond, is_none, is_some, unwrap_or, nat_lt, nat_le, get_or, position, refl, sym, ap, ◌∙◌, arith}
+use Rattle.std.proofs.Common.{◌≡◌, ℕ, ◌<◌, ◌≤◌, ◌==◌, ◌||◌, Bool, true, false, not, List, [], ◌∷◌, length, Option, Some, None, cond, is_none, unwrap_or, nat_lt, nat_le, position, refl, sym, ◌∙◌}
 use Rattle.std.specs.List.{AllByRecursion, list_all}
-use Rattle.std.proofs.lemmas.Bool.{cases_Bool, ltb-true, ltb-false, leb-false, eqb-true}
+use Rattle.std.proofs.lemmas.Bool.{ltb-true, ltb-false, leb-false, eqb-true}
 use Rattle.std.proofs.lemmas.List.Quantifiers.{position-Some}
-use Rattle.lt_modes.specs.Script.{ScriptData, SetData, ClientData, family_at, home_at}
+use Rattle.lt_modes.specs.Script.{ScriptData, SetData, ClientData, home_at}
 use Rattle.lt_text.specs.Text.{words}
 use Rattle.lt_text.specs.Number.{number}
 use Rattle.lt_script.specs.declared.fault.Fault.{Fault}
 use Rattle.lt_script.specs.declared.fault.Fault.TheVariants as faults
 use Rattle.lt_script.specs.declared.limits.TheConstants.{MAX_NODES, MAX_SETS, MAX_CLIENTS, MAX_CLIENTS_OF_NODE, MAX_COMMANDS, MAX_LINE}
 use Rattle.lt_script.specs.Names.{is_name}
-use Rattle.lt_script.specs.Script.{IsRequest, HasTargets, load_of, set_number, client_number, is_declared}
+use Rattle.lt_script.specs.Script.{IsRequest, load_of, set_number, client_number, is_declared}
 use Rattle.lt_script.specs.Forms.{FormData, NodesForm, SetForm, SetWithForm, ClientForm, CommandForm, OrderData, LockOrder, TryOrder, UnlockOrder, ChangeOrder, DropOrder, form_of}
 use Rattle.lt_script.specs.Faults.{first_true, tests, form_fault, line_fault, fault_by_form, is_plain_byte, command_of, set_at, home_by, home_of, is_below, is_positive}
 
