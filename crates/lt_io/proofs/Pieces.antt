@@ -1,5 +1,9 @@
--- Pieces of known bytes: what is copied from a place on, and what one more write appends.
-use Rattle.std.proofs.Common.{◌≡◌, ℕ, ◌+◌, ◌-◌, ◌≤◌, min, List, ◌++◌, Option, length, take, drop, inl, inr, ap, sym, subst, ◌∙◌, arith, take-add, drop-drop}
+-- Pieces of known bytes: what is copied from a place on, what one more write appends, and how many writes there were.
+use Rattle.std.proofs.Common.{◌≡◌, ℕ, suc, ◌+◌, ◌-◌, ◌*◌, ◌<◌, ◌≤◌, min, List, ◌++◌, Option, Some, None, Ok, length, take, drop, inl, inr, ap, sym, subst, refl, ◌∙◌, arith, take-add, drop-drop}
+use Rattle.std.specs.Prelude.{⊤}
+use Rattle.std.proofs.Math.Nat.{suc-mul}
+use Rattle.lt_io.specs.FaultCounts.{calls_after}
+use Rattle.lt_io.specs.Sink.{Pace, KeepsPace, WritesByFewest}
 use Rattle.std.proofs.lemmas.Bool.{cases_lt}
 use Rattle.std.proofs.lemmas.List.{take_rest, take-append-drop, take_at, drop_all, length-take-le, length-drop}
 use Rattle.std.proofs.KnownBytes.{Appends-trans}
@@ -33,3 +37,40 @@ Appends-next a b c xs at n first next =
 -- a part of what stands from place `at` on ends within the bytes
 pub at_within : (xs : List ℕ) (at n : ℕ) → at ≤ length xs → n ≤ length (take (length xs - at) (drop at xs)) → at + n ≤ length xs
 at_within xs at n inside fits = omega (arith, inside, length-drop at xs, subst (λ l. n ≤ length l) (take_rest xs at) fits)
+
+-- the first `at` of so many bytes were written, by as few calls as can be
+abbrev pub WroteByFewest : Option Pace → Option Pace → ℕ → ℕ → Type 0
+WroteByFewest None new size at = ⊤
+WroteByFewest (Some pace) new size at =
+    (n : ℕ) × (at ≡ min (n * pace.per_write) size) × ((k : ℕ) → k < n → k * pace.per_write < size) × (new ≡ Some (record pace { calls = calls_after pace.calls n }))
+
+-- before the first write
+pub none_written : (pace : Option Pace) (size : ℕ) → WroteByFewest pace pace size 0
+none_written None size = tt
+none_written (Some pace) size = (0, omega arith, λ k below. absurd (omega (arith, below)), refl)
+
+-- one more write of all that is left
+pub one_more_write : (E : Type 0) (old mid new : Option Pace) (size at n : ℕ) (piece : List ℕ) → at < size → length piece ≡ size - at → WroteByFewest old mid size at
+    → KeepsPace {E = E} mid new (Ok n) piece → WroteByFewest old new size (at + n)
+one_more_write E None mid new size at n piece inside is_rest few keeps = tt
+one_more_write E (Some pace) mid new size at n piece inside is_rest (m, is_at, fewer, is_mid) keeps =
+    let kept = subst (λ (p : Option Pace). KeepsPace {E = E} p new (Ok n) piece) is_mid keeps in
+    let product : suc m * pace.per_write ≡ m * pace.per_write + pace.per_write = suc-mul m pace.per_write in (
+      suc m,
+      omega (arith, product, is_at, inside, is_rest, kept.1),
+      λ k below. elim (cases_lt k m) [
+        | inl before ↦ fewer k before
+        | inr last ↦
+            let same : k ≡ m = omega (arith, below, last) in
+            subst (λ (i : ℕ). i * pace.per_write < size) (sym same) (omega (arith, is_at, inside))
+      ],
+      kept.0,
+    )
+
+-- once all is written
+pub all_written : (old new : Option Pace) (size at : ℕ) → size ≤ at → WroteByFewest old new size at → WritesByFewest old new size
+all_written None new size at whole few = tt
+all_written (Some pace) new size at whole (n, is_at, fewer, is_new) = (n, record { enough = omega (arith, whole, is_at); fewer = fewer }, is_new)
+
+pub length_of_rest : (xs : List ℕ) (at : ℕ) → length (take (length xs - at) (drop at xs)) ≡ length xs - at
+length_of_rest xs at = ap length (take_rest xs at) ∙ length-drop at xs

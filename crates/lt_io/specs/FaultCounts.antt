@@ -1,5 +1,5 @@
 -- Counts of faults, of ends and of bytes. A count is a `u64` that stops at its last value.
-use Rattle.std.specs.Prelude.{◌≡◌, ℕ, ◌+◌, ◌-◌, ◌^◌, ◌≤◌, min, Result, OnErr}
+use Rattle.std.specs.Prelude.{◌≡◌, ℕ, zero, suc, ◌+◌, ◌-◌, ◌^◌, ◌≤◌, min, Result, OnOk, OnErr}
 
 -- a count after n more
 abbrev pub count_after : ℕ → ℕ → ℕ
@@ -18,7 +18,12 @@ RoseBy n before now = count_after before n ≤ now
 abbrev pub Rose : ℕ → ℕ → Type 0
 Rose before now = RoseBy 1 before now
 
--- the count of faults did not fall, and a call fails only where it rose
+-- a success leaves the count of faults as it was, and a failure raises it by one
 pub record HasCause {T E : Type 0} (before now : ℕ) (result : Result T E) : Type 0 where
-  pub later : before ≤ now
-  pub failed : OnErr result (Rose before now)
+  pub without_fault : OnOk result (now ≡ before)
+  pub one_fault : OnErr result (Counts 1 before now)
+
+-- a count after so many calls more
+abbrev pub calls_after : ℕ → ℕ → ℕ
+calls_after calls zero = calls
+calls_after calls (suc n) = count_after (calls_after calls n) 1

@@ -1,6 +1,7 @@
--- What one write takes, and what a failed run of writes leaves.
-use Rattle.std.specs.Prelude.{ℕ, ◌<◌, ◌≤◌, List, length, take, Option, Result, IfOk}
+-- What one write takes, what a failed run of writes leaves, and how many calls a whole one needs.
+use Rattle.std.specs.Prelude.{◌≡◌, ℕ, ◌<◌, ◌≤◌, ◌*◌, min, List, length, take, ⊤, Option, Some, None, Result, IfOk}
 use Rattle.std.specs.Io.KnownBytes.{Appends}
+use Rattle.lt_io.specs.FaultCounts.{count_after, calls_after}
 
 -- an Ok takes a first part of the piece, and one that is not empty where the piece is not
 abbrev pub TakesSome : {E : Type 0} → Result ℕ E → List ℕ → Type 0
@@ -9,3 +10,25 @@ TakesSome result piece = IfOk result (λ n. (n ≤ length piece) × (0 < length 
 -- known bytes grow by a first part of these bytes, and not by all of them
 abbrev pub AppendsPart : Option (List ℕ) → Option (List ℕ) → List ℕ → Type 0
 AppendsPart old new bytes = (n : ℕ) × (n < length bytes) × Appends old new (take n bytes)
+
+-- of a sink that takes as much of each piece as it can: how much that is, and how many calls were made
+pub record Pace : Type 0 where
+  pub per_write : ℕ
+  pub calls : ℕ
+
+-- one call more, which took as much as it could
+abbrev pub KeepsPace : {E : Type 0} → Option Pace → Option Pace → Result ℕ E → List ℕ → Type 0
+KeepsPace None new result piece = ⊤
+KeepsPace (Some pace) new result piece =
+    (new ≡ Some (record pace { calls = count_after pace.calls 1 })) × IfOk result (λ n. n ≡ min pace.per_write (length piece))
+
+-- n pieces are enough for so many bytes, and fewer are not
+pub record IsFewest (per_write size n : ℕ) : Type 0 where
+  pub enough : size ≤ n * per_write
+  pub fewer : (k : ℕ) → k < n → k * per_write < size
+
+-- so many bytes were written by as few calls as can be
+abbrev pub WritesByFewest : Option Pace → Option Pace → ℕ → Type 0
+WritesByFewest None new size = ⊤
+WritesByFewest (Some pace) new size =
+    (n : ℕ) × IsFewest pace.per_write size n × (new ≡ Some (record pace { calls = calls_after pace.calls n }))

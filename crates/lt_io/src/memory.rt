@@ -3,7 +3,7 @@ ghost use Rattle.std.specs.Io.{ReadsAtMost};
 ghost use Rattle.std.specs.Io.KnownBytes.{ReadConsumes, WriteAppends};
 ghost use Rattle.lt_io.specs.FaultCounts.{count_after, HasCause};
 ghost use Rattle.lt_io.specs.Source.{Ends, Gives};
-ghost use Rattle.lt_io.specs.Sink.{TakesSome};
+ghost use Rattle.lt_io.specs.Sink.{TakesSome, KeepsPace};
 
 use crate::sink::Sink;
 use crate::source::{Failed, Source, ends_after};
@@ -71,9 +71,13 @@ pub struct MemorySink {
 }
 
 impl Sink for MemorySink {
+    ghost use Rattle.lt_io.specs.Memory.{pace_of};
+
     ghost held = { λ s. Some s.bytes.items };
 
     ghost faults = { λ s. s.faults };
+
+    ghost pace = { pace_of };
 
     fn write(&mut self, piece: &[u8]) -> Result<usize, Failed>
         ensures called { self.new.calls ≡ count_after self.old.calls 1 }
@@ -86,6 +90,7 @@ impl Sink for MemorySink {
         ensures bytes { WriteAppends (Some self.old.bytes.items) (Some self.new.bytes.items)
             result piece.now }
         ensures cause { HasCause self.old.faults self.new.faults result }
+        ensures pace { KeepsPace (pace_of self.old) (pace_of self.new) result piece.now }
     {
         self.calls = self.calls.saturating_add(1);
         let count = piece.len().min(self.per_write);

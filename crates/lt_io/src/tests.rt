@@ -2,6 +2,7 @@ use super::{
     Failed, MemorySink, MemorySource, ReadFailure, ReaderSource, Source, SureSink, SureSource,
     WriterSink, read_all, write_all,
 };
+use std::io::{self, ErrorKind, Read, Write};
 use std::test::Fail;
 
 #[test]
@@ -63,5 +64,54 @@ fn sure_pair_at_the_limit(rt: HostRuntime) -> Result<(), Fail> {
         }
         assert_eq!(rt; result.err(), want);
     }
+    Ok(())
+}
+
+// A reader and a writer whose first call fails, and whose others move one byte.
+#[derive(Drop)]
+struct FailsOnce {
+    calls: u8,
+}
+
+impl FailsOnce {
+    fn call(&mut self) -> io::Result<usize> {
+        self.calls = self.calls.saturating_add(1);
+        if self.calls == 1 {
+            return Err(ErrorKind::Interrupted.into());
+        }
+        Ok(1)
+    }
+}
+
+impl Read for FailsOnce {
+    fn read(&mut self, buf: &mut [u8]) -> io::Result<usize> {
+        self.call().map(|count| count.min(buf.len()))
+    }
+}
+
+impl Write for FailsOnce {
+    fn write(&mut self, buf: &[u8]) -> io::Result<usize> {
+        self.call().map(|count| count.min(buf.len()))
+    }
+
+    fn flush(&mut self) -> io::Result<()> {
+        Ok(())
+    }
+}
+
+#[test]
+fn a_call_that_failed_is_not_made_again(rt: HostRuntime) -> Result<(), Fail> {
+    let mut source = ReaderSource::new(FailsOnce { calls: 0 });
+    let mut buf = [0; 4];
+    for want in [Err(Failed), Ok(1), Ok(1)] {
+        assert_eq!(rt; source.read(&mut buf), want);
+    }
+    let mut source = ReaderSource::new(FailsOnce { calls: 0 });
+    let refused = read_all(rt.alloc(), &mut source, 8);
+    assert_eq!(rt; refused.err(), Some(ReadFailure::Failed));
+
+    let mut sink = WriterSink::new(FailsOnce { calls: 0 });
+    assert_eq!(rt; write_all(&mut sink, b"tell"), Err(Failed));
+    assert_eq!(rt; write_all(&mut sink, b"tell"), Ok(()));
     Ok(())
 }

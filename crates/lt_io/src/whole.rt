@@ -1,9 +1,9 @@
-ghost use Rattle.std.specs.Prelude.{◌≡◌, ◌≤◌, ◌<◌, ◌+◌, length, vec_len, IfOk, OnOk, OnErr, IfSome};
+ghost use Rattle.std.specs.Prelude.{◌≡◌, ◌≢◌, ◌≤◌, ◌<◌, ◌+◌, length, vec_len, IfOk, IfErr, OnOk, OnErr, IfSome};
 ghost use Rattle.std.specs.Io.KnownBytes.{Consumes, Appends, IsAtEnd};
 ghost use Rattle.lt_io.specs.declared.whole.ReadFailure.TheVariants as failure;
-ghost use Rattle.lt_io.specs.FaultCounts.{Counts, Rose, RoseBy, HasCause};
+ghost use Rattle.lt_io.specs.FaultCounts.{Counts, HasCause};
 ghost use Rattle.lt_io.specs.Source.{LosesPart};
-ghost use Rattle.lt_io.specs.Sink.{AppendsPart};
+ghost use Rattle.lt_io.specs.Sink.{AppendsPart, WritesByFewest};
 
 use crate::sink::Sink;
 use crate::source::{Failed, Source};
@@ -53,8 +53,8 @@ impl From<AllocError> for ReadFailure {
     }
 }
 
-/// Reads a source to its end. A source with more bytes than the limit is left somewhere past it.
-/// Nothing is promised of when memory is wanting.
+/// Reads a source to its end. Of a source with more bytes than the limit one more than the limit is
+/// read. Nothing is promised of when memory is wanting.
 pub fn read_all<S: Source>(
     alloc: Global,
     source: &mut S,
@@ -69,21 +69,24 @@ pub fn read_all<S: Source>(
     ensures within { IfOk result (λ bytes. vec_len bytes ≤ limit) }
 
     ensures failed { result ≡ Err ReadFailure.Failed →
-        Rose (S.faults source.old) (S.faults source.new) }
+        Counts 1 (S.faults source.old) (S.faults source.new) }
     ensures too_long { result ≡ Err ReadFailure.TooLong →
-        RoseBy (limit + 1) (S.given source.old) (S.given source.new) }
+        Counts (limit + 1) (S.given source.old) (S.given source.new) }
     ensures too_many_left { result ≡ Err ReadFailure.TooLong →
         IfSome (S.left source.old) (λ bytes. limit < length bytes) }
     ensures not_ended { OnErr result (S.ends source.new ≡ S.ends source.old) }
 
     ensures part_taken { LosesPart (S.left source.old) (S.left source.new) }
-    ensures no_fault_lost { S.faults source.old ≤ S.faults source.new }
+    ensures without_fault { OnOk result (S.faults source.new ≡ S.faults source.old) }
+    ensures no_other_fault { IfErr result (λ why. why ≢ failure.Failed →
+        S.faults source.new ≡ S.faults source.old) }
     ensures none_uncounted { S.given source.old ≤ S.given source.new }
 {
     let mut bytes = Vec::new(alloc);
     let mut buf = [0; ROOM];
     loop {
-        let count = source.read(&mut buf)?;
+        let room = (limit - bytes.len()).saturating_add(1).min(ROOM);
+        let count = source.read(&mut buf[..room])?;
         if count == 0 {
             return Ok(bytes);
         }
@@ -99,6 +102,7 @@ pub fn write_all<K: Sink>(sink: &mut K, bytes: &[u8]) -> Result<(), Failed>
     ensures all { OnOk result (Appends (K.held sink.old) (K.held sink.new) bytes.now) }
     ensures part { OnErr result (AppendsPart (K.held sink.old) (K.held sink.new) bytes.now) }
     ensures cause { HasCause (K.faults sink.old) (K.faults sink.new) result }
+    ensures few { OnOk result (WritesByFewest (K.pace sink.old) (K.pace sink.new) (length bytes.now)) }
 {
     let mut at = 0;
     while at < bytes.len() {

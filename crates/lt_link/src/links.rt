@@ -103,7 +103,7 @@ impl Links {
         ensures { result ≡ unmarked_route self.now.firm.node self.now.hoped stamp }
     {
         match self.hoped {
-            Some(hoped) if hoped.stamp < stamp => Route::Hoped(hoped.node),
+            Some(hoped) if stamp.is_newer(hoped.stamp) => Route::Hoped(hoped.node),
             _ => Route::Firm(self.firm.node),
         }
     }

@@ -3,8 +3,8 @@ ghost use Rattle.lt_modes.specs.Modes.{conflicts, is_taking, word_of, mode_of};
 ghost use Rattle.std.specs.Str.{bytes_eq};
 ghost use Rattle.lt_modes.specs.declared.mode.Mode.{Mode as AnyMode};
 
-/// The strength of a lock. The order is the one in which modes are listed everywhere.
-#[derive(Clone, Copy, Debug, PartialEq, Eq, PartialOrd, Ord, Hash)]
+/// The strength of a lock. Modes are listed in this order everywhere.
+#[derive(Clone, Copy, Debug, PartialEq, Eq, Hash)]
 pub enum Mode {
     IntentionRead,
     Read,

@@ -5,3 +5,4 @@ pub mod ReadLemmas
 pub mod PrintLemmas
 pub mod PrintedLines
 pub mod RoundTrip
+pub mod FaultOrder

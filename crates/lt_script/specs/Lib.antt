@@ -5,3 +5,4 @@ pub mod Forms
 pub mod Faults
 pub mod Reading
 pub mod Printing
+pub mod FaultLaws

@@ -1,7 +1,8 @@
 ghost use Rattle.std.specs.Prelude.{◌≡◌};
 ghost use Rattle.lt_script.specs.Fault.{number_of};
 
-use thiserror::Error;
+use std::error::Error;
+use std::fmt;
 
 /// What is wrong with a line of a script, in the order in which faults of one line are told.
 #[derive(Clone, Copy, Debug, PartialEq, Eq)]
@@ -52,18 +53,45 @@ impl Fault {
 }
 
 /// The first fault of a script; lines count from 1.
-#[derive(Clone, Copy, Debug, PartialEq, Eq, Error)]
-#[error("line {}: S{}", .line, .fault.number())]
+#[derive(Clone, Copy, Debug, PartialEq, Eq)]
 pub struct ScriptFault {
     pub line: u32,
     pub fault: Fault,
 }
 
-/// Why a script is not read.
-#[derive(Clone, Copy, Debug, PartialEq, Eq, Error)]
-pub enum ReadError {
-    #[error("no memory")]
-    Memory,
-    #[error(transparent)]
-    Fault(#[from] ScriptFault),
+impl fmt::Display for ScriptFault {
+    ghost use Rattle.std.specs.Prelude.{Some};
+    ghost use Rattle.lt_script.specs.Fault.{text_of_fault};
+
+    ghost output = { λ found. Some (text_of_fault found) };
+
+    fn fmt<W: fmt::Write>(&self, f: &mut fmt::Formatter<W>) -> fmt::Result {
+        let number = self.fault.number();
+        write!(f, "line {}: S{number}", self.line)
+    }
 }
+
+impl Error for ScriptFault {}
+
+/// Why a script is not read.
+#[derive(Clone, Copy, Debug, PartialEq, Eq)]
+pub enum ReadError {
+    Memory,
+    Fault(ScriptFault),
+}
+
+impl fmt::Display for ReadError {
+    ghost use Rattle.std.specs.Prelude.{Some};
+    ghost use Rattle.lt_script.specs.Fault.{text_of_error};
+
+    ghost output = { λ error. Some (text_of_error error) };
+
+    fn fmt<W: fmt::Write>(&self, f: &mut fmt::Formatter<W>) -> fmt::Result {
+        match self {
+            ReadError::Memory => f.write_str("no memory"),
+            ReadError::Fault(found) => write!(f, "{found}"),
+        }
+    }
+}
+
+impl Error for ReadError {}

@@ -15,7 +15,7 @@ mod script;
 mod tests;
 
 pub use fault::{Fault, ReadError, ScriptFault};
-pub use laws::law_print;
+pub use laws::{law_faults, law_literals, law_print};
 pub use limits::{
     MAX_CLIENTS, MAX_CLIENTS_OF_NODE, MAX_COMMANDS, MAX_LINE, MAX_NAME, MAX_NODES, MAX_SETS,
 };

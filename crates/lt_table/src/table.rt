@@ -10,7 +10,7 @@ ghost use Rattle.lt_modes.specs.HandingOver.{stamps_of, settled};
 ghost use Rattle.lt_table.specs.TableData.{entry_at, put_by, ask_with, told_frozen};
 ghost use Rattle.lt_table.specs.Seen.{entry_seen, spare_in};
 
-use crate::entry::{Entry, is_newer};
+use crate::entry::Entry;
 use crate::pending::Pending;
 use lt_modes::{Mode, ModeSet, Stamp};
 use std::alloc::{AllocError, Global};
@@ -89,7 +89,7 @@ impl Table {
         ensures spare { self.old.spare ≤ self.new.spare }
     {
         let x = usize::from(node);
-        let newer = is_newer(stamp, told_at(self.entries.as_slice(), x));
+        let newer = stamp.is_newer(told_at(self.entries.as_slice(), x));
         if x < self.entries.len() {
             self.entries[x].tell(modes, pending, stamp);
         }

@@ -6,7 +6,7 @@ pub loop-bytes-init : goal.loop-bytes-init
 loop-bytes-init g c = record {
   consumed = rw c.new-bytes.ensures.items (Consumes-nil _);
   no_end = refl;
-  no_fault_lost = omega arith;
+  no_fault = refl;
   all_counted = rw c.new-bytes.ensures.len refl;
   none_uncounted = omega arith;
   no_longer = omega (arith, c.new-bytes.ensures.len);

@@ -8,7 +8,7 @@ abbrev pub invariant-loop-bytes : goal.invariant-loop-bytes
 invariant-loop-bytes g l = record {
   consumed : Consumes (g.S.Source.left l.initial.source) (g.S.Source.left l.source) l.bytes.items;
   no_end : g.S.Source.ends l.source ≡ g.S.Source.ends l.initial.source;
-  no_fault_lost : g.S.Source.faults l.initial.source ≤ g.S.Source.faults l.source;
+  no_fault : g.S.Source.faults l.source ≡ g.S.Source.faults l.initial.source;
   all_counted : count_after (g.S.Source.given l.source) 0 ≡ count_after (g.S.Source.given l.initial.source) (vec_len l.bytes);
   none_uncounted : g.S.Source.given l.initial.source ≤ g.S.Source.given l.source;
   no_longer : vec_len l.bytes ≤ l.limit;

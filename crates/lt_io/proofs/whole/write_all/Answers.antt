@@ -1,10 +1,23 @@
-use Rattle.std.proofs.Common.{arith}
-use Rattle.lt_io.proofs.Pieces.{Appends-next, at_within}
+use Rattle.std.proofs.Common.{◌∙◌, arith, refl}
+use Rattle.std.proofs.KnownBytes.{Appends-nil}
+use Rattle.lt_io.proofs.Pieces.{Appends-next, at_within, none_written, one_more_write, all_written, length_of_rest}
 use Rattle.lt_io.proofs.whole.write_all.Goals as goal
+
+pub loop-at-init : goal.loop-at-init
+loop-at-init g c = record {
+  inside = omega arith;
+  written = Appends-nil _;
+  no_fault = refl;
+  few = none_written _ _;
+}
 
 pub loop-at-preserved : goal.loop-at-preserved
 loop-at-preserved g c = record {
   inside = at_within c.args.bytes.now c.loop-at.at c.in_ok-at.field-0 c.loop-at.invariant.inside c.in_ok-at.ensures.count.0;
   written = Appends-next _ _ _ c.args.bytes.now c.loop-at.at c.in_ok-at.field-0 c.loop-at.invariant.written c.in_ok-at.ensures.bytes;
-  no_fault_lost = omega (arith, c.loop-at.invariant.no_fault_lost, c.in_ok-at.ensures.cause.later);
+  no_fault = c.in_ok-at.ensures.cause.without_fault ∙ c.loop-at.invariant.no_fault;
+  few = one_more_write _ _ _ _ _ c.loop-at.at c.in_ok-at.field-0 _ c.loop-at-test.true (length_of_rest c.args.bytes.now c.loop-at.at) c.loop-at.invariant.few c.in_ok-at.ensures.pace;
 }
+
+pub returns-clause-few : goal.returns-clause-few
+returns-clause-few g c = all_written _ _ _ c.loop-at.at c.loop-at-test.false c.loop-at.invariant.few

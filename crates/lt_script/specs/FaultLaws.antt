@@ -1,0 +1,79 @@
+-- The faults of a line, each by a test of its own, and which of them is told; and what the literals are.
+use Rattle.std.specs.Prelude.{◌≡◌, ◌<◌, ◌↔◌, ℕ, Bool, false, not, List, [], ◌∷◌, length, Option, Some, None, is_none, nat_lt, codes, map, IsTrue, IsFalse, Contains}
+use Rattle.std.specs.List.{list_all}
+use Rattle.lt_modes.specs.Script.{ScriptData}
+use Rattle.lt_text.specs.Text.{words}
+use Rattle.lt_script.specs.declared.fault.Fault.{Fault}
+use Rattle.lt_script.specs.declared.fault.Fault.TheVariants as faults
+use Rattle.lt_script.specs.declared.limits.TheConstants.{MAX_NODES, MAX_SETS, MAX_CLIENTS, MAX_CLIENTS_OF_NODE, MAX_COMMANDS, MAX_NAME, MAX_LINE}
+use Rattle.lt_script.specs.Fault.{number_of}
+use Rattle.lt_script.specs.Names.{is_reserved}
+use Rattle.lt_script.specs.Forms.{FormData, NodesForm, SetForm, SetWithForm, ClientForm, CommandForm, LockOrder, TryOrder, UnlockOrder, ChangeOrder, DropOrder, form_of}
+use Rattle.lt_script.specs.Faults.{declared, is_plain_byte, has_bad_number, has_nodes_misplaced, declares_no_name, declares_again, uses_unknown, exceeds_limit, uses_no_mode, drops_elsewhere, line_fault}
+
+-- the line has a form that passes the test
+abbrev pub has_form : (FormData → Bool) → Option FormData → Bool
+has_form test None = false
+has_form test (Some form) = test form
+
+-- the line, which has this form or none, has the fault, whatever other faults it has
+abbrev pub has_fault_by : Option ScriptData → List ℕ → Option FormData → Fault → Bool
+has_fault_by st line form faults.Bytes = not (list_all is_plain_byte line)
+has_fault_by st line form faults.Length = nat_lt MAX_LINE (length line)
+has_fault_by st line form faults.Form = is_none form
+has_fault_by st line form faults.Number = has_form (has_bad_number st) form
+has_fault_by st line form faults.Nodes = has_form (has_nodes_misplaced st) form
+has_fault_by st line form faults.Name = has_form declares_no_name form
+has_fault_by st line form faults.Repeated = has_form (declares_again (declared st)) form
+has_fault_by st line form faults.Unknown = has_form (uses_unknown (declared st)) form
+has_fault_by st line form faults.Limit = has_form (exceeds_limit (declared st)) form
+has_fault_by st line form faults.Mode = has_form uses_no_mode form
+has_fault_by st line form faults.Node = has_form (drops_elsewhere (declared st)) form
+
+-- the line has the fault after the lines before it
+abbrev pub has_fault : Option ScriptData → List ℕ → Fault → Bool
+has_fault st line fault = has_fault_by st line (form_of (words line)) fault
+
+-- the fault is the one with the least number among those that hold; none where none holds
+abbrev pub IsLeastFault : (Fault → Bool) → Option Fault → Type 0
+IsLeastFault holds None = (fault : Fault) → IsFalse (holds fault)
+IsLeastFault holds (Some told) = IsTrue (holds told) × ((fault : Fault) → number_of fault < number_of told → IsFalse (holds fault))
+
+-- of the faults of a line the one with the least number is told
+abbrev pub LeastIsTold : Type 0
+LeastIsTold = (st : Option ScriptData) (line : List ℕ) → IsLeastFault (has_fault st line) (line_fault st line)
+
+-- the limits of a script
+pub record LimitsAre : Type 0 where
+  pub nodes : MAX_NODES ≡ 16
+  pub sets : MAX_SETS ≡ 8
+  pub clients : MAX_CLIENTS ≡ 64
+  pub clients_of_node : MAX_CLIENTS_OF_NODE ≡ 16
+  pub commands : MAX_COMMANDS ≡ 4096
+  pub name : MAX_NAME ≡ 32
+  pub line : MAX_LINE ≡ 200
+
+-- the words that are no names
+abbrev pub reserved : List (List ℕ)
+reserved = codes "nodes" ∷ codes "set" ∷ codes "client" ∷ codes "journal" ∷ codes "version" ∷ []
+
+abbrev pub ReservedAre : Type 0
+ReservedAre = (word : List ℕ) → IsTrue (is_reserved word) ↔ Contains reserved word
+
+-- the faults' numbers
+abbrev pub NumbersAre : Type 0
+NumbersAre =
+    map number_of (faults.Bytes ∷ faults.Length ∷ faults.Form ∷ faults.Number ∷ faults.Nodes ∷ faults.Name ∷ faults.Repeated ∷ faults.Unknown ∷ faults.Limit ∷ faults.Mode ∷ faults.Node ∷ [])
+    ≡ (1 ∷ 2 ∷ 3 ∷ 4 ∷ 5 ∷ 6 ∷ 7 ∷ 8 ∷ 9 ∷ 10 ∷ 11 ∷ [])
+
+-- the words of the forms
+pub record FormsAre : Type 0 where
+  pub nodes : (n : List ℕ) → form_of (codes "nodes" ∷ n ∷ []) ≡ Some (NodesForm n)
+  pub set : (s : List ℕ) → form_of (codes "set" ∷ s ∷ []) ≡ Some (SetForm s)
+  pub set_with : (s t : List ℕ) → form_of (codes "set" ∷ s ∷ codes "with" ∷ t ∷ []) ≡ Some (SetWithForm s t)
+  pub client : (c n : List ℕ) → form_of (codes "client" ∷ c ∷ codes "at" ∷ n ∷ []) ≡ Some (ClientForm c n)
+  pub lock : (s m : List ℕ) → form_of (codes "c" ∷ codes "lock" ∷ s ∷ m ∷ []) ≡ Some (CommandForm (codes "c") (LockOrder s m))
+  pub try : (s m : List ℕ) → form_of (codes "c" ∷ codes "try" ∷ s ∷ m ∷ []) ≡ Some (CommandForm (codes "c") (TryOrder s m))
+  pub unlock : (s m : List ℕ) → form_of (codes "c" ∷ codes "unlock" ∷ s ∷ m ∷ []) ≡ Some (CommandForm (codes "c") (UnlockOrder s m))
+  pub change : (s g m : List ℕ) → form_of (codes "c" ∷ codes "change" ∷ s ∷ g ∷ m ∷ []) ≡ Some (CommandForm (codes "c") (ChangeOrder s g m))
+  pub drop : (d s : List ℕ) → form_of (codes "c" ∷ codes "drop" ∷ d ∷ s ∷ []) ≡ Some (CommandForm (codes "c") (DropOrder d s))
