@@ -13,3 +13,4 @@ pub mod Asks
 pub mod ModeMembers
 pub mod FirstAccount
 pub mod AllKept
+pub mod RowTotals

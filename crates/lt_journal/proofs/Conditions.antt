@@ -4,9 +4,9 @@ use Rattle.std.specs.List.{AllByRecursion, list_all}
 use Rattle.lt_modes.specs.declared.moves.Move.{Move}
 use Rattle.lt_modes.specs.Script.{ScriptData, set_name, client_name}
 use Rattle.lt_runs.specs.Log.{Logged}
-use Rattle.lt_runs.specs.Text.{outcome_of}
+use Rattle.lt_runs.specs.Holdings.{holdings, lines_of}
 use Rattle.lt_script.specs.Script.{set_number, client_number}
-use Rattle.lt_journal.specs.RunLines.{IsNumber, HasNode, FitsStep, FitsEvent, FitsCut}
+use Rattle.lt_journal.specs.LineFits.{IsNumber, HasNode, FitsStep, FitsEvent, FitsCut}
 
 -- no space, line feed or carriage return
 abbrev pub is_plain_byte : ℕ → Bool
@@ -41,5 +41,5 @@ pub record FitsRun (script : ScriptData) (entries : List Logged) (cut : Option �
   pub few_nodes : FewNodes script
   pub moves : AllByRecursion (FitsEntry script) entries
   pub few_moves : IsNumber (length entries)
-  pub few_locks : IsNumber (length (outcome_of script entries).held)
+  pub few_locks : IsNumber (length (holdings script (lines_of entries)))
   pub cut_node : FitsCut script cut

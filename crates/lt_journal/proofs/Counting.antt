@@ -1,6 +1,6 @@
 -- How many of the locks are like one, after one of them is given up, and after those of a client in a family are dropped.
 use Rattle.std.proofs.Common.{◌≡◌, subst, ℕ, suc, ◌+◌, ◌-◌, cond, Bool, true, false, List, [], ◌∷◌, length, Some, None, refl, sym, ap, ◌∙◌, arith, filter, count_by, nat_lt}
-use Rattle.std.specs.Prelude.{position, ◌&&◌, ◌==◌}
+use Rattle.std.specs.Prelude.{position, ◌&&◌, ◌==◌, not}
 use Rattle.std.specs.List.{position_or_len}
 use Rattle.std.proofs.lemmas.Bool.{and_parts, eqb-true}
 use Rattle.std.proofs.lemmas.Bool.Decides.{nat_tests}
@@ -8,20 +8,31 @@ use Rattle.std.proofs.lemmas.List.Sums.{sum_by-cons}
 use Rattle.lt_modes.specs.declared.mode.Mode.{Mode}
 use Rattle.lt_modes.specs.Modes.{same_mode}
 use Rattle.lt_modes.specs.Script.{ScriptData}
-use Rattle.lt_runs.specs.Text.{Holding, same_holding, without, without_at, is_kept}
-use Rattle.lt_journal.specs.Counts.{count_of}
+use Rattle.lt_runs.specs.Holdings.{Holding, same_holding, without_one, without_at, is_dropped, count_of}
 
 same_mode-equal : (a b : Mode) → same_mode a b ≡ true → a ≡ b
 same_mode-equal a b e = grind arith
 
 pub same_holding-equal : (a b : Holding) → same_holding a b ≡ true → a ≡ b
 same_holding-equal a b e =
-    let one = and_parts (a.client == b.client && a.set == b.set) (same_mode a.mode b.mode) e in
-    let two = and_parts (a.client == b.client) (a.set == b.set) one.0 in
-    let client : a.client ≡ b.client = eqb-true a.client b.client two.0 in
-    let lock_set : a.set ≡ b.set = eqb-true a.set b.set two.1 in
-    let mode : a.mode ≡ b.mode = same_mode-equal a.mode b.mode one.1 in
+    let one = and_parts (a.client == b.client) (a.set == b.set && same_mode a.mode b.mode) e in
+    let two = and_parts (a.set == b.set) (same_mode a.mode b.mode) one.1 in
+    let client : a.client ≡ b.client = eqb-true a.client b.client one.0 in
+    let lock_set : a.set ≡ b.set = eqb-true a.set b.set two.0 in
+    let mode : a.mode ≡ b.mode = same_mode-equal a.mode b.mode two.1 in
     λ i. record { client = client i; set = lock_set i; mode = mode i }
+
+-- no lock is like another that isn't like it
+same_holding-apart : (a b : Holding) → same_holding a b ≡ false → same_holding b a ≡ false
+same_holding-apart a b e = by_test (same_holding b a) refl
+  where
+    by_test : (same : Bool) → same_holding b a ≡ same → same ≡ false
+    by_test false f = refl
+    by_test true f =
+        let equal = same_holding-equal b a f in
+        let yes : same_holding b b ≡ true = subst (λ (x : Holding). same_holding b x ≡ true) (sym equal) f in
+        let no : same_holding b b ≡ false = subst (λ (x : Holding). same_holding x b ≡ false) (sym equal) e in
+        sym yes ∙ no
 
 -- the locks but for the first that passes the test
 without_first : (Holding → Bool) → List Holding → List Holding
@@ -89,17 +100,17 @@ count_same test other (x ∷ xs) apart = by_test (test x) refl (count_same test 
         omega arith
 
 -- one such lock less, and as many others as before
-pub count_of-without : (lock other : Holding) (held : List Holding) → count_of (without lock held) other ≡ cond (same_holding lock other) (count_of held other - 1) (count_of held other)
+pub count_of-without : (lock other : Holding) (held : List Holding) → count_of (without_one held lock) other ≡ cond (same_holding lock other) (count_of held other - 1) (count_of held other)
 unfolding without_first
 count_of-without lock other held = by_test (same_holding lock other) refl
   where
-    by_test : (b : Bool) → same_holding lock other ≡ b → count_of (without lock held) other ≡ cond b (count_of held other - 1) (count_of held other)
+    by_test : (b : Bool) → same_holding lock other ≡ b → count_of (without_one held lock) other ≡ cond b (count_of held other - 1) (count_of held other)
     by_test true e =
-        subst (λ (x : Holding). count_of (without lock held) x ≡ count_of held x - 1) (same_holding-equal lock other e)
-        (count_less (λ (x : Holding). same_holding x lock) held)
+        subst (λ (x : Holding). count_of (without_one held lock) x ≡ count_of held x - 1) (same_holding-equal lock other e)
+        (count_less (same_holding lock) held)
     by_test false e =
-        count_same (λ (x : Holding). same_holding x lock) (λ (x : Holding). same_holding x other) held
-        (λ x same. ap (λ (y : Holding). same_holding y other) (same_holding-equal x lock same) ∙ e)
+        count_same (same_holding lock) (same_holding other) held
+        (λ x same. ap (λ (y : Holding). same_holding other y) (sym (same_holding-equal lock x same)) ∙ same_holding-apart lock other e)
 
 -- a filter keeps all such locks, or none
 count_filtered : (test : Holding → Bool) (other : Holding) (held : List Holding) → count_of (filter test held) other ≡ cond (test other) (count_of held other) 0
@@ -108,27 +119,27 @@ count_filtered test other [] = both (test other)
     both : (b : Bool) → ◌≡◌ {A = ℕ} 0 (cond b 0 0)
     both true = refl
     both false = refl
-count_filtered test other (x ∷ xs) = by_test (same_holding x other) (test x) refl refl (count_filtered test other xs)
+count_filtered test other (x ∷ xs) = by_test (same_holding other x) (test x) refl refl (count_filtered test other xs)
   where
-    by_test : (same kept : Bool) → same_holding x other ≡ same → test x ≡ kept → count_of (filter test xs) other ≡ cond (test other) (count_of xs other) 0
+    by_test : (same kept : Bool) → same_holding other x ≡ same → test x ≡ kept → count_of (filter test xs) other ≡ cond (test other) (count_of xs other) 0
         → count_of (cond kept (x ∷ filter test xs) (filter test xs)) other ≡ cond (test other) (count_of (x ∷ xs) other) 0
     by_test true true e f later =
-        let kept : test other ≡ true = ap test (sym (same_holding-equal x other e)) ∙ f in
+        let kept : test other ≡ true = ap test (same_holding-equal other x e) ∙ f in
         let count : count_of (filter test xs) other ≡ count_of xs other = later ∙ ap (λ (b : Bool). cond b (count_of xs other) 0) kept in
-        count_yes (λ (y : Holding). same_holding y other) x (filter test xs) e
+        count_yes (same_holding other) x (filter test xs) e
         ∙ (ap (λ (n : ℕ). 1 + n) count
-        ∙ (sym (count_yes (λ (y : Holding). same_holding y other) x xs e)
+        ∙ (sym (count_yes (same_holding other) x xs e)
         ∙ sym (ap (λ (b : Bool). cond b (count_of (x ∷ xs) other) 0) kept)))
     by_test true false e f later =
-        let kept : test other ≡ false = ap test (sym (same_holding-equal x other e)) ∙ f in
+        let kept : test other ≡ false = ap test (same_holding-equal other x e) ∙ f in
         later ∙ (ap (λ (b : Bool). cond b (count_of xs other) 0) kept ∙ sym (ap (λ (b : Bool). cond b (count_of (x ∷ xs) other) 0) kept))
     by_test false true e f later =
-        count_no (λ (y : Holding). same_holding y other) x (filter test xs) e
-        ∙ (later ∙ ap (λ (n : ℕ). cond (test other) n 0) (sym (count_no (λ (y : Holding). same_holding y other) x xs e)))
+        count_no (same_holding other) x (filter test xs) e
+        ∙ (later ∙ ap (λ (n : ℕ). cond (test other) n 0) (sym (count_no (same_holding other) x xs e)))
     by_test false false e f later =
-        later ∙ ap (λ (n : ℕ). cond (test other) n 0) (sym (count_no (λ (y : Holding). same_holding y other) x xs e))
+        later ∙ ap (λ (n : ℕ). cond (test other) n 0) (sym (count_no (same_holding other) x xs e))
 
 -- all such locks stay, or none
 pub count_of-kept : (script : ScriptData) (client lock_set : ℕ) (other : Holding) (held : List Holding)
-    → count_of (filter (is_kept script client lock_set) held) other ≡ cond (is_kept script client lock_set other) (count_of held other) 0
-count_of-kept script client lock_set other held = count_filtered (is_kept script client lock_set) other held
+    → count_of (filter (λ lock. not (is_dropped script client lock_set lock)) held) other ≡ cond (not (is_dropped script client lock_set other)) (count_of held other) 0
+count_of-kept script client lock_set other held = count_filtered (λ lock. not (is_dropped script client lock_set lock)) other held

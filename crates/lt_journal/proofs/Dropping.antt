@@ -1,13 +1,14 @@
 -- What the table counts as the cells of a client's locks in a family are cleared, one after the other.
 use Rattle.std.proofs.Common.{◌≡◌, ◌≢◌, ℕ, ◌+◌, ◌*◌, ◌/◌, ◌<◌, ◌≤◌, inl, inr, cond, Bool, true, false, List, length, get_or, set, filter, refl, sym, ap, ◌∙◌, arith, length-set, get_or-set_same, get_or-set_other}
-use Rattle.std.specs.Prelude.{◌==◌}
+use Rattle.std.specs.Prelude.{◌==◌, not}
 use Rattle.std.proofs.lemmas.Bool.{eqb-true, eqb-false, ne_eqb, cases_lt}
 use Rattle.std.proofs.lemmas.Bool.Decides.{eqb_tells}
 use Rattle.std.proofs.lemmas.List.{get_or_past}
 use Rattle.lt_modes.specs.declared.mode.Mode.{Mode}
 use Rattle.lt_modes.specs.Script.{ScriptData}
-use Rattle.lt_runs.specs.Text.{Holding, is_related, is_kept}
-use Rattle.lt_journal.specs.Counts.{place_of, cell_of, HasCell, Counts, count_of}
+use Rattle.lt_runs.specs.Families.{is_related}
+use Rattle.lt_runs.specs.Holdings.{Holding, is_dropped, count_of}
+use Rattle.lt_journal.specs.Counts.{place_of, cell_of, HasCell, Counts}
 use Rattle.lt_journal.proofs.Counting.{count_of-kept}
 
 -- the place of a lock's cell among those of its client
@@ -83,39 +84,39 @@ one_more_left script client lock_set cell old now unrelated so_far = record {
   others = so_far.others;
 }
 
-kept_when : (script : ScriptData) (client lock_set : ℕ) (held : List Holding) (lock : Holding) (kept : Bool) → is_kept script client lock_set lock ≡ kept
-    → count_of (filter (is_kept script client lock_set) held) lock ≡ cond kept (count_of held lock) 0
+kept_when : (script : ScriptData) (client lock_set : ℕ) (held : List Holding) (lock : Holding) (kept : Bool) → not (is_dropped script client lock_set lock) ≡ kept
+    → count_of (filter (λ lock. not (is_dropped script client lock_set lock)) held) lock ≡ cond kept (count_of held lock) 0
 kept_when script client lock_set held lock kept e =
     count_of-kept script client lock_set lock held ∙ ap (λ (b : Bool). cond b (count_of held lock) 0) e
 
 pub all_cleared : (script : ScriptData) (client lock_set : ℕ) (old now : List ℕ) (held : List Holding)
     → Cleared script client lock_set (length script.sets * 5) old now → Counts script old held
-    → Counts script now (filter (is_kept script client lock_set) held)
+    → Counts script now (filter (λ lock. not (is_dropped script client lock_set lock)) held)
 all_cleared script client lock_set old now held cleared counts = record {
   room = cleared.room ∙ counts.room;
   count = λ lock has. by_test lock has (lock.client == client) (is_related script lock.set lock_set) refl refl;
 }
   where
     by_test : (lock : Holding) → HasCell script lock → (same related : Bool) → lock.client == client ≡ same → is_related script lock.set lock_set ≡ related
-        → get_or now (cell_of lock) 0 ≡ count_of (filter (is_kept script client lock_set) held) lock
+        → get_or now (cell_of lock) 0 ≡ count_of (filter (λ lock. not (is_dropped script client lock_set lock)) held) lock
     by_test lock has true true e f =
         let few_modes = place_of-few lock.mode in
-        let gone : is_kept script client lock_set lock ≡ false = rw (e, f) refl in
+        let gone : not (is_dropped script client lock_set lock) ≡ false = rw (e, f) refl in
         cleared.dropped lock has.1 (eqb-true lock.client client e) f (omega arith)
         ∙ sym (kept_when script client lock_set held lock false gone)
     by_test lock has true false e f =
-        let kept : is_kept script client lock_set lock ≡ true = rw (e, f) refl in
+        let kept : not (is_dropped script client lock_set lock) ≡ true = rw (e, f) refl in
         cleared.unrelated lock has.1 f ∙ (counts.count lock has ∙ sym (kept_when script client lock_set held lock true kept))
     by_test lock has false related e f =
-        let kept : is_kept script client lock_set lock ≡ true = rw e refl in
+        let kept : not (is_dropped script client lock_set lock) ≡ true = rw e refl in
         cleared.others lock has.1 (eqb-false lock.client client e) ∙ (counts.count lock has ∙ sym (kept_when script client lock_set held lock true kept))
 
 pub none_to_clear : (script : ScriptData) (client lock_set : ℕ) (cells : List ℕ) (held : List Holding) → length script.clients ≤ client
-    → Counts script cells held → Counts script cells (filter (is_kept script client lock_set) held)
+    → Counts script cells held → Counts script cells (filter (λ lock. not (is_dropped script client lock_set lock)) held)
 none_to_clear script client lock_set cells held beyond counts = record {
   room = counts.room;
   count = λ lock has.
       let other : lock.client == client ≡ false = ne_eqb lock.client client (λ (e : lock.client ≡ client). (omega arith)) in
-      let kept : is_kept script client lock_set lock ≡ true = rw other refl in
+      let kept : not (is_dropped script client lock_set lock) ≡ true = rw other refl in
       counts.count lock has ∙ sym (kept_when script client lock_set held lock true kept);
 }

@@ -15,7 +15,7 @@ use Rattle.lt_modes.specs.declared.moves.Step.{Step}
 use Rattle.lt_modes.specs.declared.moves.Step.TheVariants.{Act, Take}
 use Rattle.lt_modes.specs.Modes.{Modes, no_modes, with_mode, word_of, mode_of}
 use Rattle.lt_modes.specs.Script.{ScriptData, SetData, ClientData, set_name, client_name, name_of_set, name_of_client}
-use Rattle.lt_runs.specs.Text.{all_modes, step_words, words_of_modes, word_of_bool, spaced}
+use Rattle.lt_journal.specs.LineWords.{all_modes, step_words, words_of_modes, word_of_bool, spaced, line_words}
 use Rattle.lt_text.specs.Number.{exact_number, is_numeral, has_leading_zero, are_digits}
 use Rattle.lt_text.proofs.NumberLemmas.{decimal_value}
 use Rattle.lt_script.specs.Script.{set_number, client_number}
@@ -23,7 +23,7 @@ use Rattle.lt_journal.specs.declared.line.Line.{Line}
 use Rattle.lt_journal.specs.declared.line.Line.TheVariants.{Waiting, Bad}
 use Rattle.lt_journal.specs.declared.lock.Lock.{Lock}
 use Rattle.lt_journal.specs.Grammar.{line_of, read_line, line_of_two, line_of_four, line_of_five, line_of_many, line_of_freeze, lock_line, lock_and_line, node_of, below, step_of, lock_of, lock_by, bool_of, modes_of, with_words, says_none, end_line, cut_line, busy_line, token_line, owner_line, move_line, drop_line, copy_line, try_line, change_line, held_line, freeze_line}
-use Rattle.lt_journal.specs.RunLines.{line_words, IsAsWritten}
+use Rattle.lt_journal.specs.RunText.{IsAsWritten}
 use Rattle.lt_journal.proofs.Spelled.{has_words, Both, both}
 use Rattle.lt_journal.proofs.Plain.{spaced_same}
 use Rattle.lt_text.specs.Text.{fields}

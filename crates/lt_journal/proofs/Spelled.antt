@@ -10,12 +10,12 @@ use Rattle.lt_modes.specs.declared.event.Event.{Event}
 use Rattle.lt_modes.specs.declared.event.Event.TheVariants.{Grant, Wait, Try, Unlock, NotHeld, Change, DropAll, Busy, Copy, Freeze, Token}
 use Rattle.lt_modes.specs.Modes.{Modes, word_of, mode_of, has}
 use Rattle.lt_modes.specs.Script.{ScriptData, set_name, client_name}
-use Rattle.lt_runs.specs.Text.{event_words, words_of_modes, word_of_bool}
+use Rattle.lt_journal.specs.LineWords.{event_words, words_of_modes, word_of_bool, line_words}
 use Rattle.lt_text.proofs.NumberLemmas.{exact_number_decimal}
 use Rattle.lt_journal.specs.declared.line.Line.{Line}
 use Rattle.lt_journal.specs.declared.line.Line.TheVariants.{Move as MoveLine, Event as EventLine, Held, Waiting, Owner, End, Cut, Bad}
 use Rattle.lt_journal.specs.Grammar.{line_of, node_of, lock_of, modes_of, bool_of, line_of_freeze}
-use Rattle.lt_journal.specs.RunLines.{IsNumber, HasSet, HasClient, HasNode, FitsStep, FitsEvent, FitsLine, line_words}
+use Rattle.lt_journal.specs.LineFits.{IsNumber, HasSet, HasClient, HasNode, FitsStep, FitsEvent, FitsLine}
 use Rattle.lt_journal.proofs.Conditions.{IsNamed, FewNodes}
 
 mode_of_word : (mode : Mode) → mode_of (word_of mode) ≡ Some mode

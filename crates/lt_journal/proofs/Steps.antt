@@ -1,14 +1,17 @@
 -- What one turn of a loop adds to a text, and to the moves and events done so far.
-use Rattle.std.proofs.Common.{◌≡◌, ℕ, zero, suc, ◌+◌, ◌<◌, List, [], ◌∷◌, ◌++◌, length, take, get_or, fold, Some, refl, sym, ap, ◌∙◌, arith}
+use Rattle.std.proofs.Common.{◌≡◌, ℕ, zero, suc, ◌+◌, ◌<◌, List, [], ◌∷◌, ◌++◌, length, take, get_or, map, Some, refl, sym, ap, ◌∙◌, arith}
 use Rattle.std.specs.List.{flat_map}
 use Rattle.std.proofs.lemmas.List.{take_more, append_assoc}
 use Rattle.std.proofs.lemmas.List.Concat.{flat_map-append}
-use Rattle.std.proofs.lemmas.List.Sums.{fold-append}
 use Rattle.lt_modes.specs.declared.moves.Move.{Move}
 use Rattle.lt_modes.specs.declared.event.Event.{Event}
 use Rattle.lt_modes.specs.Script.{ScriptData}
 use Rattle.lt_runs.specs.Log.{Logged}
-use Rattle.lt_runs.specs.Text.{line, move_words, event_text, entry_text, moves_text, each_below, events_of, outcome_of, after_event, first_outcome}
+use Rattle.lt_runs.specs.Holdings.{lines_of}
+use Rattle.lt_journal.specs.declared.line.Line.{Line}
+use Rattle.lt_journal.specs.declared.line.Line.TheVariants.{Move as MoveLine, Event as EventLine}
+use Rattle.lt_journal.specs.RunLines.{lines_below, entry_lines, moves_lines}
+use Rattle.lt_journal.specs.RunText.{line_text, lines_text}
 use Rattle.lt_merge.specs.Run.{made_at, events_at}
 
 append_nil : {X : Type 0} (xs : List X) → xs ++ [] ≡ xs
@@ -20,16 +23,37 @@ pub text_more : (old before now done piece more : List ℕ) → now ≡ before +
 text_more old before now done piece more e f g =
     e ∙ (ap (λ (t : List ℕ). t ++ piece) f ∙ (append_assoc old done piece ∙ ap (λ (t : List ℕ). old ++ t) g))
 
-pub each_below-more : (n : ℕ) (text : ℕ → List ℕ) → each_below n text ++ text n ≡ each_below (n + 1) text
-each_below-more n text =
+-- the lines of these numbers, and of the next
+pub lines_below-more : (script : ScriptData) (n : ℕ) (lines : ℕ → List Line) → lines_text script (lines_below n lines) ++ lines_text script (lines n) ≡ lines_text script (lines_below (n + 1) lines)
+lines_below-more script n lines =
     let one : suc n ≡ n + 1 = omega arith in
-    ap (λ (k : ℕ). each_below k text) one
+    sym (flat_map-append (line_text script) (lines_below n lines) (lines n)) ∙ ap (λ (k : ℕ). lines_text script (lines_below k lines)) one
+
+-- the same lines of each number below n
+pub lines_below-same : (n : ℕ) (f g : ℕ → List Line) → ((k : ℕ) → k < n → f k ≡ g k) → lines_below n f ≡ lines_below n g
+lines_below-same zero f g e = refl
+lines_below-same (suc n) f g e =
+    ap (λ (ls : List Line). ls ++ f n) (lines_below-same n f g (λ k below. e k (omega arith))) ∙ ap (λ (ls : List Line). lines_below n g ++ ls) (e n (omega arith))
+
+-- lines after those that were written so far
+pub lines_more : (script : ScriptData) (old before now : List ℕ) (done more other : List Line) → now ≡ before ++ lines_text script more → before ≡ old ++ lines_text script done
+    → more ≡ other → now ≡ old ++ lines_text script (done ++ other)
+lines_more script old before now done more other e f g =
+    text_more old before now (lines_text script done) (lines_text script more) (lines_text script (done ++ other)) e f
+    (sym (flat_map-append (line_text script) done more) ∙ ap (λ (ls : List Line). lines_text script (done ++ ls)) g)
 
 pub flat_map-more : {X A : Type 0} (f : X → List A) (xs : List X) (i : ℕ) (d : X) → i < length xs → flat_map f (take i xs) ++ f (get_or xs i d) ≡ flat_map f (take (i + 1) xs)
 flat_map-more {X} {A} f xs i d h =
     sym (ap (λ (ys : List X). flat_map f ys) (take_more xs i d h)
     ∙ (flat_map-append f (take i xs) (get_or xs i d ∷ [])
     ∙ ap (λ (ys : List A). flat_map f (take i xs) ++ ys) (append_nil (f (get_or xs i d)))))
+
+-- these items up to one after some others, and the next
+pub one_more : {X : Type 0} (before xs : List X) (i : ℕ) (x : X) → x ≡ get_or xs i x → i < length xs → (before ++ take i xs) ++ x ∷ [] ≡ before ++ take (i + 1) xs
+one_more {X} before xs i x e h =
+    ap (λ (y : X). (before ++ take i xs) ++ y ∷ []) e
+    ∙ (append_assoc before (take i xs) (get_or xs i x ∷ [])
+    ∙ ap (λ (ys : List X). before ++ ys) (sym (take_more xs i x h)))
 
 -- the moves up to this one
 take_entry : (entries : List Logged) (k : ℕ) (made : Move) (events : List Event) → made_at entries k ≡ Some made → events_at entries k ≡ Some events → take (suc k) entries ≡ take k entries ++ record { made = made; events = events } ∷ []
@@ -46,24 +70,27 @@ take_entry_more entries k made events e f =
     let one : k + 1 ≡ suc k = omega arith in
     ap (λ (n : ℕ). take n entries) one ∙ take_entry entries k made events e f
 
-pub moves_text-more : (script : ScriptData) (entries : List Logged) (k : ℕ) (made : Move) (events : List Event) → made_at entries k ≡ Some made → events_at entries k ≡ Some events → moves_text script (take k entries) ++ (line (move_words script made) ++ flat_map (event_text script) events) ≡ moves_text script (take (k + 1) entries)
+-- the text of the moves up to this one, and of this one with its events
+pub moves_text-more : (script : ScriptData) (entries : List Logged) (k : ℕ) (made : Move) (events : List Event) → made_at entries k ≡ Some made → events_at entries k ≡ Some events
+    → lines_text script (moves_lines (take k entries)) ++ (line_text script (MoveLine made.stamp.clock made.stamp.node made.step) ++ lines_text script (map EventLine events)) ≡ lines_text script (moves_lines (take (k + 1) entries))
 moves_text-more script entries k made events e f =
-    sym (ap (λ (es : List Logged). moves_text script es) (take_entry_more entries k made events e f)
-    ∙ (flat_map-append (entry_text script) (take k entries) (record { made = made; events = events } ∷ [])
-    ∙ ap (λ (t : List ℕ). moves_text script (take k entries) ++ t) (append_nil (entry_text script (record { made = made; events = events })))))
+    let entry : Logged = record { made = made; events = events } in
+    sym (ap (λ (es : List Logged). lines_text script (moves_lines es)) (take_entry_more entries k made events e f)
+    ∙ (ap (λ (ls : List Line). lines_text script ls) (flat_map-append entry_lines (take k entries) (entry ∷ []))
+    ∙ (flat_map-append (line_text script) (moves_lines (take k entries)) (moves_lines (entry ∷ []))
+    ∙ ap (λ (ls : List Line). lines_text script (moves_lines (take k entries)) ++ lines_text script ls) (append_nil (entry_lines entry)))))
 
-pub events_of-take : (entries : List Logged) (k : ℕ) (events : List Event) → events_at entries k ≡ Some events → events_of (take (suc k) entries) ≡ events_of (take k entries) ++ events
-events_of-take [] k events f = cc
-events_of-take (entry ∷ later) zero events f =
+lines_of-take : (entries : List Logged) (k : ℕ) (events : List Event) → events_at entries k ≡ Some events → lines_of (take (suc k) entries) ≡ lines_of (take k entries) ++ events
+lines_of-take [] k events f = cc
+lines_of-take (entry ∷ later) zero events f =
     let same : entry.events ≡ events = cc in
     append_nil entry.events ∙ same
-events_of-take (entry ∷ later) (suc k) events f =
-    ap (λ (es : List Event). entry.events ++ es) (events_of-take later k events f)
-    ∙ sym (append_assoc entry.events (events_of (take k later)) events)
+lines_of-take (entry ∷ later) (suc k) events f =
+    ap (λ (es : List Event). entry.events ++ es) (lines_of-take later k events f)
+    ∙ sym (append_assoc entry.events (lines_of (take k later)) events)
 
-pub outcome_of-more : (script : ScriptData) (entries : List Logged) (k : ℕ) (events : List Event) → events_at entries k ≡ Some events → fold (after_event script) (outcome_of script (take k entries)) events ≡ outcome_of script (take (k + 1) entries)
-outcome_of-more script entries k events f =
-    let one : k + 1 ≡ suc k = omega arith in
-    sym (ap (λ (n : ℕ). outcome_of script (take n entries)) one
-    ∙ (ap (λ (es : List Event). fold (after_event script) (first_outcome script) es) (events_of-take entries k events f)
-    ∙ fold-append (after_event script) (first_outcome script) (events_of (take k entries)) events))
+-- the events of the moves up to this one, and of this one
+pub lines_of-more : (entries : List Logged) (k : ℕ) (events : List Event) → events_at entries k ≡ Some events → lines_of (take k entries) ++ events ≡ lines_of (take (k + 1) entries)
+lines_of-more entries k events f =
+    let one : suc k ≡ k + 1 = omega arith in
+    sym (lines_of-take entries k events f) ∙ ap (λ (n : ℕ). lines_of (take n entries)) one

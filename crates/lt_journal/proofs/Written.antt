@@ -1,6 +1,6 @@
--- The text of a run is that of its lines, and is read as these lines.
+-- The text of lines is read as these lines.
 use Rattle.std.proofs.Common.{◌≡◌, ℕ, ◌<◌, cond, Bool, true, false, List, [], ◌∷◌, length, map, codes, refl, sym, ap, subst, ◌∙◌, arith, filter}
-use Rattle.std.specs.List.{AllByRecursion, flat_map}
+use Rattle.std.specs.List.{AllByRecursion}
 use Rattle.std.specs.Fmt.{decimal}
 use Rattle.lt_modes.specs.declared.mode.Mode.{Mode}
 use Rattle.lt_modes.specs.declared.mode.Mode.TheVariants.{IntentionRead, Read, Upgrade, IntentionWrite, Write}
@@ -10,23 +10,16 @@ use Rattle.lt_modes.specs.declared.event.Event.{Event}
 use Rattle.lt_modes.specs.declared.event.Event.TheVariants.{Grant, Wait, Try, Unlock, NotHeld, Change, DropAll, Busy, Copy, Freeze, Token}
 use Rattle.lt_modes.specs.Modes.{Modes, word_of, has, has_none}
 use Rattle.lt_modes.specs.Script.{ScriptData, set_name, client_name}
-use Rattle.lt_runs.specs.Text as text
-use Rattle.lt_runs.specs.Text.{line, spaced, event_words, words_of_modes, word_of_bool, all_modes}
+use Rattle.lt_journal.specs.LineWords.{spaced, step_words, event_words, words_of_modes, word_of_bool, all_modes, line_words}
+use Rattle.lt_journal.specs.RunText.{lines_text}
 use Rattle.lt_text.specs.Text.{lines, cut_at, fields}
 use Rattle.lt_journal.specs.declared.line.Line.{Line}
 use Rattle.lt_journal.specs.declared.line.Line.TheVariants.{Move as MoveLine, Event as EventLine, Held, Waiting, Owner, End, Cut, Bad}
 use Rattle.lt_journal.specs.Grammar.{line_of, read_line, journal_of}
-use Rattle.lt_journal.specs.RunLines.{IsNumber, FitsStep, FitsEvent, FitsLine, line_words}
+use Rattle.lt_journal.specs.LineFits.{IsNumber, FitsStep, FitsEvent, FitsLine}
 use Rattle.lt_journal.proofs.Conditions.{IsNamed, FewNodes}
 use Rattle.lt_journal.proofs.Plain.{IsPlain, ArePlain, plain, plain_decimal, lines_line, fields_line}
 use Rattle.lt_journal.proofs.Spelled.{line_read}
-
--- the text of a line
-abbrev pub line_text : ScriptData → Line → List ℕ
-line_text script x = line (line_words script x)
-
-abbrev pub lines_text : ScriptData → List Line → List ℕ
-lines_text script xs = flat_map (line_text script) xs
 
 -- a node or another small number is plain
 plain_number : (n : ℕ) → IsNumber n → IsPlain (decimal n)
@@ -62,7 +55,7 @@ plain_modes modes = elim (has_none modes) as (λ none. ArePlain (cond none (code
   | false ↦ plain_modes_in (filter (λ mode. has mode modes) all_modes)
 ]
 
-plain_step : (script : ScriptData) (step : Step) → IsNamed script → FewNodes script → FitsStep script step → ArePlain (text.step_words script step)
+plain_step : (script : ScriptData) (step : Step) → IsNamed script → FewNodes script → FitsStep script step → ArePlain (step_words script step)
 plain_step script (Act client) named few fits = (plain (codes "act") refl, (plain_client script client named fits, tt))
 plain_step script (Take from) named few fits = (plain (codes "take") refl, (plain_node script from few fits, tt))
 

@@ -1,13 +1,18 @@
-ghost use Rattle.std.specs.Prelude.{◌≡◌, ◌<◌, ◌++◌, List, OnOk, length};
-ghost use Rattle.lt_journal.specs.Counts.{Counts, Tells};
-ghost use Rattle.lt_runs.specs.Text.{Holding as AnyHolding, Outcome as AnyOutcome, held_line, held_in_mode, held_in_set, held_by, held_text, waiting_line, waiting_of, waiting_text, owner_line, owners_text, outcome_text};
+ghost use Rattle.std.specs.Prelude.{◌≡◌, ◌<◌, ◌++◌, ◌∷◌, [], List, OnOk, length};
+ghost use Rattle.lt_modes.specs.declared.event.Event.{Event as AnyEvent};
+ghost use Rattle.lt_modes.specs.Script.{ScriptData};
+ghost use Rattle.lt_runs.specs.Holdings.{Holding as AnyHolding};
+ghost use Rattle.lt_journal.specs.declared.line.Line.TheVariants.{End};
+ghost use Rattle.lt_journal.specs.Counts.{Counts, Tells, waits_for, owner_at};
+ghost use Rattle.lt_journal.specs.RunLines.{held_line, held_in_set, held_by, held_lines, waiting_line, waiting_lines, owner_line, owner_lines, rest_lines};
+ghost use Rattle.lt_journal.specs.RunText.{lines_text};
 
 use crate::events::lock;
 use crate::names::set_name;
-use crate::outcome::{Owner, Tally, Waiting};
 use crate::table::{Holding, Table};
+use crate::tally::Tally;
 use crate::text::Text;
-use lt_modes::Mode;
+use lt_modes::{Link, Mode};
 use lt_script::Script;
 use std::alloc::AllocError;
 
@@ -21,19 +26,26 @@ pub const MODES: [Mode; 5] = [
 ];
 
 /// Writes the lines at rest: the locks held, the clients that wait, the owners, and the number of moves.
-pub fn outcome_lines(
+pub fn rest_lines(
     text: &mut Text,
     script: &Script,
     tally: &Tally,
     moves: u32,
 ) -> Result<(), AllocError>
-    ensures { OnOk result ((outcome : AnyOutcome)
-        → Tells script.now tally.now outcome
-        → text.new ≡ text.old ++ outcome_text script.now outcome moves) }
+    ensures { OnOk result ((events : List AnyEvent)
+        → Tells script.now tally.now events
+        → text.new ≡ text.old ++ lines_text script.now (rest_lines script.now events moves)) }
 {
     held_lines(text, script, &tally.held)?;
     waiting_lines(text, script, &tally.waiting)?;
     owner_lines(text, script, &tally.owners)?;
+    end_line(text, moves)
+}
+
+// Writes the line of the number of moves: `end COUNT`.
+fn end_line(text: &mut Text, moves: u32) -> Result<(), AllocError>
+    ensures { OnOk result ((script : ScriptData) → text.new ≡ text.old ++ lines_text script (End moves ∷ [])) }
+{
     text.first_word("end")?;
     text.number(u64::from(moves))?;
     text.end_line()
@@ -43,7 +55,7 @@ pub fn outcome_lines(
 fn held_lines(text: &mut Text, script: &Script, table: &Table) -> Result<(), AllocError>
     ensures { OnOk result ((held : List AnyHolding)
         → Counts script.now table.now held
-        → text.new ≡ text.old ++ held_text script.now held) }
+        → text.new ≡ text.old ++ lines_text script.now (held_lines script.now held)) }
 {
     for client in 0..script.clients() {
         held_by(text, script, table, client)?;
@@ -56,7 +68,7 @@ fn held_by(text: &mut Text, script: &Script, table: &Table, client: u16) -> Resu
     requires { client < length script.now.clients }
     ensures { OnOk result ((held : List AnyHolding)
         → Counts script.now table.now held
-        → text.new ≡ text.old ++ held_by script.now held client) }
+        → text.new ≡ text.old ++ lines_text script.now (held_by script.now held client)) }
 {
     for set in 0..script.sets() {
         held_in_set(text, script, table, client, set)?;
@@ -76,7 +88,7 @@ fn held_in_set(
     requires set { set < length script.now.sets }
     ensures { OnOk result ((held : List AnyHolding)
         → Counts script.now table.now held
-        → text.new ≡ text.old ++ held_in_set script.now held client set) }
+        → text.new ≡ text.old ++ lines_text script.now (held_in_set held client set)) }
 {
     for mode in &MODES {
         let lock = Holding {
@@ -96,7 +108,7 @@ fn held_line(
     held: Holding,
     count: usize,
 ) -> Result<(), AllocError>
-    ensures { OnOk result (text.new ≡ text.old ++ held_line script.now held.client held.set held.mode count) }
+    ensures { OnOk result (text.new ≡ text.old ++ lines_text script.now (held_line held count)) }
 {
     if count == 0 {
         return Ok(());
@@ -110,62 +122,62 @@ fn held_line(
 fn waiting_lines(
     text: &mut Text,
     script: &Script,
-    waiting: &[Option<Waiting>],
+    waiting: &[Option<Holding>],
 ) -> Result<(), AllocError>
-    ensures { OnOk result (text.new ≡ text.old ++ waiting_text script.now waiting.now) }
+    ensures { OnOk result (text.new ≡ text.old ++ lines_text script.now (waiting_lines script.now (waits_for waiting.now))) }
 {
     for client in 0..script.clients() {
-        waiting_of(text, script, waiting, client)?;
+        waiting_line(text, script, waits_for(waiting, client))?;
     }
     Ok(())
 }
 
-// Writes the line of what the client waits for, if it waits.
-fn waiting_of(
-    text: &mut Text,
-    script: &Script,
-    waiting: &[Option<Waiting>],
-    client: u16,
-) -> Result<(), AllocError>
-    ensures { OnOk result (text.new ≡ text.old ++ waiting_of script.now waiting.now client) }
+// What the client waits for.
+fn waits_for(waiting: &[Option<Holding>], client: u16) -> Option<Holding>
+    ensures { result ≡ waits_for waiting.now client }
 {
-    let waiting = waiting.get(usize::from(client)).copied().flatten();
-    waiting_line(text, script, client, waiting)
+    waiting.get(usize::from(client)).copied().flatten()
 }
 
-// Writes the line of the client, if it waits: `waiting CLIENT SET MODE`.
+// Writes the line of what a client waits for, if it waits: `waiting CLIENT SET MODE`.
 fn waiting_line(
     text: &mut Text,
     script: &Script,
-    client: u16,
-    waiting: Option<Waiting>,
+    waiting: Option<Holding>,
 ) -> Result<(), AllocError>
-    ensures { OnOk result (text.new ≡ text.old ++ waiting_line script.now client waiting) }
+    ensures { OnOk result (text.new ≡ text.old ++ lines_text script.now (waiting_line waiting)) }
 {
     let Some(waiting) = waiting else {
         return Ok(());
     };
-    lock(text, script, "waiting", client, waiting.set, waiting.mode)?;
+    lock(
+        text,
+        script,
+        "waiting",
+        waiting.client,
+        waiting.set,
+        waiting.mode,
+    )?;
     text.end_line()
 }
 
 // Writes the lines of the sets' owners, in order.
-fn owner_lines(text: &mut Text, script: &Script, owners: &[Owner]) -> Result<(), AllocError>
-    ensures { OnOk result (text.new ≡ text.old ++ owners_text script.now owners.now) }
+fn owner_lines(text: &mut Text, script: &Script, owners: &[Link]) -> Result<(), AllocError>
+    ensures { OnOk result (text.new ≡ text.old ++ lines_text script.now (owner_lines script.now (owner_at owners.now))) }
 {
     for set in 0..script.sets() {
         let owner = owners
             .get(usize::from(set))
             .copied()
-            .unwrap_or(Owner { node: 0, epoch: 0 });
+            .unwrap_or(Link { node: 0, epoch: 0 });
         owner_line(text, script, set, owner)?;
     }
     Ok(())
 }
 
 // Writes the line of the set's owner: `owner SET NODE EPOCH`.
-fn owner_line(text: &mut Text, script: &Script, set: u8, owner: Owner) -> Result<(), AllocError>
-    ensures { OnOk result (text.new ≡ text.old ++ owner_line script.now set owner) }
+fn owner_line(text: &mut Text, script: &Script, set: u8, owner: Link) -> Result<(), AllocError>
+    ensures { OnOk result (text.new ≡ text.old ++ lines_text script.now (owner_line set owner)) }
 {
     text.first_word("owner")?;
     text.word(set_name(script, set))?;

@@ -1,7 +1,9 @@
 ghost use Rattle.std.specs.Prelude.{◌≡◌, ◌++◌, [], ◌∷◌, OnOk, if◌then◌else◌};
 ghost use Rattle.std.specs.List.{flat_map};
 ghost use Rattle.lt_modes.specs.Modes.{has, word_of};
-ghost use Rattle.lt_runs.specs.Text.{after_space, spaced, line, lock_words, drop_words, letter_words, event_words, event_text, move_words, words_of_modes};
+ghost use Rattle.lt_journal.specs.declared.line.Line.TheVariants.{Move as MoveLine, Event as EventLine};
+ghost use Rattle.lt_journal.specs.LineWords.{after_space, spaced, lock_words, drop_words, letter_words, event_words, words_of_modes};
+ghost use Rattle.lt_journal.specs.RunText.{line_text};
 
 use crate::names::{client_name, set_name};
 use crate::text::Text;
@@ -11,7 +13,7 @@ use std::alloc::AllocError;
 
 /// Writes the line of a move: `move CLOCK NODE act CLIENT` or `move CLOCK NODE take FROM`.
 pub fn move_line(text: &mut Text, script: &Script, made: Move) -> Result<(), AllocError>
-    ensures { OnOk result (text.new ≡ text.old ++ line (move_words script.now made)) }
+    ensures { OnOk result (text.new ≡ text.old ++ line_text script.now (MoveLine made.stamp.clock made.stamp.node made.step)) }
 {
     text.first_word("move")?;
     text.number(made.stamp.clock)?;
@@ -31,7 +33,7 @@ pub fn move_line(text: &mut Text, script: &Script, made: Move) -> Result<(), All
 
 /// Writes the line of an event.
 pub fn event_line(text: &mut Text, script: &Script, event: Event) -> Result<(), AllocError>
-    ensures { OnOk result (text.new ≡ text.old ++ event_text script.now event) }
+    ensures { OnOk result (text.new ≡ text.old ++ line_text script.now (EventLine event)) }
 {
     words_of_event(text, script, event)?;
     text.end_line()

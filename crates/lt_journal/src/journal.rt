@@ -1,10 +1,11 @@
-ghost use Rattle.std.specs.Prelude.{◌≡◌, ◌++◌, OnOk, IfOk};
-ghost use Rattle.std.specs.List.{flat_map};
-ghost use Rattle.lt_runs.specs.Text.{event_text, moves_text, closing_text, text_of};
+ghost use Rattle.std.specs.Prelude.{◌≡◌, ◌++◌, OnOk, IfOk, map};
+ghost use Rattle.lt_journal.specs.declared.line.Line.TheVariants.{Event as EventLine};
+ghost use Rattle.lt_journal.specs.RunLines.{moves_lines, closing_lines};
+ghost use Rattle.lt_journal.specs.RunText.{lines_text, text_of};
 
-use crate::closing::outcome_lines;
+use crate::closing::rest_lines;
 use crate::events::{event_line, move_line};
-use crate::outcome::tally_of;
+use crate::tally::tally_of;
 use crate::text::Text;
 use lt_merge::Run;
 use lt_modes::Event;
@@ -29,7 +30,7 @@ pub fn write(
 
 // Writes the lines of all moves.
 fn move_lines(text: &mut Text, script: &Script, run: &Run) -> Result<(), AllocError>
-    ensures { OnOk result (text.new ≡ text.old ++ moves_text script.now run.now.entries) }
+    ensures { OnOk result (text.new ≡ text.old ++ lines_text script.now (moves_lines run.now.entries)) }
 {
     for k in 0..run.len() {
         move_line(text, script, run.made(k))?;
@@ -40,7 +41,7 @@ fn move_lines(text: &mut Text, script: &Script, run: &Run) -> Result<(), AllocEr
 
 // Writes the lines of a move's events.
 fn event_lines(text: &mut Text, script: &Script, events: &[Event]) -> Result<(), AllocError>
-    ensures { OnOk result (text.new ≡ text.old ++ flat_map (event_text script.now) events.now) }
+    ensures { OnOk result (text.new ≡ text.old ++ lines_text script.now (map EventLine events.now)) }
 {
     for event in events {
         event_line(text, script, *event)?;
@@ -56,11 +57,11 @@ fn closing_lines(
     run: &Run,
     cut: Option<u8>,
 ) -> Result<(), AllocError>
-    ensures { OnOk result (text.new ≡ text.old ++ closing_text script.now run.now.entries cut) }
+    ensures { OnOk result (text.new ≡ text.old ++ lines_text script.now (closing_lines script.now run.now.entries cut)) }
 {
     let Some(node) = cut else {
         let tally = tally_of(alloc, script, run)?;
-        return outcome_lines(text, script, &tally, run.len());
+        return rest_lines(text, script, &tally, run.len());
     };
     text.first_word("cut")?;
     text.number(u64::from(node))?;

@@ -1,10 +1,11 @@
 ghost use Rattle.std.specs.Prelude.{◌≡◌, ℕ, List};
 ghost use Rattle.lt_modes.specs.Script.{ScriptData};
-ghost use Rattle.lt_runs.specs.Text.{spaced};
 ghost use Rattle.lt_script.specs.Script.{IsScript};
 ghost use Rattle.lt_journal.specs.declared.line.Line.{Line as AnyLine};
 ghost use Rattle.lt_journal.specs.Grammar.{read_line};
-ghost use Rattle.lt_journal.specs.RunLines.{IsAsWritten, FitsLine, line_words};
+ghost use Rattle.lt_journal.specs.LineWords.{spaced, line_words};
+ghost use Rattle.lt_journal.specs.RunText.{IsAsWritten};
+ghost use Rattle.lt_journal.specs.LineFits.{FitsLine};
 
 /// A line that is not bad stands there exactly as it is written, and what is written of a line is read as it.
 pub fn law_read_line()

@@ -44,12 +44,12 @@ mod laws;
 mod line;
 mod lock;
 mod names;
-mod outcome;
 mod reading;
 #[cfg(test)]
 mod reading_tests;
 mod splitting;
 mod table;
+mod tally;
 #[cfg(test)]
 mod tests;
 mod text;

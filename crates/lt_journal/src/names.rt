@@ -1,6 +1,6 @@
 ghost use Rattle.std.specs.Prelude.{◌≡◌, slice_get};
-ghost use Rattle.lt_modes.specs.Script.{set_name, client_name, family_at};
-ghost use Rattle.lt_runs.specs.Text.{is_related};
+ghost use Rattle.lt_modes.specs.Script.{set_name, client_name};
+ghost use Rattle.lt_runs.specs.Families.{family, is_related};
 
 use lt_script::Script;
 
@@ -35,7 +35,7 @@ pub fn is_related(script: &Script, set: u8, other: u8) -> bool
 
 // The number of the first set of the set's family, or 0 where the script has no such set.
 fn family(script: &Script, set: u8) -> u8
-    ensures { result ≡ family_at script.now.sets set }
+    ensures { result ≡ family script.now set }
 {
     if set < script.sets() {
         script.family(set)

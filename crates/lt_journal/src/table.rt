@@ -1,5 +1,5 @@
-ghost use Rattle.std.specs.Prelude.{◌≡◌, ◌+◌, ◌^◌, OnErr, ◌↔◌, ◌≤◌, ◌++◌, ◌∷◌, [], List, IsTrue, IfOk, OnOk, length, filter, slice_index, slice_set};
-ghost use Rattle.lt_runs.specs.Text.{Holding as AnyHolding, without, is_kept};
+ghost use Rattle.std.specs.Prelude.{◌≡◌, ◌+◌, ◌^◌, OnErr, ◌↔◌, ◌≤◌, ◌++◌, ◌∷◌, [], List, not, IsTrue, IfOk, OnOk, length, filter, slice_index, slice_set};
+ghost use Rattle.lt_runs.specs.Holdings.{Holding as AnyHolding, without_one, is_dropped};
 ghost use Rattle.lt_journal.specs.Counts.{place_of, cell_of, HasCell, Counts};
 
 use crate::names::is_related;
@@ -8,7 +8,7 @@ use lt_script::{MAX_SETS, Script};
 use std::alloc::{AllocError, Global};
 use std::marker::Model;
 
-/// One lock that a client holds.
+/// One lock that a client holds, or waits for.
 #[derive(Clone, Copy, Debug)]
 pub struct Holding {
     pub client: u16,
@@ -17,7 +17,7 @@ pub struct Holding {
 }
 
 impl Model for Holding {
-    ghost use Rattle.lt_runs.specs.Text.{Holding as HoldingData};
+    ghost use Rattle.lt_runs.specs.Holdings.{Holding as HoldingData};
 
     ghost Value = { HoldingData };
 
@@ -86,7 +86,7 @@ impl Table {
     /// Counts one such lock less, if there is one.
     pub fn take(&mut self, script: &Script, lock: Holding)
         ensures { (held : List AnyHolding)
-            → Counts script.now self.old held → Counts script.now self.new (without lock held) }
+            → Counts script.now self.old held → Counts script.now self.new (without_one held lock) }
     {
         if has_cell(script, lock) {
             let less = self.count(lock).saturating_sub(1);
@@ -98,7 +98,7 @@ impl Table {
     pub fn drop_all(&mut self, script: &Script, client: u16, set: u8)
         ensures { (held : List AnyHolding)
             → Counts script.now self.old held
-            → Counts script.now self.new (filter (is_kept script.now client set) held) }
+            → Counts script.now self.new (filter (λ lock. not (is_dropped script.now client set lock)) held) }
     {
         if client >= script.clients() {
             return;

@@ -3,6 +3,7 @@ use Rattle.std.proofs.Common.{◌≡◌, ℕ, zero, suc, ◌<◌, inl, inr, List
 use Rattle.std.specs.Prelude.{◌⊎◌, if◌then◌else◌, Contains, filter, map, slice_index_or, All}
 use Rattle.std.specs.List.{list_any, filter_map, cons_option}
 use Rattle.std.proofs.lemmas.Bool.{or_cases, or_left, or_right}
+use Rattle.std.proofs.lemmas.List.Elements.{Contains-get_or}
 
 -- membership by recursion on the list, which proofs of this file count down
 pub contains_first : {X : Type 0} (x y : X) (rest : List X) → x ≡ y → Contains (x ∷ rest) y
@@ -110,3 +111,12 @@ filter_map-at {X = X} {Y = Y} f (first ∷ rest) x y h e = by_first (f first) re
       | inl same ↦ let one : Some made ≡ Some y = sym some ∙ ap f same ∙ e in contains_first made y (filter_map f rest) (some_equal made y one)
       | inr later ↦ contains_later made y (filter_map f rest) (again later)
     ]
+
+-- a list without members
+pub nothing_in : {X : Type 0} (xs : List X) → ((x : X) → Contains xs x → ⊥) → xs ≡ []
+nothing_in [] none = refl
+nothing_in (x ∷ rest) none = absurd (none x (0, omega arith, refl))
+
+-- what holds of each member holds of all
+pub all_of : {X : Type 0} (P : X → Type 0) (xs : List X) → ((x : X) → Contains xs x → P x) → All P xs
+all_of P xs h k d within = h (slice_index_or xs k d) (Contains-get_or xs k d within)

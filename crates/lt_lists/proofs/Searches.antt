@@ -15,6 +15,17 @@ any_below_at (suc n) k test h e =
     ]
 
 -- where none passes, none is counted
+pub any_below_none : (n : ℕ) (test : ℕ → Bool) → any_below n test ≡ false → (k : ℕ) → k < n → test k ≡ false
+any_below_none n test none k below = by_test (test k) refl
+  where
+    by_test : (t : Bool) → test k ≡ t → t ≡ false
+    by_test false e = refl
+    by_test true e = absurd (false≢true (sym none ∙ any_below_at n k test below e))
+
+pub any_below_same : (n : ℕ) (test other : ℕ → Bool) → ((k : ℕ) → k < n → test k ≡ other k) → any_below n test ≡ any_below n other
+any_below_same zero test other same = refl
+any_below_same (suc n) test other same = λ i. any_below_same n test other (λ k below. same k (omega (arith, below))) i || same n (omega arith) i
+
 pub none_counted : (n : ℕ) (test : ℕ → Bool) → count_below n test ≡ 0 → any_below n test ≡ false
 none_counted zero test e = refl
 none_counted (suc n) test e =

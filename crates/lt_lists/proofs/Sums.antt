@@ -1,8 +1,9 @@
 -- Sums over the numbers below a bound, and over lists.
-use Rattle.std.proofs.Common.{◌≡◌, ◌≢◌, ℕ, zero, suc, ◌+◌, ◌<◌, ◌≤◌, inl, inr, List, [], ◌∷◌, length, refl, arith, ap, sym}
-use Rattle.std.specs.Prelude.{sum_by, slice_index_or}
-use Rattle.std.proofs.lemmas.Bool.{cases_eq, cases_order}
-use Rattle.std.proofs.lemmas.List.Sums.{sum_by-cons, get_or-le-sum_by}
+use Rattle.std.proofs.Common.{◌≡◌, ◌≢◌, ℕ, zero, suc, ◌+◌, ◌<◌, ◌≤◌, inl, inr, List, [], ◌∷◌, length, refl, arith, ap, sym, Bool, true, false, Option, Some, None, ◌∙◌}
+use Rattle.std.specs.Prelude.{sum_by, slice_index_or, ◌⊎◌, ◌==◌, if◌then◌else◌, nat_lt, position}
+use Rattle.std.proofs.lemmas.Bool.{cases_eq, cases_order, cases_lt, eq-eqb, ne_eqb, lt-ltb, false≢true}
+use Rattle.std.proofs.lemmas.List.Sums.{sum_by-cons, get_or-le-sum_by, fails_before_first}
+use Rattle.std.specs.List.{position_or_len}
 use Rattle.lt_lists.specs.Below.{sum_below}
 
 pub sum_below-same : (n : ℕ) (f g : ℕ → ℕ) → ((k : ℕ) → k < n → f k ≡ g k) → sum_below n f ≡ sum_below n g
@@ -92,3 +93,47 @@ two_places f xs i j d other hi hj = elim (cases_order i j) [
     | inr after ↦ omega (arith, two_in_order f xs j i d after hi)
   ]
 ]
+
+pub sum_below-most : (n : ℕ) (f g : ℕ → ℕ) → ((k : ℕ) → k < n → f k ≤ g k) → sum_below n f ≤ sum_below n g
+sum_below-most zero f g h = omega arith
+sum_below-most (suc n) f g h = omega (arith, sum_below-most n f g (λ k below. h k (omega (arith, below))), h n (omega arith))
+
+-- one number alone weighs something
+pub sum_below-one : (n t x : ℕ) → sum_below n (λ k. if k == t then x else 0) ≤ x
+sum_below-one n t x = by_bound (cases_lt t n)
+  where
+    none : (m : ℕ) → m ≤ t → sum_below m (λ k. if k == t then x else 0) ≡ 0
+    none zero h = refl
+    none (suc m) h =
+        let here : ◌≡◌ {A = ℕ} (if m == t then x else 0) 0 = ap (λ (b : Bool). if b then x else 0) (ne_eqb m t (λ e. omega (arith, e, h))) in
+        omega (arith, none m (omega (arith, h)), here)
+
+    some : (m : ℕ) → t < m → sum_below m (λ k. if k == t then x else 0) ≡ x
+    some zero h = absurd (omega (arith, h))
+    some (suc m) h = elim (cases_eq m t) [
+      | inl e ↦
+          let here : ◌≡◌ {A = ℕ} (if m == t then x else 0) x = ap (λ (b : Bool). if b then x else 0) (eq-eqb m t e) in
+          omega (arith, none m (omega (arith, e)), here)
+      | inr d ↦
+          let here : ◌≡◌ {A = ℕ} (if m == t then x else 0) 0 = ap (λ (b : Bool). if b then x else 0) (ne_eqb m t d) in
+          omega (arith, some m (omega (arith, h, d)), here)
+    ]
+
+    by_bound : (t < n) ⊎ (n ≤ t) → sum_below n (λ k. if k == t then x else 0) ≤ x
+    by_bound (inl below) = omega (arith, some n below)
+    by_bound (inr above) = omega (arith, none n above)
+
+-- no item passes where none is found
+pub none_found : {X : Type 0} (test : X → Bool) (xs : List X) → position test xs ≡ None → (i : ℕ) (d : X) → i < length xs → test (slice_index_or xs i d) ≡ false
+none_found test xs e i d within = by_place (nat_lt (position_or_len test xs) (length xs)) refl e
+  where
+    by_place : (there : Bool) → nat_lt (position_or_len test xs) (length xs) ≡ there → (if there then Some (position_or_len test xs) else None) ≡ None → test (slice_index_or xs i d) ≡ false
+    by_place true f g = cc
+    by_place false f g = elim (cases_lt i (position_or_len test xs)) [
+      | inl before ↦ fails_before_first test xs i d before
+      | inr after ↦ absurd (false≢true (sym f ∙ lt-ltb (position_or_len test xs) (length xs) (omega (arith, after, within))))
+    ]
+
+pub sum_by-zero : {X : Type 0} (f : X → ℕ) (xs : List X) → ((i : ℕ) (d : X) → i < length xs → f (slice_index_or xs i d) ≡ 0) → sum_by f xs ≡ 0
+sum_by-zero f [] none = refl
+sum_by-zero f (x ∷ rest) none = omega (arith, sum_by-cons f x rest, none 0 x (omega arith), sum_by-zero f rest (λ i d within. none (suc i) d (omega (arith, within))))

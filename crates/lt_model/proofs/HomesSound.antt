@@ -32,7 +32,7 @@ sound_row script q row h = record {
   count = h.count;
 }
 
-sound_ask : (script : ScriptData) (ask : Ask) → IsWhole script → IsAskAtHome script ask → IsTrue (is_at_home (numbers_of script) ask)
+pub sound_ask : (script : ScriptData) (ask : Ask) → IsWhole script → IsAskAtHome script ask → IsTrue (is_at_home (numbers_of script) ask)
 sound_ask script ask whole h =
     let named : ask.node < script.nodes = subst (λ (x : ℕ). x < script.nodes) h.home (whole.homes ask.client h.client) in
     and_from _ _ (lt-ltb ask.node script.nodes named)

@@ -35,3 +35,4 @@ pub mod CountMove
 pub mod LinesInRuns
 pub mod NewsRules
 pub mod SmallSteps
+pub mod KeptSets

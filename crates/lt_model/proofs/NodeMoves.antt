@@ -4,6 +4,8 @@ use Rattle.std.specs.List.{AllByRecursion}
 use Rattle.lt_modes.specs.declared.stamp.Stamp.{Stamp}
 use Rattle.lt_modes.specs.declared.command.Command.{Command}
 use Rattle.lt_modes.specs.declared.command.Command.TheVariants.{Lock, Unlock, Try, Change, DropAll}
+use Rattle.lt_modes.specs.declared.moves.Step.{Step}
+use Rattle.lt_modes.specs.declared.moves.Step.TheVariants.{Act, Take}
 use Rattle.lt_modes.specs.Script.{ScriptData}
 use Rattle.lt_modes.specs.State.{SetState}
 use Rattle.lt_modes.specs.Made.{Made, Post}
@@ -11,6 +13,8 @@ use Rattle.lt_modes.specs.Telling.{finish}
 use Rattle.lt_modes.specs.SetMove.{drop}
 use Rattle.lt_runs.specs.Families.{related}
 use Rattle.lt_runs.specs.NodeMove.{NodeState, NodeMade, node_waits, touched, each_touched, drop_all, obey}
+use Rattle.lt_lists.specs.Below.{put}
+use Rattle.lt_runs.specs.World.{World, node_move, after}
 use Rattle.lt_model.specs.Touches.{sets_of_command}
 use Rattle.lt_model.proofs.SentInMove.{AreSentIn, finish-sent, lock-sent, try-sent, unlock-sent, change-sent, drop-sent}
 use Rattle.lt_lists.proofs.AllLemmas.{all_append, all_weaker}
@@ -97,3 +101,8 @@ obey-beside script s stamp client (Some (DropAll other set)) n aside = by_test (
     by_test false =
         let h = each-beside s stamp (λ k. drop k stamp other) (λ k t. drop-sent k stamp other t) (related script set) aside n in
         record { state = h.state; posts = h.posts }
+
+-- the nodes after a move
+pub after_node : (script : ScriptData) (w : World) (q : ℕ) (step : Step) (x : ℕ) → (after script w q step).node x ≡ put w.node q (node_move script w q step).node x
+after_node script w q (Act client) x = refl
+after_node script w q (Take p) x = refl

@@ -1,9 +1,7 @@
 -- Every run of a script fits its lines.
-use Rattle.std.proofs.Common.{◌≡◌, ℕ, ◌+◌, ◌<◌, ◌≤◌, ◌^◌, List, [], ◌∷◌, length, fold, position, Option, Some, None, true, false, refl, arith, length-append}
-use Rattle.std.proofs.lemmas.List.Edits.{length-remove}
+use Rattle.std.proofs.Common.{ℕ, ◌+◌, ◌<◌, ◌≤◌, ◌^◌, List, [], ◌∷◌, length, fold, Option, true, false, arith, length-append}
 use Rattle.std.proofs.lemmas.List.Elements.{All-weaker, recursion_from_All}
-use Rattle.std.proofs.lemmas.List.Quantifiers.{position-Some}
-use Rattle.std.proofs.lemmas.List.Sums.{sum_by-cons, length-filter, count_by-le-length}
+use Rattle.std.proofs.lemmas.List.Sums.{sum_by-cons}
 use Rattle.lt_modes.specs.declared.command.Command.{Command}
 use Rattle.lt_modes.specs.declared.command.Command.TheVariants as command
 use Rattle.lt_modes.specs.declared.moves.Step.{Step}
@@ -14,13 +12,14 @@ use Rattle.lt_modes.specs.Script.{ScriptData}
 use Rattle.lt_model.specs.AddedLocks.{adds, added_by}
 use Rattle.lt_model.specs.Homes.{HasTargets, IsWhole, HasMaker, IsLineWithin, IsEntryWithin}
 use Rattle.lt_runs.specs.Log.{Logged}
-use Rattle.lt_runs.specs.Text.{Holding, Outcome, same_holding, without, without_at, is_kept, after_event, first_outcome, events_of}
+use Rattle.lt_runs.specs.Holdings.{Holding, holding, without_one, after_line, lines_of}
 use Rattle.lt_runs.specs.World.{IsRun}
 use Rattle.lt_model.proofs.LinesInRuns.{lines_in_runs, few_added}
 use Rattle.lt_script.specs.Script.{IsScript, IsRequest}
 use Rattle.lt_script.specs.Script as of_script
-use Rattle.lt_journal.specs.RunLines.{FitsStep, FitsEvent, FitsCut}
+use Rattle.lt_journal.specs.LineFits.{FitsStep, FitsEvent, FitsCut}
 use Rattle.lt_journal.proofs.Conditions.{FitsEntry, FitsRun}
+use Rattle.lt_journal.proofs.Few.{length-without, length-kept}
 use Rattle.lt_journal.proofs.Named.{few_nodes}
 
 targets : (script : ScriptData) (client : ℕ) (request : Command) → of_script.HasTargets script.sets script.clients client request
@@ -65,42 +64,26 @@ entry_fits script bound entry few h = (
 )
 
 -- each line adds as many locks as it says, or fewer
+more_held : (script : ScriptData) (held : List Holding) (line : Event) → length (after_line script held line) ≤ length held + adds line
+more_held script held (Grant client set mode) = omega (arith, length-append held (holding client set mode ∷ []))
+more_held script held (Wait client set mode) = omega arith
+more_held script held (Try client set mode true) = omega (arith, length-append held (holding client set mode ∷ []))
+more_held script held (Try client set mode false) = omega arith
+more_held script held (Unlock client set mode) = omega (arith, length-without held (holding client set mode))
+more_held script held (NotHeld client set mode) = omega arith
+more_held script held (Change client set gives_up mode) =
+    let left = without_one held (holding client set gives_up) in
+    omega (arith, length-without held (holding client set gives_up), length-append left (holding client set mode ∷ []))
+more_held script held (DropAll client other set count) = omega (arith, length-kept script other set held)
+more_held script held (Busy client other set) = omega arith
+more_held script held (Copy set to client mode) = omega arith
+more_held script held (Freeze set to number modes) = omega arith
+more_held script held (Token set to epoch) = omega arith
 
-fewer : (held : List Holding) (lock : Holding) → length (without lock held) ≤ length held
-fewer held lock = by_place (position (λ (other : Holding). same_holding other lock) held) refl
-  where
-    by_place : (o : Option ℕ) → position (λ (other : Holding). same_holding other lock) held ≡ o → length (without_at held o) ≤ length held
-    by_place None e = omega arith
-    by_place (Some k) e = omega (arith, length-remove held k (position-Some (λ (other : Holding). same_holding other lock) held k lock e).0)
-
-more_held : (script : ScriptData) (outcome : Outcome) (line : Event) → length (after_event script outcome line).held ≤ length outcome.held + adds line
-more_held script outcome (Grant client set mode) =
-    omega (arith, length-append outcome.held (record { client = client; set = set; mode = mode } ∷ []))
-more_held script outcome (Wait client set mode) = omega arith
-more_held script outcome (Try client set mode true) =
-    omega (arith, length-append outcome.held (record { client = client; set = set; mode = mode } ∷ []))
-more_held script outcome (Try client set mode false) = omega arith
-more_held script outcome (Unlock client set mode) = omega (arith, fewer outcome.held (record { client = client; set = set; mode = mode }))
-more_held script outcome (NotHeld client set mode) = omega arith
-more_held script outcome (Change client set gives_up mode) =
-    let left = without (record { client = client; set = set; mode = gives_up }) outcome.held in
-    omega (
-      arith,
-      fewer outcome.held (record { client = client; set = set; mode = gives_up }),
-      length-append left (record { client = client; set = set; mode = mode } ∷ []),
-    )
-more_held script outcome (DropAll client other set count) =
-    omega (arith, length-filter (is_kept script other set) outcome.held, count_by-le-length (is_kept script other set) outcome.held)
-more_held script outcome (Busy client other set) = omega arith
-more_held script outcome (Copy set to client mode) = omega arith
-more_held script outcome (Freeze set to number modes) = omega arith
-more_held script outcome (Token set to epoch) = omega arith
-
-all_held : (script : ScriptData) (lines : List Event) (outcome : Outcome)
-    → length (fold (after_event script) outcome lines).held ≤ length outcome.held + added_by lines
-all_held script [] outcome = omega arith
-all_held script (line ∷ rest) outcome =
-    omega (arith, all_held script rest (after_event script outcome line), more_held script outcome line, sum_by-cons adds line rest)
+all_held : (script : ScriptData) (lines : List Event) (held : List Holding) → length (fold (after_line script) held lines) ≤ length held + added_by lines
+all_held script [] held = omega arith
+all_held script (line ∷ rest) held =
+    omega (arith, all_held script rest (after_line script held line), more_held script held line, sum_by-cons adds line rest)
 
 pub fits_in_runs : (script : ScriptData) (entries : List Logged) (cut : Option ℕ) → IsScript script → IsRun script entries
     → length entries < 2 ^ 32 → FitsCut script cut → FitsRun script entries cut
@@ -113,7 +96,7 @@ fits_in_runs script entries cut is_script is_run few cut_node = record {
   few_moves = few;
   few_locks = omega (
     arith,
-    all_held script (events_of entries) (first_outcome script),
+    all_held script (lines_of entries) [],
     few_added script entries (whole script is_script) is_run,
     few,
   );

@@ -4,5 +4,4 @@ pub mod NodeMove
 pub mod World
 pub mod Holdings
 pub mod Facts
-pub mod Text
 pub mod FixedOrder

@@ -10,7 +10,7 @@ use Rattle.lt_runs.specs.Log.{Logged}
 use Rattle.lt_runs.specs.World.{world_after, IsRun, is_at_rest, anyone_waits}
 use Rattle.lt_runs.specs.FixedOrder.{first_run}
 use Rattle.lt_runs.specs.Facts.{token_count}
-use Rattle.lt_runs.specs.Text.{text_of}
+use Rattle.lt_journal.specs.RunText.{text_of}
 use Rattle.lt_alone.specs.Laws.{ClientsAgree}
 use Rattle.lt_script.specs.declared.fault.ScriptFault.{ScriptFault}
 use Rattle.lt_script.specs.Reading.{read_of}

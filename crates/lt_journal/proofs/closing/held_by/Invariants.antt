@@ -1,8 +1,10 @@
 use Rattle.std.proofs.Common.{◌≡◌, ◌++◌, List}
-use Rattle.lt_runs.specs.Text.{Holding, each_below, held_in_set}
+use Rattle.lt_runs.specs.Holdings.{Holding}
+use Rattle.lt_journal.specs.RunLines.{lines_below, held_in_set}
+use Rattle.lt_journal.specs.RunText.{lines_text}
 use Rattle.lt_journal.specs.Counts.{Counts}
 use Rattle.lt_journal.proofs.closing.held_by.Given as goal
 
 abbrev pub invariant-loop-set : goal.invariant-loop-set
 invariant-loop-set l =
-    (held : List Holding) → Counts l.script l.table held → l.text ≡ l.fn.text ++ each_below l.set (held_in_set l.script held l.client)
+    (held : List Holding) → Counts l.script l.table held → l.text ≡ l.fn.text ++ lines_text l.script (lines_below l.set (held_in_set held l.client))

@@ -1,6 +1,8 @@
 use Rattle.std.proofs.Common.{◌≡◌, ◌++◌, List, take}
 use Rattle.std.specs.List.{flat_map}
-use Rattle.lt_runs.specs.Text.{Holding, held_in_mode}
+use Rattle.lt_runs.specs.Holdings.{Holding}
+use Rattle.lt_journal.specs.RunLines.{held_in_mode}
+use Rattle.lt_journal.specs.RunText.{lines_text}
 use Rattle.lt_journal.specs.declared.closing.TheConstants.{MODES}
 use Rattle.lt_journal.specs.Counts.{Counts}
 use Rattle.lt_journal.proofs.closing.held_in_set.Given as goal
@@ -8,4 +10,4 @@ use Rattle.lt_journal.proofs.closing.held_in_set.Given as goal
 abbrev pub invariant-loop-mode : goal.invariant-loop-mode
 invariant-loop-mode l =
     (held : List Holding) → Counts l.script l.table held
-    → l.text ≡ l.fn.text ++ flat_map (held_in_mode l.script held l.client l.set) (take l.mode-index MODES)
+    → l.text ≡ l.fn.text ++ lines_text l.script (flat_map (held_in_mode held l.client l.set) (take l.mode-index MODES))

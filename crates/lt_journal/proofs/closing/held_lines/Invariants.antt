@@ -1,8 +1,10 @@
 use Rattle.std.proofs.Common.{◌≡◌, ◌++◌, List}
-use Rattle.lt_runs.specs.Text.{Holding, each_below, held_by}
+use Rattle.lt_runs.specs.Holdings.{Holding}
+use Rattle.lt_journal.specs.RunLines.{lines_below, held_by}
+use Rattle.lt_journal.specs.RunText.{lines_text}
 use Rattle.lt_journal.specs.Counts.{Counts}
 use Rattle.lt_journal.proofs.closing.held_lines.Given as goal
 
 abbrev pub invariant-loop-client : goal.invariant-loop-client
 invariant-loop-client l =
-    (held : List Holding) → Counts l.script l.table held → l.text ≡ l.fn.text ++ each_below l.client (held_by l.script held)
+    (held : List Holding) → Counts l.script l.table held → l.text ≡ l.fn.text ++ lines_text l.script (lines_below l.client (held_by l.script held))

@@ -1,6 +1,8 @@
 use Rattle.std.proofs.Common.{◌≡◌, ◌++◌}
-use Rattle.lt_runs.specs.Text.{each_below, owner_of}
+use Rattle.lt_journal.specs.Counts.{owner_at}
+use Rattle.lt_journal.specs.RunLines.{lines_below, owner_line}
+use Rattle.lt_journal.specs.RunText.{lines_text}
 use Rattle.lt_journal.proofs.closing.owner_lines.Given as goal
 
 abbrev pub invariant-loop-set : goal.invariant-loop-set
-invariant-loop-set l = l.text ≡ l.fn.text ++ each_below l.set (owner_of l.script l.owners)
+invariant-loop-set l = l.text ≡ l.fn.text ++ lines_text l.script (lines_below l.set (λ set. owner_line set (owner_at l.owners set)))

@@ -1,6 +1,8 @@
 use Rattle.std.proofs.Common.{◌≡◌, ◌++◌}
-use Rattle.lt_runs.specs.Text.{each_below, waiting_of}
+use Rattle.lt_journal.specs.Counts.{waits_for}
+use Rattle.lt_journal.specs.RunLines.{lines_below, waiting_line}
+use Rattle.lt_journal.specs.RunText.{lines_text}
 use Rattle.lt_journal.proofs.closing.waiting_lines.Given as goal
 
 abbrev pub invariant-loop-client : goal.invariant-loop-client
-invariant-loop-client l = l.text ≡ l.fn.text ++ each_below l.client (waiting_of l.script l.waiting)
+invariant-loop-client l = l.text ≡ l.fn.text ++ lines_text l.script (lines_below l.client (λ client. waiting_line (waits_for l.waiting client)))

@@ -1,6 +1,7 @@
 use Rattle.std.proofs.Common.{◌≡◌, ◌++◌, take}
-use Rattle.lt_runs.specs.Text.{moves_text}
+use Rattle.lt_journal.specs.RunLines.{moves_lines}
+use Rattle.lt_journal.specs.RunText.{lines_text}
 use Rattle.lt_journal.proofs.journal.move_lines.Given as goal
 
 abbrev pub invariant-loop-k : goal.invariant-loop-k
-invariant-loop-k l = l.text ≡ l.fn.text ++ moves_text l.script (take l.k l.run.entries)
+invariant-loop-k l = l.text ≡ l.fn.text ++ lines_text l.script (moves_lines (take l.k l.run.entries))

@@ -1,5 +1,5 @@
 use Rattle.std.proofs.Common.{◌≡◌, ◌-◌, sym, subst, List, ℕ, set, get_or, rules}
-use Rattle.lt_runs.specs.Text.{without}
+use Rattle.lt_runs.specs.Holdings.{without_one}
 use Rattle.lt_journal.specs.Counts.{cell_of, HasCell, Counts}
 use Rattle.lt_journal.proofs.Cells.{less_in_cell, less_elsewhere}
 use Rattle.lt_journal.proofs.table.Table.take.Goals as goal
@@ -10,7 +10,7 @@ returns-then-has_cell c = λ held counts.
     let lock = c.args.lock in
     let has : HasCell c.args.script.now lock = search rules in
     let is : c.put.new.self ≡ set cells (cell_of lock) (get_or cells (cell_of lock) 0 - 1) = cc in
-    subst (λ (now : List ℕ). Counts c.args.script.now now (without lock held)) (sym is)
+    subst (λ (now : List ℕ). Counts c.args.script.now now (without_one held lock)) (sym is)
     (less_in_cell c.args.script.now cells held lock c.has_cell.ensures.few has counts)
 
 pub returns-else-has_cell : goal.returns-else-has_cell

@@ -1,0 +1,14 @@
+pub mod Measures
+pub mod ClientEffects
+pub mod ClientMoves
+pub mod ClientRuns
+pub mod RowsApart
+pub mod ScriptSets
+pub mod KeptHomes
+pub mod KeptParked
+pub mod AsksApart
+pub mod SoundStates
+pub mod KeptMoves
+pub mod FittingLetters
+pub mod KeptRuns
+pub mod ServiceOrder

@@ -1,0 +1,4 @@
+pub mod LineCounts
+pub mod LineRules
+pub mod LineMoves
+pub mod WaitRules

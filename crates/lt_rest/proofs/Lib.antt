@@ -1,0 +1,5 @@
+pub mod QuietRest
+pub mod FirstWaiter
+pub mod LedAtRest
+pub mod FrozenAtRest
+pub mod BarredByLines
