@@ -1,5 +1,5 @@
 -- Sums over the numbers below a bound, and over lists.
-use Rattle.std.proofs.Common.{◌≡◌, ◌≢◌, ℕ, zero, suc, ◌+◌, ◌<◌, ◌≤◌, inl, inr, List, [], ◌∷◌, length, refl, arith, ap, sym, Bool, true, false, Option, Some, None, ◌∙◌}
+use Rattle.std.proofs.Common.{◌≡◌, ◌≢◌, ℕ, zero, suc, ◌+◌, ◌<◌, ◌≤◌, inl, inr, List, [], ◌∷◌, length, refl, arith, ap, sym, Bool, true, false, Some, None, ◌∙◌}
 use Rattle.std.specs.Prelude.{sum_by, slice_index_or, ◌⊎◌, ◌==◌, if◌then◌else◌, nat_lt, position}
 use Rattle.std.proofs.lemmas.Bool.{cases_eq, cases_order, cases_lt, eq-eqb, ne_eqb, lt-ltb, false≢true}
 use Rattle.std.proofs.lemmas.List.Sums.{sum_by-cons, get_or-le-sum_by, fails_before_first}
