@@ -1,6 +1,7 @@
 -- An account as the desk leaves its node, comes to it, or sends a copy there.
 use Rattle.std.proofs.Common.{◌≡◌, ℕ, ◌≤◌, inl, inr, List, [], ◌∷◌, ◌++◌, Bool, true, false, refl, sym, ap, subst, arith, ◌∙◌}
 use Rattle.std.specs.Prelude.{◌⊎◌, Contains, IsTrue, IsFalse, if◌then◌else◌}
+use Rattle.std.proofs.lemmas.Bool.{false_from_ne_true}
 use Rattle.std.proofs.lemmas.List.Elements.{Contains-append_left, Contains-push, Contains-push_cases}
 use Rattle.lt_modes.specs.declared.mode.Mode.{Mode}
 use Rattle.lt_modes.specs.declared.stamp.Stamp.{Stamp}
@@ -240,10 +241,6 @@ covers_owing charge pending entry tells former later ask known waits gain c = re
   ];
 }
 
-false_if_not : (t : Bool) → (t ≡ true → ⊥) → t ≡ false
-false_if_not true none = absurd (none refl)
-false_if_not false none = refl
-
 between_moves : (moving : Bool) (clock k : ℕ) → moving ≡ false → k ≤ clock → IsNoLater moving clock k
 between_moves false clock k e h = h
 between_moves true clock k e h = cc
@@ -327,5 +324,5 @@ owes_kept a others ask copies h may = (
     with_itself = copy_is_not_taking conflicts others ask.mode (covers_by_table others ask.mode may.covered) (bars_not others ask.mode may.free)
 
     with_old : (y : Ask) → Contains a.copies y → IsFalse (conflicts ask.mode y.mode)
-    with_old y c = false_if_not (conflicts ask.mode y.mode) (λ conflict.
+    with_old y c = false_from_ne_true (conflicts ask.mode y.mode) (λ conflict.
         free_here (y.mode, conflict, has-right y.mode a.entry.reported (modes_of_owed a.entry.owed) (owed_mode-at a.entry.owed (copy_for y) (h.owed.owed y c))))

@@ -1,7 +1,7 @@
 -- Facts on a kept account that many of its steps use.
 use Rattle.std.proofs.Common.{◌≡◌, ◌≢◌, ℕ, ◌<◌, ◌≤◌, inl, inr, List, Bool, true, false, refl, sym, ap, subst, arith, ◌∙◌}
 use Rattle.std.specs.Prelude.{◌&&◌, ◌⊎◌, ◌==◌, nat_lt, Contains, IsTrue, IsFalse, AllPairs, slice_index_or}
-use Rattle.std.proofs.lemmas.Bool.{and_parts, and_from, or_cases, or_left, or_right, eq-eqb, eqb-true, cases_order, ltb-true, lt-ltb}
+use Rattle.std.proofs.lemmas.Bool.{both_ways, and_parts, and_from, or_cases, or_left, or_right, eq-eqb, eqb-true, cases_order, ltb-true, lt-ltb}
 use Rattle.std.proofs.lemmas.List.{get_or_default}
 use Rattle.lt_modes.specs.declared.mode.Mode.{Mode}
 use Rattle.lt_modes.specs.declared.stamp.Stamp.{Stamp}
@@ -98,10 +98,7 @@ below_by_members x y h mode b = (b.0, b.1, h b.0 b.2)
 
 -- a test of `bars` that fails
 pub bars_not : (modes : Modes) (mode : Mode) → IsFalse (has mode (bars modes)) → Bars modes mode → ⊥
-bars_not modes mode e h = let t = (bars_by_table modes mode).1 h in both t e
-  where
-    both : {t : Bool} → t ≡ true → t ≡ false → ⊥
-    both p q = cc
+bars_not modes mode e h = both_ways (has mode (bars modes)) e ((bars_by_table modes mode).1 h)
 
 pub not_bars : (modes : Modes) (mode : Mode) → (Bars modes mode → ⊥) → IsFalse (has mode (bars modes))
 not_bars modes mode none = by_test (has mode (bars modes)) refl
@@ -124,15 +121,9 @@ pub held_below_now : (a : Account) → AccountKept a → a.here ≡ false → Is
 held_below_now a h away mode bar =
     (union_bars_both conflicts a.charge (modes_of_asks a.copies) mode).1 (inl (held_below_charge a.moving (held_modes a.held) a.charge (h.charge away) mode bar))
 
-pub copies_below_now : (a : Account) → IsBelow (modes_of_asks a.copies) (now_modes a.charge a.copies)
-copies_below_now a mode bar = (union_bars_both conflicts a.charge (modes_of_asks a.copies) mode).1 (inr bar)
-
 -- the record bounds what is held and what copies bring
 pub held_below_record : (a : Account) → AccountKept a → a.here ≡ false → IsBelow (held_modes a.held) (record_of a.entry)
 held_below_record a h away mode bar = (h.cover away).record_bound mode (held_below_now a h away mode bar)
-
-pub copies_below_record : (a : Account) → AccountKept a → a.here ≡ false → IsBelow (modes_of_asks a.copies) (record_of a.entry)
-copies_below_record a h away mode bar = (h.cover away).record_bound mode (copies_below_now a mode bar)
 
 -- clocks
 pub no_later_at_all : (moving : Bool) (clock k : ℕ) → IsNoLater moving clock k → k ≤ clock
@@ -244,10 +235,7 @@ one_more_below x more_x y more_y mode cases keeps own below bar_mode bar = elim 
 ]
 
 pub not_after_itself : (x : Stamp) → IsTrue (is_newer x x) → ⊥
-not_after_itself x h = both h (newer_one_way x x h)
-  where
-    both : {t : Bool} → t ≡ true → t ≡ false → ⊥
-    both p q = cc
+not_after_itself x h = both_ways (is_newer x x) (newer_one_way x x h) h
 
 pub asks_which : (asks : List Ask) (mode : Mode) → IsTrue (has mode (modes_of_asks asks)) → (ask : Ask) × Contains asks ask × (ask.mode ≡ mode)
 asks_which asks mode h = mode_which (λ (ask : Ask). ask.mode) asks mode h

@@ -2,10 +2,9 @@
 use Rattle.std.proofs.Common.{◌≡◌, ◌≢◌, ℕ, suc, ◌+◌, ◌<◌, ◌≤◌, inl, inr, List, [], ◌∷◌, ◌++◌, length, Option, Some, None, Bool, true, false, refl, sym, ap, arith, ◌∙◌}
 use Rattle.std.specs.Prelude.{◌==◌, if◌then◌else◌, Contains, AllPairs, remove, slice_index_or}
 use Rattle.std.specs.List.{position_or_len}
-use Rattle.std.proofs.lemmas.Bool.{and_parts, and_from, eqb-true, eq-eqb, cases_eq, cases_order, lt-ltb}
+use Rattle.std.proofs.lemmas.Bool.{both_ways, and_parts, and_from, eqb-true, eq-eqb, cases_eq, cases_order, lt-ltb}
 use Rattle.std.proofs.lemmas.List.Sums.{sum_by-remove, sum_by-insert, sum_by_push, sum_by-cons, get_or-le-sum_by, fails_before_first, passes_at_first}
 use Rattle.lt_modes.specs.declared.mode.Mode.{Mode}
-use Rattle.lt_modes.specs.declared.mode.Mode.TheVariants.{IntentionRead, Read, Upgrade, IntentionWrite, Write}
 use Rattle.lt_modes.specs.declared.stamp.Stamp.{Stamp}
 use Rattle.lt_modes.specs.declared.ask.Ask.{Ask}
 use Rattle.lt_modes.specs.Modes.{same_mode}
@@ -14,31 +13,7 @@ use Rattle.lt_modes.specs.Queue.{same_ask, same_choice, same_flag, has_stamp, wi
 use Rattle.lt_lists.specs.Below.{one_if}
 
 pub same_mode-true : (a b : Mode) → same_mode a b ≡ true → a ≡ b
-same_mode-true IntentionRead IntentionRead e = refl
-same_mode-true IntentionRead Read e = cc
-same_mode-true IntentionRead Upgrade e = cc
-same_mode-true IntentionRead IntentionWrite e = cc
-same_mode-true IntentionRead Write e = cc
-same_mode-true Read IntentionRead e = cc
-same_mode-true Read Read e = refl
-same_mode-true Read Upgrade e = cc
-same_mode-true Read IntentionWrite e = cc
-same_mode-true Read Write e = cc
-same_mode-true Upgrade IntentionRead e = cc
-same_mode-true Upgrade Read e = cc
-same_mode-true Upgrade Upgrade e = refl
-same_mode-true Upgrade IntentionWrite e = cc
-same_mode-true Upgrade Write e = cc
-same_mode-true IntentionWrite IntentionRead e = cc
-same_mode-true IntentionWrite Read e = cc
-same_mode-true IntentionWrite Upgrade e = cc
-same_mode-true IntentionWrite IntentionWrite e = refl
-same_mode-true IntentionWrite Write e = cc
-same_mode-true Write IntentionRead e = cc
-same_mode-true Write Read e = cc
-same_mode-true Write Upgrade e = cc
-same_mode-true Write IntentionWrite e = cc
-same_mode-true Write Write e = refl
+same_mode-true a b e = grind arith
 
 same_choice-true : (a b : Option Mode) → same_choice a b ≡ true → a ≡ b
 same_choice-true None None e = refl
@@ -176,13 +151,10 @@ times_in-without a b asks apart found =
         | inl before ↦
             let fails : has_stamp b.stamp (slice_index_or asks found.0 b) ≡ false =
             fails_before_first (has_stamp b.stamp) asks found.0 b (omega (arith, before, e)) in
-            absurd (both own fails)
+            absurd (both_ways (has_stamp b.stamp (slice_index_or asks found.0 b)) fails own)
         | inr after ↦ omega (arith, after, found.1)
       ]
     ]
-      where
-        both : {t : Bool} → t ≡ true → t ≡ false → ⊥
-        both p q = cc
 
 -- asks with different stamps are different
 pub times_in-once : (a : Ask) (asks : List Ask) → AllPairs (λ (x y : Ask). x.stamp ≢ y.stamp) asks → times_in a asks ≤ 1

@@ -1,16 +1,13 @@
 -- The news of a node, as the desk freezes, as freezes arrive, and as the desk comes and goes.
 use Rattle.std.proofs.Common.{◌≡◌, ◌+◌, ◌<◌, ◌≤◌, inl, inr, List, Bool, true, false, refl, sym, ap, subst, arith, ◌∙◌}
 use Rattle.std.specs.Prelude.{nat_lt, Contains, if◌then◌else◌}
-use Rattle.std.proofs.lemmas.Bool.{ltb-true, lt-ltb, cases_lt}
+use Rattle.std.proofs.lemmas.Bool.{both_ways, ltb-true, lt-ltb, cases_lt}
 use Rattle.lt_modes.specs.Modes.{has_none}
 use Rattle.lt_modes.proofs.ModeAlgebra.{same_modes-true}
 use Rattle.lt_accounts.specs.News.{News, Notice, NewsKept}
 use Rattle.lt_accounts.specs.NewsSteps.{MayTake}
 use Rattle.lt_accounts.specs.NewsLaws.{Begins, Changes, Sends, Spares, Keeps, Takes, Leaves, Arrives, Reorders, FrozenAtRest}
 use Rattle.lt_lists.proofs.Members.{none_in}
-
-both : {A : Type 0} (t : Bool) → t ≡ true → t ≡ false → A
-both t p q = let no : true ≡ false = sym p ∙ q in cc
 
 pub begins_kept : Begins
 begins_kept n h = record {
@@ -25,9 +22,9 @@ pub changes_kept : Changes
 changes_kept n recorded wanted h serving = record {
   kept = h.kept;
   sent = h.sent;
-  here = λ at between. both n.serving serving between;
+  here = λ at between. absurd (both_ways n.serving between serving);
   last_notice = h.last_notice;
-  told = λ away between some. both n.serving serving between;
+  told = λ away between some. absurd (both_ways n.serving between serving);
 }
 
 pub sends_kept : Sends
@@ -37,7 +34,7 @@ sends_kept n coming h may = record {
     | inl before ↦ omega (arith, h.sent notice before)
     | inr new ↦ omega (arith, ap (λ (x : Notice). x.number) new)
   ];
-  here = λ at between. both n.here at may.away;
+  here = λ at between. absurd (both_ways n.here may.away at);
   last_notice = λ away notice last. elim last.0 [
     | inl own ↦ absurd (omega (
       arith,
@@ -61,10 +58,10 @@ pub spares_kept : Spares
 spares_kept n last h may = record {
   kept = omega (arith, h.kept, may.later);
   sent = λ notice c. omega (arith, h.sent notice c, may.later);
-  here = λ at between. both n.here at may.away;
+  here = λ at between. absurd (both_ways n.here may.away at);
   last_notice = h.last_notice;
   told = λ away between some. elim may.knows [
-    | inl none ↦ both (has_none n.recorded) none some
+    | inl none ↦ absurd (both_ways (has_none n.recorded) some none)
     | inr same ↦ same_modes-true n.told n.wanted same
   ];
 }
@@ -74,7 +71,7 @@ keeps_kept n last h may = record {
   kept = omega arith;
   sent = λ notice c. omega (arith, h.sent notice c, may.later);
   here = λ at between. (refl, refl);
-  last_notice = λ away. both n.here may.here away;
+  last_notice = λ away. absurd (both_ways n.here away may.here);
   told = λ away between some. refl;
 }
 
@@ -137,7 +134,7 @@ takes_kept n notice coming h may = by_test (nat_lt n.number notice.number) refl
         })
     by_test true e = taken_newer n notice coming h may (ltb-true n.number notice.number e)
     by_test false e = elim (cases_lt n.number notice.number) [
-      | inl newer ↦ both (nat_lt n.number notice.number) (lt-ltb n.number notice.number newer) e
+      | inl newer ↦ absurd (both_ways (nat_lt n.number notice.number) e (lt-ltb n.number notice.number newer))
       | inr older ↦ taken_older n notice coming h may older
     ]
 
@@ -194,6 +191,6 @@ frozen_at_rest n h between none known = by_desk n.here refl
           ],
         )
         ∙ elim known [
-          | inl at ↦ both n.here at away
+          | inl at ↦ absurd (both_ways n.here away at)
           | inr some ↦ h.told away between some
         ]

@@ -8,8 +8,8 @@ pub record Notice : Type 0 where
   pub modes : Modes
 
 -- the number and the frozen modes that a node keeps, and the freezes on their way to it; its record and what the desk told
--- it last; the desk's last number and what its queue freezes; whether the desk is here, and whether the desk's node is in
--- the middle of a move on the set
+-- it last; the desk's last number and what its queue freezes; whether the desk is here; and whether the desk's node is in a
+-- move on the set and hasn't frozen in it yet
 pub record News : Type 0 where
   pub number : ℕ
   pub frozen : Modes
@@ -30,8 +30,9 @@ IsNotice n notice =
 abbrev pub IsLastNotice : News → Notice → Type 0
 IsLastNotice n notice = IsNotice n notice × ((other : Notice) → IsNotice n other → other.number ≤ notice.number)
 
--- neither what a node keeps nor a freeze has a number above the desk's; the last notice to a node is what the desk told it; and between moves of the desk's
--- node, a node with a record was told what the queue freezes, and the desk's node keeps it
+-- neither what a node keeps nor a freeze has a number above the desk's; the last notice to a node is what the desk told it;
+-- and, unless the desk's node has yet to freeze in its move, a node with a record was told what the queue freezes, and the
+-- desk's node keeps it
 pub record NewsKept (n : News) : Type 0 where
   pub kept : n.number ≤ n.last
   pub sent : (notice : Notice) → Contains n.coming notice → notice.number ≤ n.last

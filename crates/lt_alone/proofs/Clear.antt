@@ -26,7 +26,7 @@ use Rattle.lt_core.specs.SetMove.{lock, unlock, locked, unlocked, granted, asked
 use Rattle.lt_runs.specs.Log.{Logged}
 use Rattle.lt_lists.specs.Below.{put}
 use Rattle.lt_accounts.proofs.Asks.{same_mode-true}
-use Rattle.lt_lists.proofs.Members.{all_none}
+use Rattle.std.proofs.lemmas.List.Elements.{All-nil}
 use Rattle.lt_world.specs.OneNode.{NodeState, World, start, act_stamp, obeyed, node_move, next_command, after, after_run}
 use Rattle.lt_alone.proofs.Modes.{free_of_both}
 
@@ -313,4 +313,4 @@ clear_from script w (entry ∷ rest) clear =
 
 -- whatever moves were made from the start on
 pub clear_in_runs : (script : ScriptData) (run : List Logged) (x s : ℕ) → IsClear (((after_run script start run).node x).set s).held
-clear_in_runs script run x s = clear_from script start run (λ y r. all_none _) x s
+clear_in_runs script run x s = clear_from script start run (λ y r. All-nil _) x s

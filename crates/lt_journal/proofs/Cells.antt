@@ -2,7 +2,7 @@
 use Rattle.std.proofs.Common.{◌≡◌, ◌≢◌, ℕ, ◌-◌, ◌*◌, ◌<◌, ◌≤◌, cond, Bool, true, false, List, length, get_or, set, refl, sym, ap, subst, ◌∙◌, arith, length-set, get_or-set_same, get_or-set_other}
 use Rattle.lt_modes.specs.Script.{ScriptData}
 use Rattle.lt_runs.specs.Holdings.{Holding, same_holding, without_one, count_of}
-use Rattle.lt_journal.specs.Counts.{cell_of, HasCell, Counts}
+use Rattle.lt_journal.specs.LockTable.{cell_of, HasCell, Counts}
 use Rattle.lt_journal.proofs.Counting.{same_holding-equal, count_of-without}
 
 pub cell_of-apart : (a b : Holding) → a.set < 8 → b.set < 8 → same_holding a b ≡ false → cell_of b ≢ cell_of a

@@ -8,7 +8,7 @@ use Rattle.lt_modes.specs.declared.mode.Mode.{Mode}
 use Rattle.lt_modes.specs.Script.{ScriptData}
 use Rattle.lt_runs.specs.Families.{is_related}
 use Rattle.lt_runs.specs.Holdings.{Holding, is_dropped, count_of}
-use Rattle.lt_journal.specs.Counts.{place_of, cell_of, HasCell, Counts}
+use Rattle.lt_journal.specs.LockTable.{place_of, cell_of, HasCell, Counts}
 use Rattle.lt_journal.proofs.Counting.{count_of-kept}
 
 -- the place of a lock's cell among those of its client

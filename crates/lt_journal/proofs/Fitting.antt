@@ -12,7 +12,7 @@ use Rattle.lt_modes.specs.declared.parts.Link.{Link}
 use Rattle.lt_runs.specs.Holdings.{Holding, holding, holdings, same_holding, count_of, wanted, wanted_after, owner_of, owner_after, lines_of}
 use Rattle.lt_journal.specs.declared.line.Line.{Line}
 use Rattle.lt_journal.specs.declared.line.Line.TheVariants.{Event as EventLine, Held}
-use Rattle.lt_journal.specs.LineWords.{all_modes}
+use Rattle.lt_journal.specs.Words.{all_modes}
 use Rattle.lt_journal.specs.RunLines.{entry_lines, moves_lines, lines_below, held_line, held_in_mode, held_in_set, held_by, held_lines, waiting_line, waiting_lines, owner_line, owner_lines, closing_lines, run_lines}
 use Rattle.lt_journal.specs.LineFits.{HasNode, HasSet, HasClient, IsNumber, FitsEvent, FitsLine}
 use Rattle.lt_journal.proofs.Conditions.{FitsEntry, FitsRun}

@@ -5,7 +5,7 @@ use Rattle.std.specs.Option.{option_map}
 use Rattle.std.specs.Fmt.{decimal}
 use Rattle.std.specs.Str.{bytes_eq}
 use Rattle.std.specs.Str.Parse.{digits_value}
-use Rattle.std.proofs.lemmas.Bool.{cases_Bool, and_parts, leb-true, ltb-true, ne_eqb}
+use Rattle.std.proofs.lemmas.Bool.{cases_Bool, not-true, and_parts, leb-true, ltb-true, ne_eqb}
 use Rattle.std.proofs.lemmas.List.Quantifiers.{position-Some}
 use Rattle.std.proofs.lemmas.Option.{slice_get-get_or}
 use Rattle.std.proofs.lemmas.Slice.Eq.{bytes_eq-Decides}
@@ -15,7 +15,7 @@ use Rattle.lt_modes.specs.declared.moves.Step.{Step}
 use Rattle.lt_modes.specs.declared.moves.Step.TheVariants.{Act, Take}
 use Rattle.lt_modes.specs.Modes.{Modes, no_modes, with_mode, word_of, mode_of}
 use Rattle.lt_modes.specs.Script.{ScriptData, SetData, ClientData, set_name, client_name, name_of_set, name_of_client}
-use Rattle.lt_journal.specs.LineWords.{all_modes, step_words, words_of_modes, word_of_bool, spaced, line_words}
+use Rattle.lt_journal.specs.Words.{all_modes, step_words, words_of_modes, word_of_bool, spaced, line_words}
 use Rattle.lt_text.specs.Number.{exact_number, is_numeral, has_leading_zero, are_digits}
 use Rattle.lt_text.proofs.NumberLemmas.{decimal_value}
 use Rattle.lt_script.specs.Script.{set_number, client_number}
@@ -23,7 +23,7 @@ use Rattle.lt_journal.specs.declared.line.Line.{Line}
 use Rattle.lt_journal.specs.declared.line.Line.TheVariants.{Waiting, Bad}
 use Rattle.lt_journal.specs.declared.lock.Lock.{Lock}
 use Rattle.lt_journal.specs.Grammar.{line_of, read_line, line_of_two, line_of_four, line_of_five, line_of_many, line_of_freeze, lock_line, lock_and_line, node_of, below, step_of, lock_of, lock_by, bool_of, modes_of, with_words, says_none, end_line, cut_line, busy_line, token_line, owner_line, move_line, drop_line, copy_line, try_line, change_line, held_line, freeze_line}
-use Rattle.lt_journal.specs.RunText.{IsAsWritten}
+use Rattle.lt_journal.specs.Text.{IsAsWritten}
 use Rattle.lt_journal.proofs.Spelled.{has_words, Both, both}
 use Rattle.lt_journal.proofs.Plain.{spaced_same}
 use Rattle.lt_text.specs.Text.{fields}
@@ -51,14 +51,10 @@ number_found word n e = elim (cases_Bool (is_numeral word 10 && not (has_leading
       let parts = and_parts (nat_lt 0 (length word) && nat_le (length word) 10) (are_digits word) numeral.0 in
       let sizes = and_parts (nat_lt 0 (length word)) (nat_le (length word) 10) parts.0 in
       let some = ltb-true 0 (length word) sizes.0 in
-      sym (decimal_value word (ne_eqb (length word) 0 (λ h. omega (arith, h, some))) (leb-true (length word) 10 sizes.1) parts.1 (not_true (has_leading_zero word) numeral.1)
+      sym (decimal_value word (ne_eqb (length word) 0 (λ h. omega (arith, h, some))) (leb-true (length word) 10 sizes.1) parts.1 (not-true (has_leading_zero word) numeral.1)
       ∙ ap decimal value)
   | inr other ↦ absurd (let h = rw other at e in cc)
 ]
-  where
-    not_true : (b : Bool) → not b ≡ true → b ≡ false
-    not_true true h = absurd (cc)
-    not_true false h = refl
 
 client_found : (script : ScriptData) (word : List ℕ) (k : ℕ) → client_number script word ≡ Some k → client_name script k ≡ word
 client_found script word k e =

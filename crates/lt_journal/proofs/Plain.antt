@@ -4,7 +4,7 @@ use Rattle.std.specs.List.{AllByRecursion, flat_map}
 use Rattle.std.specs.Fmt.{decimal}
 use Rattle.std.proofs.lemmas.Bool.{and_parts, ne_eqb, lt-ltb}
 use Rattle.std.proofs.lemmas.Fmt.{decimal_by_steps}
-use Rattle.lt_journal.specs.LineWords.{after_space, spaced, line}
+use Rattle.lt_journal.specs.Words.{after_space, spaced, line}
 use Rattle.lt_text.specs.Text as written
 use Rattle.lt_text.specs.Text.{lines, fields, is_line_end, is_space, without_return, HasNone, each_after_space}
 use Rattle.lt_text.proofs.TextLemmas.{cut_piece, fields_spaced}

@@ -10,7 +10,7 @@ use Rattle.lt_modes.specs.declared.event.Event.{Event}
 use Rattle.lt_modes.specs.declared.event.Event.TheVariants.{Grant, Wait, Try, Unlock, NotHeld, Change, DropAll, Busy, Copy, Freeze, Token}
 use Rattle.lt_modes.specs.Modes.{Modes, word_of, mode_of, has}
 use Rattle.lt_modes.specs.Script.{ScriptData, set_name, client_name}
-use Rattle.lt_journal.specs.LineWords.{event_words, words_of_modes, word_of_bool, line_words}
+use Rattle.lt_journal.specs.Words.{event_words, words_of_modes, word_of_bool, line_words}
 use Rattle.lt_text.proofs.NumberLemmas.{exact_number_decimal}
 use Rattle.lt_journal.specs.declared.line.Line.{Line}
 use Rattle.lt_journal.specs.declared.line.Line.TheVariants.{Move as MoveLine, Event as EventLine, Held, Waiting, Owner, End, Cut, Bad}

@@ -11,7 +11,7 @@ use Rattle.lt_runs.specs.Holdings.{lines_of}
 use Rattle.lt_journal.specs.declared.line.Line.{Line}
 use Rattle.lt_journal.specs.declared.line.Line.TheVariants.{Move as MoveLine, Event as EventLine}
 use Rattle.lt_journal.specs.RunLines.{lines_below, entry_lines, moves_lines}
-use Rattle.lt_journal.specs.RunText.{line_text, lines_text}
+use Rattle.lt_journal.specs.Text.{line_text, lines_text}
 use Rattle.lt_merge.specs.Run.{made_at, events_at}
 
 append_nil : {X : Type 0} (xs : List X) → xs ++ [] ≡ xs

@@ -10,7 +10,7 @@ use Rattle.lt_modes.specs.declared.parts.Link.{Link}
 use Rattle.lt_modes.specs.Script.{ScriptData}
 use Rattle.lt_runs.specs.Holdings.{Holding, holding, holdings, after_line, wanted, wanted_after, owner_of, owner_after}
 use Rattle.lt_journal.proofs.Few.{length-without}
-use Rattle.lt_journal.specs.Counts.{Counts, Tally, Tells, waits_for, owner_at}
+use Rattle.lt_journal.specs.LockTable.{Counts, Tally, IsTallied, waits_for, owner_at}
 
 -- the list after one event more
 abbrev pub waiting_after : List (Option Holding) → Event → List (Option Holding)
@@ -51,9 +51,9 @@ length-owners owners (Token s to epoch) = length-set owners s (record { node = t
 length-owners owners other = refl
 
 -- a tally that tells some events tells one more once it counts the locks after it
-pub tells_next : (script : ScriptData) (tally : Tally) (events : List Event) (event : Event) (cells : List ℕ) → Tells script tally events
+pub tells_next : (script : ScriptData) (tally : Tally) (events : List Event) (event : Event) (cells : List ℕ) → IsTallied script tally events
     → Counts script cells (after_line script (holdings script events) event)
-    → Tells script (record { cells = cells; waiting = waiting_after tally.waiting event; owners = owners_after tally.owners event }) (events ++ event ∷ [])
+    → IsTallied script (record { cells = cells; waiting = waiting_after tally.waiting event; owners = owners_after tally.owners event }) (events ++ event ∷ [])
 tells_next script tally events event cells tells counts = record {
   held = subst (λ (held : List Holding). Counts script cells held) (sym (fold-append (after_line script) [] events (event ∷ []))) counts;
   waiting = record {
@@ -97,8 +97,8 @@ as_change_owner events client lock_set gives_up mode s =
 
 -- a change comes to the same as giving one lock up and being granted the other
 pub as_change : (script : ScriptData) (tally : Tally) (events : List Event) (client lock_set : ℕ) (gives_up mode : Mode)
-    → Tells script tally ((events ++ Unlock client lock_set gives_up ∷ []) ++ Grant client lock_set mode ∷ [])
-    → Tells script tally (events ++ Change client lock_set gives_up mode ∷ [])
+    → IsTallied script tally ((events ++ Unlock client lock_set gives_up ∷ []) ++ Grant client lock_set mode ∷ [])
+    → IsTallied script tally (events ++ Change client lock_set gives_up mode ∷ [])
 as_change script tally events client lock_set gives_up mode tells = record {
   held = subst (λ (held : List Holding). Counts script tally.cells held) (as_change_held script events client lock_set gives_up mode) tells.held;
   waiting = record {
@@ -119,5 +119,5 @@ fewer_held script events client lock_set mode =
     omega (arith, after, length-without (holdings script events) (holding client lock_set mode))
 
 pub tells_event : (script : ScriptData) (tally : Tally) (events : List Event) (event made : Event) → event ≡ made
-    → Tells script tally (events ++ made ∷ []) → Tells script tally (events ++ event ∷ [])
-tells_event script tally events event made is tells = subst (λ (e : Event). Tells script tally (events ++ e ∷ [])) (sym is) tells
+    → IsTallied script tally (events ++ made ∷ []) → IsTallied script tally (events ++ event ∷ [])
+tells_event script tally events event made is tells = subst (λ (e : Event). IsTallied script tally (events ++ e ∷ [])) (sym is) tells

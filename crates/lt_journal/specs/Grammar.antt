@@ -8,7 +8,7 @@ use Rattle.lt_modes.specs.declared.moves.Step.TheVariants.{Act, Take}
 use Rattle.lt_modes.specs.declared.event.Event.TheVariants.{Grant, Wait, Try, Unlock, NotHeld, Change, DropAll, Busy, Copy, Freeze, Token}
 use Rattle.lt_modes.specs.Modes.{Modes, no_modes, with_mode, word_of, mode_of}
 use Rattle.lt_modes.specs.Script.{ScriptData}
-use Rattle.lt_journal.specs.LineWords.{all_modes}
+use Rattle.lt_journal.specs.Words.{all_modes}
 use Rattle.lt_script.specs.Script.{set_number, client_number}
 use Rattle.lt_text.specs.Text.{lines, fields}
 use Rattle.lt_text.specs.Number.{exact_number}

@@ -1,7 +1,7 @@
-pub mod LineWords
+pub mod Words
 pub mod RunLines
-pub mod RunText
+pub mod Text
 pub mod LineFits
-pub mod Counts
 pub mod Grammar
 pub mod Split
+pub mod LockTable

@@ -7,7 +7,7 @@ use Rattle.lt_modes.specs.declared.parts.Link.{Link}
 use Rattle.lt_modes.specs.Script.{ScriptData}
 use Rattle.lt_runs.specs.Log.{Logged}
 use Rattle.lt_runs.specs.Holdings.{Holding, holding, holdings, count_of, wanted, owner_of, lines_of}
-use Rattle.lt_journal.specs.LineWords.{all_modes}
+use Rattle.lt_journal.specs.Words.{all_modes}
 use Rattle.lt_journal.specs.declared.line.Line.{Line}
 use Rattle.lt_journal.specs.declared.line.Line.TheVariants.{Move as MoveLine, Event as EventLine, Held, Waiting, Owner, End, Cut}
 

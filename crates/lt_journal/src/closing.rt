@@ -3,9 +3,9 @@ ghost use Rattle.lt_modes.specs.declared.event.Event.{Event as AnyEvent};
 ghost use Rattle.lt_modes.specs.Script.{ScriptData};
 ghost use Rattle.lt_runs.specs.Holdings.{Holding as AnyHolding};
 ghost use Rattle.lt_journal.specs.declared.line.Line.TheVariants.{End};
-ghost use Rattle.lt_journal.specs.Counts.{Counts, Tells, waits_for, owner_at};
+ghost use Rattle.lt_journal.specs.LockTable.{Counts, IsTallied, waits_for, owner_at};
 ghost use Rattle.lt_journal.specs.RunLines.{held_line, held_in_set, held_by, held_lines, waiting_line, waiting_lines, owner_line, owner_lines, rest_lines};
-ghost use Rattle.lt_journal.specs.RunText.{lines_text};
+ghost use Rattle.lt_journal.specs.Text.{lines_text};
 
 use crate::events::lock;
 use crate::names::set_name;
@@ -33,7 +33,7 @@ pub fn rest_lines(
     moves: u32,
 ) -> Result<(), AllocError>
     ensures { OnOk result ((events : List AnyEvent)
-        → Tells script.now tally.now events
+        → IsTallied script.now tally.now events
         → text.new ≡ text.old ++ lines_text script.now (rest_lines script.now events moves)) }
 {
     held_lines(text, script, &tally.held)?;

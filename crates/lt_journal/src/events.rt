@@ -2,8 +2,8 @@ ghost use Rattle.std.specs.Prelude.{◌≡◌, ◌++◌, [], ◌∷◌, OnOk, if
 ghost use Rattle.std.specs.List.{flat_map};
 ghost use Rattle.lt_modes.specs.Modes.{has, word_of};
 ghost use Rattle.lt_journal.specs.declared.line.Line.TheVariants.{Move as MoveLine, Event as EventLine};
-ghost use Rattle.lt_journal.specs.LineWords.{after_space, spaced, lock_words, drop_words, letter_words, event_words, words_of_modes};
-ghost use Rattle.lt_journal.specs.RunText.{line_text};
+ghost use Rattle.lt_journal.specs.Words.{after_space, spaced, lock_words, drop_words, letter_words, event_words, words_of_modes};
+ghost use Rattle.lt_journal.specs.Text.{line_text};
 
 use crate::names::{client_name, set_name};
 use crate::text::Text;

@@ -1,6 +1,6 @@
 ghost use Rattle.std.specs.Prelude.{◌≡◌, List, ◌∷◌};
 ghost use Rattle.lt_modes.specs.declared.mode.Mode.{Mode as AnyMode};
-ghost use Rattle.lt_journal.specs.LineWords.{all_modes};
+ghost use Rattle.lt_journal.specs.Words.{all_modes};
 ghost use Rattle.lt_modes.specs.Modes.{no_modes};
 ghost use Rattle.lt_text.specs.Text.{fields};
 ghost use Rattle.lt_journal.specs.Grammar.{read_line, line_of_two, line_of_four, line_of_five, line_of_freeze, lock_line, lock_and_line, node_of, step_of, lock_of, bool_of, says_none, modes_of, with_words, words_left};

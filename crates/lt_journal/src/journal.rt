@@ -1,7 +1,7 @@
 ghost use Rattle.std.specs.Prelude.{◌≡◌, ◌++◌, OnOk, IfOk, map};
 ghost use Rattle.lt_journal.specs.declared.line.Line.TheVariants.{Event as EventLine};
 ghost use Rattle.lt_journal.specs.RunLines.{moves_lines, closing_lines};
-ghost use Rattle.lt_journal.specs.RunText.{lines_text, text_of};
+ghost use Rattle.lt_journal.specs.Text.{lines_text, text_of};
 
 use crate::closing::rest_lines;
 use crate::events::{event_line, move_line};

@@ -33,7 +33,7 @@ pub fn is_related(script: &Script, set: u8, other: u8) -> bool
     family(script, set) == family(script, other)
 }
 
-// The number of the first set of the set's family, or 0 where the script has no such set.
+// The number of the first set of the set's family; 0 of a set that the script doesn't have.
 fn family(script: &Script, set: u8) -> u8
     ensures { result ≡ family script.now set }
 {

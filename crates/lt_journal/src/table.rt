@@ -1,6 +1,6 @@
 ghost use Rattle.std.specs.Prelude.{◌≡◌, ◌+◌, ◌^◌, OnErr, ◌↔◌, ◌≤◌, ◌++◌, ◌∷◌, [], List, not, IsTrue, IfOk, OnOk, length, filter, slice_index, slice_set};
 ghost use Rattle.lt_runs.specs.Holdings.{Holding as AnyHolding, without_one, is_dropped};
-ghost use Rattle.lt_journal.specs.Counts.{place_of, cell_of, HasCell, Counts};
+ghost use Rattle.lt_journal.specs.LockTable.{place_of, cell_of, HasCell, Counts};
 
 use crate::names::is_related;
 use lt_modes::Mode;

@@ -2,7 +2,7 @@ ghost use Rattle.std.specs.Prelude.{◌≡◌, ◌≤◌, ◌+◌, ◌^◌, ◌+
 ghost use Rattle.lt_modes.specs.declared.event.Event.{Event as AnyEvent};
 ghost use Rattle.lt_modes.specs.declared.event.Event.TheVariants.{Grant, Change};
 ghost use Rattle.lt_runs.specs.Holdings.{holdings, lines_of};
-ghost use Rattle.lt_journal.specs.Counts.{Tells};
+ghost use Rattle.lt_journal.specs.LockTable.{IsTallied};
 
 use crate::table::{Holding, Table};
 use lt_merge::Run;
@@ -21,7 +21,7 @@ pub struct Tally {
 }
 
 impl Model for Tally {
-    ghost use Rattle.lt_journal.specs.Counts.{Tally as TallyData};
+    ghost use Rattle.lt_journal.specs.LockTable.{Tally as TallyData};
 
     ghost Value = { TallyData };
 
@@ -31,7 +31,7 @@ impl Model for Tally {
 impl Tally {
     /// What no events come to.
     fn new(alloc: Global, script: &Script) -> Result<Tally, AllocError>
-        ensures { IfOk result (λ tally. Tells script.now tally []) }
+        ensures { IfOk result (λ tally. IsTallied script.now tally []) }
     {
         Ok(Tally {
             held: Table::new(alloc, script)?,
@@ -43,10 +43,10 @@ impl Tally {
     /// Takes one event more into account. It fails where more locks are held than a number can say.
     fn apply(&mut self, script: &Script, event: Event) -> Result<(), AllocError>
         ensures applied { OnOk result ((events : List AnyEvent)
-            → Tells script.now self.old events
-            → Tells script.now self.new (events ++ event ∷ [])) }
+            → IsTallied script.now self.old events
+            → IsTallied script.now self.new (events ++ event ∷ [])) }
         ensures full { OnErr result ((events : List AnyEvent)
-            → Tells script.now self.old events → 2 ^ 64 ≤ length (holdings script.now events) + 1) }
+            → IsTallied script.now self.old events → 2 ^ 64 ≤ length (holdings script.now events) + 1) }
     {
         match event {
             Event::Grant { client, set, mode } => self.grant(script, client, set, mode)?,
@@ -85,10 +85,10 @@ impl Tally {
     // Adds a lock, for which its client waits no more.
     fn grant(&mut self, script: &Script, client: u16, set: u8, mode: Mode) -> Result<(), AllocError>
         ensures granted { OnOk result ((events : List AnyEvent)
-            → Tells script.now self.old events
-            → Tells script.now self.new (events ++ Grant client set mode ∷ [])) }
+            → IsTallied script.now self.old events
+            → IsTallied script.now self.new (events ++ Grant client set mode ∷ [])) }
         ensures full { OnErr result ((events : List AnyEvent)
-            → Tells script.now self.old events → 2 ^ 64 ≤ length (holdings script.now events) + 1) }
+            → IsTallied script.now self.old events → 2 ^ 64 ≤ length (holdings script.now events) + 1) }
     {
         self.held.add(script, Holding { client, set, mode })?;
         self.wait(client, None);
@@ -105,10 +105,10 @@ impl Tally {
         mode: Mode,
     ) -> Result<(), AllocError>
         ensures changed { OnOk result ((events : List AnyEvent)
-            → Tells script.now self.old events
-            → Tells script.now self.new (events ++ Change client set gives_up mode ∷ [])) }
+            → IsTallied script.now self.old events
+            → IsTallied script.now self.new (events ++ Change client set gives_up mode ∷ [])) }
         ensures full { OnErr result ((events : List AnyEvent)
-            → Tells script.now self.old events → 2 ^ 64 ≤ length (holdings script.now events) + 1) }
+            → IsTallied script.now self.old events → 2 ^ 64 ≤ length (holdings script.now events) + 1) }
     {
         let old = Holding {
             client,
@@ -142,7 +142,7 @@ impl Tally {
 
 /// What a run comes to.
 pub fn tally_of(alloc: Global, script: &Script, run: &Run) -> Result<Tally, AllocError>
-    ensures { IfOk result (λ tally. Tells script.now tally (lines_of run.now.entries)) }
+    ensures { IfOk result (λ tally. IsTallied script.now tally (lines_of run.now.entries)) }
 {
     let mut tally = Tally::new(alloc, script)?;
     apply_run(&mut tally, script, run)?;
@@ -151,8 +151,8 @@ pub fn tally_of(alloc: Global, script: &Script, run: &Run) -> Result<Tally, Allo
 
 // Takes the events of all moves into account. It fails only where a run has more events than a number can say.
 fn apply_run(tally: &mut Tally, script: &Script, run: &Run) -> Result<(), AllocError>
-    requires { Tells script.now tally.old [] }
-    ensures applied { OnOk result (Tells script.now tally.new (lines_of run.now.entries)) }
+    requires { IsTallied script.now tally.old [] }
+    ensures applied { OnOk result (IsTallied script.now tally.new (lines_of run.now.entries)) }
     ensures full { OnErr result (2 ^ 64 ≤ length (lines_of run.now.entries) + 1) }
 {
     for k in 0..run.len() {
@@ -164,10 +164,10 @@ fn apply_run(tally: &mut Tally, script: &Script, run: &Run) -> Result<(), AllocE
 // Takes the events into account, in order.
 fn apply_all(tally: &mut Tally, script: &Script, events: &[Event]) -> Result<(), AllocError>
     ensures applied { OnOk result ((before : List AnyEvent)
-        → Tells script.now tally.old before
-        → Tells script.now tally.new (before ++ events.now)) }
+        → IsTallied script.now tally.old before
+        → IsTallied script.now tally.new (before ++ events.now)) }
     ensures full { OnErr result ((before : List AnyEvent)
-        → Tells script.now tally.old before
+        → IsTallied script.now tally.old before
         → 2 ^ 64 ≤ length before + length events.now + 1) }
 {
     for event in events {

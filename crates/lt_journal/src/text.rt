@@ -1,6 +1,6 @@
 ghost use Rattle.std.specs.Prelude.{◌≡◌, [], ◌∷◌, ◌++◌, OnOk};
 ghost use Rattle.std.specs.Fmt.{decimal};
-ghost use Rattle.lt_journal.specs.LineWords.{after_space};
+ghost use Rattle.lt_journal.specs.Words.{after_space};
 
 use std::alloc::{AllocError, Global};
 use std::fmt::Write;

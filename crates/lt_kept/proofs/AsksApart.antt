@@ -26,7 +26,9 @@ use Rattle.lt_kept.proofs.ClientEffects.{is_asks, one_of_client}
 -- asks of different clients
 pub apart_by : (asks : List Ask) → AllPairs (λ (a b : Ask). a.client ≢ b.client) asks → are_apart asks ≡ true
 apart_by [] h = refl
-apart_by (ask ∷ rest) h = and_from _ _ (by_test (has_client ask.client rest) refl) (apart_by rest (λ i j d before within. h (suc i) (suc j) d (omega (arith, before)) (omega (arith, within))))
+apart_by (ask ∷ rest) h =
+    and_from _ _ (by_test (has_client ask.client rest) refl)
+    (apart_by rest (λ i j d before within. h (suc i) (suc j) d (omega (arith, before)) (omega (arith, within))))
   where
     by_test : (found : Bool) → has_client ask.client rest ≡ found → not found ≡ true
     by_test false e = refl
@@ -55,7 +57,9 @@ parked_times a (ParkedAsk other ∷ rest) =
     ones false = refl
 
 pub here_times : (a : Ask) (t : SetState) → times_in a (asks_here t) ≡ places_in_state a t
-here_times a t = sum_by-append (λ (x : Ask). if same_ask a x then 1 else 0) (parked_asks t) (queue_of t) ∙ ap (λ (n : ℕ). n + times_in a (queue_of t)) (parked_times a t.parked)
+here_times a t =
+    sum_by-append (λ (x : Ask). if same_ask a x then 1 else 0) (parked_asks t) (queue_of t) ∙ ap (λ (n : ℕ). n + times_in a (queue_of t))
+    (parked_times a t.parked)
 
 -- the asks of a set stand in one place each, are at home, and are of different clients at a node
 pub record OwnAsks (script : ScriptData) (w : World) (s : ℕ) : Type 0 where
@@ -64,7 +68,8 @@ pub record OwnAsks (script : ScriptData) (w : World) (s : ℕ) : Type 0 where
   pub few : (x : ℕ) → x < script.nodes → (client : ℕ) → count_by (is_asks client) (state_at w s x).pending ≤ 1
 
 -- asks of one client that stand anywhere are one
-same_client : (script : ScriptData) (w : World) (s : ℕ) (a b : Ask) → OwnAsks script w s → 1 ≤ place_count script w s a → 1 ≤ place_count script w s b → a.client ≡ b.client → a ≡ b
+same_client : (script : ScriptData) (w : World) (s : ℕ) (a b : Ask) → OwnAsks script w s → 1 ≤ place_count script w s a → 1 ≤ place_count script w s b
+    → a.client ≡ b.client → a ≡ b
 same_client script w s a b h some more same =
     let first = stands_once script w s a h.stood some in
     let second = stands_once script w s b h.stood more in
@@ -88,7 +93,8 @@ standing_apart script w s asks h places i j d before within same =
     omega (arith, two, here, there, places a, (stands_once script w s a h.stood (omega (arith, some, places a))).2)
 
 -- an ask that stands anywhere is known at each node
-pub standing_known : (script : ScriptData) (w : World) (s x : ℕ) (ask : Ask) → AsksStand script w s → 1 ≤ place_count script w s ask → is_known x (state_at w s x) ask ≡ true
+pub standing_known : (script : ScriptData) (w : World) (s x : ℕ) (ask : Ask) → AsksStand script w s → 1 ≤ place_count script w s ask
+    → is_known x (state_at w s x) ask ≡ true
 standing_known script w s x ask stood some = elim (cases_eq ask.node x) [
   | inr other ↦ ap (λ (b : Bool). not b || is_pending (state_at w s x) ask) (ne_eqb ask.node x other)
   | inl own ↦

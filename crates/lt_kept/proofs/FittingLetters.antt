@@ -69,7 +69,8 @@ said_and_here script w p q letter f a =
     )
 
 -- an ask that a letter says alone
-ask_alone : (script : ScriptData) (w : World) (p q : ℕ) (letter : Letter) (ask : Ask) → FitFacts script w p q letter → ((a : Ask) → places_in_body a letter.body ≡ one_if (same_ask a ask))
+ask_alone : (script : ScriptData) (w : World) (p q : ℕ) (letter : Letter) (ask : Ask) → FitFacts script w p q letter
+    → ((a : Ask) → places_in_body a letter.body ≡ one_if (same_ask a ask))
     → (1 ≤ place_count script w letter.set ask) × (not (has_client ask.client (asks_here (state_at w letter.set q))) ≡ true)
 ask_alone script w p q letter ask f says = (
   omega (arith, one ask, said_and_here script w p q letter f ask, ap one_if (same_ask-itself ask)),

@@ -70,7 +70,8 @@ standing_at_home script w s ask h some =
     (own_at_home script ask.node (state_at w s ask.node).held ask
     (All-contains (SoundPending (numbers_of script) ask.node (state_at w s ask.node).held) (state_at w s ask.node).pending ask (h.states ask.node found.0).pending found.1)).0
 
-here_at_home : (script : ScriptData) (w : World) (s x : ℕ) (ask : Ask) → SetKept script Between w s → x < script.nodes → 1 ≤ places_in_state ask (state_at w s x) → IsAskAtHome script ask
+here_at_home : (script : ScriptData) (w : World) (s x : ℕ) (ask : Ask) → SetKept script Between w s → x < script.nodes
+    → 1 ≤ places_in_state ask (state_at w s x) → IsAskAtHome script ask
 here_at_home script w s x ask h below some =
     standing_at_home script w s ask h (omega (arith, some, sum_below-at script.nodes x (λ y. places_in_state ask (state_at w s y)) below))
 
@@ -160,7 +161,8 @@ move_within script w q (Take p) whole h enabled =
     let is_there = has_mail_parts script w p q enabled in
     by_letters (w.mail p q) is_there.letter is_there.receiver (λ letter there. h.letters p q letter is_there.sender is_there.receiver there)
   where
-    by_letters : (letters : List Letter) → is_some_letter letters ≡ true → q < script.nodes → ((letter : Letter) → Contains letters letter → IsLetterAtHome script q letter)
+    by_letters : (letters : List Letter) → is_some_letter letters ≡ true → q < script.nodes
+        → ((letter : Letter) → Contains letters letter → IsLetterAtHome script q letter)
         → IsMadeWithin script q (take_front q (w.node q) letters)
     by_letters [] e below each = cc
     by_letters (letter ∷ rest) e below each =
@@ -178,7 +180,9 @@ homes_within_kept script w q step whole h enabled = record {
     | inr d ↦ subst (λ (n : NodeState). IsStateAtHome script x (n.set s))
         (sym (put-other (opened w q step).node q (node_move script w q step).node x d ∙ same_node step)) (h.states x s below under)
   ];
-  letters = λ a b letter ha hb there. all_sent (λ c d l. c < script.nodes → d < script.nodes → IsLetterAtHome script d l) q (node_move script w q step).posts (opened w q step).mail
+  letters =
+      λ a b letter ha hb there. all_sent (λ c d l. c < script.nodes → d < script.nodes → IsLetterAtHome script d l) q (node_move script w q step).posts
+      (opened w q step).mail
       (λ c d l old hc hd. h.letters c d l hc hd (before step c d l old))
       (all_weaker (λ (post : Post). IsLetterAtHome script post.to post.letter) (λ (post : Post). q < script.nodes → post.to < script.nodes → IsLetterAtHome script post.to post.letter)
       (λ (post : Post) own. λ hc hd. own) (node_move script w q step).posts made.posts) a b letter there ha hb;

@@ -5,14 +5,14 @@ use Rattle.lt_modes.specs.State.{Letter}
 use Rattle.lt_runs.specs.World.{World, node_move, after}
 use Rattle.lt_lists.specs.Below.{put}
 use Rattle.lt_model.specs.Timed.{Timed}
-use Rattle.lt_lists.proofs.Members.{all_of, nothing_in}
 use Rattle.lt_ledgers.specs.LedgerLaws.{LedgersKept}
 use Rattle.lt_ledgers.proofs.EachMove.{moves_keep_ledgers}
 use Rattle.lt_model.proofs.KeptSets.{kept_stands, kept_timed}
+use Rattle.lt_lists.proofs.Members.{all_of, nothing_in}
 use Rattle.lt_model.proofs.NodeMoves.{after_node}
 use Rattle.lt_kept.proofs.ClientMoves.{SoundClients}
-use Rattle.lt_kept.proofs.ClientRuns.{sound_clients, clients_kept}
-use Rattle.lt_kept.proofs.RowsApart.{rows_stay_apart}
+use Rattle.lt_kept.proofs.ClientsKept.{sound_clients, clients_kept}
+use Rattle.lt_kept.proofs.RowsKept.{rows_stay_apart}
 use Rattle.lt_kept.proofs.SoundStates.{SetFacts, sound_set}
 use Rattle.lt_kept.proofs.KeptHomes.{HomesWithin, kept_homes, homes_within_kept}
 use Rattle.lt_kept.proofs.KeptParked.{HeldOrComes, held_or_comes_kept, parked_for}

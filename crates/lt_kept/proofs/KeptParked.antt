@@ -37,7 +37,8 @@ abbrev pub HeldOrComes : ScriptData → World → ℕ → ℕ → Type 0
 HeldOrComes script w s x = HeldUp x (state_at w s x) ⊎ TokenTo script w s x
 
 -- the token is on its way to one node alone
-token_to_one : (script : ScriptData) (w : World) (s x y : ℕ) (desk more : Desk) → Paths script w s → Comes script w s x (TokenBody desk) → Comes script w s y (TokenBody more) → x ≡ y
+token_to_one : (script : ScriptData) (w : World) (s x y : ℕ) (desk more : Desk) → Paths script w s → Comes script w s x (TokenBody desk)
+    → Comes script w s y (TokenBody more) → x ≡ y
 token_to_one script w s x y desk more paths first second =
     let a = on_path x desk first in
     let b = on_path y more second in
@@ -48,7 +49,8 @@ token_to_one script w s x y desk more paths first second =
     on_path q d (p, letter, under, on, says) = subst (BodyOnPath script.nodes (w.went s) q) says (paths.letters p q letter under on).body
 
 -- the token isn't on its way where its desk is at a node
-pub not_both : {A : Type 0} (script : ScriptData) (w : World) (s t : ℕ) (desk : Desk) → Paths script w s → DeskIs script w s (Some t) desk → (x : ℕ) → TokenTo script w s x → A
+pub not_both : {A : Type 0} (script : ScriptData) (w : World) (s t : ℕ) (desk : Desk) → Paths script w s → DeskIs script w s (Some t) desk → (x : ℕ)
+    → TokenTo script w s x → A
 not_both script w s t desk paths here x (more, comes) = no_place (one_desk script w s paths (Some t) None desk more here (x, to comes, comes)).0
   where
     to : Comes script w s x (TokenBody more) → x < script.nodes
@@ -133,7 +135,8 @@ held_or_comes_kept script w s q step x whole h below enabled = by_held (kept_hel
     ])
 
 -- so what is parked waits as it should
-pub parked_for : (script : ScriptData) (w : World) (s x : ℕ) → Paths script w s → x < script.nodes → HeldOrComes script w s x → All (IsParkedFor script w s x) (state_at w s x).parked
+pub parked_for : (script : ScriptData) (w : World) (s x : ℕ) → Paths script w s → x < script.nodes → HeldOrComes script w s x
+    → All (IsParkedFor script w s x) (state_at w s x).parked
 parked_for script w s x paths below (inr comes) = λ k d within. by_item comes _
   where
     by_item : TokenTo script w s x → (item : Parked) → IsParkedFor script w s x item
@@ -153,6 +156,7 @@ parked_for script w s x paths below (inl h) = by_desk (state_at w s x).desk refl
     by_desk None away = All-weaker (IsHeldUp x (state_at w s x)) (IsParkedFor script w s x) (by_item away) (state_at w s x).parked h.held
 
 -- and nothing is parked where the desk is
-pub none_parked : (script : ScriptData) (w : World) (s x : ℕ) (desk : Desk) → Paths script w s → x < script.nodes → (state_at w s x).desk ≡ Some desk → HeldOrComes script w s x → (state_at w s x).parked ≡ []
+pub none_parked : (script : ScriptData) (w : World) (s x : ℕ) (desk : Desk) → Paths script w s → x < script.nodes → (state_at w s x).desk ≡ Some desk
+    → HeldOrComes script w s x → (state_at w s x).parked ≡ []
 none_parked script w s x desk paths below here (inl h) = h.none (ap is_some here)
 none_parked script w s x desk paths below here (inr comes) = not_both script w s x desk paths (below, here) x comes

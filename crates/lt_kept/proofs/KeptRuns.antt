@@ -15,7 +15,8 @@ use Rattle.lt_ledgers.proofs.EachMove.{locks_agree}
 use Rattle.lt_kept.proofs.KeptMoves.{kept_stays}
 use Rattle.lt_kept.proofs.FittingLetters.{letters_fit}
 
-run_kept : (script : ScriptData) (run : List Logged) (w : World) → IsWhole script → Kept script w → IsRunFrom script w run → (k : ℕ) → Kept script (after_run script w (take k run))
+run_kept : (script : ScriptData) (run : List Logged) (w : World) → IsWhole script → Kept script w → IsRunFrom script w run → (k : ℕ)
+    → Kept script (after_run script w (take k run))
 run_kept script run w whole h is_run zero = h
 run_kept script [] w whole h is_run (suc k) = h
 run_kept script (entry ∷ rest) w whole h is_run (suc k) =

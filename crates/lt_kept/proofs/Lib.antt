@@ -1,9 +1,11 @@
-pub mod Measures
-pub mod ClientEffects
-pub mod ClientMoves
-pub mod ClientRuns
-pub mod RowsApart
 pub mod ScriptSets
+pub mod ClientCounts
+pub mod ClientEffects
+pub mod ClientCommands
+pub mod ClientMoves
+pub mod ClientsKept
+pub mod RowsApart
+pub mod RowsKept
 pub mod KeptHomes
 pub mod KeptParked
 pub mod AsksApart

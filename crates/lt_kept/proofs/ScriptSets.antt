@@ -65,12 +65,16 @@ obey_alike script stamp client (DropAll other s) n m targets alike =
     (any_below_same (length script.sets) (λ k. waits (n.set k) other) (λ k. waits (m.set k) other) (λ k below. ap (λ (t : SetState). waits t other) (alike k below)))
     (by_waits (node_waits script n other))
   where
-    by_waits : (waiting : Bool) → MadeAlike script (drop_all waiting stamp client other s (related script s) n) (drop_all waiting stamp client other s (related script s) m)
-    by_waits true = let made = each_alike script (λ k. finish k stamp) (related script s) (related_below script s) n m alike in record { node = made.node; posts = made.posts }
-    by_waits false = let made = each_alike script (λ k. drop k stamp other) (related script s) (related_below script s) n m alike in record { node = made.node; posts = made.posts }
+    by_waits : (waiting : Bool)
+        → MadeAlike script (drop_all waiting stamp client other s (related script s) n) (drop_all waiting stamp client other s (related script s) m)
+    by_waits true =
+        let made = each_alike script (λ k. finish k stamp) (related script s) (related_below script s) n m alike in record { node = made.node; posts = made.posts }
+    by_waits false =
+        let made = each_alike script (λ k. drop k stamp other) (related script s) (related_below script s) n m alike in record { node = made.node; posts = made.posts }
 
 -- so it is in a client's move
-pub act_alike : (script : ScriptData) (q client : ℕ) (n : NodeState) → IsWhole script → MadeAlike script (node_act script q client (clipped script n)) (node_act script q client n)
+pub act_alike : (script : ScriptData) (q client : ℕ) (n : NodeState) → IsWhole script
+    → MadeAlike script (node_act script q client (clipped script n)) (node_act script q client n)
 act_alike script q client n whole = by_command (next_command script n client) refl
   where
     begins : NodeState → NodeState

@@ -39,11 +39,14 @@ not_false true e = cc
 not_false false e = refl
 
 -- the ask conflicts with no mode that stands before it
-free_of : (me : ℕ) (s : SetState) (desk : Desk) (before : Modes) (ask : Ask) → is_served me s desk before ask ≡ true → (other : Mode) → IsTrue (has other before) → IsFalse (conflicts ask.mode other)
+free_of : (me : ℕ) (s : SetState) (desk : Desk) (before : Modes) (ask : Ask) → is_served me s desk before ask ≡ true → (other : Mode)
+    → IsTrue (has other before) → IsFalse (conflicts ask.mode other)
 free_of me s desk before ask e other member = by_test (conflicts ask.mode other) refl
   where
     free : has ask.mode (bars (union (others me s desk ask.node) before)) ≡ false
-    free = not_false (has ask.mode (bars (union (others me s desk ask.node) before))) (and_parts (is_free me s desk before ask) (is_local me s desk ask || is_copy me s desk ask) e).0
+    free =
+        not_false (has ask.mode (bars (union (others me s desk ask.node) before)))
+        (and_parts (is_free me s desk before ask) (is_local me s desk ask || is_copy me s desk ask) e).0
 
     by_test : (t : Bool) → conflicts ask.mode other ≡ t → t ≡ false
     by_test false f = refl

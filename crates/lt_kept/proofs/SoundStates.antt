@@ -21,13 +21,13 @@ use Rattle.lt_model.specs.OnWay.{DeskIs}
 use Rattle.lt_model.specs.SoundNode.{numbers_of}
 use Rattle.lt_model.specs.Timed.{Timed}
 use Rattle.lt_lists.proofs.Sums.{sum_below-at, none_found, sum_by-zero}
-use Rattle.lt_lists.proofs.Members.{all_of}
 use Rattle.lt_accounts.proofs.Asks.{times_in-some}
 use Rattle.lt_model.proofs.TokenComes.{desk_somewhere}
 use Rattle.lt_ledgers.specs.LedgerLaws.{LedgersKept}
 use Rattle.lt_ledgers.proofs.OneDesk.{named_firm, entries_on}
+use Rattle.lt_lists.proofs.Members.{all_of}
 use Rattle.lt_accounts.proofs.RowTotals.{row_count, total}
-use Rattle.lt_kept.proofs.Measures.{SomeEach}
+use Rattle.lt_kept.proofs.ClientCounts.{SomeEach}
 use Rattle.lt_kept.proofs.ClientEffects.{is_asks, GivenBy}
 use Rattle.lt_kept.proofs.ClientMoves.{SoundClients}
 use Rattle.lt_kept.proofs.AsksApart.{OwnAsks, apart_by, one_each, here_times, standing_apart, standing_known}

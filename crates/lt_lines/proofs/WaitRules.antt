@@ -22,11 +22,10 @@ use Rattle.lt_modes.specs.Telling.{tell_of, make_tell, finish, finish_by}
 use Rattle.lt_runs.specs.Holdings.{Holding, wanted_after}
 use Rattle.lt_accounts.proofs.Asks.{times_in-some}
 use Rattle.lt_accounts.proofs.Unanswered.{without_only, without_kept, without_gone}
-use Rattle.lt_model.proofs.Effects.{HoldsOf, EndEffects, next_service-within}
+use Rattle.lt_model.proofs.Effects.{EndEffects, next_service-within, both}
 use Rattle.lt_model.proofs.StandingEffects.{stands, found_here}
-use Rattle.lt_model.proofs.Effects.{both}
 use Rattle.lt_ledgers.proofs.OwnSteps.{route_same}
-use Rattle.lt_kept.proofs.ClientEffects.{is_asks, Clients, clients, one_of_client, clients_ends}
+use Rattle.lt_kept.proofs.ClientEffects.{is_asks, clients, one_of_client, clients_ends}
 use Rattle.lt_lines.proofs.LineRules.{route_says}
 
 -- the lines say nothing of what the client waits for, and its asks stay
@@ -44,8 +43,9 @@ pub record Answered (c : ℕ) (t : SetState) (m : Made) : Type 0 where
 abbrev pub Answers : SetState → Made → Type 0
 Answers t m = (c : ℕ) → Unsaid c t m ⊎ Answered c t m
 
-pub then_answers : (t : SetState) (m : Made) (rule : SetState → Made) → Answers t m → Answers m.state (rule m.state) → Answers t (then_do m rule)
-then_answers t m rule first second c = by_cases (first c) (second c)
+pub then_says : (c : ℕ) (t : SetState) (m : Made) (rule : SetState → Made) → Unsaid c t m ⊎ Answered c t m → Unsaid c m.state (rule m.state) ⊎ Answered c m.state (rule m.state)
+    → Unsaid c t (then_do m rule) ⊎ Answered c t (then_do m rule)
+then_says c t m rule first second = by_cases first second
   where
     more : (lock : Option Holding) → fold (wanted_after c) lock (m.events ++ (rule m.state).events) ≡ fold (wanted_after c) (fold (wanted_after c) lock m.events) (rule m.state).events
     more lock = fold-append (wanted_after c) lock m.events (rule m.state).events
@@ -68,6 +68,9 @@ then_answers t m rule first second c = by_cases (first c) (second c)
     })
     by_cases (inr a) (inr b) = absurd (a.none b.asked.0 b.asked.1 b.asked.2)
 
+pub then_answers : (t : SetState) (m : Made) (rule : SetState → Made) → Answers t m → Answers m.state (rule m.state) → Answers t (then_do m rule)
+then_answers t m rule first second c = then_says c t m rule (first c) (second c)
+
 -- lines that name no client that waits, and the asks as they were
 pub quiet_answers : (t : SetState) (m : Made) → ((c : ℕ) (lock : Option Holding) → fold (wanted_after c) lock m.events ≡ lock) → m.state.pending ≡ t.pending → Answers t m
 quiet_answers t m says same c = inl (record {
@@ -84,7 +87,7 @@ routed_answers t m none same = quiet_answers t m (no_lines m none) same
 
 -- an answer is of the ask's client
 answer_said : (c s : ℕ) (b : Ask) (lock : Option Holding) → wanted_after c lock (answer_event s b) ≡ (if b.client == c then None else lock)
-answer_said c s b lock = by_choice ?
+answer_said c s b lock = by_choice b.gives_up
   where
     by_choice : (o : Option Mode) → wanted_after c lock (answer_by s b o) ≡ (if b.client == c then None else lock)
     by_choice None = refl

@@ -1,7 +1,10 @@
-ghost use Rattle.lt_lines.specs.Ledger.{LinesTellHeld, RunsAreLawful};
+ghost use Rattle.lt_lines.specs.LineLaws.{LinesKeptInRuns, LinesTellHeld, HoldingsAreLawful, LinesTellWaits, LinesTellOwners};
 
-/// Scratch.
+/// The lines of a run tell what is held, which is lawful, who waits, and where each set's token went last.
 pub fn law_lines_tell()
-    ensures lines { LinesTellHeld }
-    ensures lawful { RunsAreLawful }
+    ensures kept { LinesKeptInRuns }
+    ensures held { LinesTellHeld }
+    ensures lawful { HoldingsAreLawful }
+    ensures waits { LinesTellWaits }
+    ensures owners { LinesTellOwners }
 {}

@@ -1,6 +1,6 @@
 -- What is in a list, and in what a filter or a map makes of it.
 use Rattle.std.proofs.Common.{◌≡◌, ℕ, zero, suc, ◌<◌, inl, inr, List, [], ◌∷◌, length, Bool, true, false, refl, sym, ap, arith, ◌∙◌, Option, Some, None}
-use Rattle.std.specs.Prelude.{◌⊎◌, if◌then◌else◌, Contains, filter, map, slice_index_or, All}
+use Rattle.std.specs.Prelude.{◌⊎◌, if◌then◌else◌, All, Contains, filter, map, slice_index_or}
 use Rattle.std.specs.List.{list_any, filter_map, cons_option}
 use Rattle.std.proofs.lemmas.Bool.{or_cases, or_left, or_right}
 use Rattle.std.proofs.lemmas.List.Elements.{Contains-get_or}
@@ -79,9 +79,6 @@ contains_mapped f (first ∷ rest) y h = elim (contains_cases (f first) y (map f
 -- nothing is in an empty list
 pub none_in : {X : Type 0} {A : Type 0} (x : X) → Contains [] x → A
 none_in x h = absurd (omega (arith, h.1))
-
-pub all_none : {X : Type 0} (P : X → Type 0) → All P []
-all_none P = λ k d h. absurd (omega (arith, h))
 
 pub some_equal : {X : Type 0} (a b : X) → Some a ≡ Some b → a ≡ b
 some_equal a b e = cc

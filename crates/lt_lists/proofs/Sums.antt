@@ -1,9 +1,9 @@
 -- Sums over the numbers below a bound, and over lists.
-use Rattle.std.proofs.Common.{◌≡◌, ◌≢◌, ℕ, zero, suc, ◌+◌, ◌<◌, ◌≤◌, inl, inr, List, [], ◌∷◌, length, refl, arith, ap, sym, Bool, true, false, Some, None, ◌∙◌}
-use Rattle.std.specs.Prelude.{sum_by, slice_index_or, ◌⊎◌, ◌==◌, if◌then◌else◌, nat_lt, position}
-use Rattle.std.proofs.lemmas.Bool.{cases_eq, cases_order, cases_lt, eq-eqb, ne_eqb, lt-ltb, false≢true}
-use Rattle.std.proofs.lemmas.List.Sums.{sum_by-cons, get_or-le-sum_by, fails_before_first}
+use Rattle.std.proofs.Common.{◌≡◌, ◌≢◌, ℕ, zero, suc, ◌+◌, ◌<◌, ◌≤◌, inl, inr, Bool, true, false, List, [], ◌∷◌, length, Some, None, refl, arith, ap, sym, ◌∙◌}
+use Rattle.std.specs.Prelude.{◌⊎◌, ◌==◌, if◌then◌else◌, nat_lt, position, sum_by, slice_index_or}
 use Rattle.std.specs.List.{position_or_len}
+use Rattle.std.proofs.lemmas.Bool.{cases_eq, cases_lt, cases_order, eq-eqb, ne_eqb, lt-ltb, false≢true}
+use Rattle.std.proofs.lemmas.List.Sums.{sum_by-cons, get_or-le-sum_by, fails_before_first}
 use Rattle.lt_lists.specs.Below.{sum_below}
 
 pub sum_below-same : (n : ℕ) (f g : ℕ → ℕ) → ((k : ℕ) → k < n → f k ≡ g k) → sum_below n f ≡ sum_below n g
@@ -62,37 +62,9 @@ sum_below-some (suc n) f h = elim (cases_eq (f n) 0) [
   | inr some ↦ (n, omega arith, omega (arith, some))
 ]
 
-pub sum_zero : (n : ℕ) → sum_below n (λ k. 0) ≡ 0
-sum_zero zero = refl
-sum_zero (suc n) = omega (arith, sum_zero n)
-
-pub sum_same : (n : ℕ) (f g : ℕ → ℕ) → ((k : ℕ) → f k ≡ g k) → sum_below n f ≡ sum_below n g
-sum_same zero f g e = refl
-sum_same (suc n) f g e = omega (arith, sum_same n f g e, e n)
-
 pub sum_first : (n : ℕ) (f : ℕ → ℕ) → f 0 ≡ 1 → ((k : ℕ) → f (suc k) ≡ 0) → sum_below (suc n) f ≡ 1
 sum_first zero f first rest = omega (arith, first)
 sum_first (suc n) f first rest = omega (arith, sum_first n f first rest, rest n)
-
--- two places of a list weigh no more than the list
-two_in_order : {X : Type 0} (f : X → ℕ) (xs : List X) (i j : ℕ) (d : X) → i < j → j < length xs
-    → f (slice_index_or xs i d) + f (slice_index_or xs j d) ≤ sum_by f xs
-two_in_order f [] i j d before within = absurd (omega (arith, within))
-two_in_order f (x ∷ rest) zero zero d before within = absurd (omega (arith, before))
-two_in_order f (x ∷ rest) zero (suc j) d before within = omega (arith, sum_by-cons f x rest, get_or-le-sum_by f rest j d (omega (arith, within)))
-two_in_order f (x ∷ rest) (suc i) zero d before within = absurd (omega (arith, before))
-two_in_order f (x ∷ rest) (suc i) (suc j) d before within =
-    omega (arith, sum_by-cons f x rest, two_in_order f rest i j d (omega (arith, before)) (omega (arith, within)))
-
-pub two_places : {X : Type 0} (f : X → ℕ) (xs : List X) (i j : ℕ) (d : X) → i ≢ j → i < length xs → j < length xs
-    → f (slice_index_or xs i d) + f (slice_index_or xs j d) ≤ sum_by f xs
-two_places f xs i j d other hi hj = elim (cases_order i j) [
-  | inl same ↦ absurd (other same)
-  | inr order ↦ elim order [
-    | inl before ↦ two_in_order f xs i j d before hj
-    | inr after ↦ omega (arith, two_in_order f xs j i d after hi)
-  ]
-]
 
 pub sum_below-most : (n : ℕ) (f g : ℕ → ℕ) → ((k : ℕ) → k < n → f k ≤ g k) → sum_below n f ≤ sum_below n g
 sum_below-most zero f g h = omega arith
@@ -137,3 +109,23 @@ none_found test xs e i d within = by_place (nat_lt (position_or_len test xs) (le
 pub sum_by-zero : {X : Type 0} (f : X → ℕ) (xs : List X) → ((i : ℕ) (d : X) → i < length xs → f (slice_index_or xs i d) ≡ 0) → sum_by f xs ≡ 0
 sum_by-zero f [] none = refl
 sum_by-zero f (x ∷ rest) none = omega (arith, sum_by-cons f x rest, none 0 x (omega arith), sum_by-zero f rest (λ i d within. none (suc i) d (omega (arith, within))))
+
+-- two places of a list weigh no more than the list
+two_in_order : {X : Type 0} (f : X → ℕ) (xs : List X) (i j : ℕ) (d : X) → i < j → j < length xs
+    → f (slice_index_or xs i d) + f (slice_index_or xs j d) ≤ sum_by f xs
+two_in_order f [] i j d before within = absurd (omega (arith, within))
+two_in_order f (x ∷ rest) zero zero d before within = absurd (omega (arith, before))
+two_in_order f (x ∷ rest) zero (suc j) d before within = omega (arith, sum_by-cons f x rest, get_or-le-sum_by f rest j d (omega (arith, within)))
+two_in_order f (x ∷ rest) (suc i) zero d before within = absurd (omega (arith, before))
+two_in_order f (x ∷ rest) (suc i) (suc j) d before within =
+    omega (arith, sum_by-cons f x rest, two_in_order f rest i j d (omega (arith, before)) (omega (arith, within)))
+
+pub two_places : {X : Type 0} (f : X → ℕ) (xs : List X) (i j : ℕ) (d : X) → i ≢ j → i < length xs → j < length xs
+    → f (slice_index_or xs i d) + f (slice_index_or xs j d) ≤ sum_by f xs
+two_places f xs i j d other hi hj = elim (cases_order i j) [
+  | inl same ↦ absurd (other same)
+  | inr order ↦ elim order [
+    | inl before ↦ two_in_order f xs i j d before hj
+    | inr after ↦ omega (arith, two_in_order f xs j i d after hi)
+  ]
+]

@@ -1,7 +1,7 @@
 -- Rules of a node are steps of accounts.
 use Rattle.std.proofs.Common.{◌≡◌, ◌≢◌, ℕ, zero, suc, ◌+◌, ◌<◌, inl, inr, List, [], ◌∷◌, ◌++◌, length, Option, Some, None, Bool, true, false, refl, sym, ap, subst, arith, ◌∙◌}
 use Rattle.std.specs.Prelude.{◌⊎◌, ◌||◌, ◌&&◌, ◌==◌, not, IsTrue, IsFalse, if◌then◌else◌, nat_lt, fold, is_some, remove, slice_index_or, slice_set}
-use Rattle.std.proofs.lemmas.Bool.{and_parts, or_cases, eq-eqb, ne_eqb, eqb-true, cases_eq}
+use Rattle.std.proofs.lemmas.Bool.{both_ways, not-true, and_parts, or_cases, eq-eqb, ne_eqb, eqb-true, cases_eq}
 use Rattle.std.specs.List.{AllByRecursion, filter_map, cons_option}
 use Rattle.std.proofs.lemmas.List.{get_or-set_same, get_or-set_other, length-set}
 use Rattle.lt_modes.specs.declared.mode.Mode.{Mode}
@@ -45,24 +45,20 @@ fails_within : (mode : Mode) (more fewer : Modes) → ((m : Mode) → IsTrue (ha
     → IsFalse (has mode (bars fewer))
 fails_within mode more fewer within fails = not_bars fewer mode (λ bar. bars_not more mode fails (below_by_members fewer more within mode bar))
 
-not_true : (t : Bool) → not t ≡ true → t ≡ false
-not_true true e = cc
-not_true false e = refl
-
 pub grants_by_rule : GrantsByRule
 grants_by_rule me clock client mode s entry tells copies against_all can own charge =
     elim (or_cases (covers (own_modes s.held client) mode) (not (has mode (bars (other_modes s.held client))) && may_join me s client mode s.desk) can) [
       | inl covered ↦ inl covered
       | inr joins ↦
           let parts = and_parts (not (has mode (bars (other_modes s.held client)))) (may_join me s client mode s.desk) joins in
-          inr (not_true (has mode (bars (other_modes s.held client))) parts.0, by_desk s.desk refl parts.1)
+          inr (not-true (has mode (bars (other_modes s.held client))) parts.0, by_desk s.desk refl parts.1)
     ]
   where
     by_desk : (o : Option Desk) → s.desk ≡ o → may_join me s client mode o ≡ true
         → MayJoin against_all mode (own_account true clock entry tells copies s) (is_some o)
     by_desk None away e = (charge away, (and_parts (covers s.charge mode) (not (has mode s.frozen)) e).0)
     by_desk (Some desk) here e =
-        let fails = not_true (has mode (bars (against me s client desk))) e in
+        let fails = not-true (has mode (bars (against me s client desk))) e in
         let waiting = asks_before s client desk in
         fails_within mode (against me s client desk) (union against_all (owed_and_waiting (own_account true clock entry tells copies s)))
         (λ m member. elim (has-union m against_all (owed_and_waiting (own_account true clock entry tells copies s)) member) [
@@ -81,7 +77,7 @@ frozen_is_not_granted me client mode s away can =
       | inr joins ↦
           let joined = (and_parts (not (has mode (bars (other_modes s.held client)))) (may_join me s client mode s.desk) joins).1 in
           let alone : may_join me s client mode None ≡ true = ap (may_join me s client mode) (sym away) ∙ joined in
-          inr (not_true (has mode s.frozen) (and_parts (covers s.charge mode) (not (has mode s.frozen)) alone).1)
+          inr (not-true (has mode s.frozen) (and_parts (covers s.charge mode) (not (has mode s.frozen)) alone).1)
     ]
 
 -- routing changes neither rows, charge nor unanswered asks, and leaves the desk where it is
@@ -145,30 +141,27 @@ served_by_kind me s desk seen ask e =
           inl (record {
             node = same;
             free = subst (λ (v : ℕ). IsFalse (has ask.mode (bars (others me s desk v)))) same free;
-            local = not_true (has ask.mode (bars (union (other_modes s.held ask.client) (own_owed me s desk)))) tests.1;
+            local = not-true (has ask.mode (bars (union (other_modes s.held ask.client) (own_owed me s desk)))) tests.1;
           })
       | inr copy ↦
           let tests = and_parts (not (ask.node == me)) (covers (others me s desk ask.node) ask.mode && is_clear_at_home me s desk ask) copy in
           let more = and_parts (covers (others me s desk ask.node) ask.mode) (is_clear_at_home me s desk ask) tests.1 in
-          let other : (ask.node == me) ≡ false = not_true (ask.node == me) tests.0 in
+          let other : (ask.node == me) ≡ false = not-true (ask.node == me) tests.0 in
           inr (record {
-            node = λ same. both (ask.node == me) (eq-eqb ask.node me same) other;
+            node = λ same. both_ways (ask.node == me) other (eq-eqb ask.node me same);
             free = free;
             covered = more.0;
             clear = subst (λ (b : Bool). IsFalse (has ask.mode (bars (if b then own_part me s desk else record_of (entry_of desk ask.node))))) other
-                (not_true (has ask.mode (bars (if ask.node == me then own_part me s desk else record_of (entry_of desk ask.node)))) more.1);
+                (not-true (has ask.mode (bars (if ask.node == me then own_part me s desk else record_of (entry_of desk ask.node)))) more.1);
           })
     ]
   where
-    both : {A : Type 0} (t : Bool) → t ≡ true → t ≡ false → A
-    both t p q = let no : true ≡ false = sym p ∙ q in cc
-
     parts : IsTrue (is_free me s desk seen ask) × IsTrue (is_local me s desk ask || is_copy me s desk ask)
     parts = and_parts (is_free me s desk seen ask) (is_local me s desk ask || is_copy me s desk ask) e
 
     free : IsFalse (has ask.mode (bars (others me s desk ask.node)))
     free = fails_within ask.mode (union (others me s desk ask.node) seen) (others me s desk ask.node) (λ m member. has-left m (others me s desk ask.node) seen member)
-        (not_true (has ask.mode (bars (union (others me s desk ask.node) seen))) parts.0)
+        (not-true (has ask.mode (bars (union (others me s desk ask.node) seen))) parts.0)
 
 pub serves_by_rule : ServesByRule
 serves_by_rule me k s desk here e =

@@ -68,7 +68,7 @@ clock_moves script w q (Take p) enabled = by_letters (w.mail p q) (has_mail_part
     by_letters [] e = cc
     by_letters (letter ∷ rest) e = (ap (λ (m : NodeState). m.clock) (put-same w.node q (node_take q letter (w.node q)).node), omega arith)
 
-opened-node : (w : World) (q : ℕ) (step : Step) (x : ℕ) → (opened w q step).node x ≡ w.node x
+pub opened-node : (w : World) (q : ℕ) (step : Step) (x : ℕ) → (opened w q step).node x ≡ w.node x
 opened-node w q (Act client) x = refl
 opened-node w q (Take p) x = refl
 

@@ -1,28 +1,161 @@
--- A `try` tells exactly whether the node can grant the mode.
-use Rattle.std.proofs.Common.{◌≡◌, ◌+◌, List, ◌∷◌, ◌++◌, Option, None, Bool, true, false, refl, sym, subst}
-use Rattle.std.specs.Prelude.{if◌then◌else◌}
+-- A `try` tells exactly whether the node can grant the mode, and nothing else tells a `try` line.
+use Rattle.std.proofs.Common.{◌≡◌, ℕ, zero, suc, ◌+◌, List, [], ◌∷◌, Option, Some, None, Bool, true, false, refl, sym, ap, subst, take as take_first, drop as drop_front}
+use Rattle.std.specs.Prelude.{slice_get, All, IsTrue}
+use Rattle.std.specs.List.{AllByRecursion}
+use Rattle.std.proofs.lemmas.List.Elements.{All-from_recursion}
+use Rattle.lt_modes.specs.declared.stamp.Stamp.{Stamp}
 use Rattle.lt_modes.specs.declared.command.Command.{Command}
+use Rattle.lt_modes.specs.declared.command.Command.TheVariants.{Lock, Unlock, Try as TryCommand, Change, DropAll}
 use Rattle.lt_modes.specs.declared.event.Event.{Event}
-use Rattle.lt_modes.specs.declared.event.Event.TheVariants.{Try as TryLine}
+use Rattle.lt_modes.specs.declared.event.Event.TheVariants.{Grant, Wait, Try, Unlock as UnlockLine, NotHeld, Change as ChangeLine, DropAll as Dropped, Busy, Copy, Freeze, Token}
+use Rattle.lt_modes.specs.declared.moves.Step.{Step}
+use Rattle.lt_modes.specs.declared.moves.Step.TheVariants.{Act, Take}
+use Rattle.lt_modes.specs.Script.{ScriptData}
+use Rattle.lt_modes.specs.State.{SetState, Letter}
 use Rattle.lt_modes.specs.Made.{Made}
 use Rattle.lt_modes.specs.Granting.{can_grant}
-use Rattle.lt_modes.specs.SetMove.{answers, given}
-use Rattle.lt_runs.specs.NodeMove.{act_stamp, obey, at_clock, one_made}
 use Rattle.lt_modes.specs.Telling.{finish}
+use Rattle.lt_modes.specs.SetMove.{drop}
+use Rattle.lt_runs.specs.Families.{related}
+use Rattle.lt_runs.specs.Log.{Logged}
+use Rattle.lt_runs.specs.NodeMove.{NodeState, node_waits, next_command, touched, each_touched, drop_all, act_stamp, take_stamp, at_clock, one_made, obey}
+use Rattle.lt_runs.specs.World.{World, start, is_enabled, take_front, node_move, after, after_run, IsMove, IsRunFrom}
 use Rattle.lt_runs.specs.Facts.{state_at}
-use Rattle.lt_model.specs.Laws.{TryIsExact}
+use Rattle.lt_model.specs.TryLines.{IsNoTry, IsExactTry, IsOwnAnswer}
+use Rattle.lt_model.specs.Laws.{TryIsExact, TriesAreExact, TriesInRuns}
+use Rattle.lt_lists.proofs.AllLemmas.{all_append, all_weaker}
+use Rattle.lt_lists.proofs.Members.{some_equal}
+use Rattle.lt_model.proofs.TryEffects.{AreNoTries, finish_none, lock_none, try_none, unlock_none, change_none, drop_none, take_none}
+use Rattle.lt_model.proofs.HomesMove.{maker}
+
+-- only the first line for a command may be a `try` line, which answers it
+abbrev IsAnswered : ℕ → NodeState → ℕ → Option Command → List Event → Type 0
+IsAnswered q n client (Some (TryCommand s mode)) lines =
+    (rest : List Event) × (lines ≡ Try client s mode (can_grant q (n.set s) client mode) ∷ rest) × AreNoTries rest
+IsAnswered q n client command lines = AreNoTries lines
+
+each_none : (rule : ℕ → SetState → Made) → ((set : ℕ) (t : SetState) → AreNoTries (rule set t).events) → (sets : List ℕ) (n : NodeState)
+    → AreNoTries (each_touched rule sets n).events
+each_none rule each [] n = tt
+each_none rule each (set ∷ rest) n =
+    let m = rule set (n.set set) in
+    let next = (touched n set m).node in
+    all_append IsNoTry m.events (each_touched rule rest next).events (each set (n.set set)) (each_none rule each rest next)
+
+drop_all_none : (waiting : Bool) (stamp : Stamp) (client other s : ℕ) (sets : List ℕ) (n : NodeState)
+    → AreNoTries (drop_all waiting stamp client other s sets n).events
+drop_all_none true stamp client other s sets n = (tt, each_none (λ k. finish k stamp) (λ k t. finish_none k stamp t) sets n)
+drop_all_none false stamp client other s sets n = (tt, each_none (λ k. drop k stamp other) (λ k t. drop_none k stamp other t) sets n)
+
+obey_answered : (script : ScriptData) (stamp : Stamp) (client : ℕ) (command : Option Command) (n : NodeState)
+    → IsAnswered stamp.node n client command (obey script stamp client command n).events
+obey_answered script stamp client None n = tt
+obey_answered script stamp client (Some (Lock s mode)) n = lock_none s stamp client mode (n.set s)
+obey_answered script stamp client (Some (TryCommand s mode)) n = try_none s stamp client mode (n.set s)
+obey_answered script stamp client (Some (Unlock s mode)) n = unlock_none s stamp client mode (n.set s)
+obey_answered script stamp client (Some (Change s gives_up mode)) n = change_none s stamp client gives_up mode (n.set s)
+obey_answered script stamp client (Some (DropAll other s)) n = drop_all_none (node_waits script n other) stamp client other s (related script s) n
 
 pub try_is_exact : TryIsExact
 try_is_exact script w q client s mode e =
-    subst (λ (command : Option Command). (rest : List Event)
-    × ((obey script (act_stamp q (w.node q)) client command (one_made client (at_clock ((w.node q).clock + 1) (w.node q)))).events
-    ≡ TryLine client s mode (can_grant q (state_at w s q) client mode) ∷ rest))
-    (sym e) (by_test (can_grant q (state_at w s q) client mode))
-  where
-    tried_by : Bool → Made
-    tried_by can = if can then answers (TryLine client s mode true) (given client mode None (state_at w s q)) else answers (TryLine client s mode false) (state_at w s q)
+    let n : NodeState = one_made client (at_clock ((w.node q).clock + 1) (w.node q)) in
+    let answered = subst (λ (command : Option Command). IsAnswered q n client command (obey script (act_stamp q (w.node q)) client (next_command script (w.node q) client) n).events)
+    e (obey_answered script (act_stamp q (w.node q)) client (next_command script (w.node q) client) n) in
+    (answered.0, answered.1)
 
-    by_test : (can : Bool) → (rest : List Event)
-        × ((tried_by can).events ++ (finish s (act_stamp q (w.node q)) (tried_by can).state).events ≡ TryLine client s mode can ∷ rest)
-    by_test true = ((finish s (act_stamp q (w.node q)) (tried_by true).state).events, refl)
-    by_test false = ((finish s (act_stamp q (w.node q)) (tried_by false).state).events, refl)
+-- a line that is no `try` line need not answer one
+any_exact : (script : ScriptData) (w : World) (q : ℕ) (step : Step) (line : Event) → IsNoTry line → IsExactTry script w q step line
+any_exact script w q step (Try client s mode got) none = absurd none
+any_exact script w q step (Grant client s mode) none = tt
+any_exact script w q step (Wait client s mode) none = tt
+any_exact script w q step (UnlockLine client s mode) none = tt
+any_exact script w q step (NotHeld client s mode) none = tt
+any_exact script w q step (ChangeLine client s gives_up mode) none = tt
+any_exact script w q step (Dropped client other s count) none = tt
+any_exact script w q step (Busy client other s) none = tt
+any_exact script w q step (Copy s to client mode) none = tt
+any_exact script w q step (Freeze s to number modes) none = tt
+any_exact script w q step (Token s to epoch) none = tt
+
+-- lines by recursion, of which only the first may be a `try` line
+record ExactTries (script : ScriptData) (w : World) (q : ℕ) (step : Step) (lines : List Event) : Type 0 where
+  first : AllByRecursion (IsExactTry script w q step) lines
+  later : AreNoTries (drop_front 1 lines)
+
+none_exact : (script : ScriptData) (w : World) (q : ℕ) (step : Step) (lines : List Event) → AreNoTries lines → ExactTries script w q step lines
+none_exact script w q step [] h = record { first = tt; later = tt }
+none_exact script w q step (line ∷ rest) h = record { first = all_weaker _ _ (any_exact script w q step) (line ∷ rest) h; later = h.1 }
+
+act_exact : (script : ScriptData) (w : World) (q client : ℕ) → ExactTries script w q (Act client) (node_move script w q (Act client)).events
+act_exact script w q client = by_command (next_command script (w.node q) client) refl
+  where
+    begins : NodeState
+    begins = one_made client (at_clock ((w.node q).clock + 1) (w.node q))
+
+    by_command : (command : Option Command) → next_command script (w.node q) client ≡ command
+        → ExactTries script w q (Act client) (obey script (act_stamp q (w.node q)) client command begins).events
+    by_command None e = record { first = tt; later = tt }
+    by_command (Some (Lock s mode)) e = none_exact script w q (Act client) _ (obey_answered script (act_stamp q (w.node q)) client (Some (Lock s mode)) begins)
+    by_command (Some (TryCommand s mode)) e =
+        let tried = try_none s (act_stamp q (w.node q)) client mode (begins.set s) in
+        subst (ExactTries script w q (Act client)) (sym tried.1) (record {
+          first = (record { act = refl; command = e; answer = refl }, all_weaker _ _ (any_exact script w q (Act client)) tried.0 tried.2);
+          later = tried.2;
+        })
+    by_command (Some (Unlock s mode)) e = none_exact script w q (Act client) _ (obey_answered script (act_stamp q (w.node q)) client (Some (Unlock s mode)) begins)
+    by_command (Some (Change s gives_up mode)) e =
+        none_exact script w q (Act client) _ (obey_answered script (act_stamp q (w.node q)) client (Some (Change s gives_up mode)) begins)
+    by_command (Some (DropAll other s)) e =
+        none_exact script w q (Act client) _ (obey_answered script (act_stamp q (w.node q)) client (Some (DropAll other s)) begins)
+
+move_exact : (script : ScriptData) (w : World) (q : ℕ) (step : Step) → ExactTries script w q step (node_move script w q step).events
+move_exact script w q (Act client) = act_exact script w q client
+move_exact script w q (Take p) = by_letters (w.mail p q)
+  where
+    by_letters : (letters : List Letter) → ExactTries script w q (Take p) (take_front q (w.node q) letters).events
+    by_letters [] = record { first = tt; later = tt }
+    by_letters (letter ∷ rest) = none_exact script w q (Take p) _ (take_none (take_stamp q (w.node q) letter) letter ((w.node q).set letter.set))
+
+pub tries_are_exact : TriesAreExact
+tries_are_exact script w q step =
+    let h = move_exact script w q step in
+    record {
+      first = All-from_recursion (IsExactTry script w q step) (node_move script w q step).events h.first;
+      later = All-from_recursion IsNoTry (drop_front 1 (node_move script w q step).events) h.later;
+    }
+
+-- whoever acts is at home
+own_answer : (script : ScriptData) (w : World) (q : ℕ) (step : Step) → IsTrue (is_enabled script w q step) → (line : Event)
+    → IsExactTry script w q step line → IsOwnAnswer script w line
+own_answer script w q step enabled (Try client s mode got) h =
+    let own = maker script w q client (subst (λ (x : Step). IsTrue (is_enabled script w q x)) h.act enabled) in
+    subst (λ (x : ℕ). got ≡ can_grant x (state_at w s x) client mode) (sym own.own) h.answer
+own_answer script w q step enabled (Grant client s mode) h = tt
+own_answer script w q step enabled (Wait client s mode) h = tt
+own_answer script w q step enabled (UnlockLine client s mode) h = tt
+own_answer script w q step enabled (NotHeld client s mode) h = tt
+own_answer script w q step enabled (ChangeLine client s gives_up mode) h = tt
+own_answer script w q step enabled (Dropped client other s count) h = tt
+own_answer script w q step enabled (Busy client other s) h = tt
+own_answer script w q step enabled (Copy s to client mode) h = tt
+own_answer script w q step enabled (Freeze s to number modes) h = tt
+own_answer script w q step enabled (Token s to epoch) h = tt
+
+entry_exact : (script : ScriptData) (w : World) (entry : Logged) → IsMove script w entry → All (IsOwnAnswer script w) entry.events
+entry_exact script w entry move =
+    let q = entry.made.stamp.node in
+    let step = entry.made.step in
+    subst (λ (lines : List Event). All (IsOwnAnswer script w) lines) (sym (ap (λ (e : Logged). e.events) move.made))
+    (All-from_recursion (IsOwnAnswer script w) (node_move script w q step).events
+    (all_weaker _ _ (own_answer script w q step move.enabled) (node_move script w q step).events (move_exact script w q step).first))
+
+run_exact : (script : ScriptData) (run : List Logged) (w : World) → IsRunFrom script w run → (k : ℕ) (entry : Logged) → slice_get run k ≡ Some entry
+    → All (IsOwnAnswer script (after_run script w (take_first k run))) entry.events
+run_exact script [] w is_run k entry e = cc
+run_exact script (first ∷ rest) w is_run zero entry e =
+    subst (λ (x : Logged). All (IsOwnAnswer script w) x.events) (some_equal first entry e) (entry_exact script w first is_run.0)
+run_exact script (first ∷ rest) w is_run (suc k) entry e =
+    run_exact script rest (after script w first.made.stamp.node first.made.step) is_run.1 k entry e
+
+pub tries_in_runs : TriesInRuns
+tries_in_runs script run is_run k entry e = run_exact script run (start script) is_run k entry e

@@ -28,6 +28,7 @@ use Rattle.lt_lists.proofs.AllLemmas.{all_append, all_weaker, all_both}
 use Rattle.lt_lists.proofs.Members.{none_in}
 use Rattle.lt_lists.proofs.Puts.{put-same, put-other}
 use Rattle.lt_model.proofs.PathsMove.{has_mail_parts}
+use Rattle.lt_model.proofs.ClocksGrow.{opened-node}
 use Rattle.lt_model.proofs.RuleEffects.{command_rules}
 use Rattle.lt_model.proofs.HomesEffects.{AreAtHome, MadeAtHome, at_home, said_both, said_nothing, home_acts, finish_home, drop_home, take_home}
 
@@ -214,10 +215,6 @@ open_home : (script : ScriptData) (w : World) (q : ℕ) (step : Step) (a b : ℕ
 open_home script w q (Act client) a b letter h = h
 open_home script w q (Take p) a b letter h = before_take w.mail p q a b letter h
 
-open_node : (w : World) (q : ℕ) (step : Step) (x : ℕ) → (opened w q step).node x ≡ w.node x
-open_node w q (Act client) x = refl
-open_node w q (Take p) x = refl
-
 after_home : (script : ScriptData) (w : World) (bound q : ℕ) (step : Step) → Homes script w → IsMoveAtHome script bound q (node_move script w q step)
     → Homes script (after script w q step)
 after_home script w bound q step h made = record {
@@ -225,7 +222,7 @@ after_home script w bound q step h made = record {
     | inl e ↦ subst (λ (y : ℕ). IsStateAtHome script y ((later.node y).set s)) (sym e)
         (subst (λ (n : NodeState). IsStateAtHome script q (n.set s)) (sym (put-same (opened w q step).node q (node_move script w q step).node)) (made.node s))
     | inr d ↦ subst (λ (n : NodeState). IsStateAtHome script x (n.set s))
-        (sym (put-other (opened w q step).node q (node_move script w q step).node x d ∙ open_node w q step x)) (h.states x s)
+        (sym (put-other (opened w q step).node q (node_move script w q step).node x d ∙ opened-node w q step x)) (h.states x s)
   ];
   letters = all_sent (λ a b l. IsLetterAtHome script b l) q (node_move script w q step).posts (opened w q step).mail
       (λ a b l old. h.letters a b l (open_home script w q step a b l old))

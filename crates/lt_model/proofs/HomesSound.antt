@@ -1,10 +1,11 @@
--- What is at home is sound, as far as homes go.
-use Rattle.std.proofs.Common.{◌≡◌, ℕ, zero, suc, ◌<◌, List, [], ◌∷◌, length, map, refl, subst, arith, ◌∙◌}
-use Rattle.std.specs.Prelude.{IsTrue, slice_get, slice_index, filter_map}
+-- What is at home is sound, as far as homes go, and was made there.
+use Rattle.std.proofs.Common.{◌≡◌, ℕ, zero, suc, ◌<◌, List, [], ◌∷◌, length, map, refl, sym, ap, subst, arith, ◌∙◌}
+use Rattle.std.specs.Prelude.{IsTrue, All, Contains, slice_get, slice_index, filter_map}
 use Rattle.std.specs.List.{AllByRecursion}
 use Rattle.std.proofs.lemmas.Bool.{and_from, eq-eqb, lt-ltb}
 use Rattle.std.proofs.lemmas.List.{length-map}
-use Rattle.std.proofs.lemmas.List.Elements.{All-append, All-weaker, All-from_recursion, recursion_from_All}
+use Rattle.std.proofs.lemmas.List.Elements.{All-append, All-contains, All-weaker, All-from_recursion, recursion_from_All}
+use Rattle.lt_modes.specs.declared.stamp.Stamp.{Stamp}
 use Rattle.lt_modes.specs.declared.ask.Ask.{Ask}
 use Rattle.lt_modes.specs.declared.parts.Row.{Row}
 use Rattle.lt_modes.specs.Fits.{is_at_home, ask_if, parked_asks}
@@ -13,8 +14,9 @@ use Rattle.lt_modes.specs.Serving.{queue_of}
 use Rattle.lt_modes.specs.Sound.{SoundRow, SoundParked}
 use Rattle.lt_modes.specs.State.{SetState, Parked, ParkedAsk, ParkedTell}
 use Rattle.lt_model.specs.Homes.{IsWhole, IsRowAtHome, IsAskAtHome, IsAskOf, IsParkedAtHome, IsStateAtHome, IsSoundOwn, HasSoundHomes}
-use Rattle.lt_model.specs.HomeLaws.{HomesSound}
+use Rattle.lt_model.specs.HomeLaws.{HomesSound, StampsApart}
 use Rattle.lt_model.specs.SoundNode.{numbers_of}
+use Rattle.lt_model.proofs.HomesMove.{homes_in_runs}
 
 pub home_among : (clients : List ClientData) (k : ℕ) → k < length clients
     → slice_index (map (λ (client : ClientData). client.node) clients) k ≡ node_of_client (slice_get clients k)
@@ -62,3 +64,13 @@ sound_state script q s whole h = record {
 
 pub homes_sound : HomesSound
 homes_sound script w whole h x s = sound_state script x _ whole (h.states x s)
+
+-- an unanswered ask of node q was made in a move of q
+maker_of : (script : ScriptData) (q : ℕ) (asks : List Ask) (ask : Ask) → All (IsAskOf script q) asks → Contains asks ask → ask.stamp.node ≡ q
+maker_of script q asks ask each among = let own = All-contains (IsAskOf script q) asks ask each among in own.0.maker ∙ own.1
+
+pub stamps_apart : StampsApart
+stamps_apart script run whole is_run k s t x y a b first second d e =
+    let homes = homes_in_runs script run whole is_run k in
+    d (sym (maker_of script x _ a (homes.states x s).pending first)
+    ∙ (ap (λ (stamp : Stamp). stamp.node) e ∙ maker_of script y _ b (homes.states y t).pending second))

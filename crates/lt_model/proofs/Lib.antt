@@ -18,6 +18,7 @@ pub mod StandingMove
 pub mod StandingInRuns
 pub mod FreezeServes
 pub mod ServedMove
+pub mod TryEffects
 pub mod ExactTry
 pub mod OthersStay
 pub mod ClocksGrow

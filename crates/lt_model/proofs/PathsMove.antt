@@ -43,7 +43,7 @@ sent-sent q first second mail = fun_ext (λ a. fun_ext (λ b. by_test a b (a == 
         ∙ ap (λ (l : List Letter). mail a b ++ l) (sym (filter_map-append (letter_for b) first second))
     by_test a b false = append_assoc (mail a b) [] []
 
-sent-none : (q : ℕ) (mail : ℕ → ℕ → List Letter) → mail ≡ sent q [] mail
+pub sent-none : (q : ℕ) (mail : ℕ → ℕ → List Letter) → mail ≡ sent q [] mail
 sent-none q mail = fun_ext (λ a. fun_ext (λ b. by_test a b (a == q)))
   where
     by_test : (a b : ℕ) (own : Bool) → mail a b ≡ mail a b ++ (if own then [] else [])

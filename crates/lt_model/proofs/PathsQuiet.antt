@@ -24,7 +24,7 @@ use Rattle.lt_runs.specs.Facts.{tokens_in}
 use Rattle.lt_lists.specs.Below.{one_if}
 use Rattle.lt_model.specs.Paths.{IsTrueLink, IsNamed, IsParkedNamed, DeskOnPath, HasWay, StateOnPath, BodyOnPath}
 use Rattle.lt_model.specs.PathEffects.{Ground, Quiet}
-use Rattle.lt_lists.proofs.Members.{all_none}
+use Rattle.std.proofs.lemmas.List.Elements.{All-nil}
 use Rattle.lt_lists.proofs.AllLemmas.{all_append, all_map, all_weaker}
 
 pub link_named : (nodes : ℕ) (went : List ℕ) (link : Link) → Ground nodes went → IsTrueLink went link → link.node < nodes
@@ -200,11 +200,11 @@ token_on_path nodes went x desk s d h = record {
     sym (all_dealt_epoch s.parked desk),
   );
   hoped = tt;
-  parked = all_none _;
+  parked = All-nil _;
 }
 
 queue_named : (nodes : ℕ) (went : List ℕ) (x : ℕ) (firm : Link) (desk : Option Desk) → HasWay nodes went x firm desk → All (IsNamed nodes) (queue_of_desk desk)
-queue_named nodes went x firm None way = all_none _
+queue_named nodes went x firm None way = All-nil _
 queue_named nodes went x firm (Some desk) way = way.0.queue
 
 -- an ask in the queue is of a node of the script

@@ -26,6 +26,7 @@ use Rattle.lt_model.proofs.StartKept.{served_if}
 use Rattle.lt_model.proofs.Effects.{Fact, EndEffects, ActEffects, acts_by_effects, take_by_effects}
 use Rattle.lt_model.proofs.NodeMoves.{obey-beside, touched-beside}
 use Rattle.lt_model.proofs.NodeEffects.{once_or_aside, obey_by_effects}
+use Rattle.lt_model.proofs.ClocksGrow.{opened-node}
 use Rattle.lt_model.proofs.FreezeServes.{next_service-freeze}
 
 -- nothing is known yet
@@ -101,10 +102,6 @@ step_served script w s q (Take p) h = by_letters (w.mail p q)
     by_letters [] = h
     by_letters (letter ∷ rest) = take_served s q letter (w.node q) h
 
-opened-node : (w : World) (q : ℕ) (step : Step) → (opened w q step).node ≡ w.node
-opened-node w q (Act client) = refl
-opened-node w q (Take p) = refl
-
 pub served_kept : ServedKept
 served_kept script w s h q step enabled t desk is_desk = elim (cases_eq t q) [
   | inl e ↦
@@ -117,7 +114,7 @@ served_kept script w s h q step enabled t desk is_desk = elim (cases_eq t q) [
       (ended desk (ap (λ (n : NodeState). (n.set s).desk) (sym at_q) ∙ is_desk.1)))
   | inr d ↦
       let same : (after script w q step).node t ≡ w.node t =
-      put-other (opened w q step).node q (node_move script w q step).node t d ∙ ap (λ (f : ℕ → NodeState). f t) (opened-node w q step) in
+      put-other (opened w q step).node q (node_move script w q step).node t d ∙ opened-node w q step t in
       subst (λ (n : NodeState). (next_service t (n.set s) ≡ None) × (next_move t (n.set s) ≡ None)) (sym same)
       (h t desk (is_desk.0, ap (λ (n : NodeState). (n.set s).desk) (sym same) ∙ is_desk.1))
 ]

@@ -13,7 +13,8 @@ use Rattle.lt_model.specs.Standing.{IsMadeBy, AsksStand}
 use Rattle.lt_model.specs.Laws.{StandingInRuns, StandsOnce, OnePlace}
 use Rattle.lt_lists.proofs.Sums.{sum_below-some, sum_below-change, sum_below-none}
 use Rattle.lt_model.proofs.StartKept.{places_start, paths_start}
-use Rattle.lt_lists.proofs.Members.{all_none, none_in}
+use Rattle.std.proofs.lemmas.List.Elements.{All-nil}
+use Rattle.lt_lists.proofs.Members.{none_in}
 use Rattle.lt_model.proofs.PathsMove.{move_kept}
 use Rattle.lt_accounts.proofs.Asks.{times_in-some, times_in-found, times_in-none, times_in-once}
 use Rattle.lt_model.proofs.StandingMove.{standing_kept}
@@ -21,7 +22,7 @@ use Rattle.lt_model.proofs.StandingMove.{standing_kept}
 standing_start : (script : ScriptData) (s : ℕ) → AsksStand script (start script) s
 standing_start script s = record {
   places = record { once = λ ask. places_start script s ask; home = λ x ask h c. none_in c.1 c.3.among };
-  own = λ x below. all_none _;
+  own = λ x below. All-nil _;
   apart = λ x below. λ i j d before within. absurd (omega (arith, within));
 }
 

@@ -1,9 +1,10 @@
 -- The start of each script has the invariant.
 use Rattle.lt_accounts.proofs.FirstAccount.{empty_account, empty_is_kept}
 use Rattle.lt_accounts.proofs.ModeMembers.{none_has}
-use Rattle.lt_lists.proofs.Sums.{sum_zero, sum_same, sum_first}
+use Rattle.lt_lists.proofs.Sums.{sum_below-none, sum_first}
 use Rattle.lt_lists.proofs.Gathering.{gather_none}
-use Rattle.lt_lists.proofs.Members.{none_in, all_none}
+use Rattle.std.proofs.lemmas.List.Elements.{All-nil}
+use Rattle.lt_lists.proofs.Members.{none_in}
 use Rattle.std.proofs.Common.{◌≡◌, ◌≢◌, ℕ, zero, suc, ◌<◌, inl, inr, List, [], ◌∷◌, ◌++◌, length, Option, Some, None, Bool, true, false, refl, sym, ap, subst, arith, ◌∙◌}
 use Rattle.std.specs.Prelude.{◌==◌, if◌then◌else◌, IfSome, IsTrue, is_some, slice_index_or, unwrap_or}
 use Rattle.std.proofs.lemmas.Bool.{ne_eqb, eqb-true}
@@ -46,42 +47,42 @@ state_if nodes here = record {
 
 sound_if : (numbers : Numbers) (q : ℕ) (here : Bool) → 0 < numbers.nodes → SoundSet numbers q false false 0 (state_if numbers.nodes here)
 sound_if numbers q true h = record {
-  rows = all_none _;
+  rows = All-nil _;
   rows_apart = λ i j d before below. absurd (omega (arith, below));
-  pending = all_none _;
+  pending = All-nil _;
   one_ask = λ i j d before below. absurd (omega (arith, below));
   stamps_apart = λ i j d before below. absurd (omega (arith, below));
-  made = all_none _;
-  here = all_none _;
+  made = All-nil _;
+  here = All-nil _;
   apart = refl;
   desk = (refl, omega arith, omega arith, length-replicate numbers.nodes _);
   epoch = omega arith;
   number = omega arith;
   firm = h;
   hoped = tt;
-  parked = all_none _;
+  parked = All-nil _;
 }
 sound_if numbers q false h = record {
-  rows = all_none _;
+  rows = All-nil _;
   rows_apart = λ i j d before below. absurd (omega (arith, below));
-  pending = all_none _;
+  pending = All-nil _;
   one_ask = λ i j d before below. absurd (omega (arith, below));
   stamps_apart = λ i j d before below. absurd (omega (arith, below));
-  made = all_none _;
-  here = all_none _;
+  made = All-nil _;
+  here = All-nil _;
   apart = refl;
   desk = refl;
   epoch = omega arith;
   number = omega arith;
   firm = h;
   hoped = tt;
-  parked = all_none _;
+  parked = All-nil _;
 }
 
 clients_start : (script : ScriptData) (q : ℕ) → ClientsKept script ((start script).node q)
 clients_start script q = record {
-  one_ask = λ client. omega (arith, sum_zero (length script.sets));
-  counts = λ client. omega (arith, sum_zero (length script.sets));
+  one_ask = λ client. omega (arith, sum_below-none (length script.sets) (λ k. 0) (λ k below. refl));
+  counts = λ client. omega (arith, sum_below-none (length script.sets) (λ k. 0) (λ k below. refl));
 }
 
 no_comes : {A : Type 0} (script : ScriptData) (s q : ℕ) (body : Body) → Comes script (start script) s q body → A
@@ -186,7 +187,7 @@ sum_tokens (suc n) nodes h = sum_first n (λ q. one_if (is_some (state_if nodes 
     ap (λ (b : Bool). one_if (is_some (state_if nodes b).desk)) (ne_eqb (suc k) 0 (λ e. omega (arith, e))))
 
 letters_zero : (n : ℕ) → sum_below n (λ p. sum_below n (λ q. 0)) ≡ 0
-letters_zero n = sum_same n _ _ (λ p. sum_zero n) ∙ sum_zero n
+letters_zero n = sum_below-none n (λ p. sum_below n (λ q. 0)) (λ p below. sum_below-none n (λ q. 0) (λ q under. refl))
 
 places_if : (ask : Ask) (nodes : ℕ) (here : Bool) → places_in_state ask (state_if nodes here) ≡ 0
 places_if ask nodes true = refl
@@ -196,8 +197,8 @@ pub places_start : (script : ScriptData) (s : ℕ) (ask : Ask)
     → place_count script (start script) s ask ≡ sum_below script.nodes (λ x. times_in ask (state_at (start script) s x).pending)
 places_start script s ask = omega (
   arith,
-  sum_same script.nodes (λ q. places_in_state ask (state_if script.nodes (q == 0))) (λ q. 0) (λ q. places_if ask script.nodes (q == 0)),
-  sum_zero script.nodes,
+  sum_below-none script.nodes (λ q. places_in_state ask (state_if script.nodes (q == 0))) (λ q below. places_if ask script.nodes (q == 0)),
+  sum_below-none script.nodes (λ q. 0) (λ q below. refl),
   letters_zero script.nodes,
 )
 
@@ -207,7 +208,7 @@ way_start nodes x true e = (
     epoch = refl;
     node = sym (eqb-true x 0 e);
     entries = length-replicate nodes _;
-    queue = all_none _;
+    queue = All-nil _;
   },
   sym (eqb-true x 0 e),
   refl,
@@ -225,7 +226,7 @@ paths_start script s some = record {
     link = record { epoch = omega arith; node = refl };
     way = way_start script.nodes x (x == 0) refl;
     hoped = hoped_start script.nodes x (x == 0);
-    parked = all_none _;
+    parked = All-nil _;
   };
   beyond = λ x above. ap (λ (here : Bool). (state_if script.nodes here).desk) (ne_eqb x 0 (λ e. omega (arith, e, above, some)));
   letters = λ p q letter below on. none_in letter on.among;
@@ -242,7 +243,7 @@ set_start script s some = record {
   letters = λ p q letter hp hq on. none_in letter on.among;
   states = λ x h. sound_if (numbers_of script) x (x == 0) some;
   places = record { once = λ ask. places_start script s ask; home = λ x ask h c. no_comes script s x _ c };
-  parked = λ x h. all_none _;
+  parked = λ x h. All-nil _;
   known = λ place desk h.
       subst (λ (d : Desk). DeskKept script Between (start script) s place d) (sym (desk_first script s place desk h)) (desk_kept script s place);
   served = λ t desk between h. served_if script.nodes t (t == 0);
@@ -251,7 +252,7 @@ set_start script s some = record {
 pub start_kept : (script : ScriptData) → 0 < script.nodes → Kept script (start script)
 start_kept script some = record {
   clients = λ q h. clients_start script q;
-  letters = λ p q hp hq. all_none _;
+  letters = λ p q hp hq. All-nil _;
   none_to_itself = λ q h. refl;
   sets = λ s h. set_start script s some;
 }

@@ -1,5 +1,6 @@
 -- Whose locks and asks a node has, as laws over moves and runs.
-use Rattle.std.specs.Prelude.{◌≤◌, ℕ, List, length, take, All, IsTrue}
+use Rattle.std.specs.Prelude.{◌≤◌, ◌≢◌, ℕ, List, length, take, All, IsTrue, Contains}
+use Rattle.lt_modes.specs.declared.ask.Ask.{Ask}
 use Rattle.lt_modes.specs.declared.moves.Step.{Step}
 use Rattle.lt_modes.specs.Script.{ScriptData}
 use Rattle.lt_runs.specs.Log.{Logged}
@@ -27,6 +28,12 @@ LinesInRuns = (script : ScriptData) (run : List Logged) → IsWhole script → I
 -- the lines of a run add no more locks than there are moves
 abbrev pub FewAdded : Type 0
 FewAdded = (script : ScriptData) (run : List Logged) → IsWhole script → IsRun script run → added_by (lines_of run) ≤ length run
+
+-- in a run unanswered asks of different nodes have different stamps, also for different sets
+abbrev pub StampsApart : Type 0
+StampsApart = (script : ScriptData) (run : List Logged) → IsWhole script → IsRun script run → (k s t x y : ℕ) (a b : Ask)
+    → Contains (state_at (world_after script (take k run)) s x).pending a
+    → Contains (state_at (world_after script (take k run)) t y).pending b → x ≢ y → a.stamp ≢ b.stamp
 
 -- what is at home is sound, as far as homes go
 abbrev pub HomesSound : Type 0

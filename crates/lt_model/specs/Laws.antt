@@ -1,5 +1,5 @@
 -- The laws over worlds and runs, as statements.
-use Rattle.std.specs.Prelude.{◌≡◌, ◌≢◌, ◌≤◌, ◌<◌, ℕ, List, [], ◌∷◌, Option, Some, None, take, IsTrue, Contains}
+use Rattle.std.specs.Prelude.{◌≡◌, ◌≢◌, ◌≤◌, ◌<◌, ℕ, List, [], ◌∷◌, Option, Some, None, take, slice_get, IsTrue, All, Contains}
 use Rattle.lt_modes.specs.declared.ask.Ask.{Ask}
 use Rattle.lt_modes.specs.declared.mode.Mode.{Mode}
 use Rattle.lt_modes.specs.declared.command.Command.TheVariants.{Try}
@@ -20,6 +20,7 @@ use Rattle.lt_model.specs.Touches.{IsAside, SameSet, AreStamped}
 use Rattle.lt_model.specs.Invariant.{IsServed, Kept, LinesKept}
 use Rattle.lt_model.specs.Timed.{Timed}
 use Rattle.lt_model.specs.Standing.{AsksStand}
+use Rattle.lt_model.specs.TryLines.{HasExactTries, IsOwnAnswer}
 
 -- the start of each script has the invariant
 abbrev pub StartKept : Type 0
@@ -115,7 +116,16 @@ ServedKept = (script : ScriptData) (w : World) (s : ℕ) → IsServed script w s
 abbrev pub ServedInRuns : Type 0
 ServedInRuns = (script : ScriptData) (run : List Logged) → IsRun script run → (k s : ℕ) → IsServed script (world_after script (take k run)) s
 
--- a `try` tells exactly whether the node can grant the mode in the world before the move
+-- the move of a `try` begins with its line, which tells exactly whether the node can grant the mode in the world before the move
 abbrev pub TryIsExact : Type 0
 TryIsExact = (script : ScriptData) (w : World) (q client s : ℕ) (mode : Mode) → next_command script (w.node q) client ≡ Some (Try s mode)
     → (rest : List Event) × ((node_move script w q (Act client)).events ≡ TryLine client s mode (can_grant q (state_at w s q) client mode) ∷ rest)
+
+-- and no other line of any move is a `try` line
+abbrev pub TriesAreExact : Type 0
+TriesAreExact = (script : ScriptData) (w : World) (q : ℕ) (step : Step) → HasExactTries script w q step (node_move script w q step).events
+
+-- in a run each `try` line tells whether the client's own node could grant the mode in the world before its move
+abbrev pub TriesInRuns : Type 0
+TriesInRuns = (script : ScriptData) (run : List Logged) → IsRun script run → (k : ℕ) (entry : Logged) → slice_get run k ≡ Some entry
+    → All (IsOwnAnswer script (world_after script (take k run))) entry.events

@@ -9,6 +9,7 @@ pub mod Invariant
 pub mod MomentLaws
 pub mod Timed
 pub mod Standing
+pub mod TryLines
 pub mod AccountRules
 pub mod OnWayLaws
 pub mod Homes

@@ -1,4 +1,5 @@
--- No node keeps, and no letter says, what is younger than its clock.
+-- No node keeps an epoch or a freeze number, and no letter says an epoch, a freeze number or a tell, that is younger than its
+-- clock.
 use Rattle.std.specs.Prelude.{◌≤◌, ◌<◌, ℕ, IfSome}
 use Rattle.lt_modes.specs.Script.{ScriptData}
 use Rattle.lt_modes.specs.State.{SetState, Desk, Letter}

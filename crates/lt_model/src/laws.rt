@@ -1,7 +1,7 @@
-ghost use Rattle.lt_model.specs.MomentLaws.{MoveBegins, AsideStays, MovesInSteps};
+ghost use Rattle.lt_model.specs.MomentLaws.{MoveBegins, AsideStays, MovesInSteps, MovesAreParts};
 ghost use Rattle.lt_model.specs.PathEffects.{EffectsOnPath};
-ghost use Rattle.lt_model.specs.HomeLaws.{HomesKept, HomesInRuns, HomesSound, LinesInRuns, FewAdded};
-ghost use Rattle.lt_model.specs.Laws.{StartKept, StartLines, PathsKept, PathsInRuns, DeskSomewhere, TokenComes, OneToken, OthersStay, ClockMoves, OtherClocksStay, StampsKept, ClocksInRuns, TimedKept, TimedInRuns, StandingKept, StandingInRuns, StandsOnce, OnePlace, ServedKept, ServedInRuns, TryIsExact};
+ghost use Rattle.lt_model.specs.HomeLaws.{HomesKept, HomesInRuns, HomesSound, StampsApart, LinesInRuns, FewAdded};
+ghost use Rattle.lt_model.specs.Laws.{StartKept, StartLines, PathsKept, PathsInRuns, DeskSomewhere, TokenComes, OneToken, OthersStay, ClockMoves, OtherClocksStay, StampsKept, ClocksInRuns, TimedKept, TimedInRuns, StandingKept, StandingInRuns, StandsOnce, OnePlace, ServedKept, ServedInRuns, TryIsExact, TriesAreExact, TriesInRuns};
 
 /// The world invariant holds at the start of each script.
 pub fn law_start()
@@ -10,11 +10,12 @@ pub fn law_start()
 {}
 
 /// A set that is kept is kept in the middle form when a move begins, and as it was when a move doesn't touch it; and a move is
-/// a sequence of small steps of the world.
+/// made of its parts: on each set that it touches, the rule of the command or of the letter, and then the end of the move.
 pub fn law_moment()
     ensures begins { MoveBegins }
     ensures aside { AsideStays }
     ensures steps { MovesInSteps }
+    ensures parts { MovesAreParts }
 {}
 
 /// Links lead to the token of a set, of which there is one, and no enabled move changes that.
@@ -44,7 +45,8 @@ pub fn law_clocks()
     ensures run { ClocksInRuns }
 {}
 
-/// Epochs, freeze numbers and stamps that are kept or said are no younger than the clock of who keeps or says them.
+/// The epochs of firm links and desks and the freeze numbers that a node keeps are no younger than its clock; a letter is no
+/// younger than its sender, nor are its link, its tell's stamp, its freeze number and its desk younger than the letter.
 pub fn law_timed()
     ensures step { TimedKept }
     ensures run { TimedInRuns }
@@ -64,16 +66,19 @@ pub fn law_served()
     ensures run { ServedInRuns }
 {}
 
-/// A `try` is answered with `true` exactly where the client's node can grant the mode.
+/// A `try` is answered with `true` exactly where the client's node can grant the mode, and nothing else is answered so.
 pub fn law_exact_try()
-    ensures { TryIsExact }
+    ensures tells { TryIsExact }
+    ensures only { TriesAreExact }
+    ensures run { TriesInRuns }
 {}
 
-/// A node has locks and unanswered asks of its own clients alone, and letters are of sets of the script.
+/// A node has locks and unanswered asks of its own clients alone, made in its own moves, and letters are of sets of the script.
 pub fn law_homes()
     ensures step { HomesKept }
     ensures run { HomesInRuns }
     ensures sound { HomesSound }
+    ensures stamps { StampsApart }
 {}
 
 /// In a run of so many moves each line names what is of the script, no number in it is above the number of moves,

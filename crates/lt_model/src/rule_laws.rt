@@ -3,7 +3,7 @@ ghost use Rattle.lt_model.specs.NewsRules.{FreezingIsSteps, FreezesAreTaken, Des
 ghost use Rattle.lt_model.specs.OnWayLaws.{TellsAreOnWay, CopiesAreOnWay, FreezesAreOnWay};
 
 /// Rules of a node are steps of accounts: what a rule tests of modes is what its step asks of them, and what it changes is
-/// the step.
+/// the step. What a rule sends is not read: tells and copies on their way are arguments.
 pub fn law_account_rules()
     ensures grants { GrantsByRule }
     ensures frozen { FrozenIsNotGranted }
@@ -20,7 +20,8 @@ pub fn law_account_rules()
     ensures counts { RulesCount }
 {}
 
-/// Rules of a node are steps of news: what a rule changes is the step.
+/// Rules of a node are steps of news: what a rule changes is the step. What a rule sends is not read: freezes on their way are
+/// arguments.
 pub fn law_news_rules()
     ensures freezes { FreezingIsSteps }
     ensures takes { FreezesAreTaken }

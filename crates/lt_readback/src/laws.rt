@@ -2,10 +2,10 @@ ghost use Rattle.std.specs.Prelude.{◌≡◌, ◌<◌, ◌^◌, ℕ, List, Opti
 ghost use Rattle.lt_modes.specs.Script.{ScriptData};
 ghost use Rattle.lt_runs.specs.Log.{Logged};
 ghost use Rattle.lt_runs.specs.World.{IsRun};
-ghost use Rattle.lt_journal.specs.RunText.{text_of};
 ghost use Rattle.lt_script.specs.Script.{IsScript};
 ghost use Rattle.lt_journal.specs.Grammar.{journal_of};
 ghost use Rattle.lt_journal.specs.RunLines.{run_lines};
+ghost use Rattle.lt_journal.specs.Text.{text_of};
 ghost use Rattle.lt_journal.specs.LineFits.{FitsCut};
 
 /// What is written of a run is read as the run's lines, of every run whose moves can be counted in a line.

@@ -27,7 +27,8 @@ counted_in : {X : Type 0} (test : X → Bool) (xs : List X) → 1 ≤ count_by t
 counted_in test [] some = absurd (omega (arith, some))
 counted_in {X = X} test (first ∷ rest) some = by_test (test first) refl (λ more. counted_in test rest more)
   where
-    by_test : (passes : Bool) → test first ≡ passes → (1 ≤ count_by test rest → (x : X) × Contains rest x × (test x ≡ true)) → (x : X) × Contains (first ∷ rest) x × (test x ≡ true)
+    by_test : (passes : Bool) → test first ≡ passes → (1 ≤ count_by test rest → (x : X) × Contains rest x × (test x ≡ true))
+        → (x : X) × Contains (first ∷ rest) x × (test x ≡ true)
     by_test true e again = (first, (0, omega arith, refl), e)
     by_test false e again =
         let none : ◌≡◌ {A = ℕ} (if test first then 1 else 0) 0 = ap (λ (b : Bool). if b then 1 else 0) e in

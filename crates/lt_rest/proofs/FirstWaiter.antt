@@ -26,7 +26,6 @@ use Rattle.lt_model.proofs.AccountRules.{rules_count}
 use Rattle.lt_model.proofs.Gathered.{copies_are_on_way}
 use Rattle.lt_accounts.proofs.Rows.{held-which, other-which}
 use Rattle.lt_accounts.proofs.ModeMembers.{none_has}
-
 use Rattle.lt_rest.proofs.QuietRest.{no_letters, counts_held}
 use Rattle.lt_rest.specs.RestLaws.{IsBarred, FirstWaiterConflicts}
 
@@ -48,20 +47,24 @@ second_false true b e f = f
 second_false false b e f = cc
 
 -- the tests of the ask at place 0
-first_none : (me : ℕ) (t : SetState) (desk : Desk) (ask : Ask) (rest : List Ask) → next_from me t desk no_modes 0 (ask ∷ rest) ≡ None → move_from me t desk no_modes 0 (ask ∷ rest) ≡ None
+first_none : (me : ℕ) (t : SetState) (desk : Desk) (ask : Ask) (rest : List Ask) → next_from me t desk no_modes 0 (ask ∷ rest) ≡ None
+    → move_from me t desk no_modes 0 (ask ∷ rest) ≡ None
     → (is_served me t desk no_modes ask ≡ false) × (may_draw me t desk no_modes 0 ask ≡ false)
 first_none me t desk ask rest service draw = (by_service (is_served me t desk no_modes ask) refl service, by_draw (may_draw me t desk no_modes 0 ask) refl draw)
   where
-    by_service : (b : Bool) → is_served me t desk no_modes ask ≡ b → (if b then Some 0 else next_from me t desk (with_mode no_modes ask.mode) (0 + 1) rest) ≡ None → is_served me t desk no_modes ask ≡ false
+    by_service : (b : Bool) → is_served me t desk no_modes ask ≡ b
+        → (if b then Some 0 else next_from me t desk (with_mode no_modes ask.mode) (0 + 1) rest) ≡ None → is_served me t desk no_modes ask ≡ false
     by_service true e f = cc
     by_service false e f = e
 
-    by_draw : (b : Bool) → may_draw me t desk no_modes 0 ask ≡ b → (if b then Some 0 else move_from me t desk (with_mode no_modes ask.mode) (0 + 1) rest) ≡ None → may_draw me t desk no_modes 0 ask ≡ false
+    by_draw : (b : Bool) → may_draw me t desk no_modes 0 ask ≡ b
+        → (if b then Some 0 else move_from me t desk (with_mode no_modes ask.mode) (0 + 1) rest) ≡ None → may_draw me t desk no_modes 0 ask ≡ false
     by_draw true e f = cc
     by_draw false e f = e
 
 -- where it is free it is an own ask with which another client here conflicts
-free_own : (own other free local copy clear : Bool) → other ≡ not own → ((free && (local || copy)) ≡ false) → ((other && (free && (true || clear))) ≡ false) → free ≡ true → (own ≡ true) × (local ≡ false)
+free_own : (own other free local copy clear : Bool) → other ≡ not own → ((free && (local || copy)) ≡ false) → ((other && (free && (true || clear))) ≡ false)
+    → free ≡ true → (own ≡ true) × (local ≡ false)
 free_own own other false local copy clear o s d f = cc
 free_own own true true local copy clear o s d f = cc
 free_own true false true true copy clear o s d f = cc
@@ -121,7 +124,7 @@ first_waiter_conflicts script w s ask h rest (q, others_wait, under, queue) = by
 
         own_row : (ask.node ≡ q) → Bars (union (other_modes t.held ask.client) (own_owed q t desk)) ask.mode → IsBarred script w s ask
         own_row me bar = elim ((union_bars_both conflicts (other_modes t.held ask.client) (own_owed q t desk) ask.mode).0 bar) [
-          | inl other ↦ 
+          | inl other ↦
               let row = other-which t.held ask.client other.0 other.2 in
               record { node = q; row = row.0; within = under; held = row.1; other = row.2; conflict = subst (λ (m : Mode). IsTrue (conflicts ask.mode m)) (sym row.3) other.1 }
           | inr owed ↦
@@ -130,7 +133,9 @@ first_waiter_conflicts script w s ask h rest (q, others_wait, under, queue) = by
         ]
 
         by_free : (free : Bool) → is_free q t desk no_modes ask ≡ free → IsBarred script w s ask
-        by_free false f = of_other (bars_union-none (others q t desk ask.node) ask.mode (bars_from (union (others q t desk ask.node) no_modes) ask.mode (not_false (has ask.mode (bars (union (others q t desk ask.node) no_modes))) f)))
+        by_free false f =
+            of_other
+            (bars_union-none (others q t desk ask.node) ask.mode (bars_from (union (others q t desk ask.node) no_modes) ask.mode (not_false (has ask.mode (bars (union (others q t desk ask.node) no_modes))) f)))
         by_free true f =
             let own = free_own (ask.node == q) (not (ask.node == q)) (is_free q t desk no_modes ask) (is_local q t desk ask) (is_copy q t desk ask) (is_clear_at_home q t desk ask) refl tests.0 tests.1 f in
             let me = eqb-true ask.node q own.0 in

@@ -17,7 +17,6 @@ use Rattle.lt_accounts.proofs.NewsLemmas.{frozen_at_rest}
 use Rattle.lt_model.proofs.Gathered.{freezes_are_on_way}
 use Rattle.lt_accounts.proofs.Rows.{held-at}
 use Rattle.lt_model.proofs.TokenComes.{desk_somewhere}
-
 use Rattle.lt_rest.proofs.QuietRest.{no_letters}
 use Rattle.lt_lists.proofs.Members.{nothing_in}
 use Rattle.lt_rest.specs.RestLaws.{HoldersAreFrozen}
@@ -35,7 +34,8 @@ holders_are_frozen script w s x row h under rest held = at_desk found.0 found.1 
     found : (place : Option ℕ) × (desk : Desk) × DeskIs script w s place desk
     found = desk_somewhere script w s h.paths
 
-    at_desk : (place : Option ℕ) (desk : Desk) → DeskIs script w s place desk → (t : ℕ) × (desk : Desk) × DeskIs script w s (Some t) desk × ((state_at w s x).frozen ≡ frozen_by desk.queue)
+    at_desk : (place : Option ℕ) (desk : Desk) → DeskIs script w s place desk
+        → (t : ℕ) × (desk : Desk) × DeskIs script w s (Some t) desk × ((state_at w s x).frozen ≡ frozen_by desk.queue)
     at_desk None desk there = absurd (no_letters script w s there.0 (TokenBody desk) h.paths rest there.2)
     at_desk (Some t) desk there = (
       t,

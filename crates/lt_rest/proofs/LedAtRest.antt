@@ -22,7 +22,6 @@ use Rattle.lt_model.specs.Invariant.{IsParkedFor, SetKept}
 use Rattle.lt_model.proofs.StandingInRuns.{one_place_of}
 use Rattle.lt_lists.proofs.Sums.{sum_below-some, sum_below-none}
 use Rattle.lt_accounts.proofs.Asks.{times_in-found, same_ask-true}
-
 use Rattle.lt_rest.proofs.QuietRest.{no_letters}
 use Rattle.lt_rest.specs.RestLaws.{AsksAreLed}
 
@@ -52,7 +51,8 @@ record StandsAtRest (script : ScriptData) (w : World) (s : ℕ) (a older : Ask) 
   waits : Contains (state_at w s q).pending older
   behind : StandsBehind w s a older
 
-stands_at_rest : (script : ScriptData) (w : World) (s x : ℕ) (a : Ask) → SetKept script Between w s → IsTrue (is_at_rest script w) → x < script.nodes → Contains (state_at w s x).pending a
+stands_at_rest : (script : ScriptData) (w : World) (s x : ℕ) (a : Ask) → SetKept script Between w s → IsTrue (is_at_rest script w) → x < script.nodes
+    → Contains (state_at w s x).pending a
     → ((q : ℕ) × (q < script.nodes) × Contains (queue_of (state_at w s q)) a) ⊎ ((q : ℕ) × (older : Ask) × StandsAtRest script w s a older q)
 stands_at_rest script w s x a h rest below waits =
     let one = one_place_of script w s x a (kept_stands script w s h) below waits in
@@ -62,11 +62,13 @@ stands_at_rest script w s x a h rest below waits =
     let found = sum_below-some script.nodes (λ q. places_in_state a (state_at w s q)) (omega (arith, one, mail_none)) in
     at_node found.0 found.1 found.2 (cases_eq (times_in a (queue_of (state_at w s found.0))) 0)
   where
-    weighs_none : (p q : ℕ) (l : Letter) → p < script.nodes → Contains (w.mail p q) l → (own : Bool) → (l.set == s) ≡ own → (if own then places_in_body a l.body else 0) ≡ 0
+    weighs_none : (p q : ℕ) (l : Letter) → p < script.nodes → Contains (w.mail p q) l → (own : Bool) → (l.set == s) ≡ own
+        → (if own then places_in_body a l.body else 0) ≡ 0
     weighs_none p q l hp c true e = absurd (no_letters script w s q l.body h.paths rest (p, l, hp, record { among = c; set = eqb-true l.set s e }, refl))
     weighs_none p q l hp c false e = refl
 
-    at_node : (q : ℕ) → q < script.nodes → 0 < places_in_state a (state_at w s q) → (times_in a (queue_of (state_at w s q)) ≡ 0) ⊎ (times_in a (queue_of (state_at w s q)) ≢ 0)
+    at_node : (q : ℕ) → q < script.nodes → 0 < places_in_state a (state_at w s q)
+        → (times_in a (queue_of (state_at w s q)) ≡ 0) ⊎ (times_in a (queue_of (state_at w s q)) ≢ 0)
         → ((q : ℕ) × (q < script.nodes) × Contains (queue_of (state_at w s q)) a) ⊎ ((q : ℕ) × (older : Ask) × StandsAtRest script w s a older q)
     at_node q hq some (inr here) = inl (q, hq, times_in-found a (queue_of (state_at w s q)) (omega (arith, here)))
     at_node q hq some (inl none) = inr (held (parked_some a (state_at w s q).parked (omega (arith, some, none))))
@@ -103,7 +105,8 @@ older_before c v a older now below e = elim (or_cases (nat_lt older.clock a.cloc
       inr (omega (arith, eqb-true a.clock older.clock parts.0, now), omega (arith, ltb-true older.node a.node parts.1, below))
 ]
 
-led : (script : ScriptData) (w : World) (s : ℕ) → SetKept script Between w s → IsTrue (is_at_rest script w) → (c v x : ℕ) (a : Ask) → x < script.nodes → Contains (state_at w s x).pending a
+led : (script : ScriptData) (w : World) (s : ℕ) → SetKept script Between w s → IsTrue (is_at_rest script w) → (c v x : ℕ) (a : Ask) → x < script.nodes
+    → Contains (state_at w s x).pending a
     → IsBefore c v a.stamp → IsLedToQueue script w s a
 led script w s h rest c zero x a hx waits (inr (same, none)) = absurd (omega (arith, none))
 led script w s h rest zero v x a hx waits (inl none) = absurd (omega (arith, none))

@@ -22,7 +22,6 @@ use Rattle.lt_model.specs.Invariant.{IsParkedFor, SetKept}
 use Rattle.lt_modes.proofs.ModeAlgebra.{union_bars_both}
 use Rattle.lt_accounts.proofs.AccountFacts.{asks_bar-which, waiting_is_copy, below_by_bars}
 use Rattle.lt_model.proofs.Gathered.{tells_are_on_way, copies_are_on_way}
-
 use Rattle.lt_lists.proofs.Searches.{any_below_none}
 
 -- nothing is on its way
@@ -45,7 +44,8 @@ no_letters script w s q body paths rest (p, letter, below, on, says) =
     some (first ∷ rest) c = refl
 
 -- so nothing is told
-pub no_tells : (script : ScriptData) (w : World) (s x : ℕ) (tell : Tell) → SetKept script Between w s → IsTrue (is_at_rest script w) → Contains (tells_of script w s x) tell → ⊥
+pub no_tells : (script : ScriptData) (w : World) (s x : ℕ) (tell : Tell) → SetKept script Between w s → IsTrue (is_at_rest script w)
+    → Contains (tells_of script w s x) tell → ⊥
 no_tells script w s x tell h rest c =
     let on = (tells_are_on_way script w s x tell).0 c in
     elim on.3 [
@@ -56,7 +56,8 @@ no_tells script w s x tell h rest c =
     ]
 
 -- what counts of a node is what it holds
-pub counts_held : (script : ScriptData) (w : World) (s x : ℕ) (place : Option ℕ) (desk : Desk) → SetKept script Between w s → IsTrue (is_at_rest script w) → x < script.nodes → DeskIs script w s place desk
+pub counts_held : (script : ScriptData) (w : World) (s x : ℕ) (place : Option ℕ) (desk : Desk) → SetKept script Between w s → IsTrue (is_at_rest script w)
+    → x < script.nodes → DeskIs script w s place desk
     → IsBelow (counted (account_of script Between w s place desk x)) (held_modes (state_at w s x).held)
 counts_held script w s x place desk h rest below there mode bar = by_here (is_at place x) refl bar
   where

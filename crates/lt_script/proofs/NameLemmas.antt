@@ -1,11 +1,11 @@
 -- Where names are found, in a list that grows at its end.
-use Rattle.std.proofs.Common.{◌≡◌, ℕ, zero, suc, ◌+◌, ◌<◌, ◌≤◌, ◌||◌, Bool, true, false, List, [], ◌∷◌, ◌++◌, length, Option, Some, None, is_some, position, slice_get, refl, sym, ap, subst, ◌∙◌, inl, inr, arith, append_assoc, append-nil}
+use Rattle.std.proofs.Common.{◌≡◌, ℕ, zero, suc, ◌+◌, ◌<◌, ◌≤◌, Bool, true, false, List, [], ◌∷◌, ◌++◌, length, Option, Some, None, is_some, position, slice_get, refl, sym, ap, ◌∙◌, inl, inr, arith}
 use Rattle.std.specs.List.{position_from}
 use Rattle.std.specs.Str.{bytes_eq}
 use Rattle.std.proofs.lemmas.Bool.{cases_Bool, or_parts}
 use Rattle.std.proofs.lemmas.Slice.Eq.{bytes_eq-Decides}
 use Rattle.std.proofs.lemmas.Iterator.Adapters.{position_from-zero}
-use Rattle.lt_modes.specs.Script.{ScriptData, SetData, ClientData, name_of_set, name_of_client}
+use Rattle.lt_modes.specs.Script.{ScriptData, ClientData, name_of_client}
 use Rattle.lt_script.specs.Script.{set_number, client_number, is_declared}
 
 module _ {X : Type 0} (p : X → Bool) where

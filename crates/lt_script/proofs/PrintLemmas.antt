@@ -3,7 +3,7 @@ use Rattle.std.proofs.Common.{◌≡◌, ℕ, List, [], ◌∷◌, ◌++◌, map
 use Rattle.std.specs.List.{flat_map}
 use Rattle.lt_modes.specs.Script.{ScriptData}
 use Rattle.lt_text.specs.Text.{spaced, text}
-use Rattle.lt_script.specs.Printing.{line_of, nodes_words, set_words, client_words, command_words, script_words, print_of}
+use Rattle.lt_script.specs.Printing.{line_of, nodes_words, set_words, client_words, command_words, print_of}
 
 text_of : {X : Type 0} → (f : X → List (List ℕ)) (xs : List X) (rest : List (List (List ℕ))) → text (map spaced (map f xs ++ rest)) ≡ flat_map (λ x. line_of (f x)) xs ++ text (map spaced rest)
 text_of f [] rest = refl

@@ -1,20 +1,20 @@
 -- A line of printed words is read as these words.
-use Rattle.std.proofs.Common.{◌≡◌, ℕ, zero, suc, ◌+◌, ◌-◌, ◌*◌, ◌<◌, ◌≤◌, ◌^◌, ◌==◌, ◌≢◌, ◌&&◌, ◌||◌, Bool, true, false, not, cond, nat_lt, nat_le, List, [], ◌∷◌, ◌++◌, length, take, map, get_or, Option, Some, None, Ok, refl, sym, ap, ◌∙◌, inl, inr, arith, length-append, codes}
+use Rattle.std.proofs.Common.{◌≡◌, ℕ, zero, suc, ◌-◌, ◌*◌, ◌<◌, ◌≤◌, ◌^◌, ◌==◌, ◌≢◌, ◌&&◌, ◌||◌, Bool, true, false, not, nat_le, List, [], ◌∷◌, ◌++◌, length, get_or, Option, Some, None, Ok, refl, inl, inr, arith, length-append, codes}
 use Rattle.std.specs.List.{AllByRecursion, list_all}
 use Rattle.std.specs.Char.{is_ascii_digit, is_ascii_alphabetic, is_ascii_alphanumeric}
 use Rattle.std.specs.Int.{is_in_range}
 use Rattle.std.specs.Str.{bytes_eq}
 use Rattle.std.specs.Fmt.{decimal}
-use Rattle.std.proofs.lemmas.Bool.{and_parts, and_from, or_cases, or_parts, not-true, leb-true, le-leb, lt-ltb, le-ltb, ne_eqb, eqb-true, not_from_true}
+use Rattle.std.proofs.lemmas.Bool.{and_parts, and_from, or_cases, or_parts, not-true, leb-true, le-leb, lt-ltb, le-ltb, ne_eqb, eqb-true}
 use Rattle.std.proofs.lemmas.Fmt.{length-decimal-le, decimal_nonempty}
 use Rattle.lt_modes.specs.Script.{ScriptData}
-use Rattle.lt_text.specs.Text.{spaced, each_after_space, words, is_blank, is_line_end, is_filled, without_return, HasNone, IsWord, IsLine}
+use Rattle.lt_text.specs.Text.{spaced, each_after_space, is_blank, is_line_end, is_filled, without_return, IsWord, IsLine}
 use Rattle.lt_text.proofs.TextLemmas.{words_spaced}
 use Rattle.lt_text.proofs.NumberLemmas.{decimal_are_digits}
 use Rattle.lt_script.specs.Names.{is_name, is_name_byte, is_reserved}
 use Rattle.lt_script.specs.Forms.{FormData, form_of}
-use Rattle.lt_script.specs.Faults.{declared, is_plain_byte, form_fault, line_fault, fault_by_form, after_form}
-use Rattle.lt_script.specs.Reading.{line_step, says_nothing, unless, after_line}
+use Rattle.lt_script.specs.Faults.{declared, is_plain_byte, form_fault, after_form}
+use Rattle.lt_script.specs.Reading.{line_step, says_nothing}
 
 -- printable and no blank
 abbrev pub is_inked : ℕ → Bool

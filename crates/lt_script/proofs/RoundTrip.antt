@@ -1,5 +1,5 @@
 -- The text of a script is read as that script.
-use Rattle.std.proofs.Common.{◌≡◌, ℕ, zero, suc, ◌+◌, ◌<◌, ◌≤◌, ◌==◌, ◌≢◌, Bool, true, false, cond, List, [], ◌∷◌, ◌++◌, length, map, get_or, Option, Some, None, option_map, position, slice_get, Ok, refl, sym, ap, subst, ◌∙◌, inl, inr, arith, append_assoc, append-nil, length-append, codes}
+use Rattle.std.proofs.Common.{◌≡◌, ℕ, zero, suc, ◌+◌, ◌<◌, ◌≤◌, ◌==◌, true, cond, List, [], ◌∷◌, ◌++◌, length, map, get_or, Some, None, position, slice_get, Ok, refl, sym, ap, subst, ◌∙◌, inl, inr, arith, append_assoc, append-nil, length-append, codes}
 use Rattle.std.specs.List.{AllByRecursion}
 use Rattle.std.specs.Str.{bytes_eq}
 use Rattle.std.specs.Fmt.{decimal}
@@ -12,17 +12,17 @@ use Rattle.lt_modes.specs.declared.command.Command.{Command}
 use Rattle.lt_modes.specs.declared.command.Command.TheVariants.{Lock, Try, Unlock, Change, DropAll}
 use Rattle.lt_modes.specs.Modes.{mode_of, word_of}
 use Rattle.lt_modes.specs.Script.{ScriptData, SetData, ClientData, set_name, client_name, name_of_set, family_of_set, name_of_client, node_of_client, family_at, home_at}
-use Rattle.lt_text.specs.Text.{spaced, text, lines, IsLine}
+use Rattle.lt_text.specs.Text.{spaced, lines, IsLine}
 use Rattle.lt_text.specs.Number.{number}
 use Rattle.lt_text.proofs.TextLemmas.{lines_text}
 use Rattle.lt_text.proofs.NumberLemmas.{number_decimal}
 use Rattle.lt_script.specs.Names.{is_name}
 use Rattle.lt_script.specs.Script.{IsScript, IsRequest, HasTargets, load_of, set_number, client_number}
-use Rattle.lt_script.specs.Forms.{FormData, NodesForm, SetForm, SetWithForm, ClientForm, CommandForm, OrderData, LockOrder, TryOrder, UnlockOrder, ChangeOrder, DropOrder, form_of, order_of}
-use Rattle.lt_script.specs.Faults.{only_nodes, declared, form_fault, after_form}
+use Rattle.lt_script.specs.Forms.{NodesForm, SetForm, SetWithForm, ClientForm, CommandForm, OrderData, LockOrder, TryOrder, UnlockOrder, ChangeOrder, DropOrder, form_of, order_of}
+use Rattle.lt_script.specs.Faults.{only_nodes}
 use Rattle.lt_script.specs.Reading.{line_step, read_from, read_of}
 use Rattle.lt_script.specs.Printing.{nodes_words, first_name, set_words, client_words, order_words, command_words, script_words, print_of}
-use Rattle.lt_script.proofs.NameLemmas.{found_in_front, not_in_front, same_name}
+use Rattle.lt_script.proofs.NameLemmas.{found_in_front, not_in_front}
 use Rattle.lt_script.proofs.PrintedLines.{ArePrinted, IsPrintedLine, is_printed, line_read, name_printed, number_printed, printed_line, name_begins}
 use Rattle.lt_script.proofs.ReadLemmas.{read_more, read_end}
 

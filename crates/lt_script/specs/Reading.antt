@@ -1,5 +1,5 @@
 -- The script that a text denotes, or its first fault.
-use Rattle.std.specs.Prelude.{◌≡◌, ℕ, ◌+◌, Bool, true, false, List, [], ◌∷◌, Option, Some, None, ◌==◌, slice_index, Result, Ok, Err, if◌then◌else◌}
+use Rattle.std.specs.Prelude.{◌≡◌, ℕ, ◌+◌, Bool, true, List, [], ◌∷◌, Option, Some, None, ◌==◌, slice_index, Result, Ok, Err, if◌then◌else◌}
 use Rattle.lt_modes.specs.Script.{ScriptData}
 use Rattle.lt_text.specs.Text.{lines, words}
 use Rattle.lt_script.specs.declared.fault.Fault.{Fault}

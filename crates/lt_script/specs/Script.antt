@@ -1,5 +1,5 @@
 -- What a script says of its sets, clients and commands by their numbers, and when plain data is a script.
-use Rattle.std.specs.Prelude.{◌≡◌, ℕ, ◌<◌, ◌≤◌, ◌==◌, ◌⊎◌, Bool, true, ◌||◌, is_some, List, [], length, Option, Some, None, slice_get, position, count_by}
+use Rattle.std.specs.Prelude.{◌≡◌, ℕ, ◌<◌, ◌≤◌, ◌==◌, ◌⊎◌, Bool, true, ◌||◌, is_some, List, length, Option, Some, None, position, count_by}
 use Rattle.std.specs.List.{All}
 use Rattle.std.specs.Str.{bytes_eq}
 use Rattle.lt_modes.specs.declared.command.Command.{Command}

@@ -1,13 +1,12 @@
 -- A script without a set is at rest from the start.
 use Rattle.std.proofs.Common.{◌≡◌, Bool, true, false, ℕ, zero, suc, List, [], ◌∷◌, length, refl, arith}
 use Rattle.std.specs.Prelude.{◌&&◌, nat_lt, All}
-use Rattle.std.proofs.lemmas.List.Elements.{All-head, All-contains}
+use Rattle.std.proofs.lemmas.List.Elements.{All-nil, All-head, All-contains}
 use Rattle.lt_modes.specs.declared.command.Command.{Command}
 use Rattle.lt_modes.specs.declared.command.Command.TheVariants.{Lock, Try, Unlock, Change, DropAll}
 use Rattle.lt_modes.specs.Script.{ScriptData, SetData, ClientData}
 use Rattle.lt_modes.specs.declared.parts.Row.{Row}
 use Rattle.lt_alone.specs.Laws.{ClientsAgree}
-use Rattle.lt_lists.proofs.Members.{all_none}
 use Rattle.lt_script.specs.Script.{IsScript, IsRequest, HasTargets}
 use Rattle.lt_lists.specs.Below.{any_below}
 use Rattle.lt_runs.specs.World.{start, is_at_rest, anyone_waits, is_runnable, is_waiting, has_mail}
@@ -59,5 +58,5 @@ none_waits script none = any_below_none (length script.clients) (is_waiting scri
 
 -- nobody holds a lock at the start
 pub none_held : (script : ScriptData) → ClientsAgree script []
-none_held script zero a b first second differ = absurd (All-contains (λ (row : Row). ⊥) [] a (all_none _) first)
-none_held script (suc k) a b first second differ = absurd (All-contains (λ (row : Row). ⊥) [] a (all_none _) first)
+none_held script zero a b first second differ = absurd (All-contains (λ (row : Row). ⊥) [] a (All-nil _) first)
+none_held script (suc k) a b first second differ = absurd (All-contains (λ (row : Row). ⊥) [] a (All-nil _) first)

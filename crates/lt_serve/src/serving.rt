@@ -1,13 +1,11 @@
-ghost use Rattle.std.specs.Prelude.{◌≡◌, ◌↔◌, ◌⊎◌, ◌+◌, map, [], None, IsTrue};
+ghost use Rattle.std.specs.Prelude.{◌≡◌, ◌+◌, map, [], IsTrue};
 ghost use Rattle.std.specs.String.{string_bytes};
 ghost use Rattle.lt_io.specs.FaultCounts.{Rose, RoseBy};
-ghost use Rattle.lt_script.specs.declared.fault.ScriptFault.{ScriptFault as AnyFault};
 ghost use Rattle.lt_script.specs.Script.{IsScript};
 ghost use Rattle.lt_serve.specs.Scripts.{can_run};
 ghost use Rattle.lt_serve.specs.declared.limits.TheConstants.{MAX_INPUT};
 ghost use Rattle.lt_serve.specs.declared.status.Status.TheVariants as status;
-ghost use Rattle.lt_serve.specs.Words.{command_of, IsSimFirst, IsUnbuilt};
-ghost use Rattle.lt_serve.specs.TopCall.{Tells, TellsOf, HasRead, IsReadWhole, HasFault, DenotesOther};
+ghost use Rattle.lt_serve.specs.TopCall.{Tells, TellsOf, HasCause, IsReadWhole};
 
 use crate::command::Command;
 use crate::first::first_run;
@@ -42,19 +40,16 @@ pub fn serve<R: Threads + Sync, S: Source, K: Sink, G: Gate>(
     _gate: &G,
 ) -> Served
     // Each answer but want of memory has its cause.
-    ensures usage { (result.status ≡ status.Usage) ↔ (command_of (map string_bytes words.now) ≡ None) }
-    ensures unbuilt { IsUnbuilt (map string_bytes words.now) → result.status ≡ status.NotBuilt }
-    ensures not_built { result.status ≡ status.NotBuilt
-        → IsUnbuilt (map string_bytes words.now) ⊎ (IsSimFirst (map string_bytes words.now) × DenotesOther (S.left source.old)) }
-    ensures read_fault { result.status ≡ status.ReadFault → Rose (S.faults source.old) (S.faults source.new) }
-    ensures too_long { result.status ≡ status.TooLong → RoseBy (MAX_INPUT + 1) (S.given source.old) (S.given source.new) }
-    ensures refused { (fault : AnyFault) → result.status ≡ status.Refused fault → HasFault (S.left source.old) fault }
-    ensures write_fault { result.status ≡ status.WriteFault → Rose (K.faults sink.old) (K.faults sink.new) }
+    ensures causes { HasCause (map string_bytes words.now) (S.left source.old) (record {
+      read_failed = Rose (S.faults source.old) (S.faults source.new);
+      gave_more = RoseBy (MAX_INPUT + 1) (S.given source.old) (S.given source.new);
+      read_whole = IsReadWhole (S.given source.old) (S.given source.new) (S.ends source.old) (S.ends source.new);
+      unread = source.new ≡ source.old;
+      write_failed = Rose (K.faults sink.old) (K.faults sink.new);
+    }) result.status }
 
     // What the run is, how it ended, and what was written.
     ensures tells { Tells result.status (S.left source.old) result.run.entries (K.held sink.old) (K.held sink.new) }
-    ensures read_to_the_end { HasRead (map string_bytes words.now) result.status → IsReadWhole (S.given source.old) (S.given source.new) (S.ends source.old) (S.ends source.new) }
-    ensures unread { ¬ (IsSimFirst (map string_bytes words.now)) → source.new ≡ source.old }
 {
     match Command::from_words(words) {
         Some(Command::SimFirst) => {}

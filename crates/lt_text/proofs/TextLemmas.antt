@@ -1,7 +1,7 @@
 -- Where a text is cut into lines, and a line into words and fields, and that what is written is cut so again.
-use Rattle.std.proofs.Common.{◌≡◌, ℕ, zero, suc, ◌+◌, ◌<◌, ◌≤◌, ◌==◌, Bool, true, false, not, List, [], ◌∷◌, ◌++◌, length, take, drop, map, filter, get_or, Some, None, position, refl, sym, ap, subst, ◌∙◌, inl, inr, arith, add-one, drop-cons, append-nil}
+use Rattle.std.proofs.Common.{◌≡◌, ℕ, zero, suc, ◌+◌, ◌<◌, ◌≤◌, ◌==◌, Bool, true, false, List, [], ◌∷◌, ◌++◌, length, take, drop, map, filter, get_or, Some, None, position, refl, sym, ap, subst, ◌∙◌, inl, inr, arith, add-one, drop-cons, append-nil}
 use Rattle.std.specs.List.{AllByRecursion, position_from}
-use Rattle.std.proofs.lemmas.Bool.{cases_Bool, eqb-true}
+use Rattle.std.proofs.lemmas.Bool.{cases_Bool, not-true, eqb-true}
 use Rattle.std.proofs.lemmas.List.{take-append-drop}
 use Rattle.std.proofs.lemmas.List.Quantifiers.{position-Some}
 use Rattle.std.proofs.lemmas.Iterator.Adapters.{position_from-zero}
@@ -149,10 +149,6 @@ pub words_none : (line : List ℕ) → position is_word_byte line ≡ None → w
 unfolding words cut_at
 words_none line e = ap words (sym (append-nil line)) ∙ words_after line [] (none_found is_word_byte line e)
 
-not_true : (b : Bool) → not b ≡ true → b ≡ false
-not_true true e = absurd (cc)
-not_true false e = refl
-
 -- a word that begins here ends at the first blank
 word_piece : (byte : ℕ) (later : List ℕ) (k : ℕ) → is_blank byte ≡ false → position is_blank (byte ∷ later) ≡ Some k
     → words (byte ∷ later) ≡ take k (byte ∷ later) ∷ words (drop (k + 1) (byte ∷ later))
@@ -166,7 +162,7 @@ word_last byte later e = ap (filter is_filled) (cut_last is_blank byte later (no
 
 -- the byte there is not blank
 inked_at : (line : List ℕ) (start : ℕ) → position is_word_byte line ≡ Some start → is_blank (get_or line start 0) ≡ false
-inked_at line start e = not_true (is_blank (get_or line start 0)) (position-Some is_word_byte line start 0 e).1
+inked_at line start e = not-true (is_blank (get_or line start 0)) (position-Some is_word_byte line start 0 e).1
 
 -- the first word ends at the first blank after its start, and the words of the rest follow
 pub words_found : (line : List ℕ) (start : ℕ) (from : List ℕ) (k : ℕ) → position is_word_byte line ≡ Some start → from ≡ drop start line → position is_blank from ≡ Some k

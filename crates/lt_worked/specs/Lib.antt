@@ -3,3 +3,12 @@ pub mod WorkedOneNode
 pub mod WorkedNodes
 pub mod WorkedOrders
 pub mod WorkedLong
+pub mod Moment
+pub mod WorldHoped
+pub mod WorldTokens
+pub mod WorldBehind
+pub mod WorldBusy
+pub mod WorldDrop
+pub mod WorldOrder
+pub mod WorldCopy
+pub mod WorldExamples

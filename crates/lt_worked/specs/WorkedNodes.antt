@@ -254,8 +254,8 @@ asks_park_behind = record {
 }
 
 -- At its end the asks stand so: one in the queue at node 1, one parked at node 2, and one parked at node 3.
-abbrev pub AsksStand : Type 0
-AsksStand =
+abbrev pub TwoAsksParked : Type 0
+TwoAsksParked =
     (queued_clients (end_of asks_park_behind) 0 1 ≡ 1 ∷ [])
     × (parked_clients (end_of asks_park_behind) 0 2 ≡ 2 ∷ [])
     × (parked_clients (end_of asks_park_behind) 0 3 ≡ 3 ∷ [])

@@ -2,7 +2,9 @@
 #![tactic(auto)]
 
 mod worked;
+mod worlds;
 
 pub use worked::{
     law_examples_long, law_examples_nodes, law_examples_one_node, law_examples_orders,
 };
+pub use worlds::{law_worlds_midway, law_worlds_runs};

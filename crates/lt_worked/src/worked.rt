@@ -1,7 +1,7 @@
 //! The rules as definitions give the worked examples, each computed whole by the proof.
 ghost use Rattle.lt_worked.specs.Worked.{IsFirstRun, IsWholeRun};
 ghost use Rattle.lt_worked.specs.WorkedOneNode.{lock_then_unlock, write_in_turn, write_kept, many_locks, never_held, drop_in_family, holder_first, change_down, changes_wait};
-ghost use Rattle.lt_worked.specs.WorkedNodes.{read_everywhere, reader_draws_desk, token_to_writer, frozen_read, try_at_home, change_after_reader, changes_from_two_nodes, asks_park_behind, AsksStand, marked_ask_parks, upgrade_with_readers, change_before_writer, drop_without_waiting, shared_with_upgrade};
+ghost use Rattle.lt_worked.specs.WorkedNodes.{read_everywhere, reader_draws_desk, token_to_writer, frozen_read, try_at_home, change_after_reader, changes_from_two_nodes, asks_park_behind, TwoAsksParked, marked_ask_parks, upgrade_with_readers, change_before_writer, drop_without_waiting, shared_with_upgrade};
 ghost use Rattle.lt_worked.specs.WorkedOrders.{late_copy, overtaking_tells, drop_at_desk, several_copies, copy_and_freeze, desk_with_copy_out, second_ask_bars, token_meets_parked, upgrades_in_turn, copy_after_move, change_to_write, old_freeze, old_tell};
 ghost use Rattle.lt_worked.specs.WorkedLong.{freezes_overtake, copies_and_freezes, token_goes_round, token_comes_back, three_sets, upgrade_from_write, copies_stay_owed, owed_until_told};
 
@@ -28,7 +28,7 @@ pub fn law_examples_nodes()
     ensures change_after_reader { IsFirstRun change_after_reader }
     ensures changes_from_two_nodes { IsFirstRun changes_from_two_nodes }
     ensures asks_park_behind { IsFirstRun asks_park_behind }
-    ensures asks_stand { AsksStand }
+    ensures asks_stand { TwoAsksParked }
     ensures marked_ask_parks { IsFirstRun marked_ask_parks }
     ensures upgrade_with_readers { IsFirstRun upgrade_with_readers }
     ensures change_before_writer { IsFirstRun change_before_writer }

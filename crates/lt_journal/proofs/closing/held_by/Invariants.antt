@@ -1,8 +1,8 @@
 use Rattle.std.proofs.Common.{◌≡◌, ◌++◌, List}
 use Rattle.lt_runs.specs.Holdings.{Holding}
 use Rattle.lt_journal.specs.RunLines.{lines_below, held_in_set}
-use Rattle.lt_journal.specs.RunText.{lines_text}
-use Rattle.lt_journal.specs.Counts.{Counts}
+use Rattle.lt_journal.specs.Text.{lines_text}
+use Rattle.lt_journal.specs.LockTable.{Counts}
 use Rattle.lt_journal.proofs.closing.held_by.Given as goal
 
 abbrev pub invariant-loop-set : goal.invariant-loop-set

@@ -5,7 +5,7 @@ use Rattle.lt_modes.specs.declared.mode.Mode.TheVariants.{IntentionRead}
 use Rattle.lt_runs.specs.Holdings.{holding}
 use Rattle.lt_journal.specs.declared.line.Line.{Line}
 use Rattle.lt_journal.specs.RunLines.{held_line, held_in_mode}
-use Rattle.lt_journal.specs.RunText.{line_text, lines_text}
+use Rattle.lt_journal.specs.Text.{line_text, lines_text}
 use Rattle.lt_journal.specs.declared.closing.TheConstants.{MODES}
 use Rattle.lt_journal.proofs.Steps.{text_more, flat_map-more}
 use Rattle.lt_journal.proofs.closing.held_in_set.Goals as goal

@@ -2,9 +2,9 @@ use Rattle.std.proofs.Common.{◌≡◌, ◌++◌, List, take}
 use Rattle.std.specs.List.{flat_map}
 use Rattle.lt_runs.specs.Holdings.{Holding}
 use Rattle.lt_journal.specs.RunLines.{held_in_mode}
-use Rattle.lt_journal.specs.RunText.{lines_text}
+use Rattle.lt_journal.specs.Text.{lines_text}
 use Rattle.lt_journal.specs.declared.closing.TheConstants.{MODES}
-use Rattle.lt_journal.specs.Counts.{Counts}
+use Rattle.lt_journal.specs.LockTable.{Counts}
 use Rattle.lt_journal.proofs.closing.held_in_set.Given as goal
 
 abbrev pub invariant-loop-mode : goal.invariant-loop-mode

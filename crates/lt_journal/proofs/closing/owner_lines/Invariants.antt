@@ -1,7 +1,7 @@
 use Rattle.std.proofs.Common.{◌≡◌, ◌++◌}
-use Rattle.lt_journal.specs.Counts.{owner_at}
+use Rattle.lt_journal.specs.LockTable.{owner_at}
 use Rattle.lt_journal.specs.RunLines.{lines_below, owner_line}
-use Rattle.lt_journal.specs.RunText.{lines_text}
+use Rattle.lt_journal.specs.Text.{lines_text}
 use Rattle.lt_journal.proofs.closing.owner_lines.Given as goal
 
 abbrev pub invariant-loop-set : goal.invariant-loop-set

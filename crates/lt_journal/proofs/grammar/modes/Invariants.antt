@@ -1,6 +1,6 @@
 use Rattle.std.proofs.Common.{◌≡◌, drop}
 use Rattle.lt_modes.specs.Modes.{no_modes}
-use Rattle.lt_journal.specs.LineWords.{all_modes}
+use Rattle.lt_journal.specs.Words.{all_modes}
 use Rattle.lt_text.specs.Text.{fields}
 use Rattle.lt_journal.specs.Grammar.{with_words, words_left}
 use Rattle.lt_journal.specs.declared.closing.TheConstants.{MODES}

@@ -1,6 +1,6 @@
 use Rattle.std.proofs.Common.{◌≡◌, ◌++◌, take, map}
 use Rattle.lt_journal.specs.declared.line.Line.TheVariants.{Event as EventLine}
-use Rattle.lt_journal.specs.RunText.{lines_text}
+use Rattle.lt_journal.specs.Text.{lines_text}
 use Rattle.lt_journal.proofs.journal.event_lines.Given as goal
 
 abbrev pub invariant-loop-event : goal.invariant-loop-event

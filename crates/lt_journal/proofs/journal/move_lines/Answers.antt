@@ -1,7 +1,7 @@
 use Rattle.std.proofs.Common.{◌∙◌, ◌++◌, ap, List, ℕ, map}
 use Rattle.std.proofs.lemmas.List.{append_assoc}
 use Rattle.lt_journal.specs.declared.line.Line.TheVariants.{Move as MoveLine, Event as EventLine}
-use Rattle.lt_journal.specs.RunText.{line_text, lines_text}
+use Rattle.lt_journal.specs.Text.{line_text, lines_text}
 use Rattle.lt_journal.proofs.Steps.{text_more, moves_text-more}
 use Rattle.lt_journal.proofs.journal.move_lines.Goals as goal
 

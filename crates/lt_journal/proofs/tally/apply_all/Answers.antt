@@ -1,14 +1,14 @@
 use Rattle.std.proofs.Common.{◌++◌, take, subst, arith, List, length-append}
 use Rattle.std.proofs.lemmas.List.{take_all, length-take}
 use Rattle.lt_modes.specs.declared.event.Event.{Event}
-use Rattle.lt_journal.specs.Counts.{Tells}
+use Rattle.lt_journal.specs.LockTable.{IsTallied}
 use Rattle.lt_journal.proofs.Few.{few_held, on_err}
 use Rattle.lt_journal.proofs.Steps.{one_more}
 use Rattle.lt_journal.proofs.tally.apply_all.Goals as goal
 
 pub returns-clause-applied : goal.returns-clause-applied
 returns-clause-applied c = λ before tells.
-    subst (λ (events : List Event). Tells c.args.script.now c.loop-event.tally (before ++ events))
+    subst (λ (events : List Event). IsTallied c.args.script.now c.loop-event.tally (before ++ events))
     (take_all c.loop-event.event-index c.args.events.now (omega arith))
     (c.loop-event.invariant before tells)
 
@@ -22,6 +22,6 @@ returns-in_err-apply-clause-full c = on_err c.from_residual.result (λ before te
 
 pub loop-event-preserved : goal.loop-event-preserved
 loop-event-preserved c = λ before tells.
-    subst (λ (events : List Event). Tells c.args.script.now c.apply.new.self events)
+    subst (λ (events : List Event). IsTallied c.args.script.now c.apply.new.self events)
     (one_more before c.args.events.now c.loop-event.event-index _ c.event-item.is (omega arith))
     (c.in_ok-apply.ensures.applied _ (c.loop-event.invariant before tells))

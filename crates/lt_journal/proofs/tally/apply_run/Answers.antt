@@ -1,14 +1,14 @@
 use Rattle.std.proofs.Common.{take, subst, arith, List}
 use Rattle.lt_modes.specs.declared.event.Event.{Event}
 use Rattle.lt_runs.specs.Holdings.{lines_of}
-use Rattle.lt_journal.specs.Counts.{Tells}
+use Rattle.lt_journal.specs.LockTable.{IsTallied}
 use Rattle.lt_journal.proofs.Steps.{lines_of-more}
 use Rattle.lt_journal.proofs.Few.{events_up_to, on_err}
 use Rattle.lt_journal.proofs.tally.apply_run.Goals as goal
 
 pub loop-k-preserved : goal.loop-k-preserved
 loop-k-preserved c =
-    subst (λ (events : List Event). Tells c.args.script.now c.apply_all.new.tally events)
+    subst (λ (events : List Event). IsTallied c.args.script.now c.apply_all.new.tally events)
     (lines_of-more c.args.run.now.entries c.loop-k.k _ c.events.ensures)
     (c.in_ok-apply_all.ensures.applied _ c.loop-k.invariant)
 

@@ -1,5 +1,12 @@
+use Rattle.lt_lines.proofs.KeptLines.{lines_kept_in_runs, lines_tell_held, holdings_are_lawful, lines_tell_waits}
+use Rattle.lt_lines.proofs.OwnerRuns.{lines_tell_owners}
 use Rattle.lt_lines.proofs.laws.law_lines_tell.Goals as goal
-use Rattle.lt_lines.proofs.LineMoves.{lines_tell_held, runs_are_lawful}
 
 pub returns : goal.returns
-returns c = record { lines = lines_tell_held; lawful = runs_are_lawful }
+returns c = record {
+  kept = lines_kept_in_runs;
+  held = lines_tell_held;
+  lawful = holdings_are_lawful;
+  waits = lines_tell_waits;
+  owners = lines_tell_owners;
+}

@@ -1,6 +1,6 @@
-use Rattle.std.proofs.Common.{◌≡◌, Some, sym, ap, subst, ◌∙◌, arith}
+use Rattle.std.proofs.Common.{sym, ap, ◌∙◌, arith}
 use Rattle.lt_text.specs.Text.{lines}
-use Rattle.lt_script.specs.Reading.{TakesLine, line_step, at_end}
+use Rattle.lt_script.specs.Reading.{at_end}
 use Rattle.lt_script.proofs.ReadLemmas.{read_fault, read_more, read_end}
 use Rattle.lt_script.proofs.reading.read.Goals as goal
 

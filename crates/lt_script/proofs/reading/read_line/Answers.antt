@@ -1,6 +1,5 @@
-use Rattle.std.proofs.Common.{◌≡◌}
 use Rattle.lt_script.specs.Forms.{form_seen}
-use Rattle.lt_script.proofs.Allowed.{form_clean}
+use Rattle.lt_script.proofs.CleanForms.{form_clean}
 use Rattle.lt_script.proofs.reading.read_line.Goals as goal
 
 pub apply-requires : goal.apply-requires

@@ -2,7 +2,7 @@ use Rattle.std.proofs.Common.{◌++◌, ◌∷◌, [], sym, subst, arith}
 use Rattle.std.proofs.lemmas.Result.{on_ok_weaker, on_err_weaker}
 use Rattle.lt_modes.specs.declared.event.Event.TheVariants.{Unlock}
 use Rattle.lt_runs.specs.Holdings.{holdings}
-use Rattle.lt_journal.specs.Counts.{Tally, Tells}
+use Rattle.lt_journal.specs.LockTable.{Tally, IsTallied}
 use Rattle.lt_journal.proofs.Telling.{tells_next, as_change, fewer_held}
 use Rattle.lt_journal.proofs.tally.Tally.change.Goals as goal
 
@@ -12,7 +12,7 @@ returns-clause-changed c =
     (λ granted events tells.
     let script = c.args.script.now in
     let given_up = Unlock c.args.client c.args.set c.args.gives_up in
-    let before = subst (λ (tally : Tally). Tells script tally events) (sym c.self.view_is) tells in
+    let before = subst (λ (tally : Tally). IsTallied script tally events) (sym c.self.view_is) tells in
     as_change script _ events c.args.client c.args.set c.args.gives_up c.args.mode
     (granted (events ++ given_up ∷ [])
     (tells_next script _ events given_up c.take.new.self before (c.take.ensures (holdings script events) before.held))))
@@ -24,7 +24,7 @@ returns-clause-full c =
     (λ full events tells.
     let script = c.args.script.now in
     let given_up = Unlock c.args.client c.args.set c.args.gives_up in
-    let before = subst (λ (tally : Tally). Tells script tally events) (sym c.self.view_is) tells in
+    let before = subst (λ (tally : Tally). IsTallied script tally events) (sym c.self.view_is) tells in
     let many = full (events ++ given_up ∷ [])
     (tells_next script _ events given_up c.take.new.self before (c.take.ensures (holdings script events) before.held)) in
     omega (arith, many, fewer_held script events c.args.client c.args.set c.args.gives_up))

@@ -1,0 +1,2 @@
+pub mod HeldData
+pub mod RowLaws

@@ -1,0 +1,11 @@
+//! The locks that a node's clients hold in one lock set.
+#![tactic(auto)]
+
+mod held;
+mod laws;
+mod rows;
+#[cfg(test)]
+mod tests;
+
+pub use held::Held;
+pub use laws::law_rows;

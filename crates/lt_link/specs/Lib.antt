@@ -1,0 +1,2 @@
+pub mod LinksData
+pub mod Routes

@@ -1,0 +1,10 @@
+//! Where a node believes the token of a lock set to be, and which way it sends asks and tells.
+#![tactic(auto)]
+
+mod kind;
+mod links;
+#[cfg(test)]
+mod tests;
+
+pub use kind::{Kind, Route};
+pub use links::Links;

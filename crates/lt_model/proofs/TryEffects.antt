@@ -1,0 +1,153 @@
+-- No effect of a move tells a `try` line, but that of a `try` itself.
+use Rattle.std.proofs.Common.{◌≡◌, ℕ, List, [], ◌∷◌, ◌++◌, Option, Some, None, Bool, true, false, refl}
+use Rattle.std.specs.Prelude.{◌==◌, if◌then◌else◌}
+use Rattle.std.specs.List.{AllByRecursion}
+use Rattle.lt_modes.specs.declared.mode.Mode.{Mode}
+use Rattle.lt_modes.specs.declared.stamp.Stamp.{Stamp}
+use Rattle.lt_modes.specs.declared.ask.Ask.{Ask}
+use Rattle.lt_modes.specs.declared.event.Event.{Event}
+use Rattle.lt_modes.specs.declared.event.Event.TheVariants.{Try, Unlock, NotHeld, Change, Freeze}
+use Rattle.lt_modes.specs.Held.{count_of, take_lock, held_modes}
+use Rattle.lt_modes.specs.State.{SetState, Desk, Body, AskBody, TellBody, CopyBody, TokenBody, FreezeBody, Letter, Parked, ParkedAsk, ParkedTell}
+use Rattle.lt_modes.specs.Made.{Made, then_do}
+use Rattle.lt_modes.specs.Granting.{can_grant}
+use Rattle.lt_modes.specs.Serving.{answer_by, ask_at, serve_local, serve_copy, serve_one}
+use Rattle.lt_modes.specs.Freezing.{freeze, freeze_at, frozen_by, targets, number_after}
+use Rattle.lt_modes.specs.HandingOver.{hand_over_to}
+use Rattle.lt_modes.specs.Routing.{Way, Parks, Goes, learn, sent_on, route}
+use Rattle.lt_modes.specs.Telling.{tell_of, finish}
+use Rattle.lt_modes.specs.Taking.{take_body, arrive}
+use Rattle.lt_modes.specs.SetMove.{answers, given, granted, ask_of, asked, locked, unlocked, change_held, changed, dropped, lock, try, unlock, change, drop, take}
+use Rattle.lt_model.specs.TryLines.{IsNoTry}
+use Rattle.lt_lists.proofs.AllLemmas.{all_append, all_any, all_map}
+use Rattle.lt_model.proofs.Effects.{route_ways}
+use Rattle.lt_model.proofs.RuleEffects.{Between, EndRules, finish_rule}
+
+-- these are no `try` lines
+abbrev pub AreNoTries : List Event → Type 0
+AreNoTries lines = AllByRecursion IsNoTry lines
+
+-- what was made tells no `try` line
+abbrev pub tries_none : Between
+tries_none t m = AreNoTries m.events
+
+none_joined : (m : Made) (rule : SetState → Made) → AreNoTries m.events → AreNoTries (rule m.state).events → AreNoTries (then_do m rule).events
+none_joined m rule first second = all_append IsNoTry m.events (rule m.state).events first second
+
+answer_none : (set : ℕ) (ask : Ask) (gives_up : Option Mode) → IsNoTry (answer_by set ask gives_up)
+answer_none set ask None = tt
+answer_none set ask (Some mode) = tt
+
+route_none : (set : ℕ) (stamp : Stamp) (marked : Bool) (item : Parked) (t : SetState) → AreNoTries (route set stamp marked item t).events
+route_none set stamp marked item t =
+    route_ways (λ (m : Made). AreNoTries m.events) set stamp marked item t (λ desk e. tt) (λ away w e. by_way w)
+  where
+    by_way : (w : Way) → AreNoTries (sent_on set stamp item t w).events
+    by_way Parks = tt
+    by_way (Goes to mark) = tt
+
+-- the end of a move
+
+serves_none : (set : ℕ) (stamp : Stamp) (t : SetState) (k : ℕ) → AreNoTries (serve_one set stamp k t).events
+serves_none set stamp t k = by_test ((ask_at t k).node == stamp.node)
+  where
+    by_test : (own : Bool) → AreNoTries (if own then serve_local set k t else serve_copy set stamp k (ask_at t k) t).events
+    by_test true = (answer_none set (ask_at t k) (ask_at t k).gives_up, tt)
+    by_test false = (tt, tt)
+
+freezes_none : (set : ℕ) (stamp : Stamp) (t : SetState) → AreNoTries (freeze set stamp t).events
+freezes_none set stamp t = by_desk t.desk
+  where
+    by_desk : (desk : Option Desk) → AreNoTries (freeze_at set stamp t desk).events
+    by_desk None = tt
+    by_desk (Some desk) =
+        let told = targets stamp.node (frozen_by desk.queue) desk in
+        all_map IsNoTry (λ x. Freeze set x (number_after told desk.number) (frozen_by desk.queue)) told (all_any _ (λ x. tt) told)
+
+leaves_none : (set : ℕ) (stamp : Stamp) (t : SetState) (v : ℕ) → AreNoTries (hand_over_to set stamp t v t.desk).events
+leaves_none set stamp t v = by_desk t.desk
+  where
+    by_desk : (desk : Option Desk) → AreNoTries (hand_over_to set stamp t v desk).events
+    by_desk None = tt
+    by_desk (Some desk) = (tt, tt)
+
+none_ends : (set : ℕ) (stamp : Stamp) → EndRules set stamp tries_none
+none_ends set stamp = record {
+  silent = λ t. tt;
+  joined = λ t m rule first second. none_joined m rule first second;
+  serves = λ t k within. serves_none set stamp t k;
+  freezes = freezes_none set stamp;
+  leaves = leaves_none set stamp;
+  tells = λ t. route_none set stamp false (ParkedTell (tell_of stamp t)) (record t { charge = held_modes t.held });
+}
+
+pub finish_none : (set : ℕ) (stamp : Stamp) (t : SetState) → AreNoTries (finish set stamp t).events
+finish_none set stamp t = finish_rule set stamp tries_none (none_ends set stamp) t
+
+-- commands
+
+asked_none : (set : ℕ) (stamp : Stamp) (ask : Ask) (t : SetState) → AreNoTries (asked set stamp ask t).events
+asked_none set stamp ask t = (tt, route_none set stamp false (ParkedAsk ask) (record t { pending = t.pending ++ ask ∷ [] }))
+
+pub lock_none : (set : ℕ) (stamp : Stamp) (client : ℕ) (mode : Mode) (t : SetState) → AreNoTries (lock set stamp client mode t).events
+lock_none set stamp client mode t =
+    none_joined (locked set stamp client mode t) (finish set stamp) (by_test (can_grant stamp.node t client mode))
+    (finish_none set stamp (locked set stamp client mode t).state)
+  where
+    by_test : (can : Bool) → AreNoTries (if can then granted set client mode t else asked set stamp (ask_of stamp client mode None t) t).events
+    by_test true = (tt, tt)
+    by_test false = asked_none set stamp (ask_of stamp client mode None t) t
+
+pub unlock_none : (set : ℕ) (stamp : Stamp) (client : ℕ) (mode : Mode) (t : SetState) → AreNoTries (unlock set stamp client mode t).events
+unlock_none set stamp client mode t =
+    none_joined (unlocked set client mode t) (finish set stamp) (by_test (count_of t.held client mode == 0))
+    (finish_none set stamp (unlocked set client mode t).state)
+  where
+    by_test : (none : Bool) → AreNoTries (if none then answers (NotHeld client set mode) t
+        else answers (Unlock client set mode) (record t { held = take_lock t.held client mode })).events
+    by_test true = (tt, tt)
+    by_test false = (tt, tt)
+
+pub change_none : (set : ℕ) (stamp : Stamp) (client : ℕ) (gives_up mode : Mode) (t : SetState)
+    → AreNoTries (change set stamp client gives_up mode t).events
+change_none set stamp client gives_up mode t =
+    none_joined (changed set stamp client gives_up mode t) (finish set stamp) (by_count (count_of t.held client gives_up == 0))
+    (finish_none set stamp (changed set stamp client gives_up mode t).state)
+  where
+    by_test : (can : Bool) → AreNoTries (if can then answers (Change client set gives_up mode) (given client mode (Some gives_up) t)
+        else asked set stamp (ask_of stamp client mode (Some gives_up) t) t).events
+    by_test true = (tt, tt)
+    by_test false = asked_none set stamp (ask_of stamp client mode (Some gives_up) t) t
+
+    by_count : (none : Bool) → AreNoTries (if none then answers (NotHeld client set gives_up) t else change_held set stamp client gives_up mode t).events
+    by_count true = (tt, tt)
+    by_count false = by_test (can_grant stamp.node t client mode)
+
+-- after the line of a `try`
+pub try_none : (set : ℕ) (stamp : Stamp) (client : ℕ) (mode : Mode) (t : SetState)
+    → (rest : List Event) × ((try set stamp client mode t).events ≡ Try client set mode (can_grant stamp.node t client mode) ∷ rest) × AreNoTries rest
+try_none set stamp client mode t = by_test (can_grant stamp.node t client mode)
+  where
+    tried_by : Bool → Made
+    tried_by can = if can then answers (Try client set mode true) (given client mode None t) else answers (Try client set mode false) t
+
+    by_test : (can : Bool) → (rest : List Event) × ((then_do (tried_by can) (finish set stamp)).events ≡ Try client set mode can ∷ rest) × AreNoTries rest
+    by_test true = ((finish set stamp (tried_by true).state).events, refl, finish_none set stamp (tried_by true).state)
+    by_test false = ((finish set stamp (tried_by false).state).events, refl, finish_none set stamp (tried_by false).state)
+
+pub drop_none : (set : ℕ) (stamp : Stamp) (other : ℕ) (t : SetState) → AreNoTries (drop set stamp other t).events
+drop_none set stamp other t = finish_none set stamp (dropped other t)
+
+-- letters
+
+pub take_none : (stamp : Stamp) (letter : Letter) (t : SetState) → AreNoTries (take stamp letter t).events
+take_none stamp letter t =
+    none_joined (arrive stamp letter t) (finish letter.set stamp) (by_body letter.body (learn letter.link t))
+    (finish_none letter.set stamp (arrive stamp letter t).state)
+  where
+    by_body : (body : Body) (u : SetState) → AreNoTries (take_body letter.set stamp body u).events
+    by_body (AskBody ask marked) u = route_none letter.set stamp marked (ParkedAsk ask) u
+    by_body (TellBody tell) u = route_none letter.set stamp false (ParkedTell tell) u
+    by_body (CopyBody ask) u = (answer_none letter.set ask ask.gives_up, tt)
+    by_body (TokenBody desk) u = tt
+    by_body (FreezeBody number modes) u = tt

@@ -1,0 +1,8 @@
+//! The desk's queue: asks in the order in which they are served, with room for one of each client.
+#![tactic(auto)]
+
+mod queue;
+#[cfg(test)]
+mod tests;
+
+pub use queue::Queue;

@@ -1,0 +1,125 @@
+ghost use Rattle.std.specs.Prelude.{◌≡◌, ◌<◌, ◌≤◌, [], not, length, take, remove, slice_index_or, IfOk};
+ghost use Rattle.lt_modes.specs.Modes.{has, bars};
+ghost use Rattle.lt_modes.specs.Queue.{place, after_holders_from, entered, modes_of_asks, no_ask};
+ghost use Rattle.lt_modes.specs.Freezing.{frozen_by};
+
+use lt_modes::{Ask, Mode, ModeSet};
+use std::alloc::{AllocError, Global};
+use std::marker::Model;
+
+/// Asks in the order in which they are served.
+#[derive(Drop)]
+pub struct Queue {
+    asks: Vec<Ask>,
+}
+
+impl Model for Queue {
+    ghost use Rattle.std.specs.Prelude.{◌<◌, ◌^◌, vec_capacity};
+    ghost use Rattle.lt_queue.specs.QueueData.{QueueData};
+
+    ghost Value = { QueueData };
+
+    ghost view = { λ q. record { asks = q.asks.items; room = vec_capacity q.asks } };
+
+    ghost invariant = { λ q. vec_capacity q.asks < 2 ^ 32 };
+}
+
+impl Queue {
+    pub fn new(alloc: Global, clients: u16) -> Result<Queue, AllocError>
+        ensures { IfOk result (λ queue. queue ≡ record { asks = []; room = clients }) }
+    {
+        let asks = Vec::with_capacity(alloc, usize::from(clients))?;
+        Ok(Queue { asks })
+    }
+
+    pub fn len(&self) -> u32
+        ensures length { result ≡ length self.now.asks }
+        ensures within { result ≤ self.now.room }
+    {
+        self.asks.len() as u32
+    }
+
+    /// The greatest length that there are places for.
+    pub fn room(&self) -> u32
+        ensures { result ≡ self.now.room }
+    {
+        self.asks.capacity() as u32
+    }
+
+    pub fn get(&self, k: u32) -> Ask
+        requires { k < length self.now.asks }
+        ensures { result ≡ slice_index_or self.now.asks k no_ask }
+    {
+        self.asks[k as usize]
+    }
+
+    /// Takes the ask at place k away.
+    pub fn remove(&mut self, k: u32) -> Ask
+        requires { k < length self.old.asks }
+        ensures ask { result ≡ slice_index_or self.old.asks k no_ask }
+        ensures queue { self.new ≡ record self.old { asks = remove self.old.asks k } }
+    {
+        self.asks.remove(k as usize)
+    }
+
+    /// Where a new ask stands: a holder's directly after the last holder's ask, or first; any other last.
+    pub fn place(&self, holder: bool) -> u32
+        ensures place { result ≡ place self.now.asks holder }
+        ensures within { result ≤ length self.now.asks }
+    {
+        if holder {
+            after_holders(self.asks.as_slice()) as u32
+        } else {
+            self.len()
+        }
+    }
+
+    /// Puts a new ask at its place.
+    pub fn insert(&mut self, ask: Ask)
+        requires { length self.old.asks < self.old.room }
+        ensures { self.new ≡ record self.old { asks = entered self.old.asks ask } }
+    {
+        let k = self.place(ask.holder) as usize;
+        match self.asks.insert(k, ask) {
+            Ok(()) => {}
+            Err(_) => unreachable!(),
+        }
+    }
+
+    /// Whether no ask before place k conflicts with the mode.
+    pub fn clear_before(&self, k: u32, mode: Mode) -> bool
+        requires { k ≤ length self.now.asks }
+        ensures { result ≡ not (has mode (bars (modes_of_asks (take k self.now.asks)))) }
+    {
+        !modes(&self.asks.as_slice()[..k as usize]).bars().has(mode)
+    }
+
+    /// The modes that conflict with a waiting ask.
+    pub fn frozen(&self) -> ModeSet
+        ensures { result ≡ frozen_by self.now.asks }
+    {
+        modes(self.asks.as_slice()).bars()
+    }
+}
+
+// The place after the last holder's ask.
+fn after_holders(queue: &[Ask]) -> usize
+    ensures place { result ≡ after_holders_from 0 0 queue.now }
+    ensures within { result ≤ length queue.now }
+{
+    let mut found = 0;
+    for (k, ask) in queue.iter().enumerate() {
+        if ask.holder {
+            found = k + 1;
+        }
+    }
+    found
+}
+
+// The modes that these asks want.
+fn modes(asks: &[Ask]) -> ModeSet
+    ensures { result ≡ modes_of_asks asks.now }
+{
+    asks.iter()
+        .fold(ModeSet::empty(), |modes, ask| modes.with(ask.mode))
+}

@@ -1,0 +1,20 @@
+use Rattle.std.proofs.Common.{◌<◌, length, ap, arith, rules}
+use Rattle.lt_modes.specs.State.{Tell}
+use Rattle.lt_modes.specs.Tells.{told}
+use Rattle.lt_table.specs.Seen.{spare_of}
+use Rattle.lt_table.proofs.EntryLemmas.{spare_set, entries_put}
+use Rattle.lt_table.proofs.table.Table.tell.Goals as goal
+
+pub returns-then-x-len-clause-entries : goal.returns-then-x-len-clause-entries
+returns-then-x-len-clause-entries c =
+    let es = c.self.inside.entries.items in
+    let within : c.from-x.result < length es = search rules in
+    let tell : Tell = record { node = c.args.node; modes = c.args.modes; pending = c.args.pending.now; stamp = c.args.stamp } in
+    entries_put (told tell) es c.args.self.now.entries c.from-x.result c.args.node c.index_mut.result.now c.tell.new.self
+    (ap (λ t. t.entries) c.self.view_is) c.from-x.ensures within c.index_mut.ensures.value (c.tell.ensures.entry c.args.node)
+
+pub returns-then-x-len-clause-spare : goal.returns-then-x-len-clause-spare
+returns-then-x-len-clause-spare c =
+    let es = c.self.inside.entries.items in
+    let e = c.index_mut.result.now in
+    omega (arith, ap (λ t. t.spare) c.self.view_is, spare_set es c.from-x.result c.tell.new.self e 0 (omega (arith, c.tell.ensures.spare, ap spare_of c.index_mut.ensures.value)))

@@ -1,0 +1,3 @@
+pub mod Stamps
+pub mod TableData
+pub mod Seen

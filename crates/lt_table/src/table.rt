@@ -1,0 +1,226 @@
+ghost use Rattle.std.specs.Prelude.{◌≡◌, ◌≤◌, ◌<◌, ◌+◌, List, length, map, replicate, IfOk, OnOk, if◌then◌else◌, ◌==◌};
+ghost use Rattle.lt_modes.specs.Modes.{no_modes};
+ghost use Rattle.lt_modes.specs.declared.ask.Ask.{Ask};
+ghost use Rattle.lt_modes.specs.State.{SetState, Desk, first_entry};
+ghost use Rattle.lt_modes.specs.Held.{held_modes};
+ghost use Rattle.lt_modes.specs.Records.{record_of, modes_of_owed, still_owed, own_part, modes_at, others};
+ghost use Rattle.lt_modes.specs.Tells.{told, is_newer};
+ghost use Rattle.lt_modes.specs.Serving.{owing};
+ghost use Rattle.lt_modes.specs.HandingOver.{stamps_of, settled};
+ghost use Rattle.lt_table.specs.TableData.{entry_at, put_by, ask_with, told_frozen};
+ghost use Rattle.lt_table.specs.Seen.{entry_seen, spare_in};
+
+use crate::entry::{Entry, is_newer};
+use crate::pending::Pending;
+use lt_modes::{Mode, ModeSet, Stamp};
+use std::alloc::{AllocError, Global};
+use std::marker::Model;
+
+/// What the desk knows of each node, by the node's number.
+///
+/// A node without an entry has told nothing, and what is told of it is not kept.
+#[derive(Drop)]
+pub struct Table {
+    entries: Vec<Entry>,
+}
+
+impl Model for Table {
+    ghost use Rattle.std.specs.Prelude.{◌<◌, map, length};
+    ghost use Rattle.lt_table.specs.TableData.{TableData};
+    ghost use Rattle.lt_table.specs.Seen.{entry_seen, spare_in};
+
+    ghost Value = { TableData };
+
+    ghost view = { λ t. record { entries = map entry_seen t.entries.items; spare = spare_in t.entries.items } };
+
+    ghost invariant = { λ t. length t.entries.items < 256 };
+}
+
+impl Table {
+    pub fn new(alloc: Global, nodes: u8) -> Result<Table, AllocError>
+        ensures { IfOk result (λ table. table.entries ≡ replicate nodes first_entry) }
+    {
+        Ok(Table {
+            entries: first_entries(alloc, nodes)?,
+        })
+    }
+
+    /// The number of entries.
+    pub fn nodes(&self) -> u8
+        ensures { result ≡ length self.now.entries }
+    {
+        self.entries.len() as u8
+    }
+
+    /// Makes room for so many further owed asks in each entry.
+    pub fn reserve(&mut self, asks: u32) -> Result<(), AllocError>
+        ensures entries { self.new.entries ≡ self.old.entries }
+        ensures spare { OnOk result (asks ≤ self.new.spare) }
+        ensures kept { self.old.spare ≤ self.new.spare }
+    {
+        reserve(&mut self.entries, asks)
+    }
+
+    /// The record of a node: the modes that it reported, and those of its owed asks.
+    pub fn rec(&self, node: u8) -> ModeSet
+        ensures { result ≡ record_of (entry_at self.now.entries node) }
+    {
+        record_at(self.entries.as_slice(), usize::from(node))
+    }
+
+    /// What counts of all nodes but this one: their records, and for node `me` its own part.
+    pub fn others(&self, node: u8, me: u8, own: ModeSet) -> ModeSet
+        ensures { (s : SetState) (desk : Desk) → desk.entries ≡ self.now.entries → own_part me s desk ≡ own
+            → result ≡ others me s desk node }
+    {
+        others(
+            self.entries.as_slice(),
+            usize::from(node),
+            usize::from(me),
+            own,
+        )
+    }
+
+    /// Applies a tell of a node; false where it isn't newer than the last one.
+    pub fn tell(&mut self, node: u8, modes: ModeSet, pending: &Pending, stamp: Stamp) -> bool
+        ensures answer { result ≡ is_newer stamp (entry_at self.old.entries node).told_at }
+        ensures entries { self.new.entries
+            ≡ put_by node (told (record { node = node; modes = modes; pending = pending.now; stamp = stamp })) self.old.entries }
+        ensures spare { self.old.spare ≤ self.new.spare }
+    {
+        let x = usize::from(node);
+        let newer = is_newer(stamp, told_at(self.entries.as_slice(), x));
+        if x < self.entries.len() {
+            self.entries[x].tell(modes, pending, stamp);
+        }
+        newer
+    }
+
+    /// The node owes word of a copy for the ask with this stamp and mode.
+    pub fn owe(&mut self, node: u8, stamp: Stamp, mode: Mode)
+        requires { 0 < self.old.spare }
+        ensures entries { self.new.entries ≡ put_by node (owing (ask_with stamp mode)) self.old.entries }
+        ensures spare { self.old.spare ≤ self.new.spare + 1 }
+    {
+        let x = usize::from(node);
+        if x < self.entries.len() {
+            self.entries[x].owe(stamp, mode);
+        }
+    }
+
+    /// The modes of the node's owed asks that are unanswered, where these are the stamps of the unanswered ones.
+    pub fn owed_in(&self, node: u8, pending: &Pending) -> ModeSet
+        ensures { (asks : List Ask) → stamps_of asks ≡ pending.now
+            → result ≡ modes_of_owed (still_owed asks (entry_at self.now.entries node).owed) }
+    {
+        owed_at(self.entries.as_slice(), usize::from(node), pending)
+    }
+
+    /// The modes that the node was last told to be frozen.
+    pub fn frozen_told(&self, node: u8) -> ModeSet
+        ensures { result ≡ (entry_at self.now.entries node).frozen_told }
+    {
+        match self.entries.get(usize::from(node)) {
+            Some(entry) => entry.frozen_told,
+            None => ModeSet::empty(),
+        }
+    }
+
+    /// The node was told that these modes are frozen.
+    pub fn tell_frozen(&mut self, node: u8, modes: ModeSet)
+        ensures { self.new ≡ record self.old { entries = put_by node (told_frozen modes) self.old.entries } }
+    {
+        let x = usize::from(node);
+        if x < self.entries.len() {
+            self.entries[x].tell_frozen(modes);
+        }
+    }
+
+    /// What the node tells of itself as it hands the desk over: its modes, and the stamps of its unanswered asks.
+    pub fn settle(&mut self, node: u8, modes: ModeSet, pending: &Pending, stamp: Stamp)
+        ensures entries { (s : SetState) → held_modes s.held ≡ modes → stamps_of s.pending ≡ pending.now
+            → self.new.entries ≡ put_by node (settled stamp s) self.old.entries }
+        ensures spare { self.old.spare ≤ self.new.spare }
+    {
+        let x = usize::from(node);
+        if x < self.entries.len() {
+            self.entries[x].settle(modes, pending, stamp);
+        }
+    }
+}
+
+fn record_at(entries: &[Entry], x: usize) -> ModeSet
+    ensures { result ≡ record_of (entry_at (map entry_seen entries.now) x) }
+{
+    match entries.get(x) {
+        Some(entry) => entry.record(),
+        None => ModeSet::empty(),
+    }
+}
+
+fn owed_at(entries: &[Entry], x: usize, pending: &Pending) -> ModeSet
+    ensures { (asks : List Ask) → stamps_of asks ≡ pending.now
+        → result ≡ modes_of_owed (still_owed asks (entry_at (map entry_seen entries.now) x).owed) }
+{
+    match entries.get(x) {
+        Some(entry) => entry.owed_in(pending),
+        None => ModeSet::empty(),
+    }
+}
+
+fn told_at(entries: &[Entry], x: usize) -> Stamp
+    ensures { result ≡ (entry_at (map entry_seen entries.now) x).told_at }
+{
+    match entries.get(x) {
+        Some(entry) => entry.told_at,
+        None => Stamp { clock: 0, node: 0 },
+    }
+}
+
+fn others(entries: &[Entry], node: usize, me: usize, own: ModeSet) -> ModeSet
+    ensures { (s : SetState) (desk : Desk) → desk.entries ≡ map entry_seen entries.now → own_part me s desk ≡ own
+        → result ≡ others me s desk node }
+{
+    let mut all = ModeSet::empty();
+    for x in 0..entries.len() {
+        all = all.union(counted(entries, x, node, me, own));
+    }
+    all
+}
+
+// What counts of node x, where this node counts nothing.
+fn counted(entries: &[Entry], x: usize, node: usize, me: usize, own: ModeSet) -> ModeSet
+    ensures { (s : SetState) (desk : Desk) → desk.entries ≡ map entry_seen entries.now → own_part me s desk ≡ own
+        → result ≡ (if x == node then no_modes else modes_at me s desk x) }
+{
+    if x == node {
+        ModeSet::empty()
+    } else if x == me {
+        own
+    } else {
+        record_at(entries, x)
+    }
+}
+
+fn first_entries(alloc: Global, nodes: u8) -> Result<Vec<Entry>, AllocError>
+    ensures entries { IfOk result (λ es. map entry_seen es.items ≡ replicate nodes first_entry) }
+    ensures length { IfOk result (λ es. length es.items ≡ nodes) }
+{
+    let mut entries = Vec::new(alloc);
+    for _node in 0..nodes {
+        entries.push(Entry::new(alloc))?;
+    }
+    Ok(entries)
+}
+
+fn reserve(entries: &mut Vec<Entry>, asks: u32) -> Result<(), AllocError>
+    ensures entries { map entry_seen entries.new.items ≡ map entry_seen entries.old.items }
+    ensures length { length entries.new.items ≡ length entries.old.items }
+    ensures spare { OnOk result (asks ≤ spare_in entries.new.items) }
+    ensures kept { spare_in entries.old.items ≤ spare_in entries.new.items }
+{
+    for x in 0..entries.len() {
+        entries[x].reserve(asks)?;
+    }
+    Ok(())
+}
