@@ -20,7 +20,7 @@ use Rattle.lt_model.proofs.NodeMoves.{obey-stamped}
 use Rattle.lt_model.proofs.NodeEffects.{both_of_set, IsOnce, obey_by_effects}
 use Rattle.lt_model.proofs.BeginsMove.{begun_state}
 use Rattle.lt_model.proofs.StandingEffects.{Stands, stands}
-use Rattle.lt_model.proofs.StandingMove.{elsewhere, unanswered, stands_before, none_in_hand, stands_of_set}
+use Rattle.lt_model.proofs.StandingBegins.{elsewhere, unanswered, stands_before, none_in_hand, stands_of_set}
 use Rattle.lt_model.proofs.Effects.{both}
 use Rattle.lt_ledgers.specs.LedgerLaws.{LedgersKept}
 use Rattle.lt_ledgers.proofs.Ledgers.{Ledger, Ended}
@@ -32,7 +32,8 @@ use Rattle.lt_ledgers.proofs.OneDesk.{named_firm}
 use Rattle.lt_ledgers.proofs.Beginning.{Beginning, beginning}
 
 -- the move of a command that touches the set
-pub act_ended : (script : ScriptData) (w : World) (s q client : ℕ) → 0 < script.nodes → Paths script w s → AsksStand script w s → LedgersKept script w s → q < script.nodes
+pub act_ended : (script : ScriptData) (w : World) (s q client : ℕ) → 0 < script.nodes → Paths script w s → AsksStand script w s
+    → LedgersKept script w s → q < script.nodes
     → IsOnce s (sets_of_command script (next_command script (w.node q) client))
     → Ended script (after script w q (Act client)) s
 act_ended script w s q client some paths stood known below once =

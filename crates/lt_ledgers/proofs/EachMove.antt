@@ -42,7 +42,8 @@ ledgers_once_ended script w s paths e place desk there =
     subst (λ (p : Option ℕ). DeskKept script Between w s p desk) same.0 (subst (DeskKept script Between w s e.place) same.1 e.kept)
 
 -- a move that doesn't touch the set
-ledgers_aside : (script : ScriptData) (w : World) (s q : ℕ) (step : Step) → LedgersKept script w s → IsAside script w q step s → LedgersKept script (after script w q step) s
+ledgers_aside : (script : ScriptData) (w : World) (s q : ℕ) (step : Step) → LedgersKept script w s → IsAside script w q step s
+    → LedgersKept script (after script w q step) s
 ledgers_aside script w s q step known aside place desk there =
     let same = others_stay script w s q step aside in
     ledger_goes script Between w (after script w q step) s place desk same (λ x. clocks_grow script w q step x)
@@ -76,7 +77,8 @@ moves_keep_ledgers script w s q (Take p) whole h enabled =
         (all_weaker (SoundParked (numbers_of script)) (IsParkedOf script.nodes) (parked_named script) (state_at w s q).parked
         (recursion_from_All (SoundParked (numbers_of script)) (state_at w s q).parked (h.states q below).parked))
 
-    by_letters : (letters : List Letter) → w.mail p q ≡ letters → is_some_letter letters ≡ true → p < script.nodes → q < script.nodes → LedgersKept script (after script w q (Take p)) s
+    by_letters : (letters : List Letter) → w.mail p q ≡ letters → is_some_letter letters ≡ true → p < script.nodes → q < script.nodes
+        → LedgersKept script (after script w q (Take p)) s
     by_letters [] e none from below = cc
     by_letters (letter ∷ rest) e there from below = elim (cases_eq letter.set s) [
       | inl own ↦ ledgers_once_ended script (after script w q (Take p)) s (move_kept script w s whole.some_node h.paths q (Take p) enabled)

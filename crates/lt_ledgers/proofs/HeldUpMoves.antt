@@ -41,14 +41,16 @@ other_state script w s q (Act client) x d = ap (λ (k : NodeState). k.set s) (pu
 other_state script w s q (Take p) x d = ap (λ (k : NodeState). k.set s) (put-other w.node q (take_front q (w.node q) (w.mail p q)).node x d)
 
 -- no copy is for a taking mode
-copy_not_taking : (script : ScriptData) (w : World) (s q : ℕ) (ask : Ask) → Paths script w s → LedgersKept script w s → q < script.nodes → IsCopyTo script w s q ask → is_taking ask.mode ≡ false
+copy_not_taking : (script : ScriptData) (w : World) (s q : ℕ) (ask : Ask) → Paths script w s → LedgersKept script w s → q < script.nodes
+    → IsCopyTo script w s q ask → is_taking ask.mode ≡ false
 copy_not_taking script w s q ask paths known below comes =
     let found = desk_somewhere script w s paths in
     let copy = (copies_are_on_way script w s q ask).1 comes in
     ((known found.0 found.1 found.2).accounts q below).clear.copies_clear ask ask copy copy
 
 -- a node without the desk that its own firm link names learns no more
-settled : (script : ScriptData) (w : World) (s p q : ℕ) (letter : Letter) → Paths script w s → p < script.nodes → q < script.nodes → OnWay w s p q letter → (state_at w s q).firm.node ≡ q
+settled : (script : ScriptData) (w : World) (s p q : ℕ) (letter : Letter) → Paths script w s → p < script.nodes → q < script.nodes
+    → OnWay w s p q letter → (state_at w s q).firm.node ≡ q
     → IsTrue (is_some (state_at w s q).desk) ⊎ (nat_lt (state_at w s q).firm.epoch letter.link.epoch ≡ false)
 settled script w s p q letter paths from below on me = by_desk (state_at w s q).desk (paths.states q below).way
   where
@@ -97,7 +99,8 @@ moves_hold_up script w s q (Take p) whole h held enabled =
     n : NodeState
     n = w.node q
 
-    stays : (letter : Letter) → OnWay w s p q letter → p < script.nodes → q < script.nodes → (ask : Ask) → letter.body ≡ CopyBody ask → (older : Ask) → Contains (n.set s).pending older
+    stays : (letter : Letter) → OnWay w s p q letter → p < script.nodes → q < script.nodes → (ask : Ask) → letter.body ≡ CopyBody ask
+        → (older : Ask) → Contains (n.set s).pending older
         → IsTrue (is_taking older.mode) → Contains (without (n.set s).pending ask.stamp) older
     stays letter on from below ask says older c taking =
         let comes : IsCopyTo script w s q ask = (p, letter, from, on, says) in
@@ -117,7 +120,8 @@ moves_hold_up script w s q (Take p) whole h held enabled =
         taken_held s q letter n set (arrive_held (take_stamp q n letter) letter (n.set s) (settled script w s p q letter h.paths from below on)
         (λ ask says older c taking. stays letter on from below ask says older c taking) held)
 
-    by_letters : (letters : List Letter) → w.mail p q ≡ letters → is_some_letter letters ≡ true → p < script.nodes → q < script.nodes → HeldUp q (state_at (after script w q (Take p)) s q)
+    by_letters : (letters : List Letter) → w.mail p q ≡ letters → is_some_letter letters ≡ true → p < script.nodes → q < script.nodes
+        → HeldUp q (state_at (after script w q (Take p)) s q)
     by_letters [] e none hp hq = cc
     by_letters (letter ∷ rest) e there hp hq = elim (cases_eq letter.set s) [
       | inl own ↦ subst (λ (k : NodeState). HeldUp q (k.set s)) (sym (put-same w.node q (take_front q n (w.mail p q)).node))

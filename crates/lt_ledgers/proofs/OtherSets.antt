@@ -26,7 +26,8 @@ none_of_set : {X : Type 0} (s : ℕ) (read : Body → Option X) (b : ℕ) (posts
 none_of_set s read b [] h = tt
 none_of_set s read b (post ∷ rest) h = (λ e. rw (ne_eqb post.letter.set s h.0) refl, none_of_set s read b rest h.1)
 
-others_heard : (script : ScriptData) (w : World) (q s : ℕ) (t : SetState) (posts : List Post) (x : ℕ) → state_at w s q ≡ t → AllByRecursion (λ (post : Post). post.letter.set ≢ s) posts
+others_heard : (script : ScriptData) (w : World) (q s : ℕ) (t : SetState) (posts : List Post) (x : ℕ) → state_at w s q ≡ t
+    → AllByRecursion (λ (post : Post). post.letter.set ≢ s) posts
     → SameHeard script w (world_of w q s t posts) s x
 others_heard script w q s t posts x e others = record {
   clock = clock_stays w q s (made_of t posts) x;
@@ -38,11 +39,14 @@ others_heard script w q s t posts x e others = record {
     filter_tells : SetState → List Tell
     filter_tells u = filter_map (tell_parked x) u.parked
 
-others_state : (w : World) (q s : ℕ) (t : SetState) (posts : List Post) (x : ℕ) → state_at w s q ≡ t → state_at (world_of w q s t posts) s x ≡ state_at w s x
+others_state : (w : World) (q s : ℕ) (t : SetState) (posts : List Post) (x : ℕ) → state_at w s q ≡ t
+    → state_at (world_of w q s t posts) s x ≡ state_at w s x
 others_state w q s t posts x e = part_stays (λ (u : SetState). u) w q s (made_of t posts) (sym e) x
 
-others_kept : (script : ScriptData) (moment : Moment) (w : World) (q s : ℕ) (t : SetState) (posts : List Post) (place : Option ℕ) (desk : Desk) → state_at w s q ≡ t
-    → AllByRecursion (λ (post : Post). post.letter.set ≢ s) posts → DeskKept script moment w s place desk → DeskKept script moment (world_of w q s t posts) s place desk
+others_kept : (script : ScriptData) (moment : Moment) (w : World) (q s : ℕ) (t : SetState) (posts : List Post) (place : Option ℕ) (desk : Desk)
+    → state_at w s q ≡ t
+    → AllByRecursion (λ (post : Post). post.letter.set ≢ s) posts → DeskKept script moment w s place desk
+    → DeskKept script moment (world_of w q s t posts) s place desk
 others_kept script moment w q s t posts place desk e others h =
     kept_by script moment later s place desk
     (same_kept script.nodes (account_of script moment w s place desk) (account_of script moment later s place desk) (all_kept script moment w s place desk h)
@@ -54,11 +58,13 @@ others_kept script moment w q s t posts place desk e others h =
     later : World
     later = world_of w q s t posts
 
-others_desk : (script : ScriptData) (w : World) (q s : ℕ) (t : SetState) (posts : List Post) (place : Option ℕ) (desk : Desk) → state_at w s q ≡ t → DeskIs script w s place desk
+others_desk : (script : ScriptData) (w : World) (q s : ℕ) (t : SetState) (posts : List Post) (place : Option ℕ) (desk : Desk)
+    → state_at w s q ≡ t → DeskIs script w s place desk
     → DeskIs script (world_of w q s t posts) s place desk
 others_desk script w q s t posts place desk e h = desk_stays script w q s (made_of t posts) place desk (ap (λ (u : SetState). u.desk) (sym e)) h
 
-pub ledger_of_set : (script : ScriptData) (moment : Moment) (w : World) (q s : ℕ) (t : SetState) (posts : List Post) (o : Option Desk) → state_at w s q ≡ t
+pub ledger_of_set : (script : ScriptData) (moment : Moment) (w : World) (q s : ℕ) (t : SetState) (posts : List Post) (o : Option Desk)
+    → state_at w s q ≡ t
     → AllByRecursion (λ (post : Post). post.letter.set ≢ s) posts → Ledger script moment w s q o → Ledger script moment (world_of w q s t posts) s q o
 ledger_of_set script moment w q s t posts o e others l = record {
   place = l.place;

@@ -1,8 +1,7 @@
 -- The lines of a run count what is held.
-use Rattle.std.proofs.Common.{◌≡◌, ◌≢◌, ℕ, zero, suc, ◌<◌, ◌≤◌, inl, inr, List, [], ◌∷◌, ◌++◌, length, refl, sym, ap, subst, take, ◌∙◌}
+use Rattle.std.proofs.Common.{◌≡◌, ◌≢◌, ℕ, ◌<◌, ◌≤◌, inl, inr, List, [], ◌++◌, length, refl, sym, ap, take, ◌∙◌}
 use Rattle.std.specs.Prelude.{◌⊎◌, IsTrue, fold}
 use Rattle.std.proofs.lemmas.Bool.{cases_eq}
-use Rattle.std.proofs.lemmas.List.{append-nil, append_assoc}
 use Rattle.std.proofs.lemmas.List.Sums.{fold-append}
 use Rattle.lt_modes.specs.declared.event.Event.{Event}
 use Rattle.lt_modes.specs.declared.moves.Step.{Step}
@@ -12,10 +11,10 @@ use Rattle.lt_runs.specs.Holdings.{Holding, after_line, holdings, lines_of, coun
 use Rattle.lt_model.specs.Homes.{IsWhole, Homes}
 use Rattle.lt_runs.specs.Log.{Logged}
 use Rattle.lt_runs.specs.NodeMove.{NodeState, NodeMade}
-use Rattle.lt_runs.specs.World.{World, start, is_enabled, node_move, after, after_run, world_after, IsRunFrom}
+use Rattle.lt_runs.specs.World.{World, is_enabled, node_move, after, world_after, IsRun}
 use Rattle.lt_lists.proofs.Puts.{put-same, put-other}
 use Rattle.lt_model.proofs.NodeMoves.{after_node}
-use Rattle.lt_model.proofs.HomesMove.{homes_kept, homes_start}
+use Rattle.lt_lines.proofs.AlongRuns.{along_runs}
 use Rattle.lt_lines.proofs.HeldMoves.{NodeFollows, held_at, step_follows}
 use Rattle.lt_lines.proofs.LineCounts.{count_after, lines_count}
 
@@ -47,18 +46,7 @@ lines_after script w lines q step whole homes enabled h = record {
         ∙ ap (λ (n : NodeState). held_at n k) (sym (after_node script w q step q ∙ put-same w.node q made.node)) ∙ ap (λ (x : ℕ). held_at ((after script w q step).node x) k) (sym e)
     by_home k below (inr d) = follow.aside k (held_at (w.node (home script k.client)) k) d ∙ ap (λ (n : NodeState). held_at n k) (sym (after_node script w q step (home script k.client) ∙ put-other w.node q made.node (home script k.client) d))
 
-run_lines : (script : ScriptData) → IsWhole script → (run : List Logged) (w : World) (lines : List Event) → Homes script w → LinesHold script lines w → IsRunFrom script w run → (k : ℕ)
-    → LinesHold script (lines ++ lines_of (take k run)) (after_run script w (take k run))
-run_lines script whole run w lines homes h is_run zero = subst (λ (l : List Event). LinesHold script l w) (sym (append-nil lines)) h
-run_lines script whole [] w lines homes h is_run (suc k) = subst (λ (l : List Event). LinesHold script l w) (sym (append-nil lines)) h
-run_lines script whole (entry ∷ rest) w lines homes h is_run (suc k) =
-    let q = entry.made.stamp.node in
-    let step = entry.made.step in
-    let now = lines_after script w lines q step whole homes is_run.0.enabled h in
-    let events : entry.events ≡ (node_move script w q step).events = ap (λ (e : Logged). e.events) is_run.0.made in
-    let next = subst (λ (l : List Event). LinesHold script (lines ++ l) (after script w q step)) (sym events) now in
-    subst (λ (l : List Event). LinesHold script l (after_run script (after script w q step) (take k rest))) (append_assoc lines entry.events (lines_of (take k rest)))
-    (run_lines script whole rest (after script w q step) (lines ++ entry.events) (homes_kept script w whole homes q step is_run.0.enabled) next is_run.1 k)
-
-pub lines_hold : (script : ScriptData) (run : List Logged) → IsWhole script → IsRunFrom script (start script) run → (k : ℕ) → LinesHold script (lines_of (take k run)) (world_after script (take k run))
-lines_hold script run whole is_run k = run_lines script whole run (start script) [] (homes_start script) (record { own = λ key below. refl; beyond = λ key above. refl }) is_run k
+pub held_in_runs : (script : ScriptData) (run : List Logged) → IsWhole script → IsRun script run → (k : ℕ) → LinesHold script (lines_of (take k run)) (world_after script (take k run))
+held_in_runs script run whole is_run k =
+    along_runs script (LinesHold script) whole (λ w lines q step kept homes enabled h. lines_after script w lines q step whole homes enabled h)
+    (record { own = λ key below. refl; beyond = λ key above. refl }) run is_run k

@@ -15,14 +15,13 @@ use Rattle.lt_model.specs.Homes.{Homes, IsRowAtHome}
 use Rattle.lt_runs.specs.World.{World, world_after}
 use Rattle.lt_accounts.proofs.Asks.{same_mode-true}
 use Rattle.lt_model.proofs.HomesMove.{homes_in_runs}
-use Rattle.lt_kept.proofs.KeptRuns.{locks_never_conflict}
+use Rattle.lt_kept.proofs.KeptRuns.{locks_never_conflict, kept_in_runs}
 use Rattle.lt_accounts.proofs.RowTotals.{row_count, total}
 use Rattle.lt_lines.proofs.LineCounts.{same_holding-itself}
 use Rattle.std.proofs.lemmas.List.Quantifiers.{position-Some}
 use Rattle.lt_lists.proofs.Sums.{none_found, sum_by-zero}
 use Rattle.lt_runs.specs.Facts.{state_at}
-use Rattle.lt_kept.proofs.KeptRuns.{kept_in_runs}
-use Rattle.lt_lines.proofs.HeldRuns.{LinesHold, lines_hold}
+use Rattle.lt_lines.proofs.HeldRuns.{LinesHold, held_in_runs}
 use Rattle.lt_lines.proofs.WaitRuns.{WaitsTold, waits_in_runs}
 use Rattle.lt_lines.proofs.OpenWaits.{open_wait}
 use Rattle.lt_lines.specs.LineLaws.{LinesKeptInRuns, LinesTellHeld, HoldingsAreLawful, LinesTellWaits}
@@ -57,7 +56,7 @@ holdings_are_lawful script run whole is_run k i j d before within = agreed (slic
     held = holdings script (lines_of (take k run))
 
     hold : LinesHold script (lines_of (take k run)) w
-    hold = lines_hold script run whole is_run k
+    hold = held_in_runs script run whole is_run k
 
     homes : Homes script w
     homes = homes_in_runs script run whole is_run k
@@ -131,7 +130,7 @@ counted_all rows apart client mode = by_place (row_place rows client mode) refl
 
 pub lines_tell_held : LinesTellHeld
 lines_tell_held script run whole is_run k client s mode known below =
-    (lines_hold script run whole is_run k).own (holding client s mode) below
+    (held_in_runs script run whole is_run k).own (holding client s mode) below
     ∙ counted_all (state_at (world_after script (take k run)) s (home script client)).held
     (((kept_in_runs script run whole is_run k).sets s below).states (home script client) (whole.homes client known)).rows_apart client mode
 
@@ -152,7 +151,7 @@ lines_kept_in_runs script run whole is_run k = record {
     held = holdings script (lines_of (take k run))
 
     hold : LinesHold script (lines_of (take k run)) w
-    hold = lines_hold script run whole is_run k
+    hold = held_in_runs script run whole is_run k
 
     told : WaitsTold script (lines_of (take k run)) w
     told = waits_in_runs script run whole is_run k

@@ -9,3 +9,6 @@ pub mod WaitSteps
 pub mod WaitRuns
 pub mod OpenWaits
 pub mod KeptLines
+pub mod AlongRuns
+pub mod OwnerRules
+pub mod OwnerRuns

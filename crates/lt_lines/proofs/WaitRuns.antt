@@ -1,8 +1,7 @@
 -- The lines of a run tell who waits.
-use Rattle.std.proofs.Common.{◌≡◌, ◌≢◌, ℕ, zero, suc, ◌<◌, inl, inr, List, [], ◌∷◌, ◌++◌, length, None, sym, ap, subst, arith, take, ◌∙◌}
+use Rattle.std.proofs.Common.{◌≡◌, ◌≢◌, ℕ, ◌<◌, inl, inr, List, [], ◌++◌, length, None, sym, ap, subst, arith, take, ◌∙◌}
 use Rattle.std.specs.Prelude.{◌⊎◌, IsTrue, fold}
 use Rattle.std.proofs.lemmas.Bool.{cases_eq}
-use Rattle.std.proofs.lemmas.List.{append-nil, append_assoc}
 use Rattle.std.proofs.lemmas.List.Elements.{All-contains}
 use Rattle.std.proofs.lemmas.List.Sums.{fold-append}
 use Rattle.lt_modes.specs.declared.event.Event.{Event}
@@ -12,15 +11,13 @@ use Rattle.lt_runs.specs.Families.{home}
 use Rattle.lt_runs.specs.Holdings.{wanted, wanted_after, lines_of}
 use Rattle.lt_runs.specs.Log.{Logged}
 use Rattle.lt_runs.specs.NodeMove.{NodeState}
-use Rattle.lt_runs.specs.World.{World, start, is_enabled, node_move, after, after_run, world_after, IsRunFrom, IsRun}
+use Rattle.lt_runs.specs.World.{World, start, is_enabled, node_move, after, world_after, IsRun}
 use Rattle.lt_runs.specs.Facts.{state_at}
 use Rattle.lt_model.specs.Homes.{IsWhole, Homes, IsAskOf}
 use Rattle.lt_model.specs.Invariant.{Kept}
 use Rattle.lt_lists.proofs.Puts.{put-same, put-other}
-use Rattle.lt_model.proofs.HomesMove.{homes_kept, homes_start}
 use Rattle.lt_model.proofs.NodeMoves.{after_node}
-use Rattle.lt_model.proofs.StartKept.{start_kept}
-use Rattle.lt_kept.proofs.KeptMoves.{kept_stays}
+use Rattle.lt_lines.proofs.AlongRuns.{along_runs}
 use Rattle.lt_lines.proofs.WaitMoves.{Told, IsFree}
 use Rattle.lt_lines.proofs.WaitSteps.{MoveTold, move_told}
 
@@ -54,20 +51,6 @@ waits_after script w lines q step whole kept homes enabled h c known =
         subst (λ (n : NodeState). Told (length script.sets) n.set c (fold (wanted_after c) (wanted c lines) (node_move script w q step).events)) (sym now)
         (subst (Told (length script.sets) (w.node (home script c)).set c) (sym (moved.aside c d (foreign_free script w q c homes d) (wanted c lines))) (h c known))
 
-run_waits : (script : ScriptData) → IsWhole script → (run : List Logged) (w : World) (lines : List Event) → Kept script w → Homes script w → WaitsTold script lines w → IsRunFrom script w run → (k : ℕ)
-    → WaitsTold script (lines ++ lines_of (take k run)) (after_run script w (take k run))
-run_waits script whole run w lines kept homes h is_run zero = subst (λ (l : List Event). WaitsTold script l w) (sym (append-nil lines)) h
-run_waits script whole [] w lines kept homes h is_run (suc k) = subst (λ (l : List Event). WaitsTold script l w) (sym (append-nil lines)) h
-run_waits script whole (entry ∷ rest) w lines kept homes h is_run (suc k) =
-    let q = entry.made.stamp.node in
-    let step = entry.made.step in
-    let now = waits_after script w lines q step whole kept homes is_run.0.enabled h in
-    let events : entry.events ≡ (node_move script w q step).events = ap (λ (e : Logged). e.events) is_run.0.made in
-    let next = subst (λ (l : List Event). WaitsTold script (lines ++ l) (after script w q step)) (sym events) now in
-    subst (λ (l : List Event). WaitsTold script l (after_run script (after script w q step) (take k rest))) (append_assoc lines entry.events (lines_of (take k rest)))
-    (run_waits script whole rest (after script w q step) (lines ++ entry.events) (kept_stays script w q step whole kept is_run.0.enabled)
-    (homes_kept script w whole homes q step is_run.0.enabled) next is_run.1 k)
-
 nothing_waits : (script : ScriptData) → WaitsTold script [] (start script)
 nothing_waits script c known = record {
   says = λ k e. cc;
@@ -75,4 +58,6 @@ nothing_waits script c known = record {
 }
 
 pub waits_in_runs : (script : ScriptData) (run : List Logged) → IsWhole script → IsRun script run → (k : ℕ) → WaitsTold script (lines_of (take k run)) (world_after script (take k run))
-waits_in_runs script run whole is_run k = run_waits script whole run (start script) [] (start_kept script whole.some_node) (homes_start script) (nothing_waits script) is_run k
+waits_in_runs script run whole is_run k =
+    along_runs script (WaitsTold script) whole (λ w lines q step kept homes enabled h. waits_after script w lines q step whole kept homes enabled h)
+    (nothing_waits script) run is_run k

@@ -1,13 +1,14 @@
 -- What the lines of a run tell, as statements.
-use Rattle.std.specs.Prelude.{◌≡◌, ◌↔◌, ◌<◌, ◌==◌, Bool, false, ℕ, List, ◌∷◌, ◌++◌, length, take, IsFalse}
+use Rattle.std.specs.Prelude.{◌≡◌, ◌↔◌, ◌<◌, ◌+◌, ◌==◌, Bool, false, ℕ, List, ◌∷◌, ◌++◌, length, take, slice_index, IsFalse}
 use Rattle.std.specs.List.{AllByRecursion}
 use Rattle.lt_modes.specs.declared.mode.Mode.{Mode}
 use Rattle.lt_modes.specs.declared.event.Event.{Event}
 use Rattle.lt_modes.specs.declared.event.Event.TheVariants.{Grant, Wait, Change}
+use Rattle.lt_modes.specs.declared.parts.Link.{Link}
 use Rattle.lt_modes.specs.Script.{ScriptData}
 use Rattle.lt_modes.specs.Held.{count_of}
 use Rattle.lt_runs.specs.Families.{home}
-use Rattle.lt_runs.specs.Holdings.{holding, holdings, lines_of, IsLawful, count_of as times_held}
+use Rattle.lt_runs.specs.Holdings.{holding, holdings, owner_of, lines_of, IsLawful, count_of as times_held}
 use Rattle.lt_runs.specs.Log.{Logged}
 use Rattle.lt_runs.specs.World.{world_after, IsRun}
 use Rattle.lt_runs.specs.Facts.{state_at}
@@ -49,3 +50,12 @@ abbrev pub LinesTellWaits : Type 0
 LinesTellWaits = (script : ScriptData) (run : List Logged) → IsWhole script → IsRun script run → (k client s : ℕ) (mode : Mode)
     → client < length script.clients → s < length script.sets
     → HasOpenWait client s mode (lines_of (take k run)) ↔ WaitsFor script (world_after script (take k run)) client s mode
+
+-- the link names the last move of a token that had these nodes, node 0 first: how many moves there were, and to which node
+abbrev pub IsLastMove : List ℕ → Link → Type 0
+IsLastMove went link = (link.epoch + 1 ≡ length went) × (slice_index went link.epoch ≡ link.node)
+
+-- the owner of a set after the lines is that of the last move of its token
+abbrev pub LinesTellOwners : Type 0
+LinesTellOwners = (script : ScriptData) (run : List Logged) → IsWhole script → IsRun script run → (k s : ℕ) → s < length script.sets
+    → IsLastMove ((world_after script (take k run)).went s) (owner_of s (lines_of (take k run)))
