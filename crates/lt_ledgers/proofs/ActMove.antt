@@ -17,16 +17,17 @@ use Rattle.lt_model.specs.Standing.{AsksStand}
 use Rattle.lt_model.specs.Touches.{sets_of_command}
 use Rattle.lt_model.specs.MomentLaws.{begun}
 use Rattle.lt_model.proofs.NodeMoves.{obey-stamped}
-use Rattle.lt_model.proofs.NodeEffects.{IsOnce, obey_by_effects}
+use Rattle.lt_model.proofs.NodeEffects.{both_of_set, IsOnce, obey_by_effects}
 use Rattle.lt_model.proofs.BeginsMove.{begun_state}
 use Rattle.lt_model.proofs.StandingEffects.{Stands, stands}
 use Rattle.lt_model.proofs.StandingMove.{elsewhere, unanswered, stands_before, none_in_hand, stands_of_set}
+use Rattle.lt_model.proofs.Effects.{both}
 use Rattle.lt_ledgers.specs.LedgerLaws.{LedgersKept}
 use Rattle.lt_ledgers.proofs.Ledgers.{Ledger, Ended}
 use Rattle.lt_ledgers.proofs.MidMove.{world_of, Scene, Begun}
-use Rattle.lt_ledgers.proofs.MoveEffects.{both, begins, ended_fact, ledger_moves}
+use Rattle.lt_ledgers.proofs.MoveEffects.{begins, ended_fact, ledger_moves}
 use Rattle.lt_ledgers.proofs.SeenWorld.{begun_clock, clocks_as, states_as, ended_same}
-use Rattle.lt_ledgers.proofs.OtherSets.{ledger_of_set, begins_of_set, ended_of_set, both_of_set}
+use Rattle.lt_ledgers.proofs.OtherSets.{ledger_of_set, begins_of_set, ended_of_set}
 use Rattle.lt_ledgers.proofs.OneDesk.{named_firm}
 use Rattle.lt_ledgers.proofs.Beginning.{Beginning, beginning}
 

@@ -25,7 +25,7 @@ use Rattle.lt_runs.specs.Facts.{state_at}
 use Rattle.lt_model.specs.Moments.{Acting}
 use Rattle.lt_model.specs.OnWay.{copies_to}
 use Rattle.lt_accounts.proofs.Asks.{times_in-some}
-use Rattle.lt_model.proofs.Effects.{Fact, HoldsOf, EndEffects, ActEffects, ByEffects, route_ways, acts_by_effects}
+use Rattle.lt_model.proofs.Effects.{both, Fact, HoldsOf, EndEffects, ActEffects, ByEffects, route_ways, acts_by_effects}
 use Rattle.lt_model.proofs.StandingEffects.{Stands, stands, standing_ends, standing_acts}
 use Rattle.lt_model.proofs.StandingMove.{elsewhere, unanswered, only_here}
 use Rattle.lt_ledgers.specs.OneEffect.{after_effect, IsWaiting}
@@ -73,10 +73,6 @@ serve_firm set k stamp t = by_test ((ask_at t k).node == stamp.node)
     by_test : (own : Bool) → (if own then serve_local set k t else serve_copy set stamp k (ask_at t k) t).state.firm ≡ t.firm
     by_test true = refl
     by_test false = refl
-
--- two facts at once
-abbrev pub both : Fact → Fact → Fact
-both f g t posts = f t posts × g t posts
 
 abbrev pub midway : ScriptData → World → ℕ → ℕ → Fact
 midway script base s q t posts = Mid script base s q t posts

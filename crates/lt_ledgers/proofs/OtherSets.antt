@@ -12,14 +12,13 @@ use Rattle.lt_model.specs.OnWay.{tell_parked, DeskIs, account_of}
 use Rattle.lt_accounts.specs.News.{NewsKept}
 use Rattle.lt_model.specs.Invariant.{DeskKept}
 use Rattle.lt_model.proofs.NodeEffects.{IsOfSet}
-use Rattle.lt_model.proofs.Effects.{Fact}
 use Rattle.lt_accounts.proofs.AllKept.{same_kept}
 use Rattle.lt_ledgers.proofs.AfterEffect.{SaysNone, state_here, part_stays, clock_stays, copies_stay, freezes_stay}
 use Rattle.lt_ledgers.proofs.Seen.{SameHeard, all_kept, kept_by, account_seen, news_seen, own_as, frozen_as}
 use Rattle.lt_ledgers.proofs.Quiet.{tells_stay}
 use Rattle.lt_ledgers.proofs.Ledgers.{Ledger, Ended, desk_stays}
 use Rattle.lt_ledgers.proofs.MidMove.{made_of, world_of, again}
-use Rattle.lt_ledgers.proofs.MoveEffects.{both, begins, ended_fact}
+use Rattle.lt_ledgers.proofs.MoveEffects.{begins, ended_fact}
 
 -- letters of other sets are no matter
 none_of_set : {X : Type 0} (s : ℕ) (read : Body → Option X) (b : ℕ) (posts : List Post) → AllByRecursion (λ (post : Post). post.letter.set ≢ s) posts
@@ -90,6 +89,3 @@ ended_of_set script base s q t posts more others h =
       there = others_desk script (world_of base q s t posts) q s t more h.place h.desk (state_here base q s (made_of t posts)) h.there;
       kept = others_kept script Between (world_of base q s t posts) q s t more h.place h.desk (state_here base q s (made_of t posts)) others h.kept;
     })
-
-pub both_of_set : (s : ℕ) (f g : Fact) → IsOfSet s f → IsOfSet s g → IsOfSet s (both f g)
-both_of_set s f g hf hg t posts more others h = (hf t posts more others h.0, hg t posts more others h.1)

@@ -30,7 +30,7 @@ use Rattle.lt_model.proofs.PathsQuiet.{link_named}
 use Rattle.lt_lists.proofs.Puts.{put-same}
 use Rattle.lt_model.proofs.PathsWorld.{weighs_tokens}
 use Rattle.lt_accounts.proofs.Asks.{same_ask-itself}
-use Rattle.lt_model.proofs.Effects.{HoldsOf, EndEffects, take_by_effects}
+use Rattle.lt_model.proofs.Effects.{both, HoldsOf, EndEffects, take_by_effects}
 use Rattle.lt_model.proofs.BeginsMove.{begun_state}
 use Rattle.lt_model.proofs.StandingEffects.{places_weight, Stands, stands, stands_later, arrives-stands}
 use Rattle.lt_model.proofs.StandingMove.{elsewhere, unanswered, only_here, stands_before, copy_home}
@@ -38,7 +38,7 @@ use Rattle.lt_ledgers.specs.LedgerLaws.{LedgersKept}
 use Rattle.lt_ledgers.proofs.InHand.{InHand, in_hand}
 use Rattle.lt_ledgers.proofs.Ledgers.{Ledger, Ended}
 use Rattle.lt_ledgers.proofs.MidMove.{world_of, leads, at_now, Scene, no_copy}
-use Rattle.lt_ledgers.proofs.MoveEffects.{route_firm, both, midway, ended_fact, frozen_fact, ledger_ends}
+use Rattle.lt_ledgers.proofs.MoveEffects.{route_firm, midway, ended_fact, frozen_fact, ledger_ends}
 use Rattle.lt_ledgers.proofs.Arrive.{IsFair, body_done}
 use Rattle.lt_ledgers.proofs.SeenWorld.{begun_clock, clocks_as, states_as, ended_same}
 use Rattle.lt_ledgers.proofs.OneDesk.{named_firm}

@@ -34,7 +34,7 @@ use Rattle.lt_model.proofs.PathsMove.{has_mail_parts}
 use Rattle.lt_model.proofs.StandingEffects.{Stands, stands, stands_later}
 use Rattle.lt_model.proofs.StandingMove.{elsewhere, unanswered, only_here, stands_before, none_in_hand}
 use Rattle.lt_model.proofs.TokenComes.{desk_somewhere}
-use Rattle.lt_ledgers.proofs.MoveEffects.{both}
+use Rattle.lt_model.proofs.Effects.{both}
 use Rattle.lt_ledgers.proofs.OwnSteps.{route_same}
 use Rattle.lt_kept.proofs.ClientEffects.{Clients, clients}
 use Rattle.lt_kept.proofs.ClientCommands.{one_for, idle, no_ask_of, clients_acts, drops_kept, locked_of, tried_of, unlocked_of, changed_of}
