@@ -15,16 +15,18 @@ use Rattle.lt_model.specs.Homes.{Homes, IsRowAtHome}
 use Rattle.lt_runs.specs.World.{World, world_after}
 use Rattle.lt_accounts.proofs.Asks.{same_mode-true}
 use Rattle.lt_model.proofs.HomesMove.{homes_in_runs}
-use Rattle.lt_kept.proofs.KeptRuns.{locks_never_conflict, kept_in_runs}
+use Rattle.lt_kept.proofs.KeptRuns.{locks_never_conflict}
 use Rattle.lt_accounts.proofs.RowTotals.{row_count, total}
 use Rattle.lt_lines.proofs.LineCounts.{same_holding-itself}
 use Rattle.std.proofs.lemmas.List.Quantifiers.{position-Some}
 use Rattle.lt_lists.proofs.Sums.{none_found, sum_by-zero}
 use Rattle.lt_runs.specs.Facts.{state_at}
+use Rattle.lt_kept.proofs.KeptRuns.{kept_in_runs, first_waiter_in_runs}
+use Rattle.lt_rest.proofs.BarredByLines.{barred_by_lines}
 use Rattle.lt_lines.proofs.HeldRuns.{LinesHold, held_in_runs}
 use Rattle.lt_lines.proofs.WaitRuns.{WaitsTold, waits_in_runs}
 use Rattle.lt_lines.proofs.OpenWaits.{open_wait}
-use Rattle.lt_lines.specs.LineLaws.{LinesKeptInRuns, LinesTellHeld, HoldingsAreLawful, LinesTellWaits}
+use Rattle.lt_lines.specs.LineLaws.{LinesKeptInRuns, LinesTellHeld, HoldingsAreLawful, LinesTellWaits, FirstWaiterByLines}
 
 -- a lock that counts is that of a row
 row_of : (rows : List Row) (client : ℕ) (mode : Mode) → 1 ≤ total rows client mode → (row : Row) × Contains rows row × (row.client ≡ client) × (row.mode ≡ mode)
@@ -171,3 +173,8 @@ lines_tell_waits script run whole is_run k client s mode known below =
     let kept = (lines_kept_in_runs script run whole is_run k).waits client s mode known below in
     let same = open_wait client s mode (lines_of (take k run)) in
     (λ h. kept.0 (same.1 h), λ waits. same.0 (kept.1 waits))
+
+pub first_waiter_by_lines : FirstWaiterByLines
+first_waiter_by_lines script run whole is_run k s ask below rests first =
+    barred_by_lines script (lines_of (take k run)) (world_after script (take k run)) s ask ((kept_in_runs script run whole is_run k).sets s below)
+    (lines_kept_in_runs script run whole is_run k) below (first_waiter_in_runs script run whole is_run k s ask below rests first)

@@ -1,7 +1,8 @@
 -- What the lines of a run tell, as statements.
-use Rattle.std.specs.Prelude.{◌≡◌, ◌↔◌, ◌<◌, ◌+◌, ◌==◌, Bool, false, ℕ, List, ◌∷◌, ◌++◌, length, take, slice_index, IsFalse}
+use Rattle.std.specs.Prelude.{◌≡◌, ◌↔◌, ◌<◌, ◌+◌, ◌==◌, Bool, false, ℕ, List, ◌∷◌, ◌++◌, length, take, slice_index, IsFalse, IsTrue}
 use Rattle.std.specs.List.{AllByRecursion}
 use Rattle.lt_modes.specs.declared.mode.Mode.{Mode}
+use Rattle.lt_modes.specs.declared.ask.Ask.{Ask}
 use Rattle.lt_modes.specs.declared.event.Event.{Event}
 use Rattle.lt_modes.specs.declared.event.Event.TheVariants.{Grant, Wait, Change}
 use Rattle.lt_modes.specs.declared.parts.Link.{Link}
@@ -10,10 +11,11 @@ use Rattle.lt_modes.specs.Held.{count_of}
 use Rattle.lt_runs.specs.Families.{home}
 use Rattle.lt_runs.specs.Holdings.{holding, holdings, owner_of, lines_of, IsLawful, count_of as times_held}
 use Rattle.lt_runs.specs.Log.{Logged}
-use Rattle.lt_runs.specs.World.{world_after, IsRun}
-use Rattle.lt_runs.specs.Facts.{state_at}
+use Rattle.lt_runs.specs.World.{world_after, IsRun, is_at_rest}
+use Rattle.lt_runs.specs.Facts.{state_at, IsFirstWaiter}
 use Rattle.lt_model.specs.Homes.{IsWhole}
 use Rattle.lt_model.specs.Invariant.{LinesKept, WaitsFor}
+use Rattle.lt_rest.specs.RestLaws.{IsBarredByLines}
 
 -- the lines of each prefix of each run tell what is held and who waits
 abbrev pub LinesKeptInRuns : Type 0
@@ -59,3 +61,9 @@ IsLastMove went link = (link.epoch + 1 ≡ length went) × (slice_index went lin
 abbrev pub LinesTellOwners : Type 0
 LinesTellOwners = (script : ScriptData) (run : List Logged) → IsWhole script → IsRun script run → (k s : ℕ) → s < length script.sets
     → IsLastMove ((world_after script (take k run)).went s) (owner_of s (lines_of (take k run)))
+
+-- at rest the first waiter of a set conflicts with a lock that another client holds by the lines
+abbrev pub FirstWaiterByLines : Type 0
+FirstWaiterByLines = (script : ScriptData) (run : List Logged) → IsWhole script → IsRun script run → (k s : ℕ) (ask : Ask)
+    → s < length script.sets → IsTrue (is_at_rest script (world_after script (take k run)))
+    → IsFirstWaiter script (world_after script (take k run)) s ask → IsBarredByLines script (lines_of (take k run)) s ask

@@ -1,4 +1,4 @@
-ghost use Rattle.lt_lines.specs.LineLaws.{LinesKeptInRuns, LinesTellHeld, HoldingsAreLawful, LinesTellWaits, LinesTellOwners};
+ghost use Rattle.lt_lines.specs.LineLaws.{LinesKeptInRuns, LinesTellHeld, HoldingsAreLawful, LinesTellWaits, LinesTellOwners, FirstWaiterByLines};
 
 /// The lines of a run tell what is held, which is lawful, who waits, and where each set's token went last.
 pub fn law_lines_tell()
@@ -7,4 +7,5 @@ pub fn law_lines_tell()
     ensures lawful { HoldingsAreLawful }
     ensures waits { LinesTellWaits }
     ensures owners { LinesTellOwners }
+    ensures first { FirstWaiterByLines }
 {}

@@ -1,4 +1,4 @@
-use Rattle.lt_lines.proofs.KeptLines.{lines_kept_in_runs, lines_tell_held, holdings_are_lawful, lines_tell_waits}
+use Rattle.lt_lines.proofs.KeptLines.{lines_kept_in_runs, lines_tell_held, holdings_are_lawful, lines_tell_waits, first_waiter_by_lines}
 use Rattle.lt_lines.proofs.OwnerRuns.{lines_tell_owners}
 use Rattle.lt_lines.proofs.laws.law_lines_tell.Goals as goal
 
@@ -9,4 +9,5 @@ returns c = record {
   lawful = holdings_are_lawful;
   waits = lines_tell_waits;
   owners = lines_tell_owners;
+  first = first_waiter_by_lines;
 }

@@ -1,0 +1,2 @@
+pub mod LinesAmong
+pub mod ClosingLines
