@@ -25,9 +25,8 @@ use Rattle.lt_lists.proofs.Puts.{put-same}
 use Rattle.lt_model.proofs.TokenComes.{desk_somewhere, token_comes}
 use Rattle.lt_ledgers.specs.HeldUp.{IsHeldUp, HeldUp}
 use Rattle.lt_ledgers.proofs.HeldUps.{none_held}
-use Rattle.lt_ledgers.proofs.HeldUpMoves.{other_state, own_held, taken_held}
+use Rattle.lt_ledgers.proofs.HeldUpMoves.{other_state, moves_hold_up, taken_held}
 use Rattle.lt_ledgers.proofs.OneDesk.{one_desk}
-use Rattle.lt_model.proofs.KeptSets.{kept_stands}
 
 -- the token is on its way to x
 abbrev pub TokenTo : ScriptData → World → ℕ → ℕ → Type 0
@@ -148,7 +147,7 @@ held_or_comes_kept script w s q step x whole h below enabled = by_held (kept_hel
     by_held (inr comes) = by_step step comes
     by_held (inl held) = inl (elim (cases_eq x q) [
       | inl e ↦ subst (λ (y : ℕ). HeldUp y (state_at (after script w q step) s y)) (sym e)
-          (own_held script w s q step whole h.paths (kept_stands script w s h) h.known (subst (λ (y : ℕ). HeldUp y (state_at w s y)) e held) enabled)
+          (moves_hold_up script w s q step whole h (subst (λ (y : ℕ). HeldUp y (state_at w s y)) e held) enabled)
       | inr d ↦ subst (HeldUp x) (sym (other_state script w s q step x d)) held
     ])
 

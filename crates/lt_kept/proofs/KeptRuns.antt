@@ -10,7 +10,8 @@ use Rattle.lt_model.proofs.StartKept.{start_kept}
 use Rattle.lt_rest.proofs.FirstWaiter.{first_waiter_conflicts}
 use Rattle.lt_rest.proofs.LedAtRest.{asks_are_led}
 use Rattle.lt_rest.proofs.FrozenAtRest.{holders_are_frozen}
-use Rattle.lt_kept.specs.RunLaws.{KeptInRuns, LettersFitInRuns, FirstWaiterInRuns, LedInRuns, FrozenInRuns}
+use Rattle.lt_kept.specs.RunLaws.{KeptInRuns, LocksNeverConflict, LettersFitInRuns, FirstWaiterInRuns, LedInRuns, FrozenInRuns}
+use Rattle.lt_ledgers.proofs.EachMove.{locks_agree}
 use Rattle.lt_kept.proofs.KeptMoves.{kept_stays}
 use Rattle.lt_kept.proofs.FittingLetters.{letters_fit}
 
@@ -24,6 +25,9 @@ run_kept script (entry ∷ rest) w whole h is_run (suc k) =
 
 pub kept_in_runs : KeptInRuns
 kept_in_runs script run whole is_run k = run_kept script run (start script) whole (start_kept script whole.some_node) is_run k
+
+pub locks_never_conflict : LocksNeverConflict
+locks_never_conflict script run whole is_run k s below = locks_agree script (world_after script (take k run)) s ((kept_in_runs script run whole is_run k).sets s below)
 
 pub letters_fit_in_runs : LettersFitInRuns
 letters_fit_in_runs script run whole is_run k p q letter few hp hq there =

@@ -1,7 +1,8 @@
 -- What holds after each prefix of each run, as statements.
-use Rattle.std.specs.Prelude.{◌≡◌, ◌<◌, ◌+◌, ◌^◌, ℕ, List, Some, length, take, Contains, IsTrue}
+use Rattle.std.specs.Prelude.{◌≡◌, ◌<◌, ◌+◌, ◌^◌, ℕ, List, Some, length, take, Contains, IsTrue, ◌≢◌, ◌⊎◌, IsFalse}
 use Rattle.lt_modes.specs.declared.ask.Ask.{Ask}
 use Rattle.lt_modes.specs.declared.parts.Row.{Row}
+use Rattle.lt_modes.specs.Modes.{conflicts}
 use Rattle.lt_modes.specs.Script.{ScriptData}
 use Rattle.lt_modes.specs.State.{Desk, Letter}
 use Rattle.lt_modes.specs.Freezing.{frozen_by}
@@ -19,6 +20,13 @@ use Rattle.lt_rest.specs.RestLaws.{IsBarred}
 abbrev pub KeptInRuns : Type 0
 KeptInRuns = (script : ScriptData) (run : List Logged) → IsWhole script → IsRun script run → (k : ℕ)
     → Kept script (world_after script (take k run))
+
+-- no two locks of different clients conflict, be they of one node or of two
+abbrev pub LocksNeverConflict : Type 0
+LocksNeverConflict = (script : ScriptData) (run : List Logged) → IsWhole script → IsRun script run → (k s : ℕ) → s < length script.sets
+    → (x y : ℕ) (a b : Row) → x < script.nodes → y < script.nodes
+    → Contains (state_at (world_after script (take k run)) s x).held a → Contains (state_at (world_after script (take k run)) s y).held b
+    → (x ≢ y) ⊎ (a.client ≢ b.client) → IsFalse (conflicts a.mode b.mode)
 
 -- after fewer than 2^32 - 1 moves each letter that is on its way fits its receiver
 abbrev pub LettersFitInRuns : Type 0

@@ -1,6 +1,6 @@
 ghost use Rattle.lt_model.specs.Laws.{OnePlace};
 ghost use Rattle.lt_kept.specs.KeptLaws.{KeptStays, LettersFit};
-ghost use Rattle.lt_kept.specs.RunLaws.{KeptInRuns, LettersFitInRuns, FirstWaiterInRuns, LedInRuns, FrozenInRuns};
+ghost use Rattle.lt_kept.specs.RunLaws.{KeptInRuns, LocksNeverConflict, LettersFitInRuns, FirstWaiterInRuns, LedInRuns, FrozenInRuns};
 ghost use Rattle.lt_kept.specs.Services.{LinesOfServices, ServedInTurn};
 
 /// Every enabled move of a world that has the invariant leads to one that has it, and each letter that is on its way
@@ -13,6 +13,7 @@ pub fn law_step()
 /// What holds after each prefix of each run.
 pub fn law_kept_in_runs()
     ensures kept { KeptInRuns }
+    ensures locks { LocksNeverConflict }
     ensures place { OnePlace }
     ensures letters { LettersFitInRuns }
     ensures first { FirstWaiterInRuns }

@@ -17,21 +17,23 @@ use Rattle.lt_model.specs.Standing.{AsksStand}
 use Rattle.lt_model.specs.Touches.{sets_of_command}
 use Rattle.lt_model.specs.MomentLaws.{begun}
 use Rattle.lt_model.proofs.NodeMoves.{obey-stamped}
-use Rattle.lt_model.proofs.NodeEffects.{IsOnce, obey_by_effects}
+use Rattle.lt_model.proofs.NodeEffects.{both_of_set, IsOnce, obey_by_effects}
 use Rattle.lt_model.proofs.BeginsMove.{begun_state}
 use Rattle.lt_model.proofs.StandingEffects.{Stands, stands}
-use Rattle.lt_model.proofs.StandingMove.{elsewhere, unanswered, stands_before, none_in_hand, stands_of_set}
+use Rattle.lt_model.proofs.StandingBegins.{elsewhere, unanswered, stands_before, none_in_hand, stands_of_set}
+use Rattle.lt_model.proofs.Effects.{both}
 use Rattle.lt_ledgers.specs.LedgerLaws.{LedgersKept}
 use Rattle.lt_ledgers.proofs.Ledgers.{Ledger, Ended}
 use Rattle.lt_ledgers.proofs.MidMove.{world_of, Scene, Begun}
-use Rattle.lt_ledgers.proofs.MoveEffects.{both, begins, ended_fact, ledger_moves}
+use Rattle.lt_ledgers.proofs.MoveEffects.{begins, ended_fact, ledger_moves}
 use Rattle.lt_ledgers.proofs.SeenWorld.{begun_clock, clocks_as, states_as, ended_same}
-use Rattle.lt_ledgers.proofs.OtherSets.{ledger_of_set, begins_of_set, ended_of_set, both_of_set}
+use Rattle.lt_ledgers.proofs.OtherSets.{ledger_of_set, begins_of_set, ended_of_set}
 use Rattle.lt_ledgers.proofs.OneDesk.{named_firm}
 use Rattle.lt_ledgers.proofs.Beginning.{Beginning, beginning}
 
 -- the move of a command that touches the set
-pub act_ended : (script : ScriptData) (w : World) (s q client : ℕ) → 0 < script.nodes → Paths script w s → AsksStand script w s → LedgersKept script w s → q < script.nodes
+pub act_ended : (script : ScriptData) (w : World) (s q client : ℕ) → 0 < script.nodes → Paths script w s → AsksStand script w s
+    → LedgersKept script w s → q < script.nodes
     → IsOnce s (sets_of_command script (next_command script (w.node q) client))
     → Ended script (after script w q (Act client)) s
 act_ended script w s q client some paths stood known below once =

@@ -92,7 +92,8 @@ comes_or_sent script w q s m x body (p, letter, below, on, says) =
       | inr new ↦ inr (new.0, new.1, new.2, ap (λ (l : Letter). l.set) new.3 ∙ on.set, ap (λ (l : Letter). l.body) new.3 ∙ says)
     ]
 
-pub comes_still : (script : ScriptData) (w : World) (q s : ℕ) (m : Made) (x : ℕ) (body : Body) → Comes script w s x body → Comes script (after_effect w q s m) s x body
+pub comes_still : (script : ScriptData) (w : World) (q s : ℕ) (m : Made) (x : ℕ) (body : Body) → Comes script w s x body
+    → Comes script (after_effect w q s m) s x body
 comes_still script w q s m x body (p, letter, below, on, says) =
     (p, letter, below, record { among = still_on_way q m.posts w.mail p x letter on.among; set = on.set }, says)
 

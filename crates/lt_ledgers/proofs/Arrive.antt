@@ -42,7 +42,8 @@ desk_hand script w base s q body None desk hand other h = (
 
 -- the ledgers once it is in hand
 ledger_hand : (script : ScriptData) (w base : World) (s q : ℕ) (body : Body) → InHand script w base s q body → ((d : Desk) → TokenBody d ≡ body → ⊥)
-    → (l : Ledger script (Acting q) w s q (state_at w s q).desk) → DeskKept script (Acting q) base s l.place l.desk → Ledger script (Acting q) base s q (state_at base s q).desk
+    → (l : Ledger script (Acting q) w s q (state_at w s q).desk) → DeskKept script (Acting q) base s l.place l.desk
+    → Ledger script (Acting q) base s q (state_at base s q).desk
 ledger_hand script w base s q body hand other l kept = record {
   place = l.place;
   desk = l.desk;
@@ -68,7 +69,8 @@ IsFair script w base s q (TokenBody desk) = (length desk.entries ≡ script.node
 IsFair script w base s q (FreezeBody number modes) = Unit {0}
 
 -- what the letter says is done
-pub body_done : (script : ScriptData) (w base : World) (s : ℕ) (stamp : Stamp) (body : Body) → stamp.node < script.nodes → InHand script w base s stamp.node body
+pub body_done : (script : ScriptData) (w base : World) (s : ℕ) (stamp : Stamp) (body : Body) → stamp.node < script.nodes
+    → InHand script w base s stamp.node body
     → (state_at base s stamp.node).firm.node < script.nodes → IsFair script w base s stamp.node body
     → Ledger script (Acting stamp.node) w s stamp.node (state_at w s stamp.node).desk
     → Ledger script (Acting stamp.node) (after_effect base stamp.node s (take_body s stamp body (state_at base s stamp.node))) s stamp.node (take_body s stamp body (state_at base s stamp.node)).state.desk
@@ -90,7 +92,8 @@ body_done script w base s stamp (TellBody tell) below hand firm fair l = by_desk
     not_token : (d : Desk) → TokenBody d ≡ TellBody tell → ⊥
     not_token d e = cc
 
-    by_desk : (o : Option Desk) → t.desk ≡ o → Ledger script (Acting q) (after_effect base q s (route s stamp false (ParkedTell tell) t)) s q (route s stamp false (ParkedTell tell) t).state.desk
+    by_desk : (o : Option Desk) → t.desk ≡ o
+        → Ledger script (Acting q) (after_effect base q s (route s stamp false (ParkedTell tell) t)) s q (route s stamp false (ParkedTell tell) t).state.desk
     by_desk (Some desk) here =
         let old = kept_here script (Acting q) w s q desk (subst (Ledger script (Acting q) w s q) (sym (hand.desk q) ∙ here) l) in
         let m : Made = silent (record t { desk = Some (tell_applied tell desk) }) in

@@ -28,7 +28,8 @@ pub record Beginning (script : ScriptData) (w base : World) (s q : ℕ) : Type 0
   pub asks : (own : Ask) → Contains (state_at base s q).pending own → own.stamp.clock < (base.node q).clock
   pub kept : (place : Option ℕ) (desk : Desk) → DeskIs script w s place desk → DeskKept script (Acting q) base s place desk
 
-pub beginning : (script : ScriptData) (w : World) (s q clock : ℕ) → Paths script w s → LedgersKept script w s → q < script.nodes → (w.node q).clock < clock → Beginning script w (begun w q clock) s q
+pub beginning : (script : ScriptData) (w : World) (s q clock : ℕ) → Paths script w s → LedgersKept script w s → q < script.nodes
+    → (w.node q).clock < clock → Beginning script w (begun w q clock) s q
 beginning script w s q clock paths known below later = record {
   ledger = record {
     place = found.0;

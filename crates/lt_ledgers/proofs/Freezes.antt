@@ -79,7 +79,8 @@ freeze_keeps script w s stamp desk at h = record {
     within : (x : ℕ) → x < script.nodes → x < length desk.entries
     within x below = subst (λ (n : ℕ). x < n) (sym at.entries) below
 
-    says : {X : Type 0} (read : Body → Option X) (b : ℕ) → read (FreezeBody (number_by q desk) frozen) ≡ None → AllByRecursion (SaysNone s read b) m.posts
+    says : {X : Type 0} (read : Body → Option X) (b : ℕ) → read (FreezeBody (number_by q desk) frozen) ≡ None
+        → AllByRecursion (SaysNone s read b) m.posts
     says read b none = all_map (SaysNone s read b) post told (all_any (λ (x : ℕ). SaysNone s read b (post x)) (λ x e. says_none s read (post x).letter none) told)
 
     heard_tells : (x : ℕ) → tells_of script later s x ≡ tells_of script w s x
@@ -148,7 +149,8 @@ freeze_keeps script w s stamp desk at h = record {
     later_number : desk.number ≤ number_by q desk
     later_number = number_after-later told desk.number
 
-    before : (x : ℕ) (b : Bool) → (x == q) ≡ b → news_of script (Acting q) w s (Some q) desk x ≡ news_with (state_at w s x) (freezes_to script w s x) (entry_of desk x) desk b true
+    before : (x : ℕ) (b : Bool) → (x == q) ≡ b
+        → news_of script (Acting q) w s (Some q) desk x ≡ news_with (state_at w s x) (freezes_to script w s x) (entry_of desk x) desk b true
     before x b e = λ i. news_with (state_at w s x) (freezes_to script w s x) (entry_of desk x) desk (e i) (eq-eqb q q refl i)
 
     news_kept : (x : ℕ) → x < script.nodes → (x ≡ q) ⊎ (x ≢ q) → NewsKept (news_of script (Frozen q) later s (Some q) left x)

@@ -33,7 +33,8 @@ pub record SameHolds (t u : SetState) : Type 0 where
   pub firm : u.firm.node ≡ t.firm.node
   pub pending : (ask : Ask) → Contains t.pending ask → Contains u.pending ask
 
-item_holds : (x : ℕ) (t u : SetState) → u.firm.node ≡ t.firm.node → ((ask : Ask) → Contains t.pending ask → Contains u.pending ask) → (item : Parked) → IsHeldUp x t item → IsHeldUp x u item
+item_holds : (x : ℕ) (t u : SetState) → u.firm.node ≡ t.firm.node → ((ask : Ask) → Contains t.pending ask → Contains u.pending ask)
+    → (item : Parked) → IsHeldUp x t item → IsHeldUp x u item
 item_holds x t u firm pending (ParkedTell tell) h = firm ∙ h
 item_holds x t u firm pending (ParkedAsk ask) h = elim h [
   | inl comes ↦ inl (firm ∙ comes)
@@ -75,7 +76,8 @@ parks_held x marked item t e = by_own (t.firm.node == x) refl e
         by_mark false g = hoped_goes t.hoped g
         by_mark true g = by_behind (is_behind t.pending ask) refl g
           where
-            by_behind : (behind : Bool) → is_behind t.pending ask ≡ behind → (if behind then Parks else Goes t.firm.node false) ≡ Parks → IsHeldUp x t (ParkedAsk ask)
+            by_behind : (behind : Bool) → is_behind t.pending ask ≡ behind → (if behind then Parks else Goes t.firm.node false) ≡ Parks
+                → IsHeldUp x t (ParkedAsk ask)
             by_behind false b h = cc
             by_behind true b h =
                 let older = list_any-which (λ (own : Ask). is_taking own.mode && is_newer ask.stamp own.stamp) t.pending b in
@@ -90,7 +92,8 @@ parks_held x marked item t e = by_own (t.firm.node == x) refl e
     by_own true own f = named item (eqb-true t.firm.node x own)
     by_own false own f = onward item f
 
-route_held : (set : ℕ) (stamp : Stamp) (marked : Bool) (item : Parked) (t : SetState) → HeldUp stamp.node t → HeldUp stamp.node (route set stamp marked item t).state
+route_held : (set : ℕ) (stamp : Stamp) (marked : Bool) (item : Parked) (t : SetState) → HeldUp stamp.node t
+    → HeldUp stamp.node (route set stamp marked item t).state
 route_held set stamp marked item t h = route_ways (λ (m : Made). HeldUp stamp.node m.state) set stamp marked item t
     (λ desk here. none_held stamp.node _ (h.none (ap is_some here)))
     (λ away w e. by_way away w e)
@@ -145,7 +148,8 @@ held_ends s stamp = record {
   tells_not = λ t posts away same h. h;
 }
   where
-    served_parked : (t : SetState) (k : ℕ) (own : Bool) → (if own then serve_local s k t else serve_copy s stamp k (ask_at t k) t).state.parked ≡ t.parked
+    served_parked : (t : SetState) (k : ℕ) (own : Bool)
+        → (if own then serve_local s k t else serve_copy s stamp k (ask_at t k) t).state.parked ≡ t.parked
     served_parked t k true = refl
     served_parked t k false = refl
 
@@ -177,7 +181,8 @@ pub held_moves : (s : ℕ) (stamp : Stamp) → ByEffects s stamp (held_up stamp.
 held_moves s stamp = acts_by_effects s stamp (held_up stamp.node) (held_up stamp.node) (held_up stamp.node) (held_up stamp.node) (held_acts s stamp) (held_ends s stamp)
 
 -- a letter arrives; the link isn't newer where the firm link names this node, and the ask of a copy isn't taking
-pub arrive_held : (stamp : Stamp) (letter : Letter) (t : SetState) → (t.firm.node ≡ stamp.node → IsTrue (is_some t.desk) ⊎ (nat_lt t.firm.epoch letter.link.epoch ≡ false))
+pub arrive_held : (stamp : Stamp) (letter : Letter) (t : SetState)
+    → (t.firm.node ≡ stamp.node → IsTrue (is_some t.desk) ⊎ (nat_lt t.firm.epoch letter.link.epoch ≡ false))
     → ((ask : Ask) → letter.body ≡ CopyBody ask → (older : Ask) → Contains t.pending older → IsTrue (is_taking older.mode) → Contains (without t.pending ask.stamp) older)
     → HeldUp stamp.node t → HeldUp stamp.node (arrive stamp letter t).state
 arrive_held stamp letter t settled stays h = by_body letter.body refl
@@ -188,7 +193,8 @@ arrive_held stamp letter t settled stays h = by_body letter.body refl
     learnt : HeldUp stamp.node u
     learnt = by_link (nat_lt t.firm.epoch letter.link.epoch) refl
       where
-        by_link : (newer : Bool) → nat_lt t.firm.epoch letter.link.epoch ≡ newer → HeldUp stamp.node (if newer then record t { firm = letter.link; hoped = None } else t)
+        by_link : (newer : Bool) → nat_lt t.firm.epoch letter.link.epoch ≡ newer
+            → HeldUp stamp.node (if newer then record t { firm = letter.link; hoped = None } else t)
         by_link false e = h
         by_link true e = elim (cases_eq t.firm.node stamp.node) [
           | inl me ↦ elim (settled me) [
@@ -201,7 +207,8 @@ arrive_held stamp letter t settled stays h = by_body letter.body refl
           }
         ]
           where
-            behind_still : t.firm.node ≢ stamp.node → (item : Parked) → IsHeldUp stamp.node t item → IsHeldUp stamp.node (record t { firm = letter.link; hoped = None }) item
+            behind_still : t.firm.node ≢ stamp.node → (item : Parked) → IsHeldUp stamp.node t item
+                → IsHeldUp stamp.node (record t { firm = letter.link; hoped = None }) item
             behind_still other (ParkedTell tell) g = absurd (other g)
             behind_still other (ParkedAsk ask) g = elim g [ inl me ↦ absurd (other me) | inr behind ↦ inr behind ]
 

@@ -52,7 +52,8 @@ learns link t = by_test (nat_lt t.firm.epoch link.epoch)
     by_test false = record { own = record { held = refl; charge = refl; pending = refl }; frozen = record { number = refl; frozen = refl }; parked = refl; desk = refl }
 
 -- what is read of the letters that are left
-read_taken : {X : Type 0} (f : Letter → Option X) (mail : ℕ → ℕ → List Letter) (p q a b : ℕ) (letter : Letter) (rest : List Letter) → mail p q ≡ letter ∷ rest
+read_taken : {X : Type 0} (f : Letter → Option X) (mail : ℕ → ℕ → List Letter) (p q a b : ℕ) (letter : Letter) (rest : List Letter)
+    → mail p q ≡ letter ∷ rest
     → (b ≡ q → f letter ≡ None) → filter_map f (put_mail mail p q (drop 1 (mail p q)) a b) ≡ filter_map f (mail a b)
 read_taken {X = X} f mail p q a b letter rest front none = elim (cases_eq a p) [
   | inl e ↦ elim (cases_eq b q) [
@@ -65,7 +66,8 @@ read_taken {X = X} f mail p q a b letter rest front none = elim (cases_eq a p) [
   | inr d ↦ ap (λ (t : Bool). filter_map f (if t then drop 1 (mail p q) else mail a b)) (and_left _ (b == q) (ne_eqb a p d))
 ]
 
-pub in_hand : (script : ScriptData) (w : World) (s p q : ℕ) (letter : Letter) (rest : List Letter) → p < script.nodes → w.mail p q ≡ letter ∷ rest → letter.set ≡ s
+pub in_hand : (script : ScriptData) (w : World) (s p q : ℕ) (letter : Letter) (rest : List Letter) → p < script.nodes
+    → w.mail p q ≡ letter ∷ rest → letter.set ≡ s
     → InHand script w (after_effect (opened w q (Take p)) q s (silent (learn letter.link (state_at w s q)))) s q letter.body
 in_hand script w s p q letter rest below front set = record {
   clocks = clock_stays base q s m;
@@ -117,7 +119,8 @@ in_hand script w s p q letter rest below front set = record {
       | inr d ↦ still false (and_left _ (x == q) (ne_eqb from p d)) on.among
     ]
       where
-        still : (taken : Bool) → (from == p && x == q) ≡ taken → Contains (if taken then drop 1 (w.mail p q) else w.mail from x) other → Comes script base s x b ⊎ ((x ≡ q) × (b ≡ letter.body))
+        still : (taken : Bool) → (from == p && x == q) ≡ taken → Contains (if taken then drop 1 (w.mail p q) else w.mail from x) other
+            → Comes script base s x b ⊎ ((x ≡ q) × (b ≡ letter.body))
         still taken e c =
             inl (from, other, under, record { among = subst (λ (k : Bool). Contains (if k then drop 1 (w.mail p q) else w.mail from x) other) (sym e) c; set = on.set }, says)
 
@@ -182,7 +185,8 @@ copy_in_hand script w base s q ask hand = (
     same_copy : (x : Ask) → CopyBody x ≡ CopyBody ask → x ≡ ask
     same_copy x e = cc
 
-pub freeze_in_hand : (script : ScriptData) (w base : World) (s q : ℕ) (notice : Notice) → InHand script w base s q (FreezeBody notice.number notice.modes)
+pub freeze_in_hand : (script : ScriptData) (w base : World) (s q : ℕ) (notice : Notice)
+    → InHand script w base s q (FreezeBody notice.number notice.modes)
     → Contains (freezes_to script w s q) notice × IsLoss notice (freezes_to script w s q) (freezes_to script base s q)
 freeze_in_hand script w base s q notice hand = (
   (freezes_are_on_way script w s q notice).1 hand.came,

@@ -62,7 +62,8 @@ kept_here script moment w s q desk l = (
 )
 
 -- the desk stays where it is
-pub desk_stays : (script : ScriptData) (w : World) (q s : ℕ) (m : Made) (place : Option ℕ) (desk : Desk) → m.state.desk ≡ (state_at w s q).desk → DeskIs script w s place desk
+pub desk_stays : (script : ScriptData) (w : World) (q s : ℕ) (m : Made) (place : Option ℕ) (desk : Desk)
+    → m.state.desk ≡ (state_at w s q).desk → DeskIs script w s place desk
     → DeskIs script (after_effect w q s m) s place desk
 desk_stays script w q s m (Some p) desk same h = (h.0, part_stays (λ (t : SetState). t.desk) w q s m same p ∙ h.1)
 desk_stays script w q s m None desk same h = (h.0, h.1, comes_still script w q s m h.0 (TokenBody desk) h.2)
@@ -80,7 +81,8 @@ stay script moment later w s q m same l kept = record {
   kept = kept;
 }
 
-pub granted : (script : ScriptData) (w : World) (s q client : ℕ) (mode : Mode) (gives_up : Option Mode) → q < script.nodes → can_grant q (state_at w s q) client mode ≡ true
+pub granted : (script : ScriptData) (w : World) (s q client : ℕ) (mode : Mode) (gives_up : Option Mode) → q < script.nodes
+    → can_grant q (state_at w s q) client mode ≡ true
     → ((state_at w s q).desk ≡ None → bars (held_modes (state_at w s q).held) ≡ bars (state_at w s q).charge)
     → Ledger script (Acting q) w s q (state_at w s q).desk
     → Ledger script (Acting q) (after_effect w q s (silent (given client mode gives_up (state_at w s q)))) s q (state_at w s q).desk
@@ -88,7 +90,8 @@ granted script w s q client mode gives_up below can charge l =
     stay script (Acting q) (Acting q) w s q (silent (given client mode gives_up (state_at w s q))) refl l
     (grant_keeps script w s q client mode gives_up l.place l.desk below l.has l.entries can charge l.kept)
 
-pub unlocked : (script : ScriptData) (w : World) (s q client : ℕ) (mode : Mode) → q < script.nodes → Ledger script (Acting q) w s q (state_at w s q).desk
+pub unlocked : (script : ScriptData) (w : World) (s q client : ℕ) (mode : Mode) → q < script.nodes
+    → Ledger script (Acting q) w s q (state_at w s q).desk
     → Ledger script (Acting q) (after_effect w q s (silent (record (state_at w s q) { held = take_lock (state_at w s q).held client mode }))) s q (state_at w s q).desk
 unlocked script w s q client mode below l =
     stay script (Acting q) (Acting q) w s q (silent (record (state_at w s q) { held = take_lock (state_at w s q).held client mode })) refl l
@@ -104,7 +107,8 @@ abbrev pub with_item : Option Desk → Parked → Option Desk
 with_item None item = None
 with_item (Some desk) item = Some (dealt desk item)
 
-pub routed_desk : (set : ℕ) (stamp : Stamp) (marked : Bool) (item : Parked) (t : SetState) → (route set stamp marked item t).state.desk ≡ with_item t.desk item
+pub routed_desk : (set : ℕ) (stamp : Stamp) (marked : Bool) (item : Parked) (t : SetState)
+    → (route set stamp marked item t).state.desk ≡ with_item t.desk item
 routed_desk set stamp marked item t =
     route_ways (λ (m : Made). m.state.desk ≡ with_item t.desk item) set stamp marked item t
     (λ desk e. ap (λ (o : Option Desk). with_item o item) (sym e))
@@ -115,7 +119,8 @@ routed_desk set stamp marked item t =
     by_way (Goes to mark) = reversed_desk stamp.node item t
 
 -- an ask that the node deals with, parks or sends on
-ask_ledger : (script : ScriptData) (w : World) (s q : ℕ) (m : Made) (ask : Ask) (o : Option Desk) → q < script.nodes → (state_at w s q).desk ≡ o → m.state.desk ≡ with_item o (ParkedAsk ask)
+ask_ledger : (script : ScriptData) (w : World) (s q : ℕ) (m : Made) (ask : Ask) (o : Option Desk) → q < script.nodes
+    → (state_at w s q).desk ≡ o → m.state.desk ≡ with_item o (ParkedAsk ask)
     → (l : Ledger script (Acting q) w s q o) → DeskKept script (Acting q) (after_effect w q s m) s l.place (desk_with o l.desk (ParkedAsk ask))
     → Ledger script (Acting q) (after_effect w q s m) s q m.state.desk
 ask_ledger script w s q m ask None below e after l kept = record {
@@ -152,7 +157,8 @@ none_some : {A : Type 0} (k : ℕ) → None ≡ Some k → A
 none_some k e = cc
 
 -- one service; asks of the queue wait at their nodes, and no copy for an own one is on its way here
-pub serves : (script : ScriptData) (w : World) (s k : ℕ) (stamp : Stamp) → stamp.node < script.nodes → next_service stamp.node (state_at w s stamp.node) ≡ Some k
+pub serves : (script : ScriptData) (w : World) (s k : ℕ) (stamp : Stamp) → stamp.node < script.nodes
+    → next_service stamp.node (state_at w s stamp.node) ≡ Some k
     → ((ask : Ask) → Contains (queue_of (state_at w s stamp.node)) ask → IsWaiting script w s ask)
     → ((ask : Ask) → Contains (queue_of (state_at w s stamp.node)) ask → ask.node ≡ stamp.node → Contains (copies_to script w s stamp.node) ask → ⊥)
     → Ledger script (Acting stamp.node) w s stamp.node (state_at w s stamp.node).desk
@@ -208,7 +214,8 @@ pub record FrozenHere (script : ScriptData) (w : World) (s q : ℕ) (o : Option 
   pub knows : (entry_of desk q).frozen_told ≡ frozen_by desk.queue
   pub kept : DeskKept script (Frozen q) w s (Some q) desk
 
-pub freezes : (script : ScriptData) (w : World) (s : ℕ) (stamp : Stamp) (desk : Desk) → stamp.node < script.nodes → (state_at w s stamp.node).desk ≡ Some desk
+pub freezes : (script : ScriptData) (w : World) (s : ℕ) (stamp : Stamp) (desk : Desk) → stamp.node < script.nodes
+    → (state_at w s stamp.node).desk ≡ Some desk
     → Ledger script (Acting stamp.node) w s stamp.node (Some desk)
     → FrozenHere script (after_effect w stamp.node s (freeze s stamp (state_at w s stamp.node))) s stamp.node (freeze s stamp (state_at w s stamp.node)).state.desk
 freezes script w s stamp desk below here l =
@@ -236,7 +243,8 @@ pub record Ended (script : ScriptData) (w : World) (s : ℕ) : Type 0 where
 pub stays : (script : ScriptData) (w : World) (s q : ℕ) → q < script.nodes → FrozenHere script w s q (state_at w s q).desk → Ended script w s
 stays script w s q below f = record { place = Some q; desk = f.desk; there = (below, f.here); kept = stays_keeps script w s q f.desk below f.kept }
 
-pub leaves : (script : ScriptData) (w : World) (s v : ℕ) (stamp : Stamp) → stamp.node < script.nodes → v < script.nodes → stamp.clock ≡ (w.node stamp.node).clock
+pub leaves : (script : ScriptData) (w : World) (s v : ℕ) (stamp : Stamp) → stamp.node < script.nodes → v < script.nodes
+    → stamp.clock ≡ (w.node stamp.node).clock
     → FrozenHere script w s stamp.node (state_at w s stamp.node).desk
     → Ended script (after_effect w stamp.node s (hand_over_to s stamp (state_at w s stamp.node) v (state_at w s stamp.node).desk)) s
 leaves script w s v stamp below named now f =

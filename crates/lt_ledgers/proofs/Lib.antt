@@ -25,4 +25,3 @@ pub mod TakeMove
 pub mod EachMove
 pub mod HeldUps
 pub mod HeldUpMoves
-pub mod LedgersInRuns

@@ -25,7 +25,7 @@ use Rattle.lt_accounts.proofs.Asks.{times_in-some, times_in-found, times_in-once
 use Rattle.lt_lists.proofs.Puts.{put-same}
 use Rattle.lt_model.proofs.SmallSteps.{moves_in_steps}
 use Rattle.lt_model.proofs.StandingEffects.{places_weight, places_sent, Stands}
-use Rattle.lt_model.proofs.StandingMove.{elsewhere, unanswered, only_here}
+use Rattle.lt_model.proofs.StandingBegins.{elsewhere, unanswered, only_here}
 use Rattle.lt_model.proofs.Gathered.{copies_are_on_way}
 use Rattle.lt_ledgers.specs.OneEffect.{after_effect, IsWaiting}
 use Rattle.lt_ledgers.proofs.AfterEffect.{state_here, state_there}
@@ -39,7 +39,8 @@ abbrev pub world_of : World → ℕ → ℕ → SetState → List Post → World
 world_of base q s t posts = after_effect base q s (made_of t posts)
 
 -- one effect more
-pub again : (base : World) (q s : ℕ) (t : SetState) (posts : List Post) (m : Made) → after_effect (world_of base q s t posts) q s m ≡ world_of base q s m.state (posts ++ m.posts)
+pub again : (base : World) (q s : ℕ) (t : SetState) (posts : List Post) (m : Made)
+    → after_effect (world_of base q s t posts) q s m ≡ world_of base q s m.state (posts ++ m.posts)
 again base q s t posts m =
     let first = touched (base.node q) s (made_of t posts) in
     ap (λ (n : NodeState). after_made q (touched n s m) (world_of base q s t posts)) (put-same base.node q first.node)
@@ -107,7 +108,8 @@ queue_waits script w base s q clock t posts scene h a among = elim (cases_eq (ti
 
 -- no copy is on its way here for an own ask that stands here, or that is in hand
 pub no_copy : (script : ScriptData) (w base : World) (s q clock : ℕ) (t : SetState) (posts : List Post) (hand : Ask → ℕ) → Scene script w base s q
-    → Stands s q clock (λ a. elsewhere script w s q base.mail a + hand a) (unanswered script w s q) t posts → (a : Ask) → 1 ≤ places_in_state a t + hand a → a.node ≡ q
+    → Stands s q clock (λ a. elsewhere script w s q base.mail a + hand a) (unanswered script w s q) t posts → (a : Ask)
+    → 1 ≤ places_in_state a t + hand a → a.node ≡ q
     → Contains (copies_to script (world_of base q s t posts) s q) a → ⊥
 no_copy script w base s q clock t posts hand scene h a here me c = from ((copies_are_on_way script (world_of base q s t posts) s q a).0 c)
   where

@@ -25,22 +25,24 @@ use Rattle.lt_runs.specs.Facts.{state_at}
 use Rattle.lt_model.specs.Moments.{Acting}
 use Rattle.lt_model.specs.OnWay.{copies_to}
 use Rattle.lt_accounts.proofs.Asks.{times_in-some}
-use Rattle.lt_model.proofs.Effects.{Fact, HoldsOf, EndEffects, ActEffects, ByEffects, route_ways, acts_by_effects}
+use Rattle.lt_model.proofs.Effects.{both, Fact, HoldsOf, EndEffects, ActEffects, ByEffects, route_ways, acts_by_effects}
 use Rattle.lt_model.proofs.StandingEffects.{Stands, stands, standing_ends, standing_acts}
-use Rattle.lt_model.proofs.StandingMove.{elsewhere, unanswered, only_here}
+use Rattle.lt_model.proofs.StandingBegins.{elsewhere, unanswered, only_here}
 use Rattle.lt_ledgers.specs.OneEffect.{after_effect, IsWaiting}
 use Rattle.lt_ledgers.proofs.AfterEffect.{clock_stays}
 use Rattle.lt_ledgers.proofs.Ledgers.{Ledger, FrozenHere, Ended, granted, unlocked, all_dropped, waited, serves, freezes, stays, leaves, tells, tells_not}
 use Rattle.lt_ledgers.proofs.MidMove.{made_of, world_of, leads, at_now, Scene, queue_waits, no_copy, Mid, Begun}
 
 -- the place of the ask that draws the desk is one of the queue
-move_within : (me : ℕ) (s : SetState) (desk : Desk) (before : Modes) (place : ℕ) (queue : List Ask) (k : ℕ) → move_from me s desk before place queue ≡ Some k → k < place + length queue
+move_within : (me : ℕ) (s : SetState) (desk : Desk) (before : Modes) (place : ℕ) (queue : List Ask) (k : ℕ)
+    → move_from me s desk before place queue ≡ Some k → k < place + length queue
 move_within me s desk before place [] k e = cc
 move_within me s desk before place (ask ∷ rest) k e =
     by_test (λ f. move_within me s desk (with_mode before ask.mode) (place + 1) rest k f) (may_draw me s desk before place ask) e
   where
     by_test : (move_from me s desk (with_mode before ask.mode) (place + 1) rest ≡ Some k → k < place + 1 + length rest)
-        → (here : Bool) → (if here then Some place else move_from me s desk (with_mode before ask.mode) (place + 1) rest) ≡ Some k → k < place + length (ask ∷ rest)
+        → (here : Bool) → (if here then Some place else move_from me s desk (with_mode before ask.mode) (place + 1) rest) ≡ Some k
+        → k < place + length (ask ∷ rest)
     by_test again true f = let same : place ≡ k = cc in omega (arith, same)
     by_test again false f = omega (arith, again f)
 
@@ -74,10 +76,6 @@ serve_firm set k stamp t = by_test ((ask_at t k).node == stamp.node)
     by_test true = refl
     by_test false = refl
 
--- two facts at once
-abbrev pub both : Fact → Fact → Fact
-both f g t posts = f t posts × g t posts
-
 abbrev pub midway : ScriptData → World → ℕ → ℕ → Fact
 midway script base s q t posts = Mid script base s q t posts
 
@@ -91,7 +89,8 @@ abbrev pub ended_fact : ScriptData → World → ℕ → ℕ → Fact
 ended_fact script base s q t posts = Ended script (world_of base q s t posts) s
 
 -- from the first service to the end of the move
-pub ledger_ends : (script : ScriptData) (w base : World) (s : ℕ) (stamp : Stamp) → Scene script w base s stamp.node → stamp.clock ≡ (base.node stamp.node).clock
+pub ledger_ends : (script : ScriptData) (w base : World) (s : ℕ) (stamp : Stamp) → Scene script w base s stamp.node
+    → stamp.clock ≡ (base.node stamp.node).clock
     → EndEffects s stamp
     (both (stands s stamp.node stamp.clock (elsewhere script w s stamp.node base.mail) (unanswered script w s stamp.node)) (midway script base s stamp.node))
     (both (stands s stamp.node stamp.clock (elsewhere script w s stamp.node base.mail) (unanswered script w s stamp.node)) (frozen_fact script base s stamp.node))
@@ -155,7 +154,8 @@ ledger_ends script w base s stamp scene clock = record {
     unhanded t posts h = record { once = λ a. omega (arith, h.once a); own = h.own; apart = h.apart; copies = h.copies }
 
 -- the commands
-pub ledger_acts : (script : ScriptData) (w base : World) (s below : ℕ) (stamp : Stamp) → Scene script w base s stamp.node → stamp.clock ≡ (base.node stamp.node).clock → stamp.clock ≡ below + 1
+pub ledger_acts : (script : ScriptData) (w base : World) (s below : ℕ) (stamp : Stamp) → Scene script w base s stamp.node
+    → stamp.clock ≡ (base.node stamp.node).clock → stamp.clock ≡ below + 1
     → ActEffects s stamp
     (both (stands s stamp.node below (elsewhere script w s stamp.node base.mail) (unanswered script w s stamp.node)) (begins script base s stamp.node))
     (both (stands s stamp.node stamp.clock (elsewhere script w s stamp.node base.mail) (unanswered script w s stamp.node)) (midway script base s stamp.node))
@@ -198,7 +198,8 @@ ledger_acts script w base s below stamp scene clock next = record {
         subst (λ l. Ledger script (Acting q) (world_of base q s (effect t) l) s q (effect t).desk) (append-nil posts)
         (leads base q s (λ v o. Ledger script (Acting q) v s q o) (λ u. silent (effect u)) t posts h)
 
-    grants : (client : ℕ) (mode : Mode) (gives_up : Option Mode) (t : SetState) (posts : List Post) → can_grant q t client mode ≡ true → Begun script base s q t posts
+    grants : (client : ℕ) (mode : Mode) (gives_up : Option Mode) (t : SetState) (posts : List Post) → can_grant q t client mode ≡ true
+        → Begun script base s q t posts
         → Mid script base s q (given client mode gives_up t) posts
     grants client mode gives_up t posts can h = record {
       ledger = quiet (given client mode gives_up) t posts
@@ -220,7 +221,8 @@ ledger_acts script w base s below stamp scene clock next = record {
     }
 
 -- commands of a client, from their beginning to the end of the move
-pub ledger_moves : (script : ScriptData) (w base : World) (s below : ℕ) (stamp : Stamp) → Scene script w base s stamp.node → stamp.clock ≡ (base.node stamp.node).clock → stamp.clock ≡ below + 1
+pub ledger_moves : (script : ScriptData) (w base : World) (s below : ℕ) (stamp : Stamp) → Scene script w base s stamp.node
+    → stamp.clock ≡ (base.node stamp.node).clock → stamp.clock ≡ below + 1
     → ByEffects s stamp
     (both (stands s stamp.node below (elsewhere script w s stamp.node base.mail) (unanswered script w s stamp.node)) (begins script base s stamp.node))
     (both (stands s stamp.node stamp.clock (elsewhere script w s stamp.node base.mail) (unanswered script w s stamp.node)) (ended_fact script base s stamp.node))

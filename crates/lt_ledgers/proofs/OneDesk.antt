@@ -21,17 +21,20 @@ use Rattle.lt_lists.proofs.Members.{some_equal}
 use Rattle.std.proofs.lemmas.List.{get_or_default}
 use Rattle.lt_ledgers.proofs.OwnSteps.{HasDesk}
 
-pub named_firm : (script : ScriptData) (w : World) (s x : ℕ) → 0 < script.nodes → Paths script w s → x < script.nodes → (state_at w s x).firm.node < script.nodes
+pub named_firm : (script : ScriptData) (w : World) (s x : ℕ) → 0 < script.nodes → Paths script w s → x < script.nodes
+    → (state_at w s x).firm.node < script.nodes
 named_firm script w s x some paths below = link_named script.nodes (w.went s) (state_at w s x).firm (record { some = some; known = paths.went }) (paths.states x below).link
 
-pub entries_on : (script : ScriptData) (w : World) (s : ℕ) → Paths script w s → (place : Option ℕ) (desk : Desk) → DeskIs script w s place desk → length desk.entries ≡ script.nodes
+pub entries_on : (script : ScriptData) (w : World) (s : ℕ) → Paths script w s → (place : Option ℕ) (desk : Desk)
+    → DeskIs script w s place desk → length desk.entries ≡ script.nodes
 entries_on script w s paths (Some t) desk h = (subst (HasWay script.nodes (w.went s) t (state_at w s t).firm) h.1 (paths.states t h.0).way).0.entries
 entries_on script w s paths None desk (q, below, (p, letter, under, on, says)) =
     let on_path : DeskOnPath script.nodes (w.went s) q desk = subst (BodyOnPath script.nodes (w.went s) q) says (paths.letters p q letter under on).body in
     on_path.entries
 
 -- the desk of a world, as node q sees it
-pub desk_seen : (script : ScriptData) (w : World) (s q : ℕ) → Paths script w s → q < script.nodes → (place : Option ℕ) × (desk : Desk) × DeskIs script w s place desk × HasDesk place desk q (state_at w s q).desk
+pub desk_seen : (script : ScriptData) (w : World) (s q : ℕ) → Paths script w s → q < script.nodes
+    → (place : Option ℕ) × (desk : Desk) × DeskIs script w s place desk × HasDesk place desk q (state_at w s q).desk
 desk_seen script w s q paths below = by_desk (state_at w s q).desk refl
   where
     elsewhere_than : (place : Option ℕ) (desk : Desk) → DeskIs script w s place desk → (state_at w s q).desk ≡ None → is_at place q ≡ false
@@ -41,7 +44,8 @@ desk_seen script w s q paths below = by_desk (state_at w s q).desk refl
         no_desk : None ≡ Some desk → ⊥
         no_desk e = cc
 
-    by_desk : (o : Option Desk) → (state_at w s q).desk ≡ o → (place : Option ℕ) × (desk : Desk) × DeskIs script w s place desk × HasDesk place desk q o
+    by_desk : (o : Option Desk) → (state_at w s q).desk ≡ o
+        → (place : Option ℕ) × (desk : Desk) × DeskIs script w s place desk × HasDesk place desk q o
     by_desk (Some desk) e = (Some q, desk, (below, e), (refl, refl))
     by_desk None e = let found = desk_somewhere script w s paths in (found.0, found.1, found.2, elsewhere_than found.0 found.1 found.2 e)
 
@@ -49,7 +53,8 @@ token_equal : (a b : Desk) → TokenBody a ≡ TokenBody b → a ≡ b
 token_equal a b e = cc
 
 -- the desk is at one place alone
-pub one_desk : (script : ScriptData) (w : World) (s : ℕ) → Paths script w s → (place other : Option ℕ) (desk more : Desk) → DeskIs script w s place desk → DeskIs script w s other more
+pub one_desk : (script : ScriptData) (w : World) (s : ℕ) → Paths script w s → (place other : Option ℕ) (desk more : Desk)
+    → DeskIs script w s place desk → DeskIs script w s other more
     → (place ≡ other) × (desk ≡ more)
 one_desk script w s paths place other desk more h g = by_places place other h g
   where
@@ -77,7 +82,8 @@ one_desk script w s paths place other desk more h g = by_places place other h g
       weighs letter e on.set says,
     ))
 
-    letters_same : (p r q : ℕ) (a b : Letter) (d e : Desk) → p < script.nodes → r < script.nodes → q < script.nodes → OnWay w s p q a → OnWay w s r q b
+    letters_same : (p r q : ℕ) (a b : Letter) (d e : Desk) → p < script.nodes → r < script.nodes → q < script.nodes → OnWay w s p q a
+        → OnWay w s r q b
         → a.body ≡ TokenBody d → b.body ≡ TokenBody e → a ≡ b
     letters_same p r q a b d e hp hr hq first second says says_too = elim (cases_eq p r) [
       | inr apart ↦ absurd (omega (

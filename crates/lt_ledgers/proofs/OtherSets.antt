@@ -12,14 +12,13 @@ use Rattle.lt_model.specs.OnWay.{tell_parked, DeskIs, account_of}
 use Rattle.lt_accounts.specs.News.{NewsKept}
 use Rattle.lt_model.specs.Invariant.{DeskKept}
 use Rattle.lt_model.proofs.NodeEffects.{IsOfSet}
-use Rattle.lt_model.proofs.Effects.{Fact}
 use Rattle.lt_accounts.proofs.AllKept.{same_kept}
 use Rattle.lt_ledgers.proofs.AfterEffect.{SaysNone, state_here, part_stays, clock_stays, copies_stay, freezes_stay}
 use Rattle.lt_ledgers.proofs.Seen.{SameHeard, all_kept, kept_by, account_seen, news_seen, own_as, frozen_as}
 use Rattle.lt_ledgers.proofs.Quiet.{tells_stay}
 use Rattle.lt_ledgers.proofs.Ledgers.{Ledger, Ended, desk_stays}
 use Rattle.lt_ledgers.proofs.MidMove.{made_of, world_of, again}
-use Rattle.lt_ledgers.proofs.MoveEffects.{both, begins, ended_fact}
+use Rattle.lt_ledgers.proofs.MoveEffects.{begins, ended_fact}
 
 -- letters of other sets are no matter
 none_of_set : {X : Type 0} (s : ℕ) (read : Body → Option X) (b : ℕ) (posts : List Post) → AllByRecursion (λ (post : Post). post.letter.set ≢ s) posts
@@ -27,7 +26,8 @@ none_of_set : {X : Type 0} (s : ℕ) (read : Body → Option X) (b : ℕ) (posts
 none_of_set s read b [] h = tt
 none_of_set s read b (post ∷ rest) h = (λ e. rw (ne_eqb post.letter.set s h.0) refl, none_of_set s read b rest h.1)
 
-others_heard : (script : ScriptData) (w : World) (q s : ℕ) (t : SetState) (posts : List Post) (x : ℕ) → state_at w s q ≡ t → AllByRecursion (λ (post : Post). post.letter.set ≢ s) posts
+others_heard : (script : ScriptData) (w : World) (q s : ℕ) (t : SetState) (posts : List Post) (x : ℕ) → state_at w s q ≡ t
+    → AllByRecursion (λ (post : Post). post.letter.set ≢ s) posts
     → SameHeard script w (world_of w q s t posts) s x
 others_heard script w q s t posts x e others = record {
   clock = clock_stays w q s (made_of t posts) x;
@@ -39,11 +39,14 @@ others_heard script w q s t posts x e others = record {
     filter_tells : SetState → List Tell
     filter_tells u = filter_map (tell_parked x) u.parked
 
-others_state : (w : World) (q s : ℕ) (t : SetState) (posts : List Post) (x : ℕ) → state_at w s q ≡ t → state_at (world_of w q s t posts) s x ≡ state_at w s x
+others_state : (w : World) (q s : ℕ) (t : SetState) (posts : List Post) (x : ℕ) → state_at w s q ≡ t
+    → state_at (world_of w q s t posts) s x ≡ state_at w s x
 others_state w q s t posts x e = part_stays (λ (u : SetState). u) w q s (made_of t posts) (sym e) x
 
-others_kept : (script : ScriptData) (moment : Moment) (w : World) (q s : ℕ) (t : SetState) (posts : List Post) (place : Option ℕ) (desk : Desk) → state_at w s q ≡ t
-    → AllByRecursion (λ (post : Post). post.letter.set ≢ s) posts → DeskKept script moment w s place desk → DeskKept script moment (world_of w q s t posts) s place desk
+others_kept : (script : ScriptData) (moment : Moment) (w : World) (q s : ℕ) (t : SetState) (posts : List Post) (place : Option ℕ) (desk : Desk)
+    → state_at w s q ≡ t
+    → AllByRecursion (λ (post : Post). post.letter.set ≢ s) posts → DeskKept script moment w s place desk
+    → DeskKept script moment (world_of w q s t posts) s place desk
 others_kept script moment w q s t posts place desk e others h =
     kept_by script moment later s place desk
     (same_kept script.nodes (account_of script moment w s place desk) (account_of script moment later s place desk) (all_kept script moment w s place desk h)
@@ -55,11 +58,13 @@ others_kept script moment w q s t posts place desk e others h =
     later : World
     later = world_of w q s t posts
 
-others_desk : (script : ScriptData) (w : World) (q s : ℕ) (t : SetState) (posts : List Post) (place : Option ℕ) (desk : Desk) → state_at w s q ≡ t → DeskIs script w s place desk
+others_desk : (script : ScriptData) (w : World) (q s : ℕ) (t : SetState) (posts : List Post) (place : Option ℕ) (desk : Desk)
+    → state_at w s q ≡ t → DeskIs script w s place desk
     → DeskIs script (world_of w q s t posts) s place desk
 others_desk script w q s t posts place desk e h = desk_stays script w q s (made_of t posts) place desk (ap (λ (u : SetState). u.desk) (sym e)) h
 
-pub ledger_of_set : (script : ScriptData) (moment : Moment) (w : World) (q s : ℕ) (t : SetState) (posts : List Post) (o : Option Desk) → state_at w s q ≡ t
+pub ledger_of_set : (script : ScriptData) (moment : Moment) (w : World) (q s : ℕ) (t : SetState) (posts : List Post) (o : Option Desk)
+    → state_at w s q ≡ t
     → AllByRecursion (λ (post : Post). post.letter.set ≢ s) posts → Ledger script moment w s q o → Ledger script moment (world_of w q s t posts) s q o
 ledger_of_set script moment w q s t posts o e others l = record {
   place = l.place;
@@ -90,6 +95,3 @@ ended_of_set script base s q t posts more others h =
       there = others_desk script (world_of base q s t posts) q s t more h.place h.desk (state_here base q s (made_of t posts)) h.there;
       kept = others_kept script Between (world_of base q s t posts) q s t more h.place h.desk (state_here base q s (made_of t posts)) others h.kept;
     })
-
-pub both_of_set : (s : ℕ) (f g : Fact) → IsOfSet s f → IsOfSet s g → IsOfSet s (both f g)
-both_of_set s f g hf hg t posts more others h = (hf t posts more others h.0, hg t posts more others h.1)

@@ -54,7 +54,8 @@ own_is script w s q place desk has_desk =
     λ i. account_with (w.node q).clock (here i) (moving i) (entry_of desk q) (state_at w s q) (tells_of script w s q) (copies_to script w s q)
 
 -- a grant at once
-pub grant_keeps : (script : ScriptData) (w : World) (s q client : ℕ) (mode : Mode) (gives_up : Option Mode) (place : Option ℕ) (desk : Desk) → q < script.nodes
+pub grant_keeps : (script : ScriptData) (w : World) (s q client : ℕ) (mode : Mode) (gives_up : Option Mode) (place : Option ℕ) (desk : Desk)
+    → q < script.nodes
     → HasDesk place desk q (state_at w s q).desk → length desk.entries ≡ script.nodes → can_grant q (state_at w s q) client mode ≡ true
     → ((state_at w s q).desk ≡ None → bars (held_modes (state_at w s q).held) ≡ bars (state_at w s q).charge)
     → DeskKept script (Acting q) w s place desk
@@ -76,7 +77,8 @@ grant_keeps script w s q client mode gives_up place desk below has_desk entries 
     against : Modes
     against = others_counted script.nodes (account_of script (Acting q) w s place desk) q
 
-    by_desk : (kept : Desk) → t.desk ≡ Some kept → HasDesk place desk q (Some kept) → (entry_of desk q ≡ entry_of kept q) × (against ≡ others q t kept q)
+    by_desk : (kept : Desk) → t.desk ≡ Some kept → HasDesk place desk q (Some kept)
+        → (entry_of desk q ≡ entry_of kept q) × (against ≡ others q t kept q)
     by_desk kept e (at, same) = (
       ap (λ (d : Desk). entry_of d q) (sym same),
       ap (λ (p : Option ℕ). others_counted script.nodes (account_of script (Acting q) w s p desk) q) at
@@ -105,7 +107,8 @@ unlock_keeps script w s q client mode place desk below h =
 
 -- all locks of a client are given up
 pub drop_keeps : (script : ScriptData) (w : World) (s q client : ℕ) (place : Option ℕ) (desk : Desk) → q < script.nodes
-    → DeskKept script (Acting q) w s place desk → DeskKept script (Acting q) (after_effect w q s (silent (dropped client (state_at w s q)))) s place desk
+    → DeskKept script (Acting q) w s place desk
+    → DeskKept script (Acting q) (after_effect w q s (silent (dropped client (state_at w s q)))) s place desk
 drop_keeps script w s q client place desk below h =
     kept_by script (Acting q) (after_effect w q s m) s place desk
     (own_happens script (Acting q) w q s m place desk desk (Drop client) quiet (λ x. refl) below (all_kept script (Acting q) w s place desk h) (eq-eqb q q refl) refl)
@@ -121,7 +124,8 @@ drop_keeps script w s q client place desk below h =
 pub ask_quiet : (set : ℕ) (stamp : Stamp) (marked : Bool) (ask : Ask) (t : SetState) → QuietMade t (route set stamp marked (ParkedAsk ask) t)
 ask_quiet set stamp marked ask t = route_ways (QuietMade t) set stamp marked (ParkedAsk ask) t (λ desk e. record { posts = tt; parked = λ x. refl }) (λ away w e. by_way w)
   where
-    turned : (x : ℕ) (turns : Bool) (hoped : Option Hoped) → filter_map (tell_parked x) (if turns then record t { hoped = hoped } else t).parked ≡ filter_map (tell_parked x) t.parked
+    turned : (x : ℕ) (turns : Bool) (hoped : Option Hoped)
+        → filter_map (tell_parked x) (if turns then record t { hoped = hoped } else t).parked ≡ filter_map (tell_parked x) t.parked
     turned x true hoped = refl
     turned x false hoped = refl
 
@@ -136,11 +140,13 @@ ask_quiet set stamp marked ask t = route_ways (QuietMade t) set stamp marked (Pa
     }
 
 -- and changes nothing that they keep
-pub route_same : (set : ℕ) (stamp : Stamp) (marked : Bool) (item : Parked) (t : SetState) → SameFrozen t (route set stamp marked item t).state × SameOwn t (route set stamp marked item t).state
+pub route_same : (set : ℕ) (stamp : Stamp) (marked : Bool) (item : Parked) (t : SetState)
+    → SameFrozen t (route set stamp marked item t).state × SameOwn t (route set stamp marked item t).state
 route_same set stamp marked item t = route_ways (λ (m : Made). SameFrozen t m.state × SameOwn t m.state) set stamp marked item t
     (λ desk e. (record { number = refl; frozen = refl }, record { held = refl; charge = refl; pending = refl })) (λ away w e. by_way w)
   where
-    turned : (turns : Bool) (hoped : Option Hoped) → SameFrozen t (if turns then record t { hoped = hoped } else t) × SameOwn t (if turns then record t { hoped = hoped } else t)
+    turned : (turns : Bool) (hoped : Option Hoped)
+        → SameFrozen t (if turns then record t { hoped = hoped } else t) × SameOwn t (if turns then record t { hoped = hoped } else t)
     turned true hoped = (record { number = refl; frozen = refl }, record { held = refl; charge = refl; pending = refl })
     turned false hoped = (record { number = refl; frozen = refl }, record { held = refl; charge = refl; pending = refl })
 
@@ -162,7 +168,8 @@ entries_with None desk ask x = refl
 entries_with (Some kept) desk ask x = refl
 
 -- the news after an ask was routed
-ask_news : (script : ScriptData) (w : World) (s q : ℕ) (m : Made) (place : Option ℕ) (desk : Desk) (ask : Ask) (o : Option Desk) → HasDesk place desk q o
+ask_news : (script : ScriptData) (w : World) (s q : ℕ) (m : Made) (place : Option ℕ) (desk : Desk) (ask : Ask) (o : Option Desk)
+    → HasDesk place desk q o
     → QuietMade (state_at w s q) m → SameFrozen (state_at w s q) m.state → (x : ℕ) → NewsKept (news_of script (Acting q) w s place desk x)
     → NewsKept (news_of script (Acting q) (after_effect w q s m) s place (desk_with o desk (ParkedAsk ask)) x)
 ask_news script w s q m place desk ask None away quiet frozen x h = news_stay script (Acting q) w q s m place desk x quiet frozen h

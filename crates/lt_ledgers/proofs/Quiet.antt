@@ -26,7 +26,8 @@ pub record QuietMade (t : SetState) (m : Made) : Type 0 where
   pub posts : AllByRecursion SaysNothing m.posts
   pub parked : (x : ℕ) → filter_map (tell_parked x) m.state.parked ≡ filter_map (tell_parked x) t.parked
 
-none_said : {X : Type 0} (s : ℕ) (read : Body → Option X) (b : ℕ) (posts : List Post) → ((post : Post) → SaysNothing post → read post.letter.body ≡ None)
+none_said : {X : Type 0} (s : ℕ) (read : Body → Option X) (b : ℕ) (posts : List Post)
+    → ((post : Post) → SaysNothing post → read post.letter.body ≡ None)
     → AllByRecursion SaysNothing posts → AllByRecursion (SaysNone s read b) posts
 none_said s read b [] none h = tt
 none_said s read b (post ∷ rest) none h = (λ e. says_none s read post.letter (none post h.0), none_said s read b rest none h.1)
@@ -38,7 +39,8 @@ pub tells_stay : (script : ScriptData) (w : World) (q s : ℕ) (m : Made) (x : �
 tells_stay script w q s m x none parked = tells_alike script w (after_effect w q s m) s x
     (λ a b. read_stays s (tell_in x) q m.posts w.mail a b (none b)) (part_stays (λ t. filter_map (tell_parked x) t.parked) w q s m parked)
 
-pub quiet_heard : (script : ScriptData) (w : World) (q s : ℕ) (m : Made) (x : ℕ) → QuietMade (state_at w s q) m → SameHeard script w (after_effect w q s m) s x
+pub quiet_heard : (script : ScriptData) (w : World) (q s : ℕ) (m : Made) (x : ℕ) → QuietMade (state_at w s q) m
+    → SameHeard script w (after_effect w q s m) s x
 quiet_heard script w q s m x quiet = record {
   clock = clock_stays w q s m x;
   tells = tells_stay script w q s m x (λ b. none_said s (tell_in x) b m.posts (λ post none. none.0 x) quiet.posts) (quiet.parked x);
@@ -46,14 +48,16 @@ quiet_heard script w q s m x quiet = record {
   freezes = freezes_stay script w q s m x (none_said s freeze_in x m.posts (λ post none. none.2) quiet.posts);
 }
 
-pub quiet_seen : (script : ScriptData) (w : World) (q s : ℕ) (m : Made) (x : ℕ) → x ≢ q → QuietMade (state_at w s q) m → SameSeen script w (after_effect w q s m) s x
+pub quiet_seen : (script : ScriptData) (w : World) (q s : ℕ) (m : Made) (x : ℕ) → x ≢ q → QuietMade (state_at w s q) m
+    → SameSeen script w (after_effect w q s m) s x
 quiet_seen script w q s m x d quiet = record {
   heard = quiet_heard script w q s m x quiet;
   own = own_as (state_at w s x) (state_at (after_effect w q s m) s x) (state_there w q s m x d);
 }
 
 -- the node's own account makes a step that it may; entries stay
-pub own_happens : (script : ScriptData) (moment : Moment) (w : World) (q s : ℕ) (m : Made) (place : Option ℕ) (desk old : Desk) (step : AccountStep) → QuietMade (state_at w s q) m
+pub own_happens : (script : ScriptData) (moment : Moment) (w : World) (q s : ℕ) (m : Made) (place : Option ℕ) (desk old : Desk) (step : AccountStep)
+    → QuietMade (state_at w s q) m
     → ((x : ℕ) → entry_of desk x ≡ entry_of old x) → q < script.nodes → AllKept script.nodes (account_of script moment w s place old)
     → MayStep (others_counted script.nodes (account_of script moment w s place old) q) step (account_of script moment w s place old q)
     → account_with (w.node q).clock (is_at place q) (is_moving moment q) (entry_of old q) m.state (tells_of script w s q) (copies_to script w s q)
@@ -66,7 +70,8 @@ own_happens script moment w q s m place desk old step quiet entries below h may 
     ∙ (λ i. account_with (w.node q).clock (is_at place q) (is_moving moment q) (entries q i) (state_here w q s m i) (tells_of script w s q) (copies_to script w s q)) ∙ own)
 
 -- nothing changes in any account; entries stay
-pub accounts_stay : (script : ScriptData) (moment : Moment) (w : World) (q s : ℕ) (m : Made) (place : Option ℕ) (desk old : Desk) → QuietMade (state_at w s q) m
+pub accounts_stay : (script : ScriptData) (moment : Moment) (w : World) (q s : ℕ) (m : Made) (place : Option ℕ) (desk old : Desk)
+    → QuietMade (state_at w s q) m
     → SameOwn (state_at w s q) m.state → ((x : ℕ) → entry_of desk x ≡ entry_of old x) → AllKept script.nodes (account_of script moment w s place old)
     → AllKept script.nodes (account_of script moment (after_effect w q s m) s place desk)
 accounts_stay script moment w q s m place desk old quiet same entries h =
@@ -75,7 +80,9 @@ accounts_stay script moment w q s m place desk old quiet same entries h =
     (record { heard = quiet_heard script w q s m x quiet; own = own_stays w q s m x same }) (entries x) refl refl)
 
 -- with the same desk and nothing of freezes changed the news stay
-pub news_stay : (script : ScriptData) (moment : Moment) (w : World) (q s : ℕ) (m : Made) (place : Option ℕ) (desk : Desk) (x : ℕ) → QuietMade (state_at w s q) m
-    → SameFrozen (state_at w s q) m.state → NewsKept (news_of script moment w s place desk x) → NewsKept (news_of script moment (after_effect w q s m) s place desk x)
+pub news_stay : (script : ScriptData) (moment : Moment) (w : World) (q s : ℕ) (m : Made) (place : Option ℕ) (desk : Desk) (x : ℕ)
+    → QuietMade (state_at w s q) m
+    → SameFrozen (state_at w s q) m.state → NewsKept (news_of script moment w s place desk x)
+    → NewsKept (news_of script moment (after_effect w q s m) s place desk x)
 news_stay script moment w q s m place desk x quiet same h =
     subst NewsKept (sym (news_seen script moment w (after_effect w q s m) s place desk x (quiet_heard script w q s m x quiet).freezes (frozen_stays w q s m x same))) h

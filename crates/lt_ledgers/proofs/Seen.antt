@@ -45,7 +45,8 @@ own_as t u e = record { held = ap (λ (v : SetState). v.held) e; charge = ap (λ
 pub own_then : (t u v : SetState) → SameOwn t u → SameOwn u v → SameOwn t v
 own_then t u v first second = record { held = second.held ∙ first.held; charge = second.charge ∙ first.charge; pending = second.pending ∙ first.pending }
 
-pub own_stays : (w : World) (q s : ℕ) (m : Made) (x : ℕ) → SameOwn (state_at w s q) m.state → SameOwn (state_at w s x) (state_at (after_effect w q s m) s x)
+pub own_stays : (w : World) (q s : ℕ) (m : Made) (x : ℕ) → SameOwn (state_at w s q) m.state
+    → SameOwn (state_at w s x) (state_at (after_effect w q s m) s x)
 own_stays w q s m x same = record {
   held = part_stays (λ t. t.held) w q s m same.held x;
   charge = part_stays (λ t. t.charge) w q s m same.charge x;
@@ -63,7 +64,8 @@ frozen_as t u e = record { number = ap (λ (v : SetState). v.number) e; frozen =
 pub frozen_then : (t u v : SetState) → SameFrozen t u → SameFrozen u v → SameFrozen t v
 frozen_then t u v first second = record { number = second.number ∙ first.number; frozen = second.frozen ∙ first.frozen }
 
-pub frozen_stays : (w : World) (q s : ℕ) (m : Made) (x : ℕ) → SameFrozen (state_at w s q) m.state → SameFrozen (state_at w s x) (state_at (after_effect w q s m) s x)
+pub frozen_stays : (w : World) (q s : ℕ) (m : Made) (x : ℕ) → SameFrozen (state_at w s q) m.state
+    → SameFrozen (state_at w s x) (state_at (after_effect w q s m) s x)
 frozen_stays w q s m x same =
     record { number = part_stays (λ t. t.number) w q s m same.number x; frozen = part_stays (λ t. t.frozen) w q s m same.frozen x }
 
@@ -74,7 +76,8 @@ pub record SameHeard (script : ScriptData) (w later : World) (s x : ℕ) : Type 
   pub copies : copies_to script later s x ≡ copies_to script w s x
   pub freezes : freezes_to script later s x ≡ freezes_to script w s x
 
-pub heard_then : (script : ScriptData) (w base later : World) (s x : ℕ) → SameHeard script w base s x → SameHeard script base later s x → SameHeard script w later s x
+pub heard_then : (script : ScriptData) (w base later : World) (s x : ℕ) → SameHeard script w base s x → SameHeard script base later s x
+    → SameHeard script w later s x
 heard_then script w base later s x first second = record {
   clock = second.clock ∙ first.clock;
   tells = second.tells ∙ first.tells;
@@ -88,7 +91,8 @@ pub record SameSeen (script : ScriptData) (w later : World) (s x : ℕ) : Type 0
   pub own : SameOwn (state_at w s x) (state_at later s x)
 
 -- the account by what was heard before
-pub account_heard : (script : ScriptData) (moment : Moment) (w later : World) (s : ℕ) (place : Option ℕ) (desk : Desk) (x : ℕ) → SameHeard script w later s x
+pub account_heard : (script : ScriptData) (moment : Moment) (w later : World) (s : ℕ) (place : Option ℕ) (desk : Desk) (x : ℕ)
+    → SameHeard script w later s x
     → account_of script moment later s place desk x
     ≡ account_with (w.node x).clock (is_at place x) (is_moving moment x) (entry_of desk x) (state_at later s x) (tells_of script w s x) (copies_to script w s x)
 account_heard script moment w later s place desk x same =
@@ -110,7 +114,8 @@ account_as clock here moving entry tells copies t u same = λ i. record {
 }
 
 -- the account of a node that is seen as before, with the same entry
-pub account_seen : (script : ScriptData) (moment former : Moment) (w later : World) (s : ℕ) (place before : Option ℕ) (desk old : Desk) (x : ℕ) → SameSeen script w later s x
+pub account_seen : (script : ScriptData) (moment former : Moment) (w later : World) (s : ℕ) (place before : Option ℕ) (desk old : Desk) (x : ℕ)
+    → SameSeen script w later s x
     → entry_of desk x ≡ entry_of old x → is_at place x ≡ is_at before x → is_moving moment x ≡ is_moving former x
     → account_of script moment later s place desk x ≡ account_of script former w s before old x
 account_seen script moment former w later s place before desk old x seen entry here moving =

@@ -46,7 +46,8 @@ seen_ended script w s e = record {
     seen_desk None (q, below, (p, letter, under, on, says)) = (q, below, (p, letter, under, record { among = on.among; set = on.set }, says))
 
 -- worlds that a set sees the same
-pub ended_same : (script : ScriptData) (w later : World) (s : ℕ) → ((x : ℕ) → (later.node x).clock ≡ (w.node x).clock) → ((x : ℕ) → state_at later s x ≡ state_at w s x)
+pub ended_same : (script : ScriptData) (w later : World) (s : ℕ) → ((x : ℕ) → (later.node x).clock ≡ (w.node x).clock)
+    → ((x : ℕ) → state_at later s x ≡ state_at w s x)
     → later.mail ≡ w.mail → Ended script w s → Ended script later s
 ended_same script w later s clocks states mail e =
     seen_ended script later s (subst (λ (v : World). Ended script v s)
@@ -57,7 +58,8 @@ pub begun_clock : (w : World) (q clock : ℕ) → ((begun w q clock).node q).clo
 begun_clock w q clock = ap (λ (n : NodeState). n.clock) (put-same w.node q (at_clock clock (w.node q)))
 
 -- a node that has made its move, beside the middle of the move: the same clocks, and the same states of the set
-pub clocks_as : (w base : World) (q s clock : ℕ) (node : NodeState) (t : SetState) (posts : List Post) → base.node ≡ (begun w q clock).node → node.clock ≡ clock
+pub clocks_as : (w base : World) (q s clock : ℕ) (node : NodeState) (t : SetState) (posts : List Post) → base.node ≡ (begun w q clock).node
+    → node.clock ≡ clock
     → (x : ℕ) → (put w.node q node x).clock ≡ ((world_of base q s t posts).node x).clock
 clocks_as w base q s clock node t posts begins made x = by_node (cases_eq x q) ∙ ap (λ (f : ℕ → NodeState). (f x).clock) (sym begins) ∙ sym (clock_stays base q s (made_of t posts) x)
   where
@@ -66,7 +68,8 @@ clocks_as w base q s clock node t posts begins made x = by_node (cases_eq x q) �
         ∙ sym (begun_clock w q clock) ∙ ap (λ (y : ℕ). ((begun w q clock).node y).clock) (sym e)
     by_node (inr d) = ap (λ (k : NodeState). k.clock) (put-other w.node q node x d ∙ sym (put-other w.node q (at_clock clock (w.node q)) x d))
 
-pub states_as : (w base : World) (q s clock : ℕ) (node : NodeState) (t : SetState) (posts : List Post) → base.node ≡ (begun w q clock).node → node.set s ≡ t
+pub states_as : (w base : World) (q s clock : ℕ) (node : NodeState) (t : SetState) (posts : List Post) → base.node ≡ (begun w q clock).node
+    → node.set s ≡ t
     → (x : ℕ) → (put w.node q node x).set s ≡ state_at (world_of base q s t posts) s x
 states_as w base q s clock node t posts begins made x = elim (cases_eq x q) [
   | inl e ↦ ap (λ (y : ℕ). (put w.node q node y).set s) e ∙ ap (λ (k : NodeState). k.set s) (put-same w.node q node) ∙ made

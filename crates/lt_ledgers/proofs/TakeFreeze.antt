@@ -50,7 +50,8 @@ take_freeze_keeps script w base s q number modes place desk below hand h =
     later : World
     later = after_effect base q s m
 
-    fields : (newer : Bool) → SameOwn t (if newer then record t { frozen = modes; number = number } else t) × ((if newer then record t { frozen = modes; number = number } else t).parked ≡ t.parked)
+    fields : (newer : Bool)
+        → SameOwn t (if newer then record t { frozen = modes; number = number } else t) × ((if newer then record t { frozen = modes; number = number } else t).parked ≡ t.parked)
     fields true = (record { held = refl; charge = refl; pending = refl }, refl)
     fields false = (record { held = refl; charge = refl; pending = refl }, refl)
 
@@ -63,7 +64,8 @@ take_freeze_keeps script w base s q number modes place desk below hand h =
     heard : (x : ℕ) → SameHeard script base later s x
     heard x = quiet_heard script base q s m x quiet
 
-    account_is : (x : ℕ) → SameOwn (state_at w s x) (state_at later s x) → account_of script (Acting q) later s place desk x ≡ account_of script (Acting q) w s place desk x
+    account_is : (x : ℕ) → SameOwn (state_at w s x) (state_at later s x)
+        → account_of script (Acting q) later s place desk x ≡ account_of script (Acting q) w s place desk x
     account_is x own = λ i. record {
       clock = ((heard x).clock ∙ hand.clocks x) i;
       held = own.held i;

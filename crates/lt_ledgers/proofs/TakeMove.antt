@@ -1,6 +1,6 @@
 -- The take of a letter keeps the ledgers of its set.
 use Rattle.std.proofs.Common.{◌≡◌, ℕ, ◌+◌, ◌<◌, ◌≤◌, List, [], ◌∷◌, Option, Some, None, Bool, true, false, refl, sym, ap, subst, arith, ◌∙◌}
-use Rattle.std.specs.Prelude.{if◌then◌else◌, Contains, is_some, nat_lt, drop as drop_front}
+use Rattle.std.specs.Prelude.{if◌then◌else◌, Contains, is_some, nat_lt}
 use Rattle.std.specs.List.{AllByRecursion}
 use Rattle.std.proofs.lemmas.Bool.{eq-eqb}
 use Rattle.lt_modes.specs.declared.stamp.Stamp.{Stamp}
@@ -15,30 +15,26 @@ use Rattle.lt_modes.specs.Taking.{arrive, take_body}
 use Rattle.lt_modes.specs.SetMove.{take}
 use Rattle.lt_lists.specs.Below.{put, one_if}
 use Rattle.lt_runs.specs.NodeMove.{NodeState, NodeMade, take_stamp, node_take}
-use Rattle.lt_runs.specs.World.{World, opened, put_mail, after_made, sent}
+use Rattle.lt_runs.specs.World.{World, opened, after_made, sent}
 use Rattle.lt_runs.specs.Facts.{state_at, tokens_in, places_in_body}
 use Rattle.lt_model.specs.Moments.{Acting}
 use Rattle.lt_model.specs.OnWay.{OnWay}
 use Rattle.lt_model.specs.AccountRules.{IsParkedOf}
 use Rattle.lt_model.specs.Paths.{Paths, LetterOnPath, BodyOnPath}
-use Rattle.lt_model.specs.PathEffects.{token_weight}
 use Rattle.lt_model.specs.Standing.{AsksStand}
 use Rattle.lt_model.specs.MomentLaws.{begun}
-use Rattle.lt_lists.proofs.Sums.{sum_below-at}
-use Rattle.lt_model.proofs.Letters.{mail_weight, mail_weight-at, mail_weight-taken}
 use Rattle.lt_model.proofs.PathsQuiet.{link_named}
 use Rattle.lt_lists.proofs.Puts.{put-same}
-use Rattle.lt_model.proofs.PathsWorld.{weighs_tokens}
 use Rattle.lt_accounts.proofs.Asks.{same_ask-itself}
-use Rattle.lt_model.proofs.Effects.{HoldsOf, EndEffects, take_by_effects}
+use Rattle.lt_model.proofs.Effects.{both, HoldsOf, EndEffects, take_by_effects}
 use Rattle.lt_model.proofs.BeginsMove.{begun_state}
-use Rattle.lt_model.proofs.StandingEffects.{places_weight, Stands, stands, stands_later, arrives-stands}
-use Rattle.lt_model.proofs.StandingMove.{elsewhere, unanswered, only_here, stands_before, copy_home}
+use Rattle.lt_model.proofs.StandingEffects.{places_weight, stands}
+use Rattle.lt_model.proofs.StandingBegins.{stands_arrived, LetterTaken, letter_taken, elsewhere, unanswered}
 use Rattle.lt_ledgers.specs.LedgerLaws.{LedgersKept}
 use Rattle.lt_ledgers.proofs.InHand.{InHand, in_hand}
 use Rattle.lt_ledgers.proofs.Ledgers.{Ledger, Ended}
 use Rattle.lt_ledgers.proofs.MidMove.{world_of, leads, at_now, Scene, no_copy}
-use Rattle.lt_ledgers.proofs.MoveEffects.{route_firm, both, midway, ended_fact, frozen_fact, ledger_ends}
+use Rattle.lt_ledgers.proofs.MoveEffects.{route_firm, midway, ended_fact, frozen_fact, ledger_ends}
 use Rattle.lt_ledgers.proofs.Arrive.{IsFair, body_done}
 use Rattle.lt_ledgers.proofs.SeenWorld.{begun_clock, clocks_as, states_as, ended_same}
 use Rattle.lt_ledgers.proofs.OneDesk.{named_firm}
@@ -53,7 +49,8 @@ learnt_firm nodes link t named before = by_test (nat_lt t.firm.epoch link.epoch)
     by_test false = before
 
 -- and so it is after the letter was dealt with
-done_firm : (nodes s : ℕ) (stamp : Stamp) (body : Body) (t : SetState) → stamp.node < nodes → t.firm.node < nodes → (take_body s stamp body t).state.firm.node < nodes
+done_firm : (nodes s : ℕ) (stamp : Stamp) (body : Body) (t : SetState) → stamp.node < nodes → t.firm.node < nodes
+    → (take_body s stamp body t).state.firm.node < nodes
 done_firm nodes s stamp (AskBody ask marked) t below named = subst (λ (l : Link). l.node < nodes) (sym (route_firm s stamp marked (ParkedAsk ask) t)) named
 done_firm nodes s stamp (TellBody tell) t below named = subst (λ (l : Link). l.node < nodes) (sym (route_firm s stamp false (ParkedTell tell) t)) named
 done_firm nodes s stamp (CopyBody ask) t below named = named
@@ -69,8 +66,10 @@ none_left k None h = refl
 none_left k (Some desk) h = absurd (omega (arith, h))
 
 -- the take of a letter of the set
-pub take_ended : (script : ScriptData) (w : World) (s p q : ℕ) (letter : Letter) (rest : List Letter) → 0 < script.nodes → Paths script w s → AsksStand script w s → LedgersKept script w s
-    → p < script.nodes → q < script.nodes → w.mail p q ≡ letter ∷ rest → letter.set ≡ s → ((tell : Tell) → letter.body ≡ TellBody tell → tell.node < script.nodes)
+pub take_ended : (script : ScriptData) (w : World) (s p q : ℕ) (letter : Letter) (rest : List Letter) → 0 < script.nodes → Paths script w s
+    → AsksStand script w s → LedgersKept script w s
+    → p < script.nodes → q < script.nodes → w.mail p q ≡ letter ∷ rest → letter.set ≡ s
+    → ((tell : Tell) → letter.body ≡ TellBody tell → tell.node < script.nodes)
     → AllByRecursion (IsParkedOf script.nodes) ((w.node q).set s).parked
     → Ended script (after_made q (node_take q letter (w.node q)) (opened w q (Take p))) s
 take_ended script w s p q letter rest some paths stood known from below front set tell_named items_named =
@@ -122,48 +121,24 @@ take_ended script w s p q letter rest some paths stood known from below front se
     on_path : LetterOnPath script.nodes (w.went s) p q letter
     on_path = paths.letters p q letter from on
 
-    opened_weight : (a : Ask) → mail_weight script.nodes (places_weight s a) base.mail + places_weight s a letter ≡ mail_weight script.nodes (places_weight s a) w.mail
-    opened_weight a = omega (
-      arith,
-      mail_weight-taken script.nodes p q (places_weight s a) w.mail letter rest from below front,
-      ap (λ (l : List Letter). mail_weight script.nodes (places_weight s a) (put_mail w.mail p q (drop_front 1 l))) front,
-    )
-
-    before : Stands s q n.clock (λ a. elsewhere script w s q base.mail a + places_weight s a letter) (unanswered script w s q) (n.set s) []
-    before = stands_before script w s q base.mail (λ a. places_weight s a letter) stood below opened_weight
-
-    home : (ask : Ask) → letter.body ≡ CopyBody ask → ask.node ≡ q
-    home ask says = stood.places.home q ask below (p, letter, from, on, says)
-
-    few : one_if (is_some (n.set s).desk) + tokens_in letter.body ≤ 1
-    few = omega (
-      arith,
-      paths.one_token,
-      sum_below-at script.nodes q (λ k. one_if (is_some (state_at w s k).desk)) below,
-      mail_weight-at script.nodes p q (token_weight s) w.mail letter from below on.among,
-      weighs_tokens s letter set,
-    )
+    taken : LetterTaken script w s q letter base.mail
+    taken = letter_taken script w s p q letter rest paths stood from below front set
 
     weighs : (a : Ask) → places_weight s a letter ≡ places_in_body a letter.body
     weighs a = rw (eq-eqb letter.set s set) refl
 
-    stands_in_hand : Stands s q stamp.clock (λ a. elsewhere script w s q base.mail a + places_in_body a letter.body) (unanswered script w s q) (n.set s) []
-    stands_in_hand = stands_later s q n.clock stamp.clock (λ a. elsewhere script w s q base.mail a + places_in_body a letter.body) (unanswered script w s q) (n.set s) [] (omega arith)
-        (record { once = λ a. omega (arith, before.once a, weighs a); own = before.own; apart = before.apart; copies = before.copies })
-
     arrived : HoldsOf (stands s q stamp.clock (elsewhere script w s q base.mail) (unanswered script w s q)) [] (arrive stamp letter t)
     arrived = subst (λ (v : SetState). HoldsOf (stands s q stamp.clock (elsewhere script w s q base.mail) (unanswered script w s q)) [] (arrive stamp letter v)) (sym same)
-        (arrives-stands s stamp.clock (elsewhere script w s q base.mail) (unanswered script w s q) stamp letter (n.set s) set (only_here script w s q stood below)
-        (copy_home script w s q letter home) few stands_in_hand)
+        (stands_arrived script w s p q letter rest paths stood from below front set)
 
     fair : (body : Body) → letter.body ≡ body → IsFair script b1 learnt s q body
     fair (AskBody ask marked) says = tt
     fair (TellBody tell) says = tell_named tell says
-    fair (CopyBody ask) says = no_copy script w base s q n.clock (n.set s) [] (λ a. places_weight s a letter) scene before ask
-        (let one : places_weight s ask letter ≡ 1 = weighs ask ∙ ap (places_in_body ask) says ∙ ap one_if (same_ask-itself ask) in omega (arith, one)) (home ask says)
+    fair (CopyBody ask) says = no_copy script w base s q n.clock (n.set s) [] (λ a. places_weight s a letter) scene taken.before ask
+        (let one : places_weight s ask letter ≡ 1 = weighs ask ∙ ap (places_in_body ask) says ∙ ap one_if (same_ask-itself ask) in omega (arith, one)) (taken.home ask says)
     fair (TokenBody desk) says = (
       (subst (BodyOnPath script.nodes (w.went s) q) says on_path.body).entries,
-      ap (λ (v : SetState). v.desk) same ∙ none_left 0 (n.set s).desk (subst (λ (b : Body). one_if (is_some (n.set s).desk) + tokens_in b ≤ 1) says few),
+      ap (λ (v : SetState). v.desk) same ∙ none_left 0 (n.set s).desk (subst (λ (b : Body). one_if (is_some (n.set s).desk) + tokens_in b ≤ 1) says taken.few),
       subst (AllByRecursion (IsParkedOf script.nodes)) (sym (hand.parked q ∙ ap (λ (v : SetState). v.parked) same))
           items_named,
       begin.kept None desk (q, below, (p, letter, from, on, says)),

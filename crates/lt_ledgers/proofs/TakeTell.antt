@@ -68,7 +68,8 @@ apply_keeps script w base s q tell desk below hand named entries h =
     entry_left : (x : ℕ) → entry_of left x ≡ (if x == v then told tell (entry_of desk x) else entry_of desk x)
     entry_left x = tells_are_applied x tell desk (subst (λ (n : ℕ). v < n) (sym entries) named)
 
-    told_frozen : (newer : Bool) (entry : Entry) (changed : Entry) → changed.frozen_told ≡ entry.frozen_told → (if newer then changed else entry).frozen_told ≡ entry.frozen_told
+    told_frozen : (newer : Bool) (entry : Entry) (changed : Entry) → changed.frozen_told ≡ entry.frozen_told
+        → (if newer then changed else entry).frozen_told ≡ entry.frozen_told
     told_frozen true entry changed e = e
     told_frozen false entry changed e = refl
 
@@ -102,8 +103,10 @@ apply_keeps script w base s q tell desk below hand named entries h =
         }
 
 -- a tell is parked or sent on
-pub route_tell_keeps : (script : ScriptData) (w base : World) (s q : ℕ) (stamp : Stamp) (marked : Bool) (tell : Tell) (place : Option ℕ) (desk : Desk) → q < script.nodes
-    → InHand script w base s q (TellBody tell) → tell.node < script.nodes → (state_at base s q).desk ≡ None → (state_at base s q).firm.node < script.nodes
+pub route_tell_keeps : (script : ScriptData) (w base : World) (s q : ℕ) (stamp : Stamp) (marked : Bool) (tell : Tell) (place : Option ℕ) (desk : Desk)
+    → q < script.nodes
+    → InHand script w base s q (TellBody tell) → tell.node < script.nodes → (state_at base s q).desk ≡ None
+    → (state_at base s q).firm.node < script.nodes
     → DeskKept script (Acting q) w s place desk
     → DeskKept script (Acting q) (after_effect base q s (route s stamp marked (ParkedTell tell) (state_at base s q))) s place desk
 route_tell_keeps script w base s q stamp marked tell place desk below hand named away firm h =

@@ -96,7 +96,8 @@ told_leaves : (tells : List Tell) (entry : Entry) → (fold (λ e tell. told tel
 told_leaves [] entry = refl
 told_leaves (tell ∷ rest) entry = told_leaves rest (told tell entry) ∙ by_test (is_newer tell.stamp entry.told_at) _ refl
   where
-    by_test : (newer : Bool) (changed : Entry) → changed.frozen_told ≡ entry.frozen_told → (if newer then changed else entry).frozen_told ≡ entry.frozen_told
+    by_test : (newer : Bool) (changed : Entry) → changed.frozen_told ≡ entry.frozen_told
+        → (if newer then changed else entry).frozen_told ≡ entry.frozen_told
     by_test true changed e = e
     by_test false changed e = refl
 
@@ -179,7 +180,8 @@ token_keeps script w s q desk below entries named h =
     second_kept = all_reordered script.nodes first (λ x. tells_of script later s x ++ filter_map (tell_parked x) t.parked) (copies_to script w s) first_kept
         (λ x under. (record { only = was x; kept = is x }, record { only = λ y c. c; kept = λ y c. c }))
 
-    is_account : (x : ℕ) → account_of script (Acting q) later s (Some q) left x ≡ record (second x) { entry = told_by_parked x t.parked (entry_of desk x); tells = tells_of script later s x }
+    is_account : (x : ℕ)
+        → account_of script (Acting q) later s (Some q) left x ≡ record (second x) { entry = told_by_parked x t.parked (entry_of desk x); tells = tells_of script later s x }
     is_account x =
         let own = own_stays w q s m x (record { held = refl; charge = refl; pending = refl }) in
         let entry = tokens_arrive.parked x t.parked desk (subst (λ (n : ℕ). AllByRecursion (IsParkedOf n) t.parked) (sym entries) named) in

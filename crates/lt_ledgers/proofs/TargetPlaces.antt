@@ -18,7 +18,8 @@ places-which {X = X} test first (x ∷ xs) d y h = by_test (test first x) refl h
     ]
     by_test false e found again = let more = again found in (suc more.0, omega (arith, more.1), omega (arith, more.2), more.3)
 
-pub places-at : {X : Type 0} (test : ℕ → X → Bool) (first : ℕ) (xs : List X) (d : X) (i : ℕ) → i < length xs → test (first + i) (slice_index_or xs i d) ≡ true
+pub places-at : {X : Type 0} (test : ℕ → X → Bool) (first : ℕ) (xs : List X) (d : X) (i : ℕ) → i < length xs
+    → test (first + i) (slice_index_or xs i d) ≡ true
     → Contains (places_from test first xs) (first + i)
 places-at test first [] d i within e = absurd (omega (arith, within))
 places-at test first (x ∷ xs) d zero within e =
@@ -28,6 +29,7 @@ places-at test first (x ∷ xs) d (suc i) within e =
     let later = places-at test (first + 1) xs d i (omega (arith, within)) (ap (λ (k : ℕ). test k (slice_index_or xs i d)) (omega arith) ∙ e) in
     by_test (test first x) (subst (Contains (places_from test (first + 1) xs)) (omega arith) later)
   where
-    by_test : (here : Bool) → Contains (places_from test (first + 1) xs) (first + suc i) → Contains (cons_if here first (places_from test (first + 1) xs)) (first + suc i)
+    by_test : (here : Bool) → Contains (places_from test (first + 1) xs) (first + suc i)
+        → Contains (cons_if here first (places_from test (first + 1) xs)) (first + suc i)
     by_test true later = contains_later first (first + suc i) (places_from test (first + 1) xs) later
     by_test false later = later

@@ -85,7 +85,8 @@ tell_routed nodes s stamp marked tell t away named =
     by_own false = goes
 
 -- what tells there are once it was routed
-pub tells_gain : (script : ScriptData) (w : World) (q s : ℕ) (m : Made) (tell : Tell) → q < script.nodes → TellRouted script.nodes s tell (state_at w s q) m
+pub tells_gain : (script : ScriptData) (w : World) (q s : ℕ) (m : Made) (tell : Tell) → q < script.nodes
+    → TellRouted script.nodes s tell (state_at w s q) m
     → IsGain tell (tells_of script w s tell.node) (tells_of script (after_effect w q s m) s tell.node)
 tells_gain script w q s m tell below r = record {
   gained = (tells_are_on_way script later s tell.node tell).1 (elim r.gone [
@@ -126,14 +127,16 @@ tells_gain script w q s m tell below r = record {
     same_item : (y : Tell) → ParkedTell y ≡ ParkedTell tell → y ≡ tell
     same_item y e = cc
 
-    still_parked : (b : ℕ) (y : Tell) → Contains (state_at w s b).parked (ParkedTell y) → (b ≡ q) ⊎ (b ≢ q) → Contains (state_at later s b).parked (ParkedTell y)
+    still_parked : (b : ℕ) (y : Tell) → Contains (state_at w s b).parked (ParkedTell y) → (b ≡ q) ⊎ (b ≢ q)
+        → Contains (state_at later s b).parked (ParkedTell y)
     still_parked b y c (inl e) =
         subst (λ (k : ℕ). Contains (state_at later s k).parked (ParkedTell y)) (sym e)
         (subst (λ (t : SetState). Contains t.parked (ParkedTell y)) (sym (state_here w q s m))
         (r.parked_kept (ParkedTell y) (subst (λ (k : ℕ). Contains (state_at w s k).parked (ParkedTell y)) e c)))
     still_parked b y c (inr d) = subst (λ (t : SetState). Contains t.parked (ParkedTell y)) (sym (state_there w q s m b d)) c
 
-    was_parked : (b : ℕ) (y : Tell) → Contains (state_at later s b).parked (ParkedTell y) → (b ≡ q) ⊎ (b ≢ q) → Contains (state_at w s b).parked (ParkedTell y) ⊎ (y ≡ tell)
+    was_parked : (b : ℕ) (y : Tell) → Contains (state_at later s b).parked (ParkedTell y) → (b ≡ q) ⊎ (b ≢ q)
+        → Contains (state_at w s b).parked (ParkedTell y) ⊎ (y ≡ tell)
     was_parked b y c (inl e) =
         elim (r.parked_only (ParkedTell y) (subst (λ (t : SetState). Contains t.parked (ParkedTell y)) (state_here w q s m) (subst (λ (k : ℕ). Contains (state_at later s k).parked (ParkedTell y)) e c))) [
           | inl old ↦ inl (subst (λ (k : ℕ). Contains (state_at w s k).parked (ParkedTell y)) (sym e) old)
@@ -142,7 +145,8 @@ tells_gain script w q s m tell below r = record {
     was_parked b y c (inr d) = inl (subst (λ (t : SetState). Contains t.parked (ParkedTell y)) (state_there w q s m b d) c)
 
 -- what is heard of others than the tell's node
-pub routed_heard : (script : ScriptData) (w : World) (q s : ℕ) (m : Made) (tell : Tell) (x : ℕ) → tell.node ≢ x → TellRouted script.nodes s tell (state_at w s q) m
+pub routed_heard : (script : ScriptData) (w : World) (q s : ℕ) (m : Made) (tell : Tell) (x : ℕ) → tell.node ≢ x
+    → TellRouted script.nodes s tell (state_at w s q) m
     → SameHeard script w (after_effect w q s m) s x
 routed_heard script w q s m tell x d r = record {
   clock = clock_stays w q s m x;
@@ -153,7 +157,8 @@ routed_heard script w q s m tell x d r = record {
 
 -- a node without the desk makes a tell
 pub tell_keeps : (script : ScriptData) (w : World) (s : ℕ) (stamp : Stamp) (place : Option ℕ) (desk : Desk) → stamp.node < script.nodes
-    → (state_at w s stamp.node).desk ≡ None → is_at place stamp.node ≡ false → stamp.clock ≡ (w.node stamp.node).clock → (state_at w s stamp.node).firm.node < script.nodes
+    → (state_at w s stamp.node).desk ≡ None → is_at place stamp.node ≡ false → stamp.clock ≡ (w.node stamp.node).clock
+    → (state_at w s stamp.node).firm.node < script.nodes
     → DeskKept script (Acting stamp.node) w s place desk
     → DeskKept script Between (after_effect w stamp.node s (make_tell s stamp (state_at w s stamp.node))) s place desk
 tell_keeps script w s stamp place desk below away elsewhere now named h =

@@ -1,5 +1,5 @@
 -- The laws of ledgers, as statements. The ledgers of a set are the accounts and the news of its nodes, with its desk where it is.
-use Rattle.std.specs.Prelude.{◌≡◌, ◌≢◌, ◌⊎◌, ◌<◌, ℕ, List, [], Option, Some, None, length, Contains, take, is_some, All, IsTrue, IsFalse}
+use Rattle.std.specs.Prelude.{◌≡◌, ◌≢◌, ◌⊎◌, ◌<◌, ℕ, Option, Some, None, Contains, IsTrue, IsFalse}
 use Rattle.lt_modes.specs.declared.parts.Row.{Row}
 use Rattle.lt_modes.specs.declared.stamp.Stamp.{Stamp}
 use Rattle.lt_modes.specs.declared.ask.Ask.{Ask}
@@ -11,14 +11,14 @@ use Rattle.lt_modes.specs.Records.{entry_of}
 use Rattle.lt_modes.specs.Serving.{serve_copy}
 use Rattle.lt_modes.specs.Freezing.{frozen_by}
 use Rattle.lt_modes.specs.HandingOver.{leaving, hand_over_to}
-use Rattle.lt_runs.specs.Log.{Logged}
-use Rattle.lt_runs.specs.World.{World, is_enabled, after, world_after, IsRun}
+use Rattle.lt_runs.specs.World.{World, is_enabled, after}
 use Rattle.lt_runs.specs.Facts.{state_at}
 use Rattle.lt_model.specs.Homes.{IsWhole}
 use Rattle.lt_model.specs.Moments.{Between, Acting, Frozen}
 use Rattle.lt_model.specs.OnWay.{DeskIs}
 use Rattle.lt_model.specs.AccountRules.{IsCopyFree}
-use Rattle.lt_model.specs.Invariant.{DeskKept, IsParkedFor, SetKept}
+use Rattle.lt_model.specs.Invariant.{DeskKept, SetKept}
+use Rattle.lt_ledgers.specs.HeldUp.{HeldUp}
 use Rattle.lt_ledgers.specs.OneEffect.{after_effect, copied, IsDeskAt, IsWaiting}
 
 -- between moves the ledgers of the set are kept, wherever its desk is
@@ -31,32 +31,17 @@ abbrev pub MovesKeepLedgers : Type 0
 MovesKeepLedgers = (script : ScriptData) (w : World) (s q : ℕ) (step : Step) → IsWhole script → SetKept script Between w s
     → IsTrue (is_enabled script w q step) → LedgersKept script (after script w q step) s
 
--- after each prefix of a run the ledgers of each set are kept
-abbrev pub LedgersInRuns : Type 0
-LedgersInRuns = (script : ScriptData) (run : List Logged) → IsWhole script → IsRun script run
-    → (k s : ℕ) → s < length script.sets → LedgersKept script (world_after script (take k run)) s
-
--- in this world no two locks of different clients on the set conflict, be they of one node or of two
-abbrev pub LocksAgreeOn : ScriptData → World → ℕ → Type 0
-LocksAgreeOn script w s = (x y : ℕ) (a b : Row) → x < script.nodes → y < script.nodes
+-- in any world in which the set is kept, no two locks of different clients on it conflict, be they of one node or of two
+abbrev pub LocksAgree : Type 0
+LocksAgree = (script : ScriptData) (w : World) (s : ℕ) → SetKept script Between w s
+    → (x y : ℕ) (a b : Row) → x < script.nodes → y < script.nodes
     → Contains (state_at w s x).held a → Contains (state_at w s y).held b
     → (x ≢ y) ⊎ (a.client ≢ b.client) → IsFalse (conflicts a.mode b.mode)
 
--- after each prefix of a run no two locks of different clients conflict
-abbrev pub LocksNeverConflict : Type 0
-LocksNeverConflict = (script : ScriptData) (run : List Logged) → IsWhole script → IsRun script run
-    → (k s : ℕ) → s < length script.sets → LocksAgreeOn script (world_after script (take k run)) s
-
--- in this world what is parked at x waits for the token that is on its way there, or behind an older taking ask; where the
--- desk is, nothing is parked
-pub record ParkedWaits (script : ScriptData) (w : World) (s x : ℕ) : Type 0 where
-  pub waits : All (IsParkedFor script w s x) (state_at w s x).parked
-  pub none : IsTrue (is_some (state_at w s x).desk) → (state_at w s x).parked ≡ []
-
--- and so it is after each prefix of a run
-abbrev pub ParkedInRuns : Type 0
-ParkedInRuns = (script : ScriptData) (run : List Logged) → IsWhole script → IsRun script run
-    → (k s x : ℕ) → s < length script.sets → x < script.nodes → ParkedWaits script (world_after script (take k run)) s x
+-- each enabled move, in any world in which the set is kept, leaves held up what is parked at its node
+abbrev pub MovesHoldUp : Type 0
+MovesHoldUp = (script : ScriptData) (w : World) (s q : ℕ) (step : Step) → IsWhole script → SetKept script Between w s
+    → HeldUp q (state_at w s q) → IsTrue (is_enabled script w q step) → HeldUp q (state_at (after script w q step) s q)
 
 -- a copy that is sent for the ask at place k keeps the ledgers, where the ask waits and is free
 abbrev pub CopyServiceKeeps : Type 0

@@ -1,9 +1,8 @@
-ghost use Rattle.lt_ledgers.specs.LedgerLaws.{CopyServiceKeeps, HandOverKeeps, LedgersInRuns, LocksNeverConflict, MovesKeepLedgers, ParkedInRuns};
+ghost use Rattle.lt_ledgers.specs.LedgerLaws.{CopyServiceKeeps, HandOverKeeps, LocksAgree, MovesHoldUp, MovesKeepLedgers};
 
-/// Each enabled move keeps the ledgers of a set, its accounts and its news wherever its desk is; so they are kept in runs.
+/// Each enabled move keeps the ledgers of a set: the accounts and the news of its nodes, wherever its desk is.
 pub fn law_ledgers()
-    ensures step { MovesKeepLedgers }
-    ensures run { LedgersInRuns }
+    ensures { MovesKeepLedgers }
 {}
 
 /// The two effects of a move by which what is known of a node changes hands: a copy that is sent for an ask, and the desk
@@ -13,12 +12,13 @@ pub fn law_ledger_effects()
     ensures hand_over { HandOverKeeps }
 {}
 
-/// No two clients ever hold locks that conflict, whatever nodes they are on.
+/// Where a set is kept no two clients hold locks that conflict, whatever nodes they are on.
 pub fn law_locks()
-    ensures { LocksNeverConflict }
+    ensures { LocksAgree }
 {}
 
-/// What a node has parked waits for the token that is on its way there, or behind an older taking ask of the node.
-pub fn law_parked()
-    ensures { ParkedInRuns }
+/// What a node has parked stays held up as the node moves: the token is on its way there, or an older taking ask of the
+/// node is unanswered.
+pub fn law_held_up()
+    ensures { MovesHoldUp }
 {}

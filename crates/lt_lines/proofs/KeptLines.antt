@@ -15,7 +15,7 @@ use Rattle.lt_model.specs.Homes.{Homes, IsRowAtHome}
 use Rattle.lt_runs.specs.World.{World, world_after}
 use Rattle.lt_accounts.proofs.Asks.{same_mode-true}
 use Rattle.lt_model.proofs.HomesMove.{homes_in_runs}
-use Rattle.lt_ledgers.proofs.LedgersInRuns.{locks_never_conflict}
+use Rattle.lt_kept.proofs.KeptRuns.{locks_never_conflict}
 use Rattle.lt_accounts.proofs.RowTotals.{row_count, total}
 use Rattle.lt_lines.proofs.LineCounts.{same_holding-itself}
 use Rattle.std.proofs.lemmas.List.Quantifiers.{position-Some}

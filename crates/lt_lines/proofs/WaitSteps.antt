@@ -25,21 +25,20 @@ use Rattle.lt_model.specs.Homes.{IsWhole, HasTargets}
 use Rattle.lt_model.specs.Invariant.{Kept}
 use Rattle.lt_model.specs.Standing.{AsksStand}
 use Rattle.lt_lists.proofs.AllLemmas.{all_weaker}
-use Rattle.lt_model.proofs.Effects.{HoldsOf}
+use Rattle.lt_model.proofs.Effects.{HoldsOf, both}
 use Rattle.lt_model.proofs.Gathered.{copies_are_on_way}
 use Rattle.lt_model.proofs.HomesMove.{IsMaker, maker, next_targets, related_below}
 use Rattle.lt_model.proofs.KeptSets.{kept_stands}
 use Rattle.lt_model.proofs.NodeEffects.{once_or_aside}
 use Rattle.lt_model.proofs.PathsMove.{has_mail_parts}
 use Rattle.lt_model.proofs.StandingEffects.{Stands, stands, stands_later}
-use Rattle.lt_model.proofs.StandingMove.{elsewhere, unanswered, only_here, stands_before, none_in_hand}
+use Rattle.lt_model.proofs.StandingBegins.{stands_arrived, elsewhere, unanswered, only_here, stands_before, none_in_hand}
 use Rattle.lt_model.proofs.TokenComes.{desk_somewhere}
-use Rattle.lt_ledgers.proofs.MoveEffects.{both}
 use Rattle.lt_ledgers.proofs.OwnSteps.{route_same}
 use Rattle.lt_kept.proofs.ClientEffects.{Clients, clients}
 use Rattle.lt_kept.proofs.ClientCommands.{one_for, idle, no_ask_of, clients_acts, drops_kept, locked_of, tried_of, unlocked_of, changed_of}
 use Rattle.lt_kept.proofs.ClientMoves.{SoundClients, at_first, idle_in}
-use Rattle.lt_kept.proofs.ClientsKept.{sound_clients, stands_arrived, clients_arrived}
+use Rattle.lt_kept.proofs.ClientsKept.{sound_clients, clients_arrived}
 use Rattle.lt_lines.proofs.LineRules.{route_says}
 use Rattle.lt_lines.proofs.WaitRules.{Answers, then_answers, quiet_answers, routed_answers, answer_answers, finish_answers}
 use Rattle.lt_lines.proofs.WaitActs.{ActSays, act_ends, locked_says, tried_says, unlocked_says, changed_says}

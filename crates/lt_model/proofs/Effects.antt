@@ -26,6 +26,10 @@ use Rattle.lt_model.proofs.PathsQuiet.{put_queue_some, owed_at_some}
 abbrev pub Fact : Type 1
 Fact = SetState → List Post → Type 0
 
+-- two facts at once
+abbrev pub both : Fact → Fact → Fact
+both f g t posts = f t posts × g t posts
+
 -- the fact of what was made, after these letters
 abbrev pub HoldsOf : Fact → List Post → Made → Type 0
 HoldsOf fact posts m = fact m.state (posts ++ m.posts)

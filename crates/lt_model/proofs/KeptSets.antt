@@ -1,5 +1,5 @@
 -- A set that is kept, in the words of the laws on places and on time.
-use Rattle.std.proofs.Common.{◌≡◌, ℕ, ◌<◌, ◌≤◌, Option, Some, None, false}
+use Rattle.std.proofs.Common.{ℕ, ◌≤◌, Option, Some, None, false}
 use Rattle.std.specs.Prelude.{IfSome}
 use Rattle.lt_modes.specs.Script.{ScriptData}
 use Rattle.lt_modes.specs.State.{Desk}

@@ -13,6 +13,7 @@ pub mod NodeMoves
 pub mod NodeEffects
 pub mod TimedMove
 pub mod StandingEffects
+pub mod StandingBegins
 pub mod StandingMove
 pub mod StandingInRuns
 pub mod FreezeServes

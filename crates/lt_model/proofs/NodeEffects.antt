@@ -19,12 +19,15 @@ use Rattle.lt_model.specs.Touches.{sets_of_command}
 use Rattle.lt_model.proofs.SentInMove.{AreSentIn, finish-sent, drop-sent}
 use Rattle.lt_lists.proofs.AllLemmas.{all_weaker}
 use Rattle.lt_lists.proofs.Puts.{put-same}
-use Rattle.lt_model.proofs.Effects.{Fact, HoldsOf, ByEffects}
+use Rattle.lt_model.proofs.Effects.{Fact, both, HoldsOf, ByEffects}
 use Rattle.lt_model.proofs.NodeMoves.{touched-beside, each-beside}
 
 -- letters of other sets don't matter to the fact
 abbrev pub IsOfSet : ℕ → Fact → Type 0
 IsOfSet s fact = (t : SetState) (posts more : List Post) → AllByRecursion (λ (post : Post). post.letter.set ≢ s) more → fact t posts → fact t (posts ++ more)
+
+pub both_of_set : (s : ℕ) (f g : Fact) → IsOfSet s f → IsOfSet s g → IsOfSet s (both f g)
+both_of_set s f g hf hg t posts more others h = (hf t posts more others h.0, hg t posts more others h.1)
 
 -- the set is one of these, once
 abbrev pub IsOnce : ℕ → List ℕ → Type 0

@@ -1,67 +1,33 @@
 -- Each enabled move leaves each unanswered ask of a set in one place.
-use Rattle.std.proofs.Common.{◌≡◌, ◌≢◌, ℕ, ◌+◌, ◌-◌, ◌<◌, ◌≤◌, inl, inr, List, [], ◌∷◌, true, refl, sym, ap, subst, arith, ◌∙◌}
-use Rattle.std.specs.Prelude.{All, AllPairs, Contains, ◌⊎◌, is_some, slice_index_or, drop as drop_front}
+use Rattle.std.proofs.Common.{◌≡◌, ◌≢◌, ℕ, ◌+◌, ◌<◌, ◌≤◌, inl, inr, List, [], ◌∷◌, true, refl, sym, ap, subst, arith, ◌∙◌}
+use Rattle.std.specs.Prelude.{All, AllPairs, Contains, ◌⊎◌, slice_index_or, drop as drop_front}
 use Rattle.std.specs.List.{AllByRecursion}
-use Rattle.std.proofs.lemmas.Bool.{cases_eq, cases_lt, eq-eqb, ne_eqb}
-use Rattle.std.proofs.lemmas.List.Elements.{All-contains, recursion_from_All, Contains-get_or}
+use Rattle.std.proofs.lemmas.Bool.{cases_eq, cases_lt, ne_eqb}
+use Rattle.std.proofs.lemmas.List.Elements.{recursion_from_All, Contains-get_or}
 use Rattle.lt_modes.specs.declared.ask.Ask.{Ask}
 use Rattle.lt_modes.specs.declared.moves.Step.TheVariants.{Act, Take}
 use Rattle.lt_modes.specs.Script.{ScriptData}
-use Rattle.lt_modes.specs.State.{SetState, Body, AskBody, TellBody, CopyBody, TokenBody, FreezeBody, Letter}
+use Rattle.lt_modes.specs.State.{SetState, Letter}
 use Rattle.lt_modes.specs.Made.{Post}
 use Rattle.lt_modes.specs.SetMove.{take}
-use Rattle.lt_lists.specs.Below.{put, sum_below, one_if}
+use Rattle.lt_lists.specs.Below.{put}
 use Rattle.lt_runs.specs.NodeMove.{NodeState, NodeMade, next_command, act_stamp, take_stamp, at_clock, one_made, node_act, node_take}
 use Rattle.lt_runs.specs.World.{World, is_some_letter, opened, put_mail, take_front, after_made, after}
-use Rattle.lt_runs.specs.Facts.{state_at, places_in_state, places_in_body, tokens_in, place_count}
+use Rattle.lt_runs.specs.Facts.{state_at, places_in_state, places_in_body, place_count}
 use Rattle.lt_modes.specs.Queue.{times_in}
 use Rattle.lt_model.specs.Paths.{Paths}
 use Rattle.lt_model.specs.Standing.{IsMadeBy, AsksStand}
-use Rattle.lt_lists.proofs.Sums.{sum_below-same, sum_below-none, sum_below-change, sum_below-at}
-use Rattle.lt_model.proofs.Letters.{mail_weight, IsCounted, all_sent, before_take, sent_on_way, mail_weight-sent, mail_weight-beyond, mail_weight-taken, mail_weight-at}
+use Rattle.lt_lists.proofs.Sums.{sum_below-same, sum_below-change, sum_below-at}
+use Rattle.lt_model.proofs.Letters.{mail_weight, IsCounted, all_sent, before_take, sent_on_way, mail_weight-sent, mail_weight-beyond}
 use Rattle.lt_model.specs.Laws.{StandingKept}
-use Rattle.std.proofs.lemmas.List.Sums.{sum_by-append}
-use Rattle.lt_model.specs.PathEffects.{token_weight}
 use Rattle.lt_model.proofs.SentInMove.{take-sent}
-use Rattle.lt_lists.proofs.AllLemmas.{all_append, all_weaker, all_any}
-use Rattle.lt_model.proofs.PathsWorld.{weighs_tokens}
+use Rattle.lt_lists.proofs.AllLemmas.{all_weaker, all_any}
 use Rattle.lt_lists.proofs.Puts.{put-same, put-other}
 use Rattle.lt_model.proofs.PathsMove.{has_mail_parts, move_kept}
 use Rattle.lt_model.proofs.NodeMoves.{obey-stamped, obey-beside, touched-beside}
-use Rattle.lt_model.proofs.NodeEffects.{IsOfSet, once_or_aside, obey_by_effects}
-use Rattle.lt_accounts.proofs.Asks.{times_in-none}
-use Rattle.lt_model.proofs.StandingEffects.{places_weight, places_sent-none, IsCopyHome, Stands, stands, stands_later, standing_moves, standing_take}
-
--- how often the ask stands at the nodes, and how often it is unanswered
-abbrev pub at_nodes : ScriptData → World → ℕ → Ask → ℕ
-at_nodes script w s a = sum_below script.nodes (λ x. places_in_state a (state_at w s x))
-
-abbrev pub asked_in : ScriptData → World → ℕ → Ask → ℕ
-asked_in script w s a = sum_below script.nodes (λ x. times_in a (state_at w s x).pending)
-
--- how often it stands elsewhere than at node q, with these letters on their way
-abbrev pub elsewhere : ScriptData → World → ℕ → ℕ → (ℕ → ℕ → List Letter) → Ask → ℕ
-elsewhere script w s q mail a = (at_nodes script w s a - places_in_state a (state_at w s q)) + mail_weight script.nodes (places_weight s a) mail
-
-abbrev pub unanswered : ScriptData → World → ℕ → ℕ → Ask → ℕ
-unanswered script w s q a = asked_in script w s a - times_in a (state_at w s q).pending
-
--- asks of node q are unanswered at no other node
-pub only_here : (script : ScriptData) (w : World) (s q : ℕ) → AsksStand script w s → q < script.nodes → (a : Ask) → a.node ≡ q → unanswered script w s q a ≡ 0
-only_here script w s q h hq a me =
-    let change = sum_below-change script.nodes q (λ x. times_in a (state_at w s x).pending) (λ x. 0) hq (λ x below d.
-    times_in-none a (state_at w s x).pending (λ found. d (sym (All-contains (IsMadeBy x (w.node x).clock) (state_at w s x).pending a (h.own x below) found).0 ∙ me))) in
-    omega (arith, change, sum_below-none script.nodes (λ x. 0) (λ x below. refl))
-
-pub copy_home : (script : ScriptData) (w : World) (s x : ℕ) (letter : Letter) → ((ask : Ask) → letter.body ≡ CopyBody ask → ask.node ≡ x) → IsCopyHome x letter.body
-copy_home script w s x letter h = by_body letter.body h
-  where
-    by_body : (body : Body) → ((ask : Ask) → body ≡ CopyBody ask → ask.node ≡ x) → IsCopyHome x body
-    by_body (CopyBody ask) home = home ask refl
-    by_body (AskBody ask marked) home = tt
-    by_body (TellBody tell) home = tt
-    by_body (TokenBody desk) home = tt
-    by_body (FreezeBody number modes) home = tt
+use Rattle.lt_model.proofs.NodeEffects.{once_or_aside, obey_by_effects}
+use Rattle.lt_model.proofs.StandingEffects.{places_weight, IsCopyHome, Stands, stands, stands_later, standing_moves, standing_take}
+use Rattle.lt_model.proofs.StandingBegins.{asked_in, elsewhere, unanswered, only_here, copy_home, other_weight, stands_of_set, stands_before, none_in_hand, left_weight, letter_taken}
 
 -- letters of the set go to nodes of the script, and others carry no ask of it
 posts_counted : (nodes s : ℕ) (a : Ask) (posts : List Post) → ((post : Post) → Contains posts post → post.letter.set ≡ s → post.to < nodes)
@@ -158,44 +124,6 @@ after_standing script w s q mail made older before paths h grows standing beyond
     new_home (inl below) = all_weaker _ _ (λ (post : Post) home. λ under under_too of_set. home of_set) made.posts (standing below).copies
     new_home (inr above) = all_any _ (λ (post : Post). λ under under_too of_set. absurd (omega (arith, under, above))) made.posts
 
-pub other_weight : (s : ℕ) (a : Ask) (letter : Letter) → letter.set ≢ s → places_weight s a letter ≡ 0
-other_weight s a letter d = rw (ne_eqb letter.set s d) refl
-
-pub stands_of_set : (s me clock : ℕ) (others asked : Ask → ℕ) → IsOfSet s (stands s me clock others asked)
-stands_of_set s me clock others asked t posts more other h = record {
-  once = λ a. omega (
-    arith,
-    h.once a,
-    sum_by-append (λ (post : Post). places_weight s a post.letter) posts more,
-    places_sent-none s a more (all_weaker _ _ (λ (post : Post) d. other_weight s a post.letter d) more other),
-  );
-  own = h.own;
-  apart = h.apart;
-  copies = all_append _ posts more h.copies (all_weaker _ _ (λ (post : Post) d. λ e. absurd (d e)) more other);
-}
-
--- what stands at node q before its move, with so much of the ask in hand
-pub stands_before : (script : ScriptData) (w : World) (s q : ℕ) (mail : ℕ → ℕ → List Letter) (hand : Ask → ℕ) → AsksStand script w s → q < script.nodes
-    → ((a : Ask) → mail_weight script.nodes (places_weight s a) mail + hand a ≡ mail_weight script.nodes (places_weight s a) w.mail)
-    → Stands s q (w.node q).clock (λ a. elsewhere script w s q mail a + hand a) (unanswered script w s q) (state_at w s q) []
-stands_before script w s q mail hand h hq weight = record {
-  once = λ a. omega (
-    arith,
-    h.places.once a,
-    weight a,
-    sum_below-at script.nodes q (λ x. places_in_state a (state_at w s x)) hq,
-    sum_below-at script.nodes q (λ x. times_in a (state_at w s x).pending) hq,
-  );
-  own = h.own q hq;
-  apart = h.apart q hq;
-  copies = tt;
-}
-
-pub none_in_hand : (s me clock : ℕ) (others asked hand : Ask → ℕ) (t : SetState) (posts : List Post) → ((a : Ask) → hand a ≡ 0)
-    → Stands s me clock (λ a. others a + hand a) asked t posts → Stands s me clock others asked t posts
-none_in_hand s me clock others asked hand t posts none h =
-    record { once = λ a. omega (arith, h.once a, none a); own = h.own; apart = h.apart; copies = h.copies }
-
 act_standing : (script : ScriptData) (w : World) (s q client : ℕ) → AsksStand script w s → q < script.nodes
     → Stands s q (node_act script q client (w.node q)).node.clock (elsewhere script w s q w.mail) (unanswered script w s q)
     ((node_act script q client (w.node q)).node.set s) (node_act script q client (w.node q)).posts
@@ -233,33 +161,16 @@ take_standing script w s p q letter rest paths h hp hq front =
     let left = put_mail w.mail p q (drop_front 1 (w.mail p q)) in
     let others = elsewhere script w s q left in
     let asked = unanswered script w s q in
-    let weight = λ (a : Ask). mail_weight-taken script.nodes p q (places_weight s a) w.mail letter rest hp hq front in
-    let opened_weight : (a : Ask) → mail_weight script.nodes (places_weight s a) left + places_weight s a letter ≡ mail_weight script.nodes (places_weight s a) w.mail =
-    λ a. omega (arith, weight a, ap (λ (l : List Letter). mail_weight script.nodes (places_weight s a) (put_mail w.mail p q (drop_front 1 l))) front) in
-    let before = stands_before script w s q left (λ a. places_weight s a letter) h hq opened_weight in
-    let on : Contains (w.mail p q) letter = subst (λ (l : List Letter). Contains l letter) (sym front) (0, omega arith, refl) in
     elim (cases_eq letter.set s) [
       | inl e ↦
-          let in_hand : Stands s q n.clock (λ a. others a + places_in_body a letter.body) asked (n.set s) [] = record {
-            once = λ a. let weighs : places_weight s a letter ≡ places_in_body a letter.body = rw (eq-eqb letter.set s e) refl in omega (arith, before.once a, weighs);
-            own = before.own;
-            apart = before.apart;
-            copies = before.copies;
-          } in
-          let home = copy_home script w s q letter (λ ask same. h.places.home q ask hq (p, letter, hp, record { among = on; set = e }, same)) in
-          let few : one_if (is_some (n.set s).desk) + tokens_in letter.body ≤ 1 = omega (
-            arith,
-            paths.one_token,
-            sum_below-at script.nodes q (λ k. one_if (is_some (state_at w s k).desk)) hq,
-            mail_weight-at script.nodes p q (token_weight s) w.mail letter hp hq on,
-            weighs_tokens s letter e,
-          ) in
-          let ended = standing_take s stamp.clock others asked stamp letter (n.set s) e (only_here script w s q h hq) home few
-          (stands_later s q n.clock stamp.clock (λ a. others a + places_in_body a letter.body) asked (n.set s) [] (omega arith) in_hand) in
+          let taken = letter_taken script w s p q letter rest paths h hp hq front e in
+          let ended = standing_take s stamp.clock others asked stamp letter (n.set s) e (only_here script w s q h hq) (copy_home script w s q letter taken.home) taken.few
+          (stands_later s q n.clock stamp.clock (λ a. others a + places_in_body a letter.body) asked (n.set s) [] (omega arith) taken.in_hand) in
           let at_set = subst (λ (k : ℕ). Stands s q stamp.clock others asked (take stamp letter (n.set k)).state (take stamp letter (n.set k)).posts) (sym e) ended in
           let same : put n.set letter.set m.state s ≡ m.state = ap (put n.set letter.set m.state) (sym e) ∙ put-same n.set letter.set m.state in
           subst (λ (t : SetState). Stands s q stamp.clock others asked t m.posts) (sym same) at_set
       | inr d ↦
+          let before = stands_before script w s q left (λ a. places_weight s a letter) h hq (left_weight script w s p q letter rest hp hq front) in
           let beside = touched-beside s letter.set stamp (at_clock stamp.clock n) m (take-sent stamp letter (n.set letter.set)) d in
           let none = none_in_hand s q n.clock others asked (λ a. places_weight s a letter) (n.set s) [] (λ a. other_weight s a letter d) before in
           let later = stands_later s q n.clock stamp.clock others asked (n.set s) [] (omega arith) none in
