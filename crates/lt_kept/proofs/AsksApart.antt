@@ -20,7 +20,7 @@ use Rattle.lt_model.specs.Standing.{AsksStand}
 use Rattle.lt_accounts.proofs.Asks.{times_in-some, same_ask-itself}
 use Rattle.lt_lists.proofs.Members.{list_any-at, list_any-which}
 use Rattle.lt_model.proofs.StandingInRuns.{stands_once}
-use Rattle.lt_lists.proofs.Sums.{two_places}
+use Rattle.lt_lists.proofs.Sums.{counted_twice}
 use Rattle.lt_kept.proofs.ClientEffects.{is_asks, one_of_client}
 
 -- asks of different clients
@@ -34,23 +34,30 @@ apart_by (ask ∷ rest) h =
     by_test false e = refl
     by_test true e =
         let other = list_any-which (λ (a : Ask). a.client == ask.client) rest e in
-        absurd (h 0 (suc other.1.0) other.0 (omega arith) (omega (arith, other.1.1)) (sym (ap (λ (a : Ask). a.client) other.1.2 ∙ eqb-true other.0.client ask.client other.2)))
+        absurd
+        (h 0 (suc other.1.0) other.0 (omega arith) (omega (arith, other.1.1))
+        (sym (ap (λ (a : Ask). a.client) other.1.2 ∙ eqb-true other.0.client ask.client other.2)))
 
 pub one_each : (asks : List Ask) → ((c : ℕ) → count_by (is_asks c) asks ≤ 1) → AllPairs (λ (a b : Ask). a.client ≢ b.client) asks
 one_each asks few i j d before within same =
     let a = slice_index_or asks i d in
     let b = slice_index_or asks j d in
-    let two = two_places (λ (x : Ask). if is_asks a.client x then 1 else 0) asks i j d (λ e. omega (arith, before, e)) (omega (arith, before, within)) within in
-    let first : ◌≡◌ {A = ℕ} (if is_asks a.client a then 1 else 0) 1 = ap (λ (t : Bool). if t then 1 else 0) (eq-eqb a.client a.client refl) in
-    let second : ◌≡◌ {A = ℕ} (if is_asks a.client b then 1 else 0) 1 = ap (λ (t : Bool). if t then 1 else 0) (eq-eqb b.client a.client (sym same)) in
-    omega (arith, two, first, second, few a.client)
+    let two = counted_twice (is_asks a.client) asks i j d (λ e. omega (arith, before, e)) (omega (arith, before, within)) within
+    (eq-eqb a.client a.client refl) (eq-eqb b.client a.client (sym same)) in
+    omega (arith, two, few a.client)
 
 -- parked asks as asks
 pub parked_times : (a : Ask) (items : List Parked) → times_in a (filter_map ask_if items) ≡ sum_by (times_parked a) items
 parked_times a [] = refl
 parked_times a (ParkedTell tell ∷ rest) = omega (arith, parked_times a rest, sum_by-cons (times_parked a) (ParkedTell tell) rest)
 parked_times a (ParkedAsk other ∷ rest) =
-    omega (arith, parked_times a rest, sum_by-cons (times_parked a) (ParkedAsk other) rest, sum_by-cons (λ (x : Ask). if same_ask a x then 1 else 0) other (filter_map ask_if rest), ones (same_ask a other))
+    omega (
+      arith,
+      parked_times a rest,
+      sum_by-cons (times_parked a) (ParkedAsk other) rest,
+      sum_by-cons (λ (x : Ask). if same_ask a x then 1 else 0) other (filter_map ask_if rest),
+      ones (same_ask a other),
+    )
   where
     ones : (same : Bool) → (if same then 1 else 0) ≡ one_if same
     ones true = refl
@@ -76,7 +83,8 @@ same_client script w s a b h some more same =
     let home_a = All-contains (IsAskOf script a.node) (state_at w s a.node).pending a (h.own a.node first.0) first.1 in
     let home_b = All-contains (IsAskOf script b.node) (state_at w s b.node).pending b (h.own b.node second.0) second.1 in
     let nodes : b.node ≡ a.node = sym home_b.0.home ∙ ap (home script) (sym same) ∙ home_a.0.home in
-    one_of_client (state_at w s a.node).pending a b (h.few a.node first.0 a.client) first.1 (subst (λ (y : ℕ). Contains (state_at w s y).pending b) nodes second.1) (sym same)
+    one_of_client (state_at w s a.node).pending a b (h.few a.node first.0 a.client) first.1
+    (subst (λ (y : ℕ). Contains (state_at w s y).pending b) nodes second.1) (sym same)
 
 -- asks that stand in different places are of different clients
 pub standing_apart : (script : ScriptData) (w : World) (s : ℕ) (asks : List Ask) → OwnAsks script w s → ((a : Ask) → times_in a asks ≤ place_count script w s a)
@@ -87,10 +95,9 @@ standing_apart script w s asks h places i j d before within same =
     let some = times_in-some a asks (Contains-get_or asks i d (omega (arith, before, within))) in
     let more = times_in-some b asks (Contains-get_or asks j d within) in
     let one : a ≡ b = same_client script w s a b h (omega (arith, some, places a)) (omega (arith, more, places b)) same in
-    let two = two_places (λ (z : Ask). if same_ask a z then 1 else 0) asks i j d (λ e. omega (arith, before, e)) (omega (arith, before, within)) within in
-    let here : ◌≡◌ {A = ℕ} (if same_ask a a then 1 else 0) 1 = ap (λ (k : Bool). if k then 1 else 0) (same_ask-itself a) in
-    let there : ◌≡◌ {A = ℕ} (if same_ask a b then 1 else 0) 1 = ap (λ (z : Ask). if same_ask a z then 1 else 0) (sym one) ∙ ap (λ (k : Bool). if k then 1 else 0) (same_ask-itself a) in
-    omega (arith, two, here, there, places a, (stands_once script w s a h.stood (omega (arith, some, places a))).2)
+    let two = counted_twice (same_ask a) asks i j d (λ e. omega (arith, before, e)) (omega (arith, before, within)) within
+    (same_ask-itself a) (ap (same_ask a) (sym one) ∙ same_ask-itself a) in
+    omega (arith, two, places a, (stands_once script w s a h.stood (omega (arith, some, places a))).2)
 
 -- an ask that stands anywhere is known at each node
 pub standing_known : (script : ScriptData) (w : World) (s x : ℕ) (ask : Ask) → AsksStand script w s → 1 ≤ place_count script w s ask

@@ -25,7 +25,8 @@ use Rattle.lt_model.proofs.StandingEffects.{Stands, stands, standing_acts, asks-
 use Rattle.lt_ledgers.proofs.OwnSteps.{route_same}
 use Rattle.lt_accounts.proofs.RowTotals.{row_count, total, total_taken, total_dropped}
 use Rattle.lt_kept.proofs.ClientCounts.{each_some, some_taken, some_dropped, locks_added, locks_fewer, locks_dropped, asks_pushed}
-use Rattle.lt_kept.proofs.ClientEffects.{is_asks, is_new, GivenBy, Clients, clients, same_clients, asks_some, others_given, some_given}
+use Rattle.lt_lists.proofs.Sums.{counted_some}
+use Rattle.lt_kept.proofs.ClientEffects.{is_asks, is_new, GivenBy, Clients, clients, same_clients, others_given, some_given}
 
 -- a count of rows is a part of the total
 pub count_within : (rows : List Row) (client : ℕ) (mode : Mode) → count_of rows client mode ≤ total rows client mode
@@ -36,7 +37,8 @@ count_within rows client mode = by_place (row_place rows client mode) refl
     by_place (Some k) e =
         let found = position-Some (is_row_of client mode) rows k no_row e in
         let part = get_or-le-sum_by (row_count client mode) rows k no_row found.0 in
-        let here : row_count client mode (slice_index_or rows k no_row) ≡ (slice_index_or rows k no_row).count = ap (λ (b : Bool). if b then (slice_index_or rows k no_row).count else 0) found.1 in
+        let here : row_count client mode (slice_index_or rows k no_row) ≡ (slice_index_or rows k no_row).count =
+        ap (λ (b : Bool). if b then (slice_index_or rows k no_row).count else 0) found.1 in
         omega (arith, part, here)
 
 -- one command more of this client
@@ -51,7 +53,7 @@ abbrev pub idle : ℕ → SetState → Fact
 idle client first t posts = Clients (λ c. 0) first t × IsIdle client t
 
 pub no_ask_of : (client : ℕ) (t : SetState) → IsIdle client t → (ask : Ask) → Contains t.pending ask → ask.client ≢ client
-no_ask_of client t none ask there same = omega (arith, none, asks_some client t.pending ask there same)
+no_ask_of client t none ask there same = omega (arith, none, counted_some (is_asks client) t.pending ask there (eq-eqb ask.client client same))
 
 more_allowed : (bonus more : ℕ → ℕ) (first t : SetState) → ((c : ℕ) → bonus c ≤ more c) → Clients bonus first t → Clients more first t
 more_allowed bonus more first t grows h = record {
@@ -89,8 +91,12 @@ releases_kept client mode first t (h, none) = record {
     still : (o : Option Mode) (c : ℕ) → c ≢ client → GivenBy t.held c o → GivenBy (take_lock t.held client mode) c o
     still None c d g = tt
     still (Some m) c d g =
-        omega
-        (arith, g, total_taken t.held client c mode m (each_some t.held h.some) ∙ ap (λ (b : Bool). if b then total t.held c m - 1 else total t.held c m) (and_left (c == client) (same_mode m mode) (ne_eqb c client d)))
+        omega (
+          arith,
+          g,
+          total_taken t.held client c mode m (each_some t.held h.some) ∙ ap (λ (b : Bool). if b then total t.held c m - 1 else total t.held c m)
+              (and_left (c == client) (same_mode m mode) (ne_eqb c client d)),
+        )
 
 pub drops_kept : (client : ℕ) (first t : SetState) → Clients (λ c. 0) first t × IsIdle client t → Clients (λ c. 0) first (dropped client t)
 drops_kept client first t (h, none) = record {
@@ -180,7 +186,8 @@ pub changed_of : (set : ℕ) (stamp : Stamp) (client : ℕ) (begun mid : Fact) �
 changed_of set stamp client begun mid acts gives_up mode t posts h = by_count (count_of t.held client gives_up == 0) refl
   where
     by_test : (count_of t.held client gives_up == 0) ≡ false → (can : Bool)
-        → HoldsOf mid posts (if can then answers (Change client set gives_up mode) (given client mode (Some gives_up) t) else asked set stamp (ask_of stamp client mode (Some gives_up) t) t)
+        → HoldsOf mid posts (if can then answers (Change client set gives_up mode) (given client mode (Some gives_up) t) else asked set stamp
+        (ask_of stamp client mode (Some gives_up) t) t)
     by_test holds true =
         quiet_made mid posts (answers (Change client set gives_up mode) (given client mode (Some gives_up) t)) refl (acts.changes gives_up mode t posts h)
     by_test holds false = acts.change_asks gives_up mode t posts holds h
@@ -191,7 +198,8 @@ changed_of set stamp client begun mid acts gives_up mode t posts h = by_count (c
     by_count false e = by_test e (can_grant stamp.node t client mode)
 
 pub clients_acts : (s below : ℕ) (stamp : Stamp) (client : ℕ) (elsewhere unanswered : Ask → ℕ) (first : SetState) → stamp.clock ≡ below + 1
-    → ActsOf s stamp client (both (stands s stamp.node below elsewhere unanswered) (idle client first)) (both (stands s stamp.node stamp.clock elsewhere unanswered) (clients (one_for client) first))
+    → ActsOf s stamp client (both (stands s stamp.node below elsewhere unanswered) (idle client first))
+    (both (stands s stamp.node stamp.clock elsewhere unanswered) (clients (one_for client) first))
 clients_acts s below stamp client elsewhere unanswered first next = record {
   nothing = λ t posts h. (standing.nothing t posts h.0, more_allowed (λ c. 0) (one_for client) first t (λ c. omega arith) h.1.0);
   grants = λ mode t posts h. (stood t (given client mode None t) posts refl refl refl h.0, grants_kept client mode None first t h.1);
@@ -215,7 +223,14 @@ clients_acts s below stamp client elsewhere unanswered first next = record {
     stood t u posts pending parked desk h =
         let n = standing.nothing t posts h in
         record {
-          once = λ a. omega (arith, n.once a, ap (λ (l : List Parked). sum_by (times_parked a) l) parked, ap (λ (o : Option Desk). times_in a (queue_of_desk o)) desk, ap (times_in a) pending);
+          once = λ a. omega (
+            arith,
+            n.once a,
+            ap (λ (l : List Parked). sum_by (times_parked a) l) parked,
+            ap
+                (λ (o : Option Desk). times_in a (queue_of_desk o)) desk,
+            ap (times_in a) pending,
+          );
           own = subst (λ (l : List Ask). All (IsMadeBy stamp.node stamp.clock) l) (sym pending) n.own;
           apart = subst (λ (l : List Ask). AllPairs (λ (a b : Ask). a.stamp ≢ b.stamp) l) (sym pending) n.apart;
           copies = n.copies;

@@ -74,8 +74,17 @@ ask_alone : (script : ScriptData) (w : World) (p q : ℕ) (letter : Letter) (ask
     → (1 ≤ place_count script w letter.set ask) × (not (has_client ask.client (asks_here (state_at w letter.set q))) ≡ true)
 ask_alone script w p q letter ask f says = (
   omega (arith, one ask, said_and_here script w p q letter f ask, ap one_if (same_ask-itself ask)),
-  (and_parts (not (has_client ask.client (asks_here t))) (are_apart (asks_here t)) (apart_by (ask ∷ asks_here t) (standing_apart script w letter.set (ask ∷ asks_here t) f.asks
-      (λ a. omega (arith, one a, said_and_here script w p q letter f a, here_times a t, sum_by-cons (λ (x : Ask). if same_ask a x then 1 else 0) ask (asks_here t), ones (same_ask a ask)))))).0,
+  (and_parts (not (has_client ask.client (asks_here t))) (are_apart (asks_here t))
+      (apart_by (ask ∷ asks_here t) (standing_apart script w letter.set (ask ∷ asks_here t) f.asks
+      (λ a. omega (
+        arith,
+        one a,
+        said_and_here script w p q letter f a,
+        here_times a t,
+        sum_by-cons (λ (x : Ask). if same_ask a x then 1 else 0) ask
+            (asks_here t),
+        ones (same_ask a ask),
+      ))))).0,
 )
   where
     t : SetState
@@ -138,7 +147,8 @@ said_fits script w p q letter f = by_body letter.body refl
     by_body : (body : Body) → letter.body ≡ body → body_fits (numbers_of script) q t letter.stamp.clock body ≡ true
     by_body (AskBody ask marked) says =
         let alone = ask_alone script w p q letter ask f (λ a. ap (places_in_body a) says) in
-        and_from _ _ (sound_ask script ask f.whole (subst (IsBodyAtHome script q) says f.home.body)) (and_from _ _ (standing_known script w letter.set q ask f.asks.stood alone.0) alone.1)
+        and_from _ _ (sound_ask script ask f.whole (subst (IsBodyAtHome script q) says f.home.body))
+        (and_from _ _ (standing_known script w letter.set q ask f.asks.stood alone.0) alone.1)
     by_body (TellBody tell) says =
         let kept = subst (BodyKept script letter.stamp.clock) says timed.body in
         and_from _ _ (lt-ltb tell.node script.nodes kept.1) (le-leb tell.stamp.clock letter.stamp.clock kept.0)
@@ -148,7 +158,8 @@ said_fits script w p q letter f = by_body letter.body refl
         let waits = (stands_once script w letter.set ask f.asks.stood alone.0).1 in
         and_from _ _ (sound_ask script ask f.whole own.0)
         (and_from _ _ (eq-eqb ask.node q own.1)
-        (and_from _ _ (list_any-at (same_ask ask) t.pending ask (subst (λ (y : ℕ). Contains (state_at w letter.set y).pending ask) own.1 waits) (same_ask-itself ask)) alone.1))
+        (and_from _ _ (list_any-at (same_ask ask) t.pending ask (subst (λ (y : ℕ). Contains (state_at w letter.set y).pending ask) own.1 waits)
+        (same_ask-itself ask)) alone.1))
     by_body (TokenBody desk) says =
         let path = subst (BodyOnPath script.nodes (w.went letter.set) q) says on_path.body in
         let kept = subst (BodyKept script letter.stamp.clock) says timed.body in
@@ -164,12 +175,14 @@ pub letters_fit : LettersFit
 letters_fit script w p q letter whole h hp hq among sent_before now_before =
     let home = (kept_homes script w h).letters p q letter hp hq among in
     let kept = h.sets letter.set home.set in
-    let facts : FitFacts script w p q letter = record { whole = whole; sender = hp; receiver = hq; among = among; kept = kept; asks = kept_asks script w letter.set h home.set; home = home } in
+    let facts : FitFacts script w p q letter =
+    record { whole = whole; sender = hp; receiver = hq; among = among; kept = kept; asks = kept_asks script w letter.set h home.set; home = home } in
     let on : OnWay w letter.set p q letter = record { among = among; set = refl } in
     let on_path = kept.paths.letters p q letter hp on in
     and_from _ _
     (and_from _ _ (lt-ltb letter.set (length script.sets) home.set)
-    (and_from _ _ (lt-ltb letter.link.node script.nodes (link_named script.nodes (w.went letter.set) letter.link (record { some = whole.some_node; known = kept.paths.went }) on_path.link))
+    (and_from _ _ (lt-ltb letter.link.node script.nodes
+    (link_named script.nodes (w.went letter.set) letter.link (record { some = whole.some_node; known = kept.paths.went }) on_path.link))
     (and_from _ _ (le-leb letter.link.epoch letter.stamp.clock (kept.letters p q letter hp hq on).epoch)
     (and_from _ _ (lt-ltb (letter.stamp.clock + 1) (2 ^ 32) sent_before) (lt-ltb ((w.node q).clock + 1) (2 ^ 32) now_before)))))
     (said_fits script w p q letter facts)

@@ -68,7 +68,8 @@ standing_at_home : (script : ScriptData) (w : World) (s : ℕ) (ask : Ask) → S
 standing_at_home script w s ask h some =
     let found = stands_once script w s ask (kept_stands script w s h) some in
     (own_at_home script ask.node (state_at w s ask.node).held ask
-    (All-contains (SoundPending (numbers_of script) ask.node (state_at w s ask.node).held) (state_at w s ask.node).pending ask (h.states ask.node found.0).pending found.1)).0
+    (All-contains (SoundPending (numbers_of script) ask.node (state_at w s ask.node).held) (state_at w s ask.node).pending ask
+    (h.states ask.node found.0).pending found.1)).0
 
 here_at_home : (script : ScriptData) (w : World) (s x : ℕ) (ask : Ask) → SetKept script Between w s → x < script.nodes
     → 1 ≤ places_in_state ask (state_at w s x) → IsAskAtHome script ask
@@ -184,7 +185,8 @@ homes_within_kept script w q step whole h enabled = record {
       λ a b letter ha hb there. all_sent (λ c d l. c < script.nodes → d < script.nodes → IsLetterAtHome script d l) q (node_move script w q step).posts
       (opened w q step).mail
       (λ c d l old hc hd. h.letters c d l hc hd (before step c d l old))
-      (all_weaker (λ (post : Post). IsLetterAtHome script post.to post.letter) (λ (post : Post). q < script.nodes → post.to < script.nodes → IsLetterAtHome script post.to post.letter)
+      (all_weaker (λ (post : Post). IsLetterAtHome script post.to post.letter)
+      (λ (post : Post). q < script.nodes → post.to < script.nodes → IsLetterAtHome script post.to post.letter)
       (λ (post : Post) own. λ hc hd. own) (node_move script w q step).posts made.posts) a b letter there ha hb;
 }
   where

@@ -94,7 +94,9 @@ front_or_still mail p q a b letter h = elim (cases_eq a p) [
   | inr d ↦ inl (subst (λ (t : Bool). Contains (if t then drop 1 (mail p q) else mail a b) letter) (sym (and_left (a == p) (b == q) (ne_eqb a p d))) h)
   | inl e ↦ elim (cases_eq b q) [
     | inr d ↦ inl (subst (λ (t : Bool). Contains (if t then drop 1 (mail p q) else mail a b) letter) (sym (and_right (a == p) (b == q) (ne_eqb b q d))) h)
-    | inl f ↦ by_list (and_from (a == p) (b == q) (eq-eqb a p e) (eq-eqb b q f)) f (mail p q) refl (subst (λ (l : List Letter). Contains l letter) (λ i. mail (e i) (f i)) h)
+    | inl f ↦
+        by_list (and_from (a == p) (b == q) (eq-eqb a p e) (eq-eqb b q f)) f (mail p q) refl
+        (subst (λ (l : List Letter). Contains l letter) (λ i. mail (e i) (f i)) h)
   ]
 ]
   where
@@ -103,7 +105,9 @@ front_or_still mail p q a b letter h = elim (cases_eq a p) [
     by_list own f [] e c = absurd (omega (arith, c.1))
     by_list own f (front ∷ rest) e c = elim (contains_cases front letter rest c) [
       | inl same ↦ inr (f, rest, e ∙ ap (λ (l : Letter). l ∷ rest) same)
-      | inr later ↦ inl (subst (λ (t : Bool). Contains (if t then drop 1 (mail p q) else mail a b) letter) (sym own) (subst (λ (l : List Letter). Contains (drop 1 l) letter) (sym e) later))
+      | inr later ↦
+          inl (subst (λ (t : Bool). Contains (if t then drop 1 (mail p q) else mail a b) letter) (sym own)
+          (subst (λ (l : List Letter). Contains (drop 1 l) letter) (sym e) later))
     ]
 
 -- through an enabled move
@@ -116,7 +120,20 @@ held_or_comes_kept script w s q step x whole h below enabled = by_held (kept_hel
         inr (desk, (a, letter, under, record { among = still_on_way q (node_move script w q (Act client)).posts w.mail a x letter on.among; set = on.set }, says))
     by_step (Take p) (desk, (a, letter, under, on, says)) = elim (front_or_still w.mail p q a x letter on.among) [
       | inl still ↦
-          inr (desk, (a, letter, under, record { among = still_on_way q (node_move script w q (Take p)).posts (opened w q (Take p)).mail a x letter still; set = on.set }, says))
+          inr (
+            desk,
+            (
+              a,
+              letter,
+              under,
+              record {
+                among = still_on_way q (node_move script w q (Take p)).posts
+                    (opened w q (Take p)).mail a x letter still;
+                set = on.set;
+              },
+              says,
+            ),
+          )
       | inr front ↦
           let n = w.node q in
           inl (subst (λ (y : ℕ). HeldUp y (state_at (after script w q (Take p)) s y)) (sym front.0)

@@ -68,7 +68,9 @@ single_acts set stamp client = record {
   tries = λ mode t h. single_added t.held client mode h;
   changes = λ gives_up mode t h. single_answered t.held client mode (Some gives_up) h;
   releases = λ mode t h. single_taken t.held client mode h;
-  asks = λ mode gives_up t h. subst Single (sym (route_same set stamp false (ParkedAsk (ask_of stamp client mode gives_up t)) (record t { pending = t.pending ++ ask_of stamp client mode gives_up t ∷ [] })).1.held) h;
+  asks = λ mode gives_up t h. subst Single
+      (sym (route_same set stamp false (ParkedAsk (ask_of stamp client mode gives_up t))
+      (record t { pending = t.pending ++ ask_of stamp client mode gives_up t ∷ [] })).1.held) h;
   ended = λ t m a h. finish_rule set stamp stays_single (single_ends set stamp) m.state (a h);
 }
 
@@ -161,7 +163,8 @@ move_single script w q (Take p) whole in_sets h enabled s below =
     by_letters [] each = h s below
     by_letters (letter ∷ rest) each =
         subst (λ (t : SetState). Single t.held) ((take_alike script q letter (w.node q) (each letter (0, omega arith, refl))).node s below)
-        (touched_single (at_clock (take_stamp q n letter).clock n) letter.set (take_letter (take_stamp q n letter) letter (n.set letter.set)) (clipped_single script (w.node q) h)
+        (touched_single (at_clock (take_stamp q n letter).clock n) letter.set (take_letter (take_stamp q n letter) letter (n.set letter.set))
+        (clipped_single script (w.node q) h)
         (single_take (take_stamp q n letter) letter (n.set letter.set) (clipped_single script (w.node q) h letter.set)) s)
 
 -- rows of one client and mode stay one row
@@ -169,7 +172,8 @@ pub rows_stay_apart : (script : ScriptData) (w : World) (q : ℕ) (step : Step) 
     → (x s : ℕ) → x < script.nodes → s < length script.sets
     → AllPairs (λ (a b : Row). (a.client ≢ b.client) ⊎ (a.mode ≢ b.mode)) (state_at (after script w q step) s x).held
 rows_stay_apart script w q step whole h enabled x s below under =
-    rows_apart (state_at (after script w q step) s x).held (subst (λ (n : NodeState). Single (n.set s).held) (sym (after_node script w q step x)) (by_node (cases_eq x q)))
+    rows_apart (state_at (after script w q step) s x).held
+    (subst (λ (n : NodeState). Single (n.set s).held) (sym (after_node script w q step x)) (by_node (cases_eq x q)))
   where
     before : (k : ℕ) → k < length script.sets → Single (state_at w k x).held
     before k in_sets = single_of (state_at w k x).held ((h.sets k in_sets).states x below).rows_apart
@@ -180,5 +184,6 @@ rows_stay_apart script w q step whole h enabled x s below under =
         subst (λ (n : NodeState). Single (n.set s).held)
         (sym (ap (put w.node q (node_move script w q step).node) e ∙ put-same w.node q (node_move script w q step).node))
         (move_single script w q step whole
-        (λ p letter hp there. All-contains (λ (l : Letter). l.set < length script.sets) (w.mail p q) letter (h.letters p q hp (subst (λ (y : ℕ). y < script.nodes) e below)) there)
+        (λ p letter hp there. All-contains (λ (l : Letter). l.set < length script.sets) (w.mail p q) letter
+        (h.letters p q hp (subst (λ (y : ℕ). y < script.nodes) e below)) there)
         (λ k in_sets. subst (λ (y : ℕ). Single (state_at w k y).held) e (before k in_sets)) enabled s under)

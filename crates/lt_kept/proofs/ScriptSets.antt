@@ -61,7 +61,8 @@ obey_alike script stamp client (Try s mode) n m targets alike = touched_alike sc
 obey_alike script stamp client (Unlock s mode) n m targets alike = touched_alike script n m s (λ k t. unlock k stamp client mode t) targets alike
 obey_alike script stamp client (Change s gives_up mode) n m targets alike = touched_alike script n m s (λ k t. change k stamp client gives_up mode t) targets alike
 obey_alike script stamp client (DropAll other s) n m targets alike =
-    subst (λ (b : Bool). MadeAlike script (drop_all (node_waits script n other) stamp client other s (related script s) n) (drop_all b stamp client other s (related script s) m))
+    subst (λ (b : Bool). MadeAlike script (drop_all (node_waits script n other) stamp client other s (related script s) n)
+    (drop_all b stamp client other s (related script s) m))
     (any_below_same (length script.sets) (λ k. waits (n.set k) other) (λ k. waits (m.set k) other) (λ k below. ap (λ (t : SetState). waits t other) (alike k below)))
     (by_waits (node_waits script n other))
   where

@@ -66,7 +66,8 @@ next_in_turn me s desk before first (ask ∷ rest) k e =
     by_test : (now : Bool) → is_served me s desk before ask ≡ now
         → (if now then Some first else next_from me s desk (with_mode before ask.mode) (first + 1) rest) ≡ Some k
         → (next_from me s desk (with_mode before ask.mode) (first + 1) rest ≡ Some k
-        → (i : ℕ) × (k ≡ first + 1 + i) × ((other : Mode) → IsTrue (has other (with_mode before ask.mode)) → IsFalse (conflicts (slice_index_or rest i no_ask).mode other))
+        → (i : ℕ) × (k ≡ first + 1 + i) × ((other : Mode) → IsTrue (has other (with_mode before ask.mode)) → IsFalse
+        (conflicts (slice_index_or rest i no_ask).mode other))
         × ((j : ℕ) → j < i → IsFalse (conflicts (slice_index_or rest i no_ask).mode (slice_index_or rest j no_ask).mode)))
         → (i : ℕ) × (k ≡ first + i) × ((other : Mode) → IsTrue (has other before) → IsFalse (conflicts (slice_index_or (ask ∷ rest) i no_ask).mode other))
         × ((j : ℕ) → j < i → IsFalse (conflicts (slice_index_or (ask ∷ rest) i no_ask).mode (slice_index_or (ask ∷ rest) j no_ask).mode))
@@ -91,7 +92,8 @@ service_in_turn me k s e = by_desk s.desk refl e
         let queue : queue_of s ≡ desk.queue = ap queue_of_desk here in
         let place : found.0 ≡ k = omega (arith, found.1) in
         λ j before_it. subst (λ (l : List Ask). IsFalse (conflicts (slice_index_or l k no_ask).mode (slice_index_or l j no_ask).mode)) (sym queue)
-        (subst (λ (i : ℕ). IsFalse (conflicts (slice_index_or desk.queue i no_ask).mode (slice_index_or desk.queue j no_ask).mode)) place (found.3 j (omega (arith, before_it, place))))
+        (subst (λ (i : ℕ). IsFalse (conflicts (slice_index_or desk.queue i no_ask).mode (slice_index_or desk.queue j no_ask).mode)) place
+        (found.3 j (omega (arith, before_it, place))))
 
 services_in_turn : (n set : ℕ) (stamp : Stamp) (s : SetState) → All IsInTurn (services_up_to n set stamp s)
 services_in_turn zero set stamp s = All-nil IsInTurn
@@ -101,7 +103,8 @@ services_in_turn (suc n) set stamp s = by_next (next_service stamp.node s) refl 
         → All IsInTurn (services_then (services_up_to n set stamp) set stamp s o)
     by_next None e again = All-nil IsInTurn
     by_next (Some k) e again =
-        All-cons IsInTurn (record { state = s; place = k }) (services_up_to n set stamp (serve_one set stamp k s).state) (service_in_turn stamp.node k s e) (again (serve_one set stamp k s).state)
+        All-cons IsInTurn (record { state = s; place = k }) (services_up_to n set stamp (serve_one set stamp k s).state) (service_in_turn stamp.node k s e)
+        (again (serve_one set stamp k s).state)
 
 lines_up_to : (n set : ℕ) (stamp : Stamp) (s : SetState) → (serve_up_to n set stamp s).events ≡ lines_of_services set stamp (services_up_to n set stamp s)
 lines_up_to zero set stamp s = refl
@@ -152,7 +155,8 @@ obey_ends script stamp client s (Some (Try set mode)) n there =
 obey_ends script stamp client s (Some (Unlock set mode)) n there =
     ap (λ (k : ℕ). put n.set k (unlock k stamp client mode (n.set k)).state s) (own_set set s there) ∙ put-same n.set s (unlock s stamp client mode (n.set s)).state
 obey_ends script stamp client s (Some (Change set gives_up mode)) n there =
-    ap (λ (k : ℕ). put n.set k (change k stamp client gives_up mode (n.set k)).state s) (own_set set s there) ∙ put-same n.set s (change s stamp client gives_up mode (n.set s)).state
+    ap (λ (k : ℕ). put n.set k (change k stamp client gives_up mode (n.set k)).state s) (own_set set s there) ∙ put-same n.set s
+    (change s stamp client gives_up mode (n.set s)).state
 obey_ends script stamp client s (Some (DropAll other set)) n there = by_once (once_or_aside script s (Some (DropAll other set)))
   where
     by_waits : IsOnce s (related script set) → (waiting : Bool)

@@ -43,7 +43,9 @@ counted_first rows client mode some h = by_place (row_place rows client mode) re
   where
     by_place : (o : Option ℕ) → row_place rows client mode ≡ o → 1 ≤ count_at rows o
     by_place None e =
-        let nothing = sum_by-zero (row_count client mode) rows (λ i d within. ap (λ (b : Bool). if b then (slice_index_or rows i d).count else 0) (none_found (is_row_of client mode) rows e i d within)) in
+        let nothing =
+        sum_by-zero (row_count client mode) rows
+        (λ i d within. ap (λ (b : Bool). if b then (slice_index_or rows i d).count else 0) (none_found (is_row_of client mode) rows e i d within)) in
         absurd (omega (arith, h, nothing))
     by_place (Some k) e = some k no_row (position-Some (is_row_of client mode) rows k no_row e).0
 
@@ -70,12 +72,23 @@ sound_set script w s x whole g below under differ = record {
   rows_apart = differ;
   pending = all_of (SoundPending (numbers_of script) x t.held) t.pending (λ ask there.
       let own = All-contains (IsSoundOwn script x) t.pending ask homes.pending there in
-      record { home = own.0; node = own.1; maker = own.2; gives_up = gives_up_held t.held ask.client ask.gives_up (clients.some s below) (clients.gives s below ask there) });
+      record {
+        home = own.0;
+        node = own.1;
+        maker = own.2;
+        gives_up = gives_up_held t.held ask.client ask.gives_up (clients.some s below)
+            (clients.gives s below ask there);
+      });
   one_ask = one_each t.pending (few_at x under);
   stamps_apart = g.stood.apart x under;
   made = all_of (λ (ask : Ask). ask.stamp.clock ≤ (w.node x).clock) t.pending (λ ask there. made ask there (desk_somewhere script w s g.paths));
   here = all_of (SoundHere (numbers_of script) x t) (asks_here t) (λ ask there.
-      record { home = All-contains (λ (a : Ask). IsTrue (is_at_home (numbers_of script) a)) (asks_here t) ask homes.here there; known = standing_known script w s x ask g.stood (omega (arith, places ask, times_in-some ask (asks_here t) there)) });
+      record {
+        home = All-contains (λ (a : Ask). IsTrue (is_at_home (numbers_of script) a))
+            (asks_here t) ask homes.here there;
+        known = standing_known script w s x ask g.stood
+            (omega (arith, places ask, times_in-some ask (asks_here t) there));
+      });
   apart = apart_by (asks_here t) (standing_apart script w s (asks_here t) asks places);
   desk = by_desk t.desk refl;
   epoch = (g.timed.states x under).epoch;

@@ -1,6 +1,6 @@
 -- Sums over the numbers below a bound, and over lists.
-use Rattle.std.proofs.Common.{◌≡◌, ◌≢◌, ℕ, zero, suc, ◌+◌, ◌<◌, ◌≤◌, inl, inr, Bool, true, false, List, [], ◌∷◌, length, Some, None, refl, arith, ap, sym, ◌∙◌}
-use Rattle.std.specs.Prelude.{◌⊎◌, ◌==◌, if◌then◌else◌, nat_lt, position, sum_by, slice_index_or}
+use Rattle.std.proofs.Common.{◌≡◌, ◌≢◌, ℕ, zero, suc, ◌+◌, ◌<◌, ◌≤◌, inl, inr, Bool, true, false, List, [], ◌∷◌, length, Option, Some, None, refl, arith, ap, sym, ◌∙◌}
+use Rattle.std.specs.Prelude.{◌⊎◌, ◌==◌, if◌then◌else◌, nat_lt, position, Contains, count_by, sum_by, slice_index_or}
 use Rattle.std.specs.List.{position_or_len}
 use Rattle.std.proofs.lemmas.Bool.{cases_eq, cases_lt, cases_order, eq-eqb, ne_eqb, lt-ltb, false≢true}
 use Rattle.std.proofs.lemmas.List.Sums.{sum_by-cons, get_or-le-sum_by, fails_before_first}
@@ -129,3 +129,32 @@ two_places f xs i j d other hi hj = elim (cases_order i j) [
     | inr after ↦ omega (arith, two_in_order f xs j i d after hi)
   ]
 ]
+
+-- an item of the list that passes counts
+pub counted_some : {X : Type 0} (test : X → Bool) (xs : List X) (x : X) → Contains xs x → test x ≡ true → 1 ≤ count_by test xs
+counted_some {X = X} test xs x there e =
+    let part = get_or-le-sum_by (λ (y : X). if test y then 1 else 0) xs there.0 x there.1 in
+    let one : ◌≡◌ {A = ℕ} (if test (slice_index_or xs there.0 x) then 1 else 0) 1 = ap (λ (b : Bool). if b then 1 else 0) (ap test there.2 ∙ e) in
+    omega (arith, part, one)
+
+-- and where there is a count some item passes
+pub counted_in : {X : Type 0} (test : X → Bool) (xs : List X) → 1 ≤ count_by test xs → (x : X) × Contains xs x × (test x ≡ true)
+counted_in test [] some = absurd (omega (arith, some))
+counted_in {X = X} test (first ∷ rest) some = by_test (test first) refl (λ more. counted_in test rest more)
+  where
+    by_test : (passes : Bool) → test first ≡ passes → (1 ≤ count_by test rest → (x : X) × Contains rest x × (test x ≡ true))
+        → (x : X) × Contains (first ∷ rest) x × (test x ≡ true)
+    by_test true e again = (first, (0, omega arith, refl), e)
+    by_test false e again =
+        let none : ◌≡◌ {A = ℕ} (if test first then 1 else 0) 0 = ap (λ (b : Bool). if b then 1 else 0) e in
+        let found = again (omega (arith, some, none, sum_by-cons (λ (x : X). if test x then 1 else 0) first rest)) in
+        (found.0, (suc found.1.0, omega (arith, found.1.1), found.1.2), found.2)
+
+-- two places that pass count twice
+pub counted_twice : {X : Type 0} (test : X → Bool) (xs : List X) (i j : ℕ) (d : X) → i ≢ j → i < length xs → j < length xs
+    → test (slice_index_or xs i d) ≡ true → test (slice_index_or xs j d) ≡ true → 2 ≤ count_by test xs
+counted_twice {X = X} test xs i j d other hi hj first second =
+    let both = two_places (λ (y : X). if test y then 1 else 0) xs i j d other hi hj in
+    let one : ◌≡◌ {A = ℕ} (if test (slice_index_or xs i d) then 1 else 0) 1 = ap (λ (b : Bool). if b then 1 else 0) first in
+    let two : ◌≡◌ {A = ℕ} (if test (slice_index_or xs j d) then 1 else 0) 1 = ap (λ (b : Bool). if b then 1 else 0) second in
+    omega (arith, both, one, two)

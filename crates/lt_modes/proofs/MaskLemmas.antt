@@ -1,11 +1,12 @@
 -- What `|` and `&` do on masks below 32, as tables that the check computes.
 use Rattle.std.proofs.Common.{◌≡◌, ℕ, ◌<◌, Bool, true, false, refl, bit_or, bit_and}
-use Rattle.std.specs.Prelude.{◌&&◌, ◌==◌, not, nat_lt}
-use Rattle.std.proofs.lemmas.Bool.{and_parts, ltb-true}
+use Rattle.std.specs.Prelude.{◌==◌, not, nat_lt}
+use Rattle.std.proofs.lemmas.Bool.{ltb-true}
 use Rattle.lt_modes.specs.declared.mode.Mode.{Mode}
 use Rattle.lt_modes.specs.declared.mode.Mode.TheVariants.{IntentionRead, Read, Upgrade, IntentionWrite, Write}
-use Rattle.lt_modes.specs.Modes.{Modes, has, union, is_within}
+use Rattle.lt_modes.specs.Modes.{same_modes, has, union, is_within}
 use Rattle.lt_modes.specs.Masks.{bit_of, modes_of_mask, all_below, all_below_at}
+use Rattle.lt_modes.proofs.ModeAlgebra.{same_modes-true}
 
 all_pairs_at : (test : ℕ → ℕ → Bool) (i j : ℕ) → all_below 32 (λ a. all_below 32 (test a)) ≡ true → i < 32 → j < 32 → test i j ≡ true
 all_pairs_at test i j e hi hj =
@@ -21,22 +22,6 @@ same_bool_eq true false e = cc
 same_bool_eq false true e = cc
 same_bool_eq false false e = refl
 
-abbrev same_modes : Modes → Modes → Bool
-same_modes s t = same_bool s.intention_read t.intention_read && (same_bool s.read t.read && (same_bool s.upgrade t.upgrade && (same_bool s.intention_write t.intention_write && same_bool s.write t.write)))
-
-same_modes_eq : (s t : Modes) → same_modes s t ≡ true → s ≡ t
-same_modes_eq s t e =
-    let p = and_parts _ _ e in
-    let q = and_parts _ _ p.1 in
-    let r = and_parts _ _ q.1 in
-    let u = and_parts _ _ r.1 in
-    let e1 = same_bool_eq _ _ p.0 in
-    let e2 = same_bool_eq _ _ q.0 in
-    let e3 = same_bool_eq _ _ r.0 in
-    let e4 = same_bool_eq _ _ u.0 in
-    let e5 = same_bool_eq _ _ u.1 in
-    λ i. record { intention_read = e1 i; read = e2 i; upgrade = e3 i; intention_write = e4 i; write = e5 i }
-
 pub or_below : (a b : ℕ) → a < 32 → b < 32 → bit_or a b < 32
 unfolding all_below
 or_below a b ha hb = ltb-true _ _ (all_pairs_at (λ i j. nat_lt (bit_or i j) 32) a b refl ha hb)
@@ -44,7 +29,7 @@ or_below a b ha hb = ltb-true _ _ (all_pairs_at (λ i j. nat_lt (bit_or i j) 32)
 pub modes_of_or : (a b : ℕ) → a < 32 → b < 32 → modes_of_mask (bit_or a b) ≡ union (modes_of_mask a) (modes_of_mask b)
 unfolding all_below
 modes_of_or a b ha hb =
-    same_modes_eq _ _ (all_pairs_at (λ i j. same_modes (modes_of_mask (bit_or i j)) (union (modes_of_mask i) (modes_of_mask j))) a b refl ha hb)
+    same_modes-true _ _ (all_pairs_at (λ i j. same_modes (modes_of_mask (bit_or i j)) (union (modes_of_mask i) (modes_of_mask j))) a b refl ha hb)
 
 pub or_within : (a b : ℕ) → a < 32 → b < 32 → (bit_or a b == b) ≡ is_within (modes_of_mask a) (modes_of_mask b)
 unfolding all_below

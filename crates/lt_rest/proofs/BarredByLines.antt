@@ -13,7 +13,7 @@ use Rattle.lt_modes.specs.Script.{ClientData}
 use Rattle.lt_modes.specs.Held.{is_row_of, no_row, row_place, count_at, count_of}
 use Rattle.lt_modes.specs.Sound.{SoundRow}
 use Rattle.lt_modes.proofs.ModeAlgebra.{has-itself}
-use Rattle.lt_lists.proofs.Sums.{none_found}
+use Rattle.lt_lists.proofs.Sums.{none_found, counted_in}
 use Rattle.lt_accounts.proofs.Asks.{same_mode-true}
 use Rattle.lt_runs.specs.Families.{home}
 use Rattle.lt_runs.specs.Holdings.{Holding, holding, holdings, same_holding}
@@ -21,19 +21,6 @@ use Rattle.lt_runs.specs.Facts.{state_at}
 use Rattle.lt_model.specs.SoundNode.{numbers_of}
 use Rattle.lt_model.proofs.HomesSound.{home_among}
 use Rattle.lt_rest.specs.RestLaws.{BarredByLines}
-
--- what counts of a list is in it
-counted_in : {X : Type 0} (test : X → Bool) (xs : List X) → 1 ≤ count_by test xs → (x : X) × Contains xs x × (test x ≡ true)
-counted_in test [] some = absurd (omega (arith, some))
-counted_in {X = X} test (first ∷ rest) some = by_test (test first) refl (λ more. counted_in test rest more)
-  where
-    by_test : (passes : Bool) → test first ≡ passes → (1 ≤ count_by test rest → (x : X) × Contains rest x × (test x ≡ true))
-        → (x : X) × Contains (first ∷ rest) x × (test x ≡ true)
-    by_test true e again = (first, (0, omega arith, refl), e)
-    by_test false e again =
-        let none : ◌≡◌ {A = ℕ} (if test first then 1 else 0) 0 = ap (λ (b : Bool). if b then 1 else 0) e in
-        let found = again (omega (arith, some, none, sum_by-cons (λ (x : X). if test x then 1 else 0) first rest)) in
-        (found.0, (suc found.1.0, omega (arith, found.1.1), found.1.2), found.2)
 
 -- the locks of a row are counted
 row_counted : (rows : List Row) (row : Row) → All (λ (r : Row). 1 ≤ r.count) rows → Contains rows row → 1 ≤ count_of rows row.client row.mode

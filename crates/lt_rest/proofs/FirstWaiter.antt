@@ -109,7 +109,9 @@ first_waiter_conflicts script w s ask h rest (q, others_wait, under, queue) = by
         -- a row of another node that conflicts
         of_other : Bars (others q t desk ask.node) ask.mode → IsBarred script w s ask
         of_other bar =
-            let found = others-which script.nodes (account_of script Between w s (Some q) desk) ask.node ask.mode (subst (λ (o : Modes). Bars o ask.mode) (rules_count.others script Between w s q ask.node desk entries) bar) in
+            let found =
+            others-which script.nodes (account_of script Between w s (Some q) desk) ask.node ask.mode
+            (subst (λ (o : Modes). Bars o ask.mode) (rules_count.others script Between w s q ask.node desk entries) bar) in
             let held = counts_held script w s found.0 (Some q) desk h rest found.1 there ask.mode found.3 in
             let row = held-which (state_at w s found.0).held held.0 held.2 in
             let own = All-contains (SoundRow (numbers_of script) found.0) (state_at w s found.0).held row.0 (h.states found.0 found.1).rows row.1 in
@@ -126,7 +128,15 @@ first_waiter_conflicts script w s ask h rest (q, others_wait, under, queue) = by
         own_row me bar = elim ((union_bars_both conflicts (other_modes t.held ask.client) (own_owed q t desk) ask.mode).0 bar) [
           | inl other ↦
               let row = other-which t.held ask.client other.0 other.2 in
-              record { node = q; row = row.0; within = under; held = row.1; other = row.2; conflict = subst (λ (m : Mode). IsTrue (conflicts ask.mode m)) (sym row.3) other.1 }
+              record {
+                node = q;
+                row = row.0;
+                within = under;
+                held = row.1;
+                other = row.2;
+                conflict = subst (λ (m : Mode). IsTrue (conflicts ask.mode m))
+                    (sym row.3) other.1;
+              }
           | inr owed ↦
               let copy = waiting_is_copy (account_of script Between w s (Some q) desk q) (kept.accounts q under).owed owed.0 owed.2 in
               absurd (no_letters script w s q (CopyBody copy.0) h.paths rest ((copies_are_on_way script w s q copy.0).0 copy.1))
@@ -135,9 +145,12 @@ first_waiter_conflicts script w s ask h rest (q, others_wait, under, queue) = by
         by_free : (free : Bool) → is_free q t desk no_modes ask ≡ free → IsBarred script w s ask
         by_free false f =
             of_other
-            (bars_union-none (others q t desk ask.node) ask.mode (bars_from (union (others q t desk ask.node) no_modes) ask.mode (not_false (has ask.mode (bars (union (others q t desk ask.node) no_modes))) f)))
+            (bars_union-none (others q t desk ask.node) ask.mode
+            (bars_from (union (others q t desk ask.node) no_modes) ask.mode (not_false (has ask.mode (bars (union (others q t desk ask.node) no_modes))) f)))
         by_free true f =
-            let own = free_own (ask.node == q) (not (ask.node == q)) (is_free q t desk no_modes ask) (is_local q t desk ask) (is_copy q t desk ask) (is_clear_at_home q t desk ask) refl tests.0 tests.1 f in
+            let own =
+            free_own (ask.node == q) (not (ask.node == q)) (is_free q t desk no_modes ask) (is_local q t desk ask) (is_copy q t desk ask)
+            (is_clear_at_home q t desk ask) refl tests.0 tests.1 f in
             let me = eqb-true ask.node q own.0 in
             own_row me (bars_from (union (other_modes t.held ask.client) (own_owed q t desk)) ask.mode
             (not_false (has ask.mode (bars (union (other_modes t.held ask.client) (own_owed q t desk)))) (second_false (ask.node == q) _ own.0 own.1)))

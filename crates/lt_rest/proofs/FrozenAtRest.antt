@@ -42,7 +42,8 @@ holders_are_frozen script w s x row h under rest held = at_desk found.0 found.1 
       desk,
       there,
       frozen_at_rest (news_of script Between w s (Some t) desk x) (kept.news x under) refl
-          (nothing_in (freezes_to script w s x) (λ y c. no_letters script w s x (FreezeBody y.number y.modes) h.paths rest ((freezes_are_on_way script w s x y).0 c))) (by_here (x == t) refl),
+          (nothing_in (freezes_to script w s x) (λ y c. no_letters script w s x (FreezeBody y.number y.modes) h.paths rest
+          ((freezes_are_on_way script w s x y).0 c))) (by_here (x == t) refl),
     )
       where
         kept : DeskKept script Between w s (Some t) desk

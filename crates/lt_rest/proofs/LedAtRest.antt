@@ -56,8 +56,10 @@ stands_at_rest : (script : ScriptData) (w : World) (s x : ℕ) (a : Ask) → Set
     → ((q : ℕ) × (q < script.nodes) × Contains (queue_of (state_at w s q)) a) ⊎ ((q : ℕ) × (older : Ask) × StandsAtRest script w s a older q)
 stands_at_rest script w s x a h rest below waits =
     let one = one_place_of script w s x a (kept_stands script w s h) below waits in
-    let mail_none : sum_below script.nodes (λ p. sum_below script.nodes (λ q. sum_by (λ (l : Letter). if l.set == s then places_in_body a l.body else 0) (w.mail p q))) ≡ 0 =
-    sum_below-none script.nodes _ (λ p hp. sum_below-none script.nodes _ (λ q hq. sum_by-none (λ (l : Letter). if l.set == s then places_in_body a l.body else 0) (w.mail p q)
+    let mail_none : sum_below script.nodes (λ p. sum_below script.nodes
+    (λ q. sum_by (λ (l : Letter). if l.set == s then places_in_body a l.body else 0) (w.mail p q))) ≡ 0 =
+    sum_below-none script.nodes _ (λ p hp. sum_below-none script.nodes _
+    (λ q hq. sum_by-none (λ (l : Letter). if l.set == s then places_in_body a l.body else 0) (w.mail p q)
     (λ l c. weighs_none p q l hp c (l.set == s) refl))) in
     let found = sum_below-some script.nodes (λ q. places_in_state a (state_at w s q)) (omega (arith, one, mail_none)) in
     at_node found.0 found.1 found.2 (cases_eq (times_in a (queue_of (state_at w s found.0))) 0)
@@ -77,7 +79,9 @@ stands_at_rest script w s x a h rest below waits =
         held parked = elim (All-contains (IsParkedFor script w s q) (state_at w s q).parked (ParkedAsk a) (h.parked q hq) parked) [
           | inl comes ↦ absurd (no_letters script w s q (TokenBody comes.0) h.paths rest comes.1)
           | inr behind ↦
-              let own = (All-contains (SoundPending (numbers_of script) q (state_at w s q).held) (state_at w s q).pending behind.0 (h.states q hq).pending behind.1).node in (
+              let own =
+              (All-contains (SoundPending (numbers_of script) q (state_at w s q).held) (state_at w s q).pending behind.0
+              (h.states q hq).pending behind.1).node in (
                 q,
                 behind.0,
                 record {

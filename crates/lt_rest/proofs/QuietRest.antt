@@ -28,11 +28,14 @@ use Rattle.lt_lists.proofs.Searches.{any_below_none}
 pub no_letters : (script : ScriptData) (w : World) (s q : ℕ) (body : Body) → Paths script w s → IsTrue (is_at_rest script w) → Comes script w s q body → ⊥
 no_letters script w s q body paths rest (p, letter, below, on, says) =
     let on_path = paths.letters p q letter below on in
-    let none = not_true (any_below script.nodes (λ a. any_below script.nodes (has_mail script w a))) (and_parts (not (any_below (length script.clients) (is_runnable script w))) _ rest).1 in
+    let none =
+    not_true (any_below script.nodes (λ a. any_below script.nodes (has_mail script w a)))
+    (and_parts (not (any_below (length script.clients) (is_runnable script w))) _ rest).1 in
     let row = any_below_none script.nodes (λ a. any_below script.nodes (has_mail script w a)) none p below in
     let here = any_below_none script.nodes (has_mail script w p) row q on_path.to in
     let there : has_mail script w p q ≡ true =
-    and_from _ _ (lt-ltb p script.nodes below) (and_from _ _ (lt-ltb q script.nodes on_path.to) (and_from _ _ (ap not (ne_eqb p q (λ e. on_path.other (sym e)))) (some (w.mail p q) on.among))) in
+    and_from _ _ (lt-ltb p script.nodes below)
+    (and_from _ _ (lt-ltb q script.nodes on_path.to) (and_from _ _ (ap not (ne_eqb p q (λ e. on_path.other (sym e)))) (some (w.mail p q) on.among))) in
     false≢true (sym here ∙ there)
   where
     not_true : (t : Bool) → not t ≡ true → t ≡ false
