@@ -1,4 +1,3 @@
 pub mod CoreData
 pub mod Steps
-pub mod Unanswered
 pub mod Notices
