@@ -1,12 +1,8 @@
 -- Counting the asks among what is parked.
-use Rattle.std.proofs.Common.{◌≡◌, ℕ, zero, suc, ◌+◌, ◌≤◌, List, [], ◌∷◌, ◌++◌, length, map, arith, refl, ap}
-use Rattle.std.specs.Prelude.{filter_map}
-use Rattle.std.specs.List.{list_any}
+use Rattle.std.proofs.Common.{◌≡◌, ℕ, ◌+◌, ◌≤◌, List, [], ◌∷◌, ◌++◌, length, arith, refl}
+use Rattle.std.specs.Prelude.{◌||◌, filter_map}
 use Rattle.lt_modes.specs.State.{Parked, ParkedAsk, ParkedTell}
 use Rattle.lt_modes.specs.Fits.{ask_if, has_client}
-use Rattle.lt_letter.specs.declared.parked.Parked.{Parked as CodeParked}
-use Rattle.lt_letter.specs.declared.parked.Parked.TheVariants.{Ask, Tell}
-use Rattle.lt_letter.specs.Seen.{parked_seen}
 use Rattle.lt_core.specs.Steps.{ask_count, is_ask_of}
 
 pub count_few : (item : Parked) → ask_count item ≤ 1
@@ -21,8 +17,7 @@ pub asks_last : (items : List Parked) (item : Parked) → length (filter_map ask
 asks_last [] item = omega (arith, asks_first item [])
 asks_last (first ∷ rest) item = omega (arith, asks_first first (rest ++ item ∷ []), asks_first first rest, asks_last rest item)
 
-pub client_parked : (client : ℕ) (items : List CodeParked)
-    → list_any (λ item. is_ask_of client (parked_seen item)) items ≡ has_client client (filter_map ask_if (map parked_seen items))
-client_parked client [] = refl
-client_parked client (Ask ask ∷ rest) = rw (client_parked client rest) refl
-client_parked client (Tell tell ∷ rest) = client_parked client rest
+pub client_first : (client : ℕ) (item : Parked) (rest : List Parked)
+    → has_client client (filter_map ask_if (item ∷ rest)) ≡ (is_ask_of client item || has_client client (filter_map ask_if rest))
+client_first client (ParkedAsk ask) rest = refl
+client_first client (ParkedTell tell) rest = refl

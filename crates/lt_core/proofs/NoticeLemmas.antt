@@ -1,11 +1,13 @@
 -- The nodes of a mask, one after the other.
-use Rattle.std.proofs.Common.{◌≡◌, ◌≢◌, ◌∙◌, ℕ, zero, suc, ◌+◌, ◌-◌, ◌^◌, ◌<◌, ◌≤◌, Bool, true, false, List, [], ◌∷◌, ◌++◌, length, Contains, refl, sym, ap, subst, arith, inl, inr, append_assoc, append-nil, length-append, bit_and, slice_index_or}
-use Rattle.std.specs.Prelude.{◌==◌, ◌↔◌, not, IsBitSet}
+use Rattle.std.proofs.Common.{◌≡◌, ◌∙◌, ℕ, suc, ◌+◌, ◌-◌, ◌^◌, ◌<◌, ◌≤◌, Bool, true, false, List, [], ◌∷◌, ◌++◌, length, Contains, refl, sym, ap, subst, arith, inl, inr, append_assoc, append-nil, length-append, bit_and, map, Option}
+use Rattle.std.specs.Prelude.{◌↔◌, IsBitSet}
 use Rattle.std.proofs.lemmas.Bool.{cases_eq, eq-eqb, ne_eqb}
 use Rattle.lt_modes.specs.Modes.{Modes}
-use Rattle.lt_modes.specs.State.{SetState, Entry}
+use Rattle.lt_modes.specs.State.{SetState, Desk, Entry, FreezeBody}
 use Rattle.lt_modes.specs.declared.stamp.Stamp.{Stamp}
-use Rattle.lt_modes.specs.Made.{Made}
+use Rattle.lt_modes.specs.Made.{Made, post_of}
+use Rattle.lt_modes.specs.declared.event.Event.TheVariants.{Freeze}
+use Rattle.lt_modes.specs.Freezing.{freeze, freeze_with}
 use Rattle.lt_modes.specs.Places.{places_from, cons_if}
 use Rattle.lt_table.specs.TableData.{entry_at}
 use Rattle.lt_desk.proofs.MaskLemmas.{in_places, out_places}
@@ -104,3 +106,27 @@ pub mask_nodes : (test : ℕ → Entry → Bool) (mask : ℕ) (es : List Entry) 
 mask_nodes test mask es is = list_by test mask 0 es
     (λ i h. let at : i ≡ 0 + i = omega arith in
     subst (λ y. has_node mask y ≡ test y (entry_at es i)) at (node_by test mask i es is h (test i (entry_at es i)) refl))
+
+-- ---- a freeze is what the desk's call and the notices make
+
+pub freeze_fits : (set : ℕ) (stamp : Stamp) (s : SetState) (after : Option Desk) (d : Desk) (modes : Modes) (number : ℕ) (told nodes : List ℕ) (out : OutData)
+    → freeze set stamp s ≡ freeze_with set stamp s d modes told number → nodes ≡ told → FitsOut (freeze set stamp s) out
+    → FitsOut (notices set stamp (record s { frozen = modes; number = number; desk = after }) modes number nodes) out
+freeze_fits set stamp s after d modes number told nodes out made same fits =
+    let whole = subst (λ (m : Made). FitsOut m out) made fits in
+    record {
+      posts = subst (λ (list : List ℕ). length (out.posts ++ map (λ x. post_of set stamp s x (FreezeBody number modes)) list) ≤ out.post_room) (sym same) whole.posts;
+      events = subst (λ (list : List ℕ). length (out.events ++ map (λ x. Freeze set x number modes) list) ≤ out.event_room) (sym same) whole.events;
+    }
+
+pub freeze_sent : (set : ℕ) (stamp : Stamp) (s : SetState) (after : Option Desk) (d : Desk) (modes : Modes) (number : ℕ) (told nodes : List ℕ) (had out : OutData)
+    → freeze set stamp s ≡ freeze_with set stamp s d modes told number → nodes ≡ told
+    → out ≡ out_after (notices set stamp (record s { frozen = modes; number = number; desk = after }) modes number nodes) had
+    → out ≡ out_after (freeze set stamp s) had
+freeze_sent set stamp s after d modes number told nodes had out made same sent =
+    sent
+    ∙ (λ i. record had {
+      posts = had.posts ++ map (λ x. post_of set stamp s x (FreezeBody number modes)) (same i);
+      events = had.events ++ map (λ x. Freeze set x number modes) (same i);
+    })
+    ∙ ap (λ (m : Made). out_after m had) (sym made)

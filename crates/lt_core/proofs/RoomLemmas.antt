@@ -7,7 +7,6 @@ use Rattle.lt_modes.specs.State.{SetState, Desk, Parked}
 use Rattle.lt_modes.specs.Held.{locks_in}
 use Rattle.lt_modes.specs.Serving.{queue_of, queue_of_desk, put_queue, served, owed_at}
 use Rattle.lt_core.specs.CoreData.{CoreData, HasRoom, waiting, epoch_of, number_of}
-use Rattle.lt_core.specs.Steps.{ask_count}
 use Rattle.lt_core.proofs.AskLemmas.{asks_last, count_few}
 
 epoch_put : (q : List Ask) (d : Option Desk) → epoch_of (put_queue q d) ≡ epoch_of d

@@ -3,5 +3,4 @@ pub mod Steps
 pub mod Orders
 pub mod Bound
 pub mod Tests
-pub mod Unanswered
 pub mod Notices

@@ -1,11 +1,10 @@
 -- The letters and the lines of a freeze.
 use Rattle.std.specs.Prelude.{Bool, not, ◌==◌, ℕ, ◌+◌, ◌^◌, zero, suc, List, [], map, bit_and}
 use Rattle.lt_modes.specs.Places.{cons_if}
-use Rattle.lt_modes.specs.declared.event.Event.{Event}
 use Rattle.lt_modes.specs.declared.event.Event.TheVariants.{Freeze}
 use Rattle.lt_modes.specs.declared.stamp.Stamp.{Stamp}
 use Rattle.lt_modes.specs.State.{SetState, FreezeBody}
-use Rattle.lt_modes.specs.Made.{Made, Post, post_of}
+use Rattle.lt_modes.specs.Made.{Made, post_of}
 use Rattle.lt_modes.specs.Modes.{Modes}
 
 -- these nodes are sent the frozen modes with this number, and the state stays

@@ -1,5 +1,5 @@
 -- Steps of a rule that functions of a core make.
-use Rattle.std.specs.Prelude.{Bool, false, ◌==◌, ℕ, [], ◌∷◌}
+use Rattle.std.specs.Prelude.{Bool, false, ◌==◌, ℕ}
 use Rattle.lt_modes.specs.declared.ask.Ask.{Ask}
 use Rattle.lt_modes.specs.State.{SetState, Parked, ParkedAsk, ParkedTell}
 use Rattle.lt_modes.specs.Made.{Made}

@@ -1,7 +1,8 @@
 ghost use Rattle.std.specs.Prelude.{◌≡◌, ◌+◌, ◌<◌, ◌^◌, ◌++◌, nat_lt, map, filter_map, drop, length, slice_index_or};
 ghost use Rattle.std.specs.List.{list_all};
-ghost use Rattle.lt_modes.specs.Queue.{same_ask, same_choice, same_flag};
+ghost use Rattle.lt_modes.specs.Queue.{no_ask, same_ask, same_choice, same_flag};
 ghost use Rattle.lt_modes.specs.Fits.{fits, head_fits, body_fits, ask_fits, copy_fits, token_fits, tell_fits, queue_fits, is_pending, is_known, is_at_home, has_client, asks_here, parked_asks, are_apart, ask_if};
+ghost use Rattle.lt_modes.specs.State.{ParkedAsk};
 ghost use Rattle.lt_letter.specs.declared.parked.Parked.{Parked as AnyParked};
 ghost use Rattle.lt_letter.specs.Seen.{letter_seen, body_seen, tell_seen, parked_seen};
 ghost use Rattle.lt_core.specs.Tests.{numbers_of, is_known_item, is_apart_from};
@@ -102,17 +103,30 @@ impl Core {
         self.parked_known()
     }
 
+    #[tactic(auto, using(crate::proofs::FitsLemmas::known_step))]
     fn parked_known(&self) -> bool
         ensures { result ≡ list_all (is_known self.now.node self.now.state) (parked_asks self.now.state) }
     {
-        self.parked.iter().all(|item| self.knows(item))
+        for k in 0..self.parked_len() {
+            if !self.knows(k) {
+                return false;
+            }
+        }
+        true
     }
 
-    // Whether it is a tell, or an ask that is known.
-    fn knows(&self, item: &Parked) -> bool
-        ensures { result ≡ is_known_item self.now.node self.now.state (parked_seen item.now) }
+    fn parked_len(&self) -> usize
+        ensures { result ≡ length self.now.state.parked }
     {
-        match item {
+        self.parked.len()
+    }
+
+    // Whether it is a tell that is parked at this place, or an ask that is known.
+    fn knows(&self, k: usize) -> bool
+        requires { k < length self.now.state.parked }
+        ensures { result ≡ is_known_item self.now.node self.now.state (slice_index_or self.now.state.parked k (ParkedAsk no_ask)) }
+    {
+        match &self.parked[k] {
             Parked::Ask(ask) => self.is_known(ask),
             Parked::Tell(_) => true,
         }

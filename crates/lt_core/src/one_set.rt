@@ -231,11 +231,16 @@ fn asks_of(item: &Parked) -> u32
 }
 
 // Whether an ask of the client is parked.
-#[tactic(auto, using(crate::proofs::AskLemmas::client_parked))]
+#[tactic(auto, using(crate::proofs::AskLemmas::client_first))]
 fn has_parked(parked: &VecDeque<Parked>, client: u16) -> bool
     ensures { result ≡ has_client client (filter_map ask_if (map parked_seen parked.now.items)) }
 {
-    parked.iter().any(|item| is_of(item, client))
+    for k in 0..parked.len() {
+        if is_of(&parked[k], client) {
+            return true;
+        }
+    }
+    false
 }
 
 // Whether it is an ask of the client.

@@ -3,7 +3,6 @@ use Rattle.lt_modes.specs.declared.event.Event.TheVariants.{Token}
 use Rattle.lt_modes.specs.State.{SetState, Desk, TokenBody}
 use Rattle.lt_modes.specs.Made.{post_of}
 use Rattle.lt_modes.specs.Queue.{no_ask}
-use Rattle.lt_modes.specs.Held.{held_modes}
 use Rattle.lt_modes.specs.HandingOver.{leaving, without_desk}
 use Rattle.lt_link.specs.LinksData.{LinksData}
 use Rattle.lt_letter.specs.OutData.{OutData}

@@ -1,4 +1,4 @@
-use Rattle.std.proofs.Common.{rules, ◌<◌}
+use Rattle.std.proofs.Common.{rules}
 use Rattle.lt_core.proofs.NoticeLemmas.{told_step, told_fits}
 use Rattle.lt_core.proofs.one_set.Core.send_notices.Goals as goal
 
