@@ -83,7 +83,7 @@ impl Unanswered {
     {
         self.asks
             .iter()
-            .any(|own| own.mode.taking() && own.stamp < ask.stamp)
+            .any(|own| own.mode.taking() && ask.stamp.is_newer(own.stamp))
     }
 }
 

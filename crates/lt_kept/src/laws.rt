@@ -22,7 +22,7 @@ pub fn law_kept_in_runs()
 {}
 
 /// An ask that leaves a queue by being served conflicts with no ask that stands before it there.
-pub fn law_order()
+pub fn law_in_turn()
     ensures lines { LinesOfServices }
     ensures run { ServedInTurn }
 {}

@@ -1,4 +1,4 @@
-use Rattle.lt_kept.proofs.laws.law_order.Goals as goal
+use Rattle.lt_kept.proofs.laws.law_in_turn.Goals as goal
 use Rattle.lt_kept.proofs.ServiceOrder.{lines_are_of_services, served_in_turn}
 
 pub returns : goal.returns
