@@ -20,7 +20,7 @@ use Rattle.lt_core.specs.Steps.{ask_count}
 use Rattle.lt_letter.specs.OutData.{OutData, FitsOut}
 use Rattle.lt_core.specs.declared.order.Order.{Order}
 use Rattle.lt_core.specs.declared.order.Order.TheVariants.{Lock, Try, Unlock, Change, DropAll}
-use Rattle.lt_core.specs.Orders.{ordered, move_of}
+use Rattle.lt_core.specs.Orders.{ordered}
 use Rattle.lt_core.specs.Bound.{RoomToSend, brought, EndsFit, OrdersFit, TakesFit}
 use Rattle.lt_core.proofs.OrderLemmas.{move_is}
 use Rattle.lt_modes.specs.Made.{silent}

@@ -1,7 +1,7 @@
 -- Tests of all asks, or of some, from a place on.
 use Rattle.std.proofs.Common.{◌≡◌, ◌==◌, ◌∙◌, ◌+◌, ◌<◌, ◌++◌, ◌||◌, ◌&&◌, not, ℕ, zero, suc, Bool, List, [], ◌∷◌, length, map, drop, refl, sym, ap, arith, true, false}
 use Rattle.std.specs.Prelude.{filter_map, slice_index_or}
-use Rattle.std.specs.List.{list_any, list_all}
+use Rattle.std.specs.List.{list_all}
 use Rattle.std.proofs.lemmas.List.Folds.{list_any-append}
 use Rattle.lt_modes.specs.declared.ask.Ask.{Ask}
 use Rattle.lt_modes.specs.State as rules

@@ -5,3 +5,4 @@ pub mod NoticeLemmas
 pub mod OrderLemmas
 pub mod BoundLemmas
 pub mod FitsLemmas
+pub mod PremiseLemmas

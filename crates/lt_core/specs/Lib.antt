@@ -4,3 +4,4 @@ pub mod Orders
 pub mod Bound
 pub mod Tests
 pub mod Notices
+pub mod Premises

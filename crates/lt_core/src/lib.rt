@@ -15,7 +15,7 @@ mod taking;
 mod telling;
 mod unanswered;
 
-pub use laws::law_room_to_send;
+pub use laws::{law_room_to_move, law_room_to_send};
 pub use numbers::Numbers;
 pub use one_set::Core;
 pub use order::{Answer, Order};

@@ -1,10 +1,6 @@
-use Rattle.std.proofs.Common.{rules, ◌≡◌, ◌∙◌, ◌<◌, ◌+◌, Bool, length, map, drop, false, true}
-use Rattle.std.specs.Prelude.{filter_map, slice_index_or}
+use Rattle.std.proofs.Common.{rules, ◌≡◌, ◌∙◌, ◌<◌, length, false, true}
 use Rattle.lt_modes.specs.Queue.{no_ask}
-use Rattle.lt_modes.specs.Fits.{ask_if}
 use Rattle.lt_letter.specs.declared.parked.Parked.TheVariants.{Ask}
-use Rattle.lt_letter.specs.Seen.{parked_seen}
-use Rattle.lt_core.specs.Tests.{is_apart_from}
 use Rattle.lt_core.proofs.FitsLemmas.{apart_refused, apart_passed}
 use Rattle.lt_core.proofs.fits.asks_apart.Goals as goal
 
