@@ -12,6 +12,10 @@ use std::fmt;
 pub struct Failed;
 
 impl fmt::Display for Failed {
+    ghost use Rattle.std.specs.Prelude.{Some, codes};
+
+    ghost output = { λ _. Some (codes "the read or write failed") };
+
     fn fmt<W: fmt::Write>(&self, f: &mut fmt::Formatter<W>) -> fmt::Result {
         f.write_str("the read or write failed")
     }

@@ -26,6 +26,11 @@ pub enum ReadFailure {
 }
 
 impl fmt::Display for ReadFailure {
+    ghost use Rattle.std.specs.Prelude.{Some};
+    ghost use Rattle.lt_io.specs.Texts.{text_of};
+
+    ghost output = { λ why. Some (text_of why) };
+
     fn fmt<W: fmt::Write>(&self, f: &mut fmt::Formatter<W>) -> fmt::Result {
         f.write_str(match self {
             ReadFailure::Memory => "out of memory",
