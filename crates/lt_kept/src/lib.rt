@@ -3,4 +3,4 @@
 
 mod laws;
 
-pub use laws::{law_kept_in_runs, law_in_turn, law_step};
+pub use laws::{law_in_turn, law_kept_in_runs, law_step};

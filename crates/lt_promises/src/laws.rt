@@ -4,7 +4,7 @@ ghost use Rattle.lt_kept.specs.Services.{ServedInTurn};
 ghost use Rattle.lt_lines.specs.LineLaws.{LinesTellHeld, HoldingsAreLawful, LinesTellWaits, LinesTellOwners, FirstWaiterByLines};
 ghost use Rattle.lt_promises.specs.Promises.{SomebodyWaits};
 
-use lt_kept::{law_kept_in_runs, law_in_turn};
+use lt_kept::{law_in_turn, law_kept_in_runs};
 use lt_lines::law_lines_tell;
 use lt_model::{law_exact_try, law_one_place, law_one_token};
 
