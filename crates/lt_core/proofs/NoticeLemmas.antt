@@ -1,18 +1,17 @@
 -- The nodes of a mask, one after the other.
 use Rattle.std.proofs.Common.{◌≡◌, ◌∙◌, ℕ, suc, ◌+◌, ◌-◌, ◌^◌, ◌<◌, ◌≤◌, Bool, true, false, List, [], ◌∷◌, ◌++◌, length, Contains, refl, sym, ap, subst, arith, inl, inr, append_assoc, append-nil, length-append, bit_and, map, Option}
-use Rattle.std.specs.Prelude.{◌↔◌, IsBitSet}
-use Rattle.std.proofs.lemmas.Bool.{cases_eq, eq-eqb, ne_eqb}
+use Rattle.std.specs.Prelude.{◌==◌}
+use Rattle.std.specs.Int.{bit_at}
 use Rattle.lt_modes.specs.Modes.{Modes}
-use Rattle.lt_modes.specs.State.{SetState, Desk, Entry, FreezeBody}
+use Rattle.lt_modes.specs.State.{SetState, Desk, FreezeBody}
 use Rattle.lt_modes.specs.declared.stamp.Stamp.{Stamp}
 use Rattle.lt_modes.specs.Made.{Made, post_of}
 use Rattle.lt_modes.specs.declared.event.Event.TheVariants.{Freeze}
 use Rattle.lt_modes.specs.Freezing.{freeze, freeze_with}
-use Rattle.lt_modes.specs.Places.{places_from, cons_if}
-use Rattle.lt_table.specs.TableData.{entry_at}
-use Rattle.lt_desk.proofs.MaskLemmas.{in_places, out_places}
+use Rattle.lt_modes.specs.Places.{cons_if}
+use Rattle.lt_desk.specs.Freezes.{bits_from}
 use Rattle.lt_letter.specs.OutData.{OutData, FitsOut, out_after}
-use Rattle.lt_core.specs.Notices.{notices, nodes_in, node_if, has_node}
+use Rattle.lt_core.specs.Notices.{notices, node_if}
 
 -- what is sent to a node that is told or not, and then to the others
 first_rest : (set : ℕ) (stamp : Stamp) (s : SetState) (frozen : Modes) (number : ℕ) (told : Bool) (x : ℕ) (rest : List ℕ) (out : OutData)
@@ -44,68 +43,30 @@ fits_same a b out had same fits = record {
 }
 
 -- the nodes from x on are x, where the mask has it, and those after it
-nodes_from : (mask x n : ℕ) → x < n → nodes_in mask x (n - x) ≡ cons_if (has_node mask x) x (nodes_in mask (x + 1) (n - (x + 1)))
+nodes_from : (mask x n : ℕ) → x < n → bits_from (n - x) x mask ≡ cons_if (bit_at mask x == 1) x (bits_from (n - (x + 1)) (x + 1) mask)
 nodes_from mask x n h =
     let one_more : n - x ≡ suc (n - (x + 1)) = omega (arith, h) in
-    ap (nodes_in mask x) one_more
+    ap (λ m. bits_from m x mask) one_more
 
 -- one step of the loop that tells the nodes of a mask
 pub told_step : (set : ℕ) (stamp : Stamp) (s : SetState) (frozen : Modes) (number mask x n : ℕ) (out next had : OutData) → x < n
-    → out_after (notices set stamp s frozen number (nodes_in mask x (n - x))) out ≡ out_after (notices set stamp s frozen number (nodes_in mask 0 n)) had
+    → out_after (notices set stamp s frozen number (bits_from (n - x) x mask)) out ≡ out_after (notices set stamp s frozen number (bits_from n 0 mask)) had
     → next ≡ out_after (notices set stamp s frozen number (node_if mask x)) out
-    → out_after (notices set stamp s frozen number (nodes_in mask (x + 1) (n - (x + 1)))) next ≡ out_after (notices set stamp s frozen number (nodes_in mask 0 n)) had
+    → out_after (notices set stamp s frozen number (bits_from (n - (x + 1)) (x + 1) mask)) next ≡ out_after (notices set stamp s frozen number (bits_from n 0 mask)) had
 told_step set stamp s frozen number mask x n out next had h left is =
-    let rest = nodes_in mask (x + 1) (n - (x + 1)) in
+    let rest = bits_from (n - (x + 1)) (x + 1) mask in
     ap (out_after (notices set stamp s frozen number rest)) is
-    ∙ first_rest set stamp s frozen number (has_node mask x) x rest out
+    ∙ first_rest set stamp s frozen number (bit_at mask x == 1) x rest out
     ∙ ap (λ told. out_after (notices set stamp s frozen number told) out) (sym (nodes_from mask x n h)) ∙ left
 
 pub told_fits : (set : ℕ) (stamp : Stamp) (s : SetState) (frozen : Modes) (number mask x n : ℕ) (out had : OutData) → x < n
-    → out_after (notices set stamp s frozen number (nodes_in mask x (n - x))) out ≡ out_after (notices set stamp s frozen number (nodes_in mask 0 n)) had
-    → FitsOut (notices set stamp s frozen number (nodes_in mask 0 n)) had → FitsOut (notices set stamp s frozen number (node_if mask x)) out
+    → out_after (notices set stamp s frozen number (bits_from (n - x) x mask)) out ≡ out_after (notices set stamp s frozen number (bits_from n 0 mask)) had
+    → FitsOut (notices set stamp s frozen number (bits_from n 0 mask)) had → FitsOut (notices set stamp s frozen number (node_if mask x)) out
 told_fits set stamp s frozen number mask x n out had h left fits =
-    let rest = nodes_in mask (x + 1) (n - (x + 1)) in
-    fits_begin set stamp s frozen number (has_node mask x) x rest out
-    (fits_same (notices set stamp s frozen number (cons_if (has_node mask x) x rest)) (notices set stamp s frozen number (nodes_in mask 0 n)) out had
+    let rest = bits_from (n - (x + 1)) (x + 1) mask in
+    fits_begin set stamp s frozen number (bit_at mask x == 1) x rest out
+    (fits_same (notices set stamp s frozen number (cons_if (bit_at mask x == 1) x rest)) (notices set stamp s frozen number (bits_from n 0 mask)) out had
     (ap (λ told. out_after (notices set stamp s frozen number told) out) (sym (nodes_from mask x n h)) ∙ left) fits)
-
--- ---- the mask of a freeze
-
-no_node : (mask x : ℕ) → bit_and mask (2 ^ x) ≡ 0 → has_node mask x ≡ false
-no_node mask x none = rw (eq-eqb (bit_and mask (2 ^ x)) 0 none) refl
-
-is_node : (mask x : ℕ) → IsBitSet mask x → has_node mask x ≡ true
-is_node mask x set = rw (ne_eqb (bit_and mask (2 ^ x)) 0 set) refl
-
-node_by : (test : ℕ → Entry → Bool) (mask x : ℕ) (es : List Entry) → ((y : ℕ) → IsBitSet mask y ↔ Contains (places_from test 0 es) y) → x < length es
-    → (told : Bool) → test x (entry_at es x) ≡ told → has_node mask x ≡ told
-node_by test mask x es is h true e = is_node mask x ((is x).1 (in_places test x 0 x es h (omega arith) e))
-node_by test mask x es is h false e =
-    elim (cases_eq (bit_and mask (2 ^ x)) 0) [
-      | inl none ↦ no_node mask x none
-      | inr set ↦
-          let at = out_places test 0 x es ((is x).0 set) in
-          let here : at.place ≡ x = omega (arith, at.is) in
-          let passes : test x (entry_at es x) ≡ true = ap (λ y. test x (entry_at es y)) (sym here) ∙ at.passes in
-          absurd (cc)
-    ]
-
-list_by : (test : ℕ → Entry → Bool) (mask k : ℕ) (es : List Entry) → ((i : ℕ) → i < length es → has_node mask (k + i) ≡ test (k + i) (entry_at es i))
-    → nodes_in mask k (length es) ≡ places_from test k es
-list_by test mask k [] each = refl
-list_by test mask k (e ∷ es) each =
-    let k_is : k + 0 ≡ k = omega arith in
-    let first : has_node mask k ≡ test k e = subst (λ y. has_node mask y ≡ test y e) k_is (each 0 (omega arith)) in
-    let rest : nodes_in mask (k + 1) (length es) ≡ places_from test (k + 1) es =
-    list_by test mask (k + 1) es (λ i h. subst (λ y. has_node mask y ≡ test y (entry_at es i)) (omega arith) (each (suc i) (omega (arith, h)))) in
-    λ i. cons_if (first i) k (rest i)
-
--- the nodes of the mask are those that are told
-pub mask_nodes : (test : ℕ → Entry → Bool) (mask : ℕ) (es : List Entry) → ((y : ℕ) → IsBitSet mask y ↔ Contains (places_from test 0 es) y)
-    → nodes_in mask 0 (length es) ≡ places_from test 0 es
-mask_nodes test mask es is = list_by test mask 0 es
-    (λ i h. let at : i ≡ 0 + i = omega arith in
-    subst (λ y. has_node mask y ≡ test y (entry_at es i)) at (node_by test mask i es is h (test i (entry_at es i)) refl))
 
 -- ---- a freeze is what the desk's call and the notices make
 

@@ -1,5 +1,6 @@
 -- The letters and the lines of a freeze.
-use Rattle.std.specs.Prelude.{Bool, not, ◌==◌, ℕ, ◌+◌, ◌^◌, zero, suc, List, [], map, bit_and}
+use Rattle.std.specs.Prelude.{◌==◌, ℕ, List, [], map}
+use Rattle.std.specs.Int.{bit_at}
 use Rattle.lt_modes.specs.Places.{cons_if}
 use Rattle.lt_modes.specs.declared.event.Event.TheVariants.{Freeze}
 use Rattle.lt_modes.specs.declared.stamp.Stamp.{Stamp}
@@ -15,15 +16,6 @@ notices set stamp s frozen number told = record {
   events = map (λ x. Freeze set x number frozen) told;
 }
 
--- the mask has this node
-abbrev pub has_node : ℕ → ℕ → Bool
-has_node mask x = not (bit_and mask (2 ^ x) == 0)
-
 -- the node alone, where the mask has it
 abbrev pub node_if : ℕ → ℕ → List ℕ
-node_if mask x = cons_if (has_node mask x) x []
-
--- the nodes of a mask, of n nodes from x on
-abbrev pub nodes_in : ℕ → ℕ → ℕ → List ℕ
-nodes_in mask x zero = []
-nodes_in mask x (suc n) = cons_if (has_node mask x) x (nodes_in mask (x + 1) n)
+node_if mask x = cons_if (bit_at mask x == 1) x []

@@ -3,9 +3,10 @@ ghost use Rattle.lt_modes.specs.Queue.{no_ask};
 ghost use Rattle.lt_modes.specs.Serving.{queue_of, next_move};
 ghost use Rattle.lt_modes.specs.Freezing.{freeze};
 ghost use Rattle.lt_modes.specs.HandingOver.{hand_over, hand_over_to};
+ghost use Rattle.lt_desk.specs.Freezes.{bits_from};
 ghost use Rattle.lt_letter.specs.OutData.{FitsOut, out_after};
 ghost use Rattle.lt_core.specs.CoreData.{Does, HasRoom, epoch_of};
-ghost use Rattle.lt_core.specs.Notices.{notices, nodes_in, node_if, has_node};
+ghost use Rattle.lt_core.specs.Notices.{notices, node_if};
 
 use crate::one_set::Core;
 use lt_desk::{Desk, Targets};
@@ -24,8 +25,8 @@ impl Core {
         let Some(desk) = &mut self.desk else {
             return;
         };
-        let targets = desk.freeze(stamp.node);
         let nodes = desk.nodes();
+        let targets = desk.freeze(stamp.node);
         self.frozen = targets.modes;
         self.number = targets.number;
         self.send_notices(&targets, nodes, stamp, out);
@@ -34,8 +35,8 @@ impl Core {
     // The nodes of the mask, which are below this number, are sent the frozen modes.
     fn send_notices(&self, targets: &Targets, nodes: u8, stamp: Stamp, out: &mut Out)
         requires nodes { nodes ≤ 64 }
-        requires fits { FitsOut (notices self.now.set stamp self.now.state targets.now.modes targets.now.number (nodes_in targets.now.nodes 0 nodes)) out.old }
-        ensures { out.new ≡ out_after (notices self.now.set stamp self.now.state targets.now.modes targets.now.number (nodes_in targets.now.nodes 0 nodes)) out.old }
+        requires fits { FitsOut (notices self.now.set stamp self.now.state targets.now.modes targets.now.number (bits_from nodes 0 targets.now.nodes)) out.old }
+        ensures { out.new ≡ out_after (notices self.now.set stamp self.now.state targets.now.modes targets.now.number (bits_from nodes 0 targets.now.nodes)) out.old }
     {
         for x in 0..nodes {
             self.send_notice(x, targets, stamp, out);
@@ -48,7 +49,7 @@ impl Core {
         requires fits { FitsOut (notices self.now.set stamp self.now.state targets.now.modes targets.now.number (node_if targets.now.nodes to)) out.old }
         ensures { out.new ≡ out_after (notices self.now.set stamp self.now.state targets.now.modes targets.now.number (node_if targets.now.nodes to)) out.old }
     {
-        if !has_node(targets.nodes, to) {
+        if (targets.nodes >> to) % 2 == 0 {
             return;
         }
         out.push_event(Event::Freeze {
@@ -112,12 +113,4 @@ impl Core {
         let post = self.post(to, Body::Token(desk), stamp);
         out.push_letter(post);
     }
-}
-
-// Whether the mask has this node.
-fn has_node(mask: u64, x: u8) -> bool
-    requires { x < 64 }
-    ensures { result ≡ has_node mask x }
-{
-    mask & (1 << x) != 0
 }

@@ -2,16 +2,14 @@ use Rattle.std.proofs.Common.{◌≡◌, ◌∙◌, ◌-◌, Some, length, map, 
 use Rattle.std.specs.VecDeque.{deque_len, deque_capacity}
 use Rattle.lt_modes.specs.State.{SetState, Desk}
 use Rattle.lt_modes.specs.Places.{map_from}
-use Rattle.lt_modes.specs.Freezing.{freeze, frozen_by, frozen_entry, is_target, number_after}
+use Rattle.lt_modes.specs.Freezing.{freeze, frozen_by, frozen_entry, number_after}
 use Rattle.lt_modes.specs.Made.{Made}
 use Rattle.lt_desk.specs.DeskData.{DeskData}
-use Rattle.lt_desk.specs.Freezes.{told_nodes}
-use Rattle.lt_desk.proofs.FreezeLemmas.{length-map_from}
+use Rattle.lt_desk.specs.Freezes.{told_nodes, bits_from}
 use Rattle.lt_letter.specs.Seen.{parked_seen}
 use Rattle.lt_letter.specs.OutData.{FitsOut}
 use Rattle.lt_core.specs.CoreData.{CoreData, Does, desk_seen, room_by}
-use Rattle.lt_core.specs.Notices.{nodes_in}
-use Rattle.lt_core.proofs.NoticeLemmas.{mask_nodes, freeze_fits, freeze_sent}
+use Rattle.lt_core.proofs.NoticeLemmas.{freeze_fits, freeze_sent}
 use Rattle.lt_core.proofs.one_set.Core.freeze.Goals as goal
 
 pub send_notices-requires-clause-fits : goal.send_notices-requires-clause-fits
@@ -34,11 +32,9 @@ send_notices-requires-clause-fits c =
     let here : s.desk ≡ Some desk = search rules in
     let made = c.freeze-targets.ensures.made before.set stamp s refl here in
     let left = c.freeze-targets.ensures.desk in
-    let count : c.nodes-nodes.result ≡ length desk.entries =
-    c.nodes-nodes.ensures.nodes ∙ ap (λ (d : DeskData). length d.desk.entries) left ∙ length-map_from (frozen_entry stamp.node (frozen_by desk.queue)) 0 desk.entries in
-    let told : nodes_in targets.nodes 0 c.nodes-nodes.result ≡ told_nodes stamp.node desk =
-    ap (nodes_in targets.nodes 0) count ∙ mask_nodes (is_target stamp.node (frozen_by desk.queue)) targets.nodes desk.entries c.freeze-targets.ensures.nodes in
-    freeze_fits before.set stamp s (Some c.freeze-targets.new.self.desk) desk targets.modes targets.number (told_nodes stamp.node desk) (nodes_in targets.nodes 0 c.nodes-nodes.result) c.args.out.now made told
+    let told : bits_from c.nodes-nodes.result 0 targets.nodes ≡ told_nodes stamp.node desk =
+    ap (λ n. bits_from n 0 targets.nodes) c.nodes-nodes.ensures.nodes ∙ sym c.freeze-targets.ensures.order in
+    freeze_fits before.set stamp s (Some c.freeze-targets.new.self.desk) desk targets.modes targets.number (told_nodes stamp.node desk) (bits_from c.nodes-nodes.result 0 targets.nodes) c.args.out.now made told
     (subst (λ (core : CoreData). FitsOut (freeze core.set stamp core.state) c.args.out.now) (sym c.self.view_is) c.requires.fits)
 
 pub returns-clause-does : goal.returns-clause-does
@@ -61,10 +57,8 @@ returns-clause-does c =
     let here : s.desk ≡ Some desk = search rules in
     let made = c.freeze-targets.ensures.made before.set stamp s refl here in
     let left = c.freeze-targets.ensures.desk in
-    let count : c.nodes-nodes.result ≡ length desk.entries =
-    c.nodes-nodes.ensures.nodes ∙ ap (λ (d : DeskData). length d.desk.entries) left ∙ length-map_from (frozen_entry stamp.node (frozen_by desk.queue)) 0 desk.entries in
-    let told : nodes_in targets.nodes 0 c.nodes-nodes.result ≡ told_nodes stamp.node desk =
-    ap (nodes_in targets.nodes 0) count ∙ mask_nodes (is_target stamp.node (frozen_by desk.queue)) targets.nodes desk.entries c.freeze-targets.ensures.nodes in
+    let told : bits_from c.nodes-nodes.result 0 targets.nodes ≡ told_nodes stamp.node desk =
+    ap (λ n. bits_from n 0 targets.nodes) c.nodes-nodes.ensures.nodes ∙ sym c.freeze-targets.ensures.order in
     let after : c.freeze-targets.new.self.desk ≡ _ = ap (λ (d : DeskData). d.desk) left in
     let number : targets.number ≡ number_after (told_nodes stamp.node desk) desk.number = c.freeze-targets.ensures.number ∙ ap (λ (d : DeskData). d.desk.number) left in
     let modes : targets.modes ≡ frozen_by desk.queue = c.freeze-targets.ensures.modes in
@@ -83,5 +77,5 @@ returns-clause-does c =
       state = (λ i. record s { frozen = targets.modes; number = targets.number; desk = Some (after i) })
           ∙ (λ i. record s { frozen = targets.modes; number = targets.number; desk = Some (record desk { number = sym number i; entries = map_from (frozen_entry stamp.node (sym modes i)) 0 desk.entries }) })
           ∙ sym (ap (λ (m : Made). m.state) made);
-      sent = freeze_sent before.set stamp s (Some c.freeze-targets.new.self.desk) desk targets.modes targets.number (told_nodes stamp.node desk) (nodes_in targets.nodes 0 c.nodes-nodes.result) c.args.out.now c.send_notices.new.out made told c.send_notices.ensures;
+      sent = freeze_sent before.set stamp s (Some c.freeze-targets.new.self.desk) desk targets.modes targets.number (told_nodes stamp.node desk) (bits_from c.nodes-nodes.result 0 targets.nodes) c.args.out.now c.send_notices.new.out made told c.send_notices.ensures;
     })
