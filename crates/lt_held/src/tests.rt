@@ -16,6 +16,7 @@ fn what_two_clients_hold(rt: HostRuntime) -> Result<(), Fail> {
     assert_eq!(rt; held.modes_of(3), read);
     assert_eq!(rt; held.modes_of_others(3), intention);
     assert!(rt; held.is_holder(5));
+    assert_eq!(rt; (held.locks_of(3), held.locks_of(4)), (2, 0));
     for (client, mode, count, bars) in [
         (3, Mode::Read, 2, false),
         (3, Mode::Write, 0, true),

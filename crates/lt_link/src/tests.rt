@@ -13,7 +13,7 @@ fn ask(clock: u64, by_hoped: bool, older_taking: bool) -> Kind {
 #[test]
 fn the_way_of_letters(rt: HostRuntime) {
     let mut links = Links::new(1);
-    assert_eq!(rt; links.firm(), (0, 0));
+    assert_eq!(rt; (links.me(), links.firm()), (1, (0, 0)));
     links.reverse(2, Mode::Read, Stamp { clock: 4, node: 2 });
     assert_eq!(rt; links.route(ask(6, false, false)), Route::Firm(0));
     links.reverse(3, Mode::Write, Stamp { clock: 5, node: 3 });
