@@ -21,8 +21,10 @@ use Rattle.lt_accounts.proofs.AccountAsks.{ticks_kept, asks_kept, rests_kept, fr
 use Rattle.lt_accounts.proofs.Rows.{held-at}
 use Rattle.lt_accounts.proofs.AccountGrants.{grants_kept, unlocks_kept, drops_kept}
 use Rattle.lt_accounts.proofs.AccountAnswers.{answers_kept, delivers_kept}
-use Rattle.lt_accounts.proofs.AccountTells.{applies_kept, stale_kept, tells_kept}
-use Rattle.lt_accounts.proofs.AccountDesk.{owes_kept, settles_kept, arrives_kept, hold_clear}
+use Rattle.lt_accounts.proofs.AccountTells.{stale_kept, tells_kept}
+use Rattle.lt_accounts.proofs.AccountApplies.{applies_kept}
+use Rattle.lt_accounts.proofs.AccountDesk.{owes_kept}
+use Rattle.lt_accounts.proofs.AccountSettles.{settles_kept, arrives_kept, hold_clear}
 
 pub clear_stays : ClearStays
 clear_stays n x counts now clear here on y z hy hz d = by_first (cases_eq y x)

@@ -14,3 +14,5 @@ pub mod ModeMembers
 pub mod FirstAccount
 pub mod RowTotals
 pub mod AllKept
+pub mod AccountSettles
+pub mod AccountApplies

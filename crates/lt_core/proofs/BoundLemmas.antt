@@ -1,120 +1,38 @@
 -- No move sends out more than its bound.
-use Rattle.std.proofs.Common.{◌≡◌, ℕ, zero, suc, ◌+◌, ◌≤◌, Bool, true, false, List, [], ◌∷◌, length, length-append, Option, Some, None, arith, refl, sym, ap, subst, if◌then◌else◌, ◌==◌, ◌∙◌}
-use Rattle.std.specs.Prelude.{slice_set, remove}
-use Rattle.std.proofs.lemmas.List.{length-map}
-use Rattle.std.specs.Prelude.{insert, ◌&&◌, not}
+use Rattle.lt_core.proofs.BoundServices.{AtMost, most_then, most_served, length_set, nodes_served, most_frozen}
+use Rattle.std.proofs.Common.{◌≡◌, ℕ, ◌+◌, ◌≤◌, Bool, true, false, List, [], ◌∷◌, length, length-append, Option, Some, None, arith, refl, sym, ap, subst, if◌then◌else◌, ◌==◌, ◌∙◌, ◌++◌}
+use Rattle.std.specs.Prelude.{insert, ◌&&◌, not, fold, filter_map, nat_lt}
 use Rattle.std.proofs.lemmas.List.Edits.{length-insert}
 use Rattle.lt_modes.specs.declared.mode.Mode.{Mode}
 use Rattle.lt_modes.specs.declared.parts.Hoped.{Hoped}
-use Rattle.lt_modes.specs.Modes.{bars, same_modes, is_taking}
-use Rattle.lt_modes.specs.State.{Parked, ParkedAsk, ParkedTell}
-use Rattle.lt_modes.specs.Held.{held_modes}
+use Rattle.lt_modes.specs.Modes.{bars, same_modes, is_taking, Modes}
+use Rattle.lt_modes.specs.State.{Parked, ParkedAsk, ParkedTell, Letter, Body, AskBody, TellBody, CopyBody, TokenBody, FreezeBody, SetState, Desk}
+use Rattle.lt_modes.specs.Held.{held_modes, count_of, take_lock}
 use Rattle.lt_modes.specs.Queue.{place, after_holders_from}
 use Rattle.lt_modes.specs.Tells.{told}
 use Rattle.lt_modes.specs.Records.{entry_of}
 use Rattle.lt_modes.specs.Granting.{can_grant}
-use Rattle.lt_modes.specs.Serving.{queue_of_desk}
-use Rattle.std.proofs.Common.{◌++◌}
+use Rattle.lt_modes.specs.Serving.{queue_of_desk, queue_of, next_move, ask_at, serve}
 use Rattle.lt_core.proofs.AskLemmas.{asks_last, asks_first, count_few}
 use Rattle.lt_core.specs.Steps.{ask_count}
 use Rattle.lt_letter.specs.OutData.{OutData, FitsOut}
 use Rattle.lt_core.specs.declared.order.Order.{Order}
 use Rattle.lt_core.specs.declared.order.Order.TheVariants.{Lock, Try, Unlock, Change, DropAll}
 use Rattle.lt_core.specs.Orders.{ordered}
-use Rattle.lt_core.specs.Bound.{RoomToSend, brought, EndsFit, OrdersFit, TakesFit}
+use Rattle.lt_core.specs.Bound.{RoomToSend, brought, EndsFit, OrdersFit, TakesFit, most, nodes_of}
 use Rattle.lt_core.proofs.OrderLemmas.{move_is}
-use Rattle.lt_modes.specs.Made.{silent}
-use Rattle.lt_core.specs.Bound.{most}
-use Rattle.lt_modes.specs.Routing.{dealt, Way, Parks, Goes, way, sent_on, route_by}
-use Rattle.lt_modes.specs.Telling.{make_tell, tell_of, finish, finish_by}
+use Rattle.lt_modes.specs.Made.{silent, Made, then_do}
+use Rattle.lt_modes.specs.Routing.{dealt, Way, Parks, Goes, way, sent_on, route_by, learn}
+use Rattle.lt_modes.specs.Telling.{make_tell, tell_of, finish, finish_by, attend}
 use Rattle.lt_modes.specs.SetMove.{granted, asked, ask_of, answers, given, change_held}
 use Rattle.lt_modes.specs.declared.event.Event.TheVariants as event
 use Rattle.lt_modes.specs.Taking.{take_body, arrive}
-use Rattle.lt_modes.specs.Modes.{Modes}
 use Rattle.lt_modes.specs.declared.parts.Link.{Link}
-use Rattle.lt_modes.specs.State.{Letter, Body, AskBody, TellBody, CopyBody, TokenBody, FreezeBody}
-use Rattle.lt_modes.specs.Held.{count_of, take_lock}
 use Rattle.lt_modes.specs.Fits.{ask_if}
-use Rattle.lt_modes.specs.Routing.{learn}
-use Rattle.std.specs.Prelude.{fold, filter_map, nat_lt}
 use Rattle.lt_modes.specs.declared.stamp.Stamp.{Stamp}
 use Rattle.lt_modes.specs.declared.ask.Ask.{Ask}
-use Rattle.lt_modes.specs.State.{SetState, Desk, Entry}
-use Rattle.lt_modes.specs.Made.{Made, then_do}
-use Rattle.lt_modes.specs.Places.{places_from, cons_if}
-use Rattle.lt_modes.specs.Serving.{queue_of, next_service, next_move, ask_at, serve, serve_one, serve_local, serve_copy, serve_step, serve_up_to, owed_at, put_queue}
-use Rattle.lt_modes.specs.Freezing.{freeze, freeze_at, targets, is_target, frozen_by}
+use Rattle.lt_modes.specs.Freezing.{freeze}
 use Rattle.lt_modes.specs.HandingOver.{hand_over, hand_over_to, hand_over_for}
-use Rattle.lt_modes.specs.Telling.{attend}
-use Rattle.lt_core.specs.Bound.{nodes_of}
-
--- so many letters and event lines at most
-abbrev AtMost : ℕ → Made → Type 0
-AtMost n made = (length made.posts ≤ n) × (length made.events ≤ n)
-
-most_then : (m n : ℕ) (made : Made) (rule : SetState → Made) → AtMost m made → AtMost n (rule made.state) → AtMost (m + n) (then_do made rule)
-most_then m n made rule a b = (
-  omega (arith, a.0, b.0, length-append made.posts (rule made.state).posts),
-  omega (arith, a.1, b.1, length-append made.events (rule made.state).events),
-)
-
-most_one : (set : ℕ) (stamp : Stamp) (k : ℕ) (s : SetState) (b : Bool) → AtMost 1 (if b then serve_local set k s else serve_copy set stamp k (ask_at s k) s)
-most_one set stamp k s true = (omega arith, omega arith)
-most_one set stamp k s false = (omega arith, omega arith)
-
-most_step : (n set : ℕ) (stamp : Stamp) (s : SetState) (pick : Option ℕ) (again : (t : SetState) → AtMost n (serve_up_to n set stamp t))
-    → AtMost (1 + n) (serve_step set stamp (serve_up_to n set stamp) s pick)
-most_step n set stamp s None again = (omega arith, omega arith)
-most_step n set stamp s (Some k) again =
-    most_then 1 n (serve_one set stamp k s) (serve_up_to n set stamp) (most_one set stamp k s ((ask_at s k).node == stamp.node)) (again (serve_one set stamp k s).state)
-
-pub most_served : (n set : ℕ) (stamp : Stamp) (s : SetState) → AtMost n (serve_up_to n set stamp s)
-most_served zero set stamp s = (omega arith, omega arith)
-most_served (suc n) set stamp s =
-    let m = most_step n set stamp s (next_service stamp.node s) (most_served n set stamp) in
-    (omega (arith, m.0), omega (arith, m.1))
-
--- the number of entries doesn't change
-length_set : (es : List Entry) (x : ℕ) (e : Entry) → length (slice_set es x e) ≡ length es
-length_set [] x e = refl
-length_set (f ∷ es) zero e = refl
-length_set (f ∷ es) (suc x) e = ap suc (length_set es x e)
-
-nodes_put : (q : List Ask) (d : Option Desk) → nodes_of (put_queue q d) ≡ nodes_of d
-nodes_put q None = refl
-nodes_put q (Some d) = refl
-
-nodes_owed : (ask : Ask) (k : ℕ) (d : Option Desk) → nodes_of (owed_at ask k d) ≡ nodes_of d
-nodes_owed ask k None = refl
-nodes_owed ask k (Some d) = length_set d.entries ask.node _
-
-nodes_one : (set : ℕ) (stamp : Stamp) (k : ℕ) (s : SetState) (b : Bool) → nodes_of (if b then serve_local set k s else serve_copy set stamp k (ask_at s k) s).state.desk ≡ nodes_of s.desk
-nodes_one set stamp k s true = nodes_put (remove (queue_of s) k) s.desk
-nodes_one set stamp k s false = nodes_owed (ask_at s k) k s.desk
-
-nodes_step : (n set : ℕ) (stamp : Stamp) (s : SetState) (pick : Option ℕ) (again : (t : SetState) → nodes_of (serve_up_to n set stamp t).state.desk ≡ nodes_of t.desk)
-    → nodes_of (serve_step set stamp (serve_up_to n set stamp) s pick).state.desk ≡ nodes_of s.desk
-nodes_step n set stamp s None again = refl
-nodes_step n set stamp s (Some k) again = again (serve_one set stamp k s).state ∙ nodes_one set stamp k s ((ask_at s k).node == stamp.node)
-
-nodes_served : (n set : ℕ) (stamp : Stamp) (s : SetState) → nodes_of (serve_up_to n set stamp s).state.desk ≡ nodes_of s.desk
-nodes_served zero set stamp s = refl
-nodes_served (suc n) set stamp s = nodes_step n set stamp s (next_service stamp.node s) (nodes_served n set stamp)
-
-few_if : (b : Bool) (k : ℕ) (xs : List ℕ) → length (cons_if b k xs) ≤ length xs + 1
-few_if true k xs = omega arith
-few_if false k xs = omega arith
-
-few_places : (test : ℕ → Entry → Bool) (k : ℕ) (es : List Entry) → length (places_from test k es) ≤ length es
-few_places test k [] = omega arith
-few_places test k (e ∷ es) = omega (arith, few_if (test k e) k (places_from test (k + 1) es), few_places test (k + 1) es)
-
-most_frozen : (set : ℕ) (stamp : Stamp) (s : SetState) (d : Option Desk) → AtMost (nodes_of d) (freeze_at set stamp s d)
-most_frozen set stamp s None = (omega arith, omega arith)
-most_frozen set stamp s (Some d) =
-    let told = targets stamp.node (frozen_by d.queue) d in
-    let few : length told ≤ length d.entries = few_places (is_target stamp.node (frozen_by d.queue)) 0 d.entries in
-    (subst (λ n. n ≤ length d.entries) (sym (length-map told _)) few, subst (λ n. n ≤ length d.entries) (sym (length-map told _)) few)
 
 most_to : (set : ℕ) (stamp : Stamp) (s : SetState) (v : ℕ) (d : Option Desk) → AtMost 1 (hand_over_to set stamp s v d)
 most_to set stamp s v None = (omega arith, omega arith)

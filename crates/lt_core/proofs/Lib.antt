@@ -6,3 +6,4 @@ pub mod OrderLemmas
 pub mod BoundLemmas
 pub mod FitsLemmas
 pub mod PremiseLemmas
+pub mod BoundServices

@@ -1,102 +1,27 @@
 -- A line that is not bad is spelled as what it says.
-use Rattle.std.proofs.Common.{◌≡◌, ℕ, ◌^◌, ◌&&◌, ◌⊎◌, cond, not, Bool, true, false, List, [], ◌∷◌, length, map, fold, codes, nat_lt, nat_le, get_or, Option, Some, None, refl, sym, ap, ◌∙◌, inl, inr, arith, rules}
+use Rattle.lt_journal.proofs.FoundWords.{same_word, IsSpelled, by_word, number_found, client_found, set_found, node_found, mode_found, bool_found}
+use Rattle.std.proofs.Common.{◌≡◌, ℕ, cond, Bool, true, false, List, [], ◌∷◌, map, fold, codes, Option, Some, None, refl, sym, ap, ◌∙◌, inl, inr, rules}
 use Rattle.std.specs.Prelude.{if◌then◌else◌}
 use Rattle.std.specs.Option.{option_map}
-use Rattle.std.specs.Fmt.{decimal}
 use Rattle.std.specs.Str.{bytes_eq}
-use Rattle.std.specs.Str.Parse.{digits_value}
-use Rattle.std.proofs.lemmas.Bool.{cases_Bool, not-true, and_parts, leb-true, ltb-true, ne_eqb}
-use Rattle.std.proofs.lemmas.List.Quantifiers.{position-Some}
-use Rattle.std.proofs.lemmas.Option.{slice_get-get_or}
-use Rattle.std.proofs.lemmas.Slice.Eq.{bytes_eq-Decides}
+use Rattle.std.proofs.lemmas.Bool.{cases_Bool}
 use Rattle.lt_modes.specs.declared.mode.Mode.{Mode}
-use Rattle.lt_modes.specs.declared.mode.Mode.TheVariants.{IntentionRead, Read, Upgrade, IntentionWrite, Write}
 use Rattle.lt_modes.specs.declared.moves.Step.{Step}
 use Rattle.lt_modes.specs.declared.moves.Step.TheVariants.{Act, Take}
 use Rattle.lt_modes.specs.Modes.{Modes, no_modes, with_mode, word_of, mode_of}
-use Rattle.lt_modes.specs.Script.{ScriptData, SetData, ClientData, set_name, client_name, name_of_set, name_of_client}
-use Rattle.lt_journal.specs.Words.{all_modes, step_words, words_of_modes, word_of_bool, spaced, line_words}
-use Rattle.lt_text.specs.Number.{exact_number, is_numeral, has_leading_zero, are_digits}
-use Rattle.lt_text.proofs.NumberLemmas.{decimal_value}
+use Rattle.lt_modes.specs.Script.{ScriptData, set_name, client_name}
+use Rattle.lt_journal.specs.Words.{all_modes, step_words, words_of_modes, spaced}
+use Rattle.lt_text.specs.Number.{exact_number}
 use Rattle.lt_script.specs.Script.{set_number, client_number}
 use Rattle.lt_journal.specs.declared.line.Line.{Line}
 use Rattle.lt_journal.specs.declared.line.Line.TheVariants.{Waiting, Bad}
 use Rattle.lt_journal.specs.declared.lock.Lock.{Lock}
-use Rattle.lt_journal.specs.Grammar.{line_of, read_line, line_of_two, line_of_four, line_of_five, line_of_many, line_of_freeze, lock_line, lock_and_line, node_of, below, step_of, lock_of, lock_by, bool_of, modes_of, with_words, says_none, end_line, cut_line, busy_line, token_line, owner_line, move_line, drop_line, copy_line, try_line, change_line, held_line, freeze_line}
+use Rattle.lt_journal.specs.Grammar.{line_of, read_line, line_of_two, line_of_four, line_of_five, line_of_many, line_of_freeze, lock_line, lock_and_line, node_of, step_of, lock_of, lock_by, bool_of, modes_of, with_words, says_none, end_line, cut_line, busy_line, token_line, owner_line, move_line, drop_line, copy_line, try_line, change_line, held_line, freeze_line}
 use Rattle.lt_journal.specs.Text.{IsAsWritten}
 use Rattle.lt_journal.proofs.Spelled.{has_words, Both, both}
 use Rattle.lt_journal.proofs.Plain.{spaced_same}
 use Rattle.lt_text.specs.Text.{fields}
 use Rattle.lt_text.proofs.TextLemmas.{spaced_fields}
-
-same_word : (word other : List ℕ) → bytes_eq word other ≡ true → word ≡ other
-same_word word other e = (bytes_eq-Decides word other).0 e
-
--- the line is bad, or its words are these
-abbrev IsSpelled : ScriptData → List (List ℕ) → Line → Type 0
-IsSpelled script words x = (x ≡ Bad) ⊎ (line_words script x ≡ words)
-
-by_word : (P : Line → Type 0) (word other : List ℕ) (x y : Line) → (word ≡ other → P x) → P y → P (cond (bytes_eq word other) x y)
-by_word P word other x y f g = elim (cases_Bool (bytes_eq word other)) [
-  | inl e ↦ rw e (f (same_word word other e))
-  | inr e ↦ rw e g
-]
-
-number_found : (word : List ℕ) (n : ℕ) → exact_number word ≡ Some n → decimal n ≡ word
-number_found word n e = elim (cases_Bool (is_numeral word 10 && not (has_leading_zero word) && nat_lt (digits_value 10 word) (2 ^ 32))) [
-  | inl is ↦
-      let value : digits_value 10 word ≡ n = let h = rw is at e in cc in
-      let outer = and_parts (is_numeral word 10 && not (has_leading_zero word)) (nat_lt (digits_value 10 word) (2 ^ 32)) is in
-      let numeral = and_parts (is_numeral word 10) (not (has_leading_zero word)) outer.0 in
-      let parts = and_parts (nat_lt 0 (length word) && nat_le (length word) 10) (are_digits word) numeral.0 in
-      let sizes = and_parts (nat_lt 0 (length word)) (nat_le (length word) 10) parts.0 in
-      let some = ltb-true 0 (length word) sizes.0 in
-      sym (decimal_value word (ne_eqb (length word) 0 (λ h. omega (arith, h, some))) (leb-true (length word) 10 sizes.1) parts.1 (not-true (has_leading_zero word) numeral.1)
-      ∙ ap decimal value)
-  | inr other ↦ absurd (let h = rw other at e in cc)
-]
-
-client_found : (script : ScriptData) (word : List ℕ) (k : ℕ) → client_number script word ≡ Some k → client_name script k ≡ word
-client_found script word k e =
-    let none : ClientData = record { name = []; node = 0 } in
-    let found = position-Some (λ (x : ClientData). bytes_eq x.name word) script.clients k none e in
-    ap name_of_client (slice_get-get_or script.clients k none found.0) ∙ same_word (get_or script.clients k none).name word found.1
-
-set_found : (script : ScriptData) (word : List ℕ) (k : ℕ) → set_number script word ≡ Some k → set_name script k ≡ word
-set_found script word k e =
-    let none : SetData = record { name = []; family = 0 } in
-    let found = position-Some (λ (x : SetData). bytes_eq x.name word) script.sets k none e in
-    ap name_of_set (slice_get-get_or script.sets k none found.0) ∙ same_word (get_or script.sets k none).name word found.1
-
-node_found : (script : ScriptData) (word : List ℕ) (k : ℕ) → node_of script word ≡ Some k → decimal k ≡ word
-node_found script word k e = number_found word k (from (exact_number word) e)
-  where
-    from : (o : Option ℕ) → below script.nodes o ≡ Some k → o ≡ Some k
-    from None h = absurd (cc)
-    from (Some n) h = elim (cases_Bool (nat_lt n script.nodes)) [
-      | inl same ↦ let g = rw same at h in g
-      | inr other ↦ absurd (let g = rw other at h in cc)
-    ]
-
-mode_found : (word : List ℕ) (mode : Mode) → mode_of word ≡ Some mode → word_of mode ≡ word
-mode_found word mode e =
-    pick IntentionRead _ (pick Read _ (pick Upgrade _ (pick IntentionWrite _ (pick Write None (λ h. absurd (cc)))))) e
-  where
-    pick : (m : Mode) (later : Option Mode) → (later ≡ Some mode → word_of mode ≡ word) → cond (bytes_eq word (word_of m)) (Some m) later ≡ Some mode → word_of mode ≡ word
-    pick m later f h = elim (cases_Bool (bytes_eq word (word_of m))) [
-      | inl same ↦ let g : m ≡ mode = let k = rw same at h in cc in sym (ap word_of g) ∙ sym (same_word word (word_of m) same)
-      | inr other ↦ f (let g = rw other at h in g)
-    ]
-
-bool_found : (word : List ℕ) (got : Bool) → bool_of word ≡ Some got → word_of_bool got ≡ word
-bool_found word got e =
-    pick true _ (pick false None (λ h. absurd (cc))) e
-  where
-    pick : (b : Bool) (later : Option Bool) → (later ≡ Some got → word_of_bool got ≡ word) → cond (bytes_eq word (word_of_bool b)) (Some b) later ≡ Some got → word_of_bool got ≡ word
-    pick b later f h = elim (cases_Bool (bytes_eq word (word_of_bool b))) [
-      | inl same ↦ let g : b ≡ got = let k = rw same at h in cc in sym (ap word_of_bool g) ∙ sym (same_word word (word_of_bool b) same)
-      | inr other ↦ f (let g = rw other at h in g)
-    ]
 
 -- which of the modes are picked
 abbrev Picks : List Mode → Type 0

@@ -21,7 +21,8 @@ use Rattle.lt_modes.specs.SetMove.{answers, given, granted, ask_of, asked, locke
 use Rattle.lt_runs.specs.Facts.{times_parked}
 use Rattle.lt_model.specs.Standing.{IsMadeBy}
 use Rattle.lt_model.proofs.Effects.{Fact, HoldsOf, ActEffects, quiet_made, both}
-use Rattle.lt_model.proofs.StandingEffects.{Stands, stands, standing_acts, asks-stands}
+use Rattle.lt_model.proofs.StandingEffects.{standing_acts, asks-stands}
+use Rattle.lt_model.proofs.StandingParts.{Stands, stands}
 use Rattle.lt_ledgers.proofs.OwnSteps.{route_same}
 use Rattle.lt_accounts.proofs.RowTotals.{row_count, total, total_taken, total_dropped}
 use Rattle.lt_kept.proofs.ClientCounts.{each_some, some_taken, some_dropped, locks_added, locks_fewer, locks_dropped, asks_pushed}

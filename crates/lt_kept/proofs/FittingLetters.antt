@@ -23,8 +23,8 @@ use Rattle.lt_accounts.proofs.Asks.{times_in-some, same_ask-itself}
 use Rattle.lt_model.proofs.HomesSound.{sound_ask}
 use Rattle.lt_model.proofs.Letters.{mail_weight-at}
 use Rattle.lt_lists.proofs.Members.{list_any-at}
-use Rattle.lt_model.proofs.PathsQuiet.{link_named}
-use Rattle.lt_model.proofs.StandingEffects.{places_weight}
+use Rattle.lt_model.proofs.PathsRoutes.{link_named}
+use Rattle.lt_model.proofs.StandingParts.{places_weight}
 use Rattle.lt_model.proofs.StandingInRuns.{stands_once}
 use Rattle.lt_lists.proofs.Sums.{sum_below-at}
 use Rattle.lt_model.proofs.KeptSets.{kept_stands}

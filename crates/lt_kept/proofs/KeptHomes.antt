@@ -32,7 +32,7 @@ use Rattle.lt_model.proofs.Letters.{all_sent, before_take, mail_weight-at}
 use Rattle.lt_model.proofs.PathsMove.{has_mail_parts}
 use Rattle.lt_lists.proofs.Puts.{put-same, put-other}
 use Rattle.lt_lists.proofs.AllLemmas.{all_both, all_weaker}
-use Rattle.lt_model.proofs.StandingEffects.{places_weight}
+use Rattle.lt_model.proofs.StandingParts.{places_weight}
 use Rattle.lt_model.proofs.StandingInRuns.{stands_once}
 use Rattle.lt_lists.proofs.Sums.{sum_below-at}
 use Rattle.lt_lists.proofs.Members.{all_of}

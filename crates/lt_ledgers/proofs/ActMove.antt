@@ -19,7 +19,7 @@ use Rattle.lt_model.specs.MomentLaws.{begun}
 use Rattle.lt_model.proofs.NodeMoves.{obey-stamped}
 use Rattle.lt_model.proofs.NodeEffects.{both_of_set, IsOnce, obey_by_effects}
 use Rattle.lt_model.proofs.BeginsMove.{begun_state}
-use Rattle.lt_model.proofs.StandingEffects.{Stands, stands}
+use Rattle.lt_model.proofs.StandingParts.{Stands, stands}
 use Rattle.lt_model.proofs.StandingBegins.{elsewhere, unanswered, stands_before, none_in_hand, stands_of_set}
 use Rattle.lt_model.proofs.Effects.{both}
 use Rattle.lt_ledgers.specs.LedgerLaws.{LedgersKept}

@@ -28,7 +28,8 @@ use Rattle.lt_model.specs.OnWay.{DeskIs, copies_to}
 use Rattle.lt_model.specs.NewsRules.{frozen_desk}
 use Rattle.lt_model.specs.Invariant.{DeskKept}
 use Rattle.lt_model.proofs.AccountRules.{serves_by_rule}
-use Rattle.lt_model.proofs.PathsQuiet.{length-map_from, reversed_desk}
+use Rattle.lt_model.proofs.PathsQuiet.{length-map_from}
+use Rattle.lt_model.proofs.PathsRoutes.{reversed_desk}
 use Rattle.lt_model.proofs.Effects.{route_ways, next_service-within}
 use Rattle.lt_ledgers.specs.OneEffect.{after_effect, copied, IsWaiting}
 use Rattle.lt_ledgers.proofs.AfterEffect.{state_here, part_stays, comes_still, comes_sent}

@@ -24,7 +24,7 @@ use Rattle.lt_model.proofs.Letters.{mail_weight-at, all_sent}
 use Rattle.lt_accounts.proofs.Asks.{times_in-some, times_in-found, times_in-once, same_ask-itself}
 use Rattle.lt_lists.proofs.Puts.{put-same}
 use Rattle.lt_model.proofs.SmallSteps.{moves_in_steps}
-use Rattle.lt_model.proofs.StandingEffects.{places_weight, places_sent, Stands}
+use Rattle.lt_model.proofs.StandingParts.{places_weight, places_sent, Stands}
 use Rattle.lt_model.proofs.StandingBegins.{elsewhere, unanswered, only_here}
 use Rattle.lt_model.proofs.Gathered.{copies_are_on_way}
 use Rattle.lt_ledgers.specs.OneEffect.{after_effect, IsWaiting}

@@ -26,7 +26,8 @@ use Rattle.lt_model.specs.Moments.{Acting}
 use Rattle.lt_model.specs.OnWay.{copies_to}
 use Rattle.lt_accounts.proofs.Asks.{times_in-some}
 use Rattle.lt_model.proofs.Effects.{both, Fact, HoldsOf, EndEffects, ActEffects, ByEffects, route_ways, acts_by_effects}
-use Rattle.lt_model.proofs.StandingEffects.{Stands, stands, standing_ends, standing_acts}
+use Rattle.lt_model.proofs.StandingEffects.{standing_ends, standing_acts}
+use Rattle.lt_model.proofs.StandingParts.{Stands, stands}
 use Rattle.lt_model.proofs.StandingBegins.{elsewhere, unanswered, only_here}
 use Rattle.lt_ledgers.specs.OneEffect.{after_effect, IsWaiting}
 use Rattle.lt_ledgers.proofs.AfterEffect.{clock_stays}

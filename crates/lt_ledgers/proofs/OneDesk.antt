@@ -14,7 +14,7 @@ use Rattle.lt_model.specs.PathEffects.{token_weight}
 use Rattle.lt_lists.proofs.Sums.{sum_below-at, sum_below-two, two_places}
 use Rattle.lt_model.proofs.Letters.{mail_weight-at}
 use Rattle.lt_model.proofs.TokenComes.{desk_somewhere}
-use Rattle.lt_model.proofs.PathsQuiet.{link_named}
+use Rattle.lt_model.proofs.PathsRoutes.{link_named}
 use Rattle.lt_model.proofs.PathsWorld.{weighs_tokens}
 use Rattle.std.proofs.lemmas.List.Sums.{get_or-le-sum_by}
 use Rattle.lt_lists.proofs.Members.{some_equal}

@@ -28,7 +28,8 @@ use Rattle.lt_accounts.specs.AccountPlay.{AllKept, Wait, Grant, Unlock, Drop, An
 use Rattle.lt_model.specs.AccountRules.{own_account, IsLocallyFree, account_with}
 use Rattle.lt_accounts.specs.News.{NewsKept}
 use Rattle.lt_model.specs.Invariant.{DeskKept}
-use Rattle.lt_model.proofs.AccountRules.{grants_by_rule, rules_count}
+use Rattle.lt_model.proofs.AccountRules.{rules_count}
+use Rattle.lt_model.proofs.CommandRules.{grants_by_rule}
 use Rattle.lt_model.proofs.Effects.{route_ways}
 use Rattle.lt_ledgers.specs.OneEffect.{after_effect}
 use Rattle.lt_accounts.proofs.AllKept.{one_changes}

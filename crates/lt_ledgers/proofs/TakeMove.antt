@@ -23,12 +23,12 @@ use Rattle.lt_model.specs.AccountRules.{IsParkedOf}
 use Rattle.lt_model.specs.Paths.{Paths, LetterOnPath, BodyOnPath}
 use Rattle.lt_model.specs.Standing.{AsksStand}
 use Rattle.lt_model.specs.MomentLaws.{begun}
-use Rattle.lt_model.proofs.PathsQuiet.{link_named}
+use Rattle.lt_model.proofs.PathsRoutes.{link_named}
 use Rattle.lt_lists.proofs.Puts.{put-same}
 use Rattle.lt_accounts.proofs.Asks.{same_ask-itself}
 use Rattle.lt_model.proofs.Effects.{both, HoldsOf, EndEffects, take_by_effects}
 use Rattle.lt_model.proofs.BeginsMove.{begun_state}
-use Rattle.lt_model.proofs.StandingEffects.{places_weight, stands}
+use Rattle.lt_model.proofs.StandingParts.{places_weight, stands}
 use Rattle.lt_model.proofs.StandingBegins.{stands_arrived, LetterTaken, letter_taken, elsewhere, unanswered}
 use Rattle.lt_ledgers.specs.LedgerLaws.{LedgersKept}
 use Rattle.lt_ledgers.proofs.InHand.{InHand, in_hand}

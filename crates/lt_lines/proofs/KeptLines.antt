@@ -15,13 +15,12 @@ use Rattle.lt_model.specs.Homes.{Homes, IsRowAtHome}
 use Rattle.lt_runs.specs.World.{World, world_after}
 use Rattle.lt_accounts.proofs.Asks.{same_mode-true}
 use Rattle.lt_model.proofs.HomesMove.{homes_in_runs}
-use Rattle.lt_kept.proofs.KeptRuns.{locks_never_conflict}
+use Rattle.lt_kept.proofs.KeptRuns.{locks_never_conflict, kept_in_runs, first_waiter_in_runs}
 use Rattle.lt_accounts.proofs.RowTotals.{row_count, total}
 use Rattle.lt_lines.proofs.LineCounts.{same_holding-itself}
 use Rattle.std.proofs.lemmas.List.Quantifiers.{position-Some}
 use Rattle.lt_lists.proofs.Sums.{none_found, sum_by-zero}
 use Rattle.lt_runs.specs.Facts.{state_at}
-use Rattle.lt_kept.proofs.KeptRuns.{kept_in_runs, first_waiter_in_runs}
 use Rattle.lt_rest.proofs.BarredByLines.{barred_by_lines}
 use Rattle.lt_lines.proofs.HeldRuns.{LinesHold, held_in_runs}
 use Rattle.lt_lines.proofs.WaitRuns.{WaitsTold, waits_in_runs}

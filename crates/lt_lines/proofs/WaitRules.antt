@@ -23,7 +23,8 @@ use Rattle.lt_runs.specs.Holdings.{Holding, wanted_after}
 use Rattle.lt_accounts.proofs.Asks.{times_in-some}
 use Rattle.lt_accounts.proofs.Unanswered.{without_only, without_kept, without_gone}
 use Rattle.lt_model.proofs.Effects.{EndEffects, next_service-within, both}
-use Rattle.lt_model.proofs.StandingEffects.{stands, found_here}
+use Rattle.lt_model.proofs.StandingEffects.{found_here}
+use Rattle.lt_model.proofs.StandingParts.{stands}
 use Rattle.lt_ledgers.proofs.OwnSteps.{route_same}
 use Rattle.lt_kept.proofs.ClientEffects.{is_asks, clients, one_of_client, clients_ends}
 use Rattle.lt_lines.proofs.LineRules.{route_says}

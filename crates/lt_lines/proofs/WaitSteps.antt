@@ -31,7 +31,8 @@ use Rattle.lt_model.proofs.HomesMove.{IsMaker, maker, next_targets, related_belo
 use Rattle.lt_model.proofs.KeptSets.{kept_stands}
 use Rattle.lt_model.proofs.NodeEffects.{once_or_aside}
 use Rattle.lt_model.proofs.PathsMove.{has_mail_parts}
-use Rattle.lt_model.proofs.StandingEffects.{Stands, stands, stands_later}
+use Rattle.lt_model.proofs.StandingEffects.{stands_later}
+use Rattle.lt_model.proofs.StandingParts.{Stands, stands}
 use Rattle.lt_model.proofs.StandingBegins.{stands_arrived, elsewhere, unanswered, only_here, stands_before, none_in_hand}
 use Rattle.lt_model.proofs.TokenComes.{desk_somewhere}
 use Rattle.lt_ledgers.proofs.OwnSteps.{route_same}

@@ -1,22 +1,21 @@
 -- What the effects of a move do to the number of locks and of asks that wait for an answer.
-use Rattle.std.proofs.Common.{◌≡◌, ℕ, ◌+◌, ◌<◌, ◌≤◌, List, [], ◌∷◌, ◌++◌, length, map, Option, Some, None, Bool, true, false, refl, ap, arith, set as set_at, take as take_first, drop as drop_front, length-append}
-use Rattle.std.specs.Prelude.{◌==◌, ◌&&◌, not, nat_lt, if◌then◌else◌, filter, fold, remove, sum_by, slice_index_or}
+use Rattle.lt_model.proofs.CountedLocks.{asks_parked, asks_in, asks_said, asks_carried, asks_sent, Counted, counted, joined_count, less_locks, some_locks, given_locks, answer_adds}
+use Rattle.std.proofs.Common.{◌≡◌, ℕ, ◌+◌, ◌<◌, ◌≤◌, List, [], ◌∷◌, ◌++◌, length, map, Option, Some, None, Bool, true, false, refl, ap, arith, take as take_first, drop as drop_front, length-append}
+use Rattle.std.specs.Prelude.{◌==◌, ◌&&◌, not, nat_lt, if◌then◌else◌, fold, remove, sum_by}
 use Rattle.std.proofs.lemmas.List.{take-append-drop}
 use Rattle.std.proofs.lemmas.List.Edits.{length-remove}
-use Rattle.std.proofs.lemmas.List.Quantifiers.{position-Some}
-use Rattle.std.proofs.lemmas.List.Sums.{sum_by-append, sum_by-cons, sum_by_push, sum_by-set, sum_by-remove}
+use Rattle.std.proofs.lemmas.List.Sums.{sum_by-cons, sum_by_push}
 use Rattle.lt_modes.specs.declared.mode.Mode.{Mode}
 use Rattle.lt_modes.specs.declared.stamp.Stamp.{Stamp}
 use Rattle.lt_modes.specs.declared.ask.Ask.{Ask}
-use Rattle.lt_modes.specs.declared.parts.Row.{Row}
 use Rattle.lt_modes.specs.declared.parts.Link.{Link}
 use Rattle.lt_modes.specs.declared.event.Event.TheVariants.{Wait, Freeze}
 use Rattle.lt_modes.specs.Modes.{Modes, is_taking}
-use Rattle.lt_modes.specs.Held.{is_of, is_row_of, row_place, no_row, one_more, one_less, add_at, add_lock, take_at, take_lock, locks_in, held_modes}
+use Rattle.lt_modes.specs.Held.{is_of, locks_in, held_modes}
 use Rattle.lt_modes.specs.State.{SetState, Desk, Body, AskBody, TellBody, CopyBody, TokenBody, FreezeBody, Letter, Parked, ParkedAsk, ParkedTell}
-use Rattle.lt_modes.specs.Made.{Made, Post, silent, then_do, post_of}
+use Rattle.lt_modes.specs.Made.{Post, silent, post_of}
 use Rattle.lt_modes.specs.Queue.{entered, place}
-use Rattle.lt_modes.specs.Serving.{queue_of, queue_of_desk, give_up, answer_by, answer_event, ask_at, serve_one, serve_local, serve_copy}
+use Rattle.lt_modes.specs.Serving.{queue_of, queue_of_desk, ask_at, serve_one, serve_local, serve_copy}
 use Rattle.lt_modes.specs.Freezing.{freeze, freeze_at, frozen_by, targets, number_after}
 use Rattle.lt_modes.specs.HandingOver.{hand_over_to}
 use Rattle.lt_modes.specs.Routing.{Way, Parks, Goes, learn, dealt, body_of, reversed, sent_on, route}
@@ -26,105 +25,7 @@ use Rattle.lt_modes.specs.SetMove.{ask_of, asked, dropped, take, drop}
 use Rattle.lt_modes.proofs.ServingLemmas.{queue_of-serve_one}
 use Rattle.lt_model.specs.AddedLocks.{adds, added_by}
 use Rattle.lt_model.proofs.Effects.{route_ways}
-use Rattle.lt_model.proofs.RuleEffects.{Between, EndRules, ActRules, finish_rule, take_rule}
-
--- whether an ask is parked
-abbrev pub asks_parked : Parked → ℕ
-asks_parked (ParkedAsk ask) = 1
-asks_parked (ParkedTell tell) = 0
-
--- the asks that are parked, or in the queue of the desk
-abbrev pub asks_in : SetState → ℕ
-asks_in t = sum_by asks_parked t.parked + length (queue_of t)
-
--- the asks in a letter
-abbrev pub asks_said : Body → ℕ
-asks_said (AskBody ask marked) = 1
-asks_said (TellBody tell) = 0
-asks_said (CopyBody ask) = 1
-asks_said (TokenBody desk) = length desk.queue
-asks_said (FreezeBody number modes) = 0
-
-abbrev pub asks_carried : Letter → ℕ
-asks_carried letter = asks_said letter.body
-
-abbrev pub asks_sent : List Post → ℕ
-asks_sent posts = sum_by (λ (post : Post). asks_carried post.letter) posts
-
--- each line that adds a lock takes an ask away, but for this many; and each new lock has its line
-pub record Counted (more : ℕ) (t : SetState) (m : Made) : Type 0 where
-  pub asks : added_by m.events + (asks_in m.state + asks_sent m.posts) ≤ asks_in t + more
-  pub locks : locks_in m.state.held ≤ locks_in t.held + added_by m.events
-
-abbrev pub counted : ℕ → Between
-counted more t m = Counted more t m
-
-pub joined_count : (more : ℕ) (t : SetState) (m : Made) (rule : SetState → Made) → Counted more t m → Counted 0 m.state (rule m.state)
-    → Counted more t (then_do m rule)
-joined_count more t m rule first second =
-    let n = rule m.state in
-    let lines = sum_by-append adds m.events n.events in
-    let letters = sum_by-append (λ (post : Post). asks_carried post.letter) m.posts n.posts in
-    record {
-      asks = omega (arith, lines, letters, first.asks, second.asks);
-      locks = omega (arith, lines, first.locks, second.locks);
-    }
-
--- rows
-
-more_locks : (client : ℕ) (mode : Mode) (rows : List Row) → locks_in (add_lock rows client mode) ≤ locks_in rows + 1
-more_locks client mode rows = by_place (row_place rows client mode) refl
-  where
-    by_place : (o : Option ℕ) → row_place rows client mode ≡ o → locks_in (add_at rows client mode o) ≤ locks_in rows + 1
-    by_place None e = omega (arith, sum_by_push (λ (row : Row). row.count) rows (record { client = client; mode = mode; count = 1 }))
-    by_place (Some k) e =
-        omega (
-          arith,
-          sum_by-set (λ (row : Row). row.count) rows k (one_more (slice_index_or rows k no_row)) no_row
-              (position-Some (is_row_of client mode) rows k no_row e).0,
-        )
-
-less_locks : (client : ℕ) (mode : Mode) (rows : List Row) → locks_in (take_lock rows client mode) ≤ locks_in rows
-less_locks client mode rows = by_place (row_place rows client mode) refl
-  where
-    by_count : (k : ℕ) → k < length rows → (last : Bool)
-        → locks_in (if last then remove rows k else set_at rows k (one_less (slice_index_or rows k no_row))) ≤ locks_in rows
-    by_count k within true = omega (arith, sum_by-remove (λ (row : Row). row.count) rows k no_row within)
-    by_count k within false =
-        omega (arith, sum_by-set (λ (row : Row). row.count) rows k (one_less (slice_index_or rows k no_row)) no_row within)
-
-    by_place : (o : Option ℕ) → row_place rows client mode ≡ o → locks_in (take_at rows o) ≤ locks_in rows
-    by_place None e = omega arith
-    by_place (Some k) e =
-        by_count k (position-Some (is_row_of client mode) rows k no_row e).0 ((slice_index_or rows k no_row).count == 1)
-
-give_up_locks : (client : ℕ) (gives_up : Option Mode) (rows : List Row) → locks_in (give_up rows client gives_up) ≤ locks_in rows
-give_up_locks client None rows = omega arith
-give_up_locks client (Some mode) rows = less_locks client mode rows
-
-pub some_locks : (test : Row → Bool) (rows : List Row) → locks_in (filter test rows) ≤ locks_in rows
-some_locks test [] = omega arith
-some_locks test (row ∷ rest) = by_test (test row) (some_locks test rest)
-  where
-    by_test : (kept : Bool) → locks_in (filter test rest) ≤ locks_in rest
-        → locks_in (if kept then row ∷ filter test rest else filter test rest) ≤ locks_in (row ∷ rest)
-    by_test true h =
-        omega (arith, h, sum_by-cons (λ (r : Row). r.count) row (filter test rest), sum_by-cons (λ (r : Row). r.count) row rest)
-    by_test false h = omega (arith, h, sum_by-cons (λ (r : Row). r.count) row rest)
-
-given_locks : (client : ℕ) (mode : Mode) (gives_up : Option Mode) (rows : List Row)
-    → locks_in (add_lock (give_up rows client gives_up) client mode) ≤ locks_in rows + 1
-given_locks client mode gives_up rows =
-    omega (arith, more_locks client mode (give_up rows client gives_up), give_up_locks client gives_up rows)
-
-answer_adds : (set : ℕ) (ask : Ask) → added_by (answer_event set ask ∷ []) ≡ 1
-answer_adds set ask = by_choice ask.gives_up
-  where
-    by_choice : (gives_up : Option Mode) → added_by (answer_by set ask gives_up ∷ []) ≡ 1
-    by_choice None = refl
-    by_choice (Some mode) = refl
-
--- asks and tells on their way
+use Rattle.lt_model.proofs.RuleEffects.{EndRules, ActRules, finish_rule, take_rule}
 
 dealt_count : (desk : Desk) (item : Parked) → length (dealt desk item).queue ≤ length desk.queue + asks_parked item
 dealt_count desk (ParkedAsk ask) = enters desk.queue
@@ -191,8 +92,6 @@ route_count set stamp marked item t =
           locks = omega (arith, ap locks_in same.held);
         }
 
--- the end of a move
-
 serves_count : (set : ℕ) (stamp : Stamp) (t : SetState) (k : ℕ) → k < length (queue_of t) → Counted 0 t (serve_one set stamp k t)
 serves_count set stamp t k within = by_test ((ask_at t k).node == stamp.node) (queue_of-serve_one set stamp k t within)
   where
@@ -256,8 +155,6 @@ count_ends set stamp = record {
 pub finish_count : (set : ℕ) (stamp : Stamp) (t : SetState) → Counted 0 t (finish set stamp t)
 finish_count set stamp t = finish_rule set stamp (counted 0) (count_ends set stamp) t
 
--- commands
-
 asks_count : (set : ℕ) (stamp : Stamp) (client : ℕ) (mode : Mode) (gives_up : Option Mode) (t : SetState)
     → Counted 1 t (asked set stamp (ask_of stamp client mode gives_up t) t)
 asks_count set stamp client mode gives_up t =
@@ -289,8 +186,6 @@ drop_count set stamp other t =
       asks = omega (arith, ended.asks);
       locks = omega (arith, ended.locks, some_locks (λ row. not (is_of other row)) t.held);
     }
-
--- letters
 
 arrives_count : (stamp : Stamp) (letter : Letter) (t : SetState) → Counted (asks_said letter.body) t (arrive stamp letter t)
 arrives_count stamp letter t =

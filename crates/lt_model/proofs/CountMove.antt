@@ -27,7 +27,8 @@ use Rattle.lt_model.proofs.Letters.{mail_weight, IsCounted, mail_weight-sent, ma
 use Rattle.lt_lists.proofs.Puts.{put-same, put-other}
 use Rattle.lt_model.proofs.RuleEffects.{command_rules}
 use Rattle.lt_model.proofs.HomesMove.{next_targets, related_below, drop_count as dropped_by, step_drops}
-use Rattle.lt_model.proofs.CountEffects.{asks_in, asks_carried, asks_sent, Counted, some_locks, finish_count, count_acts, drop_count, take_count}
+use Rattle.lt_model.proofs.CountEffects.{finish_count, count_acts, drop_count, take_count}
+use Rattle.lt_model.proofs.CountedLocks.{asks_in, asks_carried, asks_sent, Counted, some_locks}
 
 -- the asks and the locks of a node, in all sets
 abbrev pub node_asks : ScriptData → NodeState → ℕ

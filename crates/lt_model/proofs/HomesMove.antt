@@ -30,7 +30,8 @@ use Rattle.lt_lists.proofs.Puts.{put-same, put-other}
 use Rattle.lt_model.proofs.PathsMove.{has_mail_parts}
 use Rattle.lt_model.proofs.ClocksGrow.{opened-node}
 use Rattle.lt_model.proofs.RuleEffects.{command_rules}
-use Rattle.lt_model.proofs.HomesEffects.{AreAtHome, MadeAtHome, at_home, said_both, said_nothing, home_acts, finish_home, drop_home, take_home}
+use Rattle.lt_model.proofs.HomesEffects.{home_acts, finish_home, drop_home, take_home}
+use Rattle.lt_model.proofs.HomesRows.{AreAtHome, MadeAtHome, at_home, said_both, said_nothing}
 
 abbrev pub IsNodeAtHome : ScriptData → ℕ → NodeState → Type 0
 IsNodeAtHome script q n = (s : ℕ) → IsStateAtHome script q (n.set s)

@@ -38,3 +38,10 @@ pub mod LinesInRuns
 pub mod NewsRules
 pub mod SmallSteps
 pub mod KeptSets
+pub mod HomesRows
+pub mod PathsRoutes
+pub mod StandingParts
+pub mod PathsGoing
+pub mod NoToken
+pub mod CommandRules
+pub mod CountedLocks

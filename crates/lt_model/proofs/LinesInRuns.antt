@@ -29,9 +29,9 @@ use Rattle.lt_lists.proofs.Members.{none_in}
 use Rattle.lt_model.proofs.PathsMove.{has_mail_parts, move_kept}
 use Rattle.lt_model.proofs.ClocksGrow.{clock_moves, other_clocks_stay, stamps_kept}
 use Rattle.lt_model.proofs.TimedMove.{timed_kept, timed_in_runs}
-use Rattle.lt_model.proofs.HomesEffects.{IsBodyWithin, IsPostWithin}
+use Rattle.lt_model.proofs.HomesRows.{IsBodyWithin, IsPostWithin}
 use Rattle.lt_model.proofs.HomesMove.{IsMoveAtHome, maker, step_home, homes_kept, homes_start}
-use Rattle.lt_model.proofs.CountEffects.{asks_carried}
+use Rattle.lt_model.proofs.CountedLocks.{asks_carried}
 use Rattle.lt_model.proofs.CountMove.{world_asks, world_locks, StepCounted, act_step_count, take_step_count, few_dropped, count_start}
 
 -- a world after this many moves, whose lines added this many locks

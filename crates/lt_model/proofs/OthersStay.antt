@@ -20,7 +20,7 @@ use Rattle.lt_lists.proofs.Sums.{sum_below-same}
 use Rattle.lt_model.proofs.Letters.{letters_to, letters_to-same, letters_to-other}
 use Rattle.lt_model.proofs.SentInMove.{take-sent}
 use Rattle.lt_lists.proofs.AllLemmas.{all_weaker}
-use Rattle.lt_model.proofs.PathsHandOver.{no_token_of_other, none_go}
+use Rattle.lt_model.proofs.NoToken.{no_token_of_other, none_go}
 use Rattle.lt_lists.proofs.Puts.{put-same, put-other}
 use Rattle.lt_model.proofs.NodeMoves.{IsBeside, touched-beside, obey-beside}
 

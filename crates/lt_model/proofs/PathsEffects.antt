@@ -1,7 +1,8 @@
 -- Each effect of a move on a set keeps the token's path.
 use Rattle.std.proofs.Common.{refl}
 use Rattle.lt_model.specs.PathEffects.{EffectsOnPath}
-use Rattle.lt_model.proofs.PathsQuiet.{route-quiet, serve-quiet, freeze-quiet, tell-quiet, learn_on_path, token_on_path}
+use Rattle.lt_model.proofs.PathsQuiet.{serve-quiet, freeze-quiet, tell-quiet, token_on_path}
+use Rattle.lt_model.proofs.PathsRoutes.{route-quiet, learn_on_path}
 use Rattle.lt_model.proofs.PathsHandOver.{hand_over-moved, finish-moved, lock-moved, try-moved, unlock-moved, change-moved, drop-moved, take-moved}
 
 pub effects_on_path : EffectsOnPath

@@ -16,7 +16,7 @@ use Rattle.lt_model.specs.PathEffects.{Ground, token_weight, Moved, HandsOver}
 use Rattle.lt_lists.proofs.Sums.{sum_below-change, sum_below-at, sum_below-two, sum_below-same}
 use Rattle.lt_model.proofs.Letters.{mail_weight, all_sent, before_take, mail_weight-sent, mail_weight-none, mail_weight-beyond, mail_weight-at, mail_weight-taken}
 use Rattle.lt_lists.proofs.AllLemmas.{all_weaker, all_any}
-use Rattle.lt_model.proofs.PathsHandOver.{HasNoToken, no_token_of_other, none_go, link_later, letter_later}
+use Rattle.lt_model.proofs.NoToken.{HasNoToken, no_token_of_other, none_go, link_later, letter_later}
 
 -- the nodes that have the desk
 abbrev pub desks : ℕ → (ℕ → SetState) → ℕ

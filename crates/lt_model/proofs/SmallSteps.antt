@@ -20,7 +20,8 @@ use Rattle.lt_runs.specs.Families.{related}
 use Rattle.lt_runs.specs.NodeMove.{NodeState, NodeMade, no_move, node_waits, next_command, touched, each_touched, drop_all, act_stamp, take_stamp, at_clock, one_made, obey}
 use Rattle.lt_runs.specs.World.{World, is_some_letter, opened, front_stamp, take_front, token_to, after_made}
 use Rattle.lt_model.specs.MomentLaws.{MovesInSteps, MovesAreParts, Part, part_on, applied, with_end, parts_of_command, parts_of_front}
-use Rattle.lt_model.proofs.PathsMove.{sent-sent, sent-none, has_mail_parts}
+use Rattle.lt_model.proofs.PathsMove.{has_mail_parts}
+use Rattle.lt_model.proofs.PathsGoing.{sent-sent, sent-none}
 use Rattle.lt_lists.proofs.Puts.{put-put, put-same}
 
 pub moves_in_steps : MovesInSteps

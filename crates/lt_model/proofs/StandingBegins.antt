@@ -22,7 +22,8 @@ use Rattle.lt_lists.proofs.AllLemmas.{all_append, all_weaker}
 use Rattle.lt_model.proofs.PathsWorld.{weighs_tokens}
 use Rattle.lt_model.proofs.NodeEffects.{IsOfSet}
 use Rattle.lt_accounts.proofs.Asks.{times_in-none}
-use Rattle.lt_model.proofs.StandingEffects.{places_weight, places_sent-none, IsCopyHome, Stands, stands, stands_later, arrives-stands}
+use Rattle.lt_model.proofs.StandingEffects.{stands_later, arrives-stands}
+use Rattle.lt_model.proofs.StandingParts.{places_weight, places_sent-none, IsCopyHome, Stands, stands}
 use Rattle.lt_modes.specs.Taking.{arrive}
 use Rattle.lt_model.proofs.Effects.{HoldsOf}
 

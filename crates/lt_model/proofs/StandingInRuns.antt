@@ -1,7 +1,7 @@
 -- In each world of a run each unanswered ask stands in one place.
 use Rattle.std.proofs.Common.{subst, ◌≡◌, ℕ, zero, suc, ◌<◌, List, [], ◌∷◌, arith, sym, take, ◌∙◌}
 use Rattle.std.specs.Prelude.{Contains}
-use Rattle.std.proofs.lemmas.List.Elements.{All-contains}
+use Rattle.std.proofs.lemmas.List.Elements.{All-contains, All-nil}
 use Rattle.lt_modes.specs.declared.ask.Ask.{Ask}
 use Rattle.lt_modes.specs.Script.{ScriptData}
 use Rattle.lt_runs.specs.Log.{Logged}
@@ -13,7 +13,6 @@ use Rattle.lt_model.specs.Standing.{IsMadeBy, AsksStand}
 use Rattle.lt_model.specs.Laws.{StandingInRuns, StandsOnce, OnePlace}
 use Rattle.lt_lists.proofs.Sums.{sum_below-some, sum_below-change, sum_below-none}
 use Rattle.lt_model.proofs.StartKept.{places_start, paths_start}
-use Rattle.std.proofs.lemmas.List.Elements.{All-nil}
 use Rattle.lt_lists.proofs.Members.{none_in}
 use Rattle.lt_model.proofs.PathsMove.{move_kept}
 use Rattle.lt_accounts.proofs.Asks.{times_in-some, times_in-found, times_in-none, times_in-once}

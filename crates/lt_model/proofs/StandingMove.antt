@@ -26,7 +26,8 @@ use Rattle.lt_lists.proofs.Puts.{put-same, put-other}
 use Rattle.lt_model.proofs.PathsMove.{has_mail_parts, move_kept}
 use Rattle.lt_model.proofs.NodeMoves.{obey-stamped, obey-beside, touched-beside}
 use Rattle.lt_model.proofs.NodeEffects.{once_or_aside, obey_by_effects}
-use Rattle.lt_model.proofs.StandingEffects.{places_weight, IsCopyHome, Stands, stands, stands_later, standing_moves, standing_take}
+use Rattle.lt_model.proofs.StandingEffects.{stands_later, standing_moves, standing_take}
+use Rattle.lt_model.proofs.StandingParts.{places_weight, IsCopyHome, Stands, stands}
 use Rattle.lt_model.proofs.StandingBegins.{asked_in, elsewhere, unanswered, only_here, copy_home, other_weight, stands_of_set, stands_before, none_in_hand, left_weight, letter_taken}
 
 -- letters of the set go to nodes of the script, and others carry no ask of it

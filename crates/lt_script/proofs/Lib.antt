@@ -6,3 +6,4 @@ pub mod PrintLemmas
 pub mod PrintedLines
 pub mod RoundTrip
 pub mod FaultOrder
+pub mod RoundTripSets

@@ -2,8 +2,10 @@ use Rattle.lt_accounts.proofs.laws.law_account.Goals as goal
 use Rattle.lt_accounts.proofs.AccountAsks.{ticks_kept, ages_kept, asks_kept, rests_kept, freezes_kept, reorders_kept}
 use Rattle.lt_accounts.proofs.AccountGrants.{grants_kept, unlocks_kept, drops_kept}
 use Rattle.lt_accounts.proofs.AccountAnswers.{answers_kept, delivers_kept}
-use Rattle.lt_accounts.proofs.AccountTells.{applies_kept, stale_kept, tells_kept}
-use Rattle.lt_accounts.proofs.AccountDesk.{owes_kept, settles_kept, arrives_kept}
+use Rattle.lt_accounts.proofs.AccountTells.{stale_kept, tells_kept}
+use Rattle.lt_accounts.proofs.AccountApplies.{applies_kept}
+use Rattle.lt_accounts.proofs.AccountDesk.{owes_kept}
+use Rattle.lt_accounts.proofs.AccountSettles.{settles_kept, arrives_kept}
 
 pub returns : goal.returns
 returns c = record {

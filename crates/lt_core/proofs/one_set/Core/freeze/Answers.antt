@@ -1,4 +1,4 @@
-use Rattle.std.proofs.Common.{◌≡◌, ◌∙◌, ◌-◌, Some, length, map, ap, sym, subst, refl, rules}
+use Rattle.std.proofs.Common.{◌≡◌, ◌∙◌, ◌-◌, Some, map, ap, sym, subst, refl, rules}
 use Rattle.std.specs.VecDeque.{deque_len, deque_capacity}
 use Rattle.lt_modes.specs.State.{SetState, Desk}
 use Rattle.lt_modes.specs.Places.{map_from}
