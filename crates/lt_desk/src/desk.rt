@@ -79,6 +79,7 @@ impl Desk {
         ensures desk { self.new.desk ≡ self.old.desk }
         ensures room { OnOk result (asks ≤ self.new.room) }
         ensures spare { OnOk result (asks ≤ self.new.spare) }
+        ensures kept { (self.old.room ≤ self.new.room) × (self.old.spare ≤ self.new.spare) }
     {
         self.queue.reserve(asks)?;
         self.table.reserve(asks)

@@ -1,4 +1,4 @@
-//! One lock set at one node: its held locks, its unanswered asks and the desk's queue.
+//! One lock set at a node that is alone: its held locks, its unanswered asks and the desk's queue.
 //!
 //! So far the script has one node, so the desk never leaves it, and no letter is sent.
 #![tactic(auto)]

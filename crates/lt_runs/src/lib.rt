@@ -1,2 +1,2 @@
-//! What the service means: the moves of a node, the world, its runs, and the text of a run.
+//! What the service means: the moves of a node, the world, its runs, and what is held and who waits by their lines.
 #![tactic(auto)]

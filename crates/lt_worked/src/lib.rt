@@ -1,4 +1,4 @@
-//! The worked examples: runs of the rules, move by move, that the proof computes.
+//! The worked examples: runs of the rules, move by move, and whole worlds in the middle of runs, that the proof computes.
 #![tactic(auto)]
 
 mod worked;
