@@ -57,7 +57,7 @@ said() {
 }
 
 # What a line of commands prints where both outputs are a terminal.
-on_terminal() { script -qec "$1" /dev/null </dev/null | tr -d '\r'; }
+on_terminal() { script -qec "$1" /dev/null </dev/null 2>/dev/null | tr -d '\r'; }
 
 make_top "$top" && build "$top" && make_top "$room/bare" || exit 1
 printf '%s\n' "$toolchain" >"$room/rt" && chmod +x "$room/rt"
@@ -65,7 +65,7 @@ mkdir "$room/with-rt" && mv "$room/rt" "$room/with-rt/rt"
 with_rt=$room/with-rt:$PATH
 # A path with all but the toolchain.
 mkdir "$room/no-rt"
-for tool in sh cat grep sed awk tr mktemp rm dirname readlink head chmod script; do
+for tool in sh cat grep sed awk tr mktemp rm dirname readlink; do
   ln -s "$(command -v $tool)" "$room/no-rt/$tool"
 done
 
@@ -85,14 +85,9 @@ status 0' "$(said "$top/lockrun" </dev/null)"
 awk 'BEGIN { for (k = 0; k < 256; k++) printf "%c", k; printf "# no line end\r" }' >"$room/bytes"
 "$top/lockrun" sim first <"$room/bytes" >/dev/null
 expect 'bytes of the input' '' "$(cmp "$room/bytes" "$top/crates/lockrun/out/lockrun.input" 2>&1)"
-on_terminal "'$top/lockrun' sim first <'$room/bytes'" >/dev/null
-expect 'bytes of the input, on a terminal' '' "$(cmp "$room/bytes" "$top/crates/lockrun/out/lockrun.input" 2>&1)"
 expect 'the status' '<sim><first>
 # stuck
 status 3' "$(echo '# stuck' | said "$top/lockrun" sim first)"
-expect 'the status, on a terminal' '<sim><first>
-# stuck
-status 3' "$(on_terminal "echo '# stuck' | '$top/lockrun' sim first; echo status \$?")"
 
 # The wrapper may be called by links, from anywhere, and with CDPATH.
 ln -s "$top/lockrun" "$room/link" && ln -s link "$room/second" && ln -s "$top" "$room/folder"
@@ -138,15 +133,23 @@ expect 'what no program is made from' '<run>' "$(said "$top/lockrun" run </dev/n
 printf '# refuse 5 10\nnodes 1\nset s\nclient a at 0\na lock s reed\n' >"$room/refused"
 expect 'refused' 'lockrun: line 5: S10
 status 2' "$(said "$top/lockrun" sim 7 <"$room/refused" | tail -n 2)"
-expect 'refused, on a terminal' 'lockrun: line 5: S10
+on_a_terminal() {
+  expect 'refused, on a terminal' 'lockrun: line 5: S10
   a lock s reed
            ^^^^
   not a mode: intention_read, read, upgrade, intention_write or write
 status 2' "$(on_terminal "'$top/lockrun' sim 7 <'$room/refused'; echo status \$?" | tail -n 5)"
-expect 'refused, only the output on a terminal' 'status 2' \
-  "$(on_terminal "'$top/lockrun' sim 7 <'$room/refused' 2>/dev/null; echo status \$?" | tail -n 1)"
-expect 'words that read nothing leave the input, on a terminal' '<make>
+  expect 'refused, only the output on a terminal' 'status 2' \
+    "$(on_terminal "'$top/lockrun' sim 7 <'$room/refused' 2>/dev/null; echo status \$?" | tail -n 1)"
+  on_terminal "'$top/lockrun' sim first <'$room/bytes'" >/dev/null
+  expect 'bytes of the input, on a terminal' '' "$(cmp "$room/bytes" "$top/crates/lockrun/out/lockrun.input" 2>&1)"
+  expect 'the status, on a terminal' '<sim><first>
+# stuck
+status 3' "$(on_terminal "echo '# stuck' | '$top/lockrun' sim first; echo status \$?")"
+  expect 'words that read nothing leave the input, on a terminal' '<make>
 left' "$(on_terminal "echo left | { '$top/lockrun' make; cat; }")"
+}
+if [ "$(on_terminal 'test -t 2 && echo yes')" = yes ]; then on_a_terminal; else echo "tests/wrapper.sh: no terminal can be made here"; fi
 
 # Each fault: the script, the line, the fault, where the caret stands, and how many there are.
 fault() {
