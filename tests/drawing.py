@@ -32,11 +32,12 @@ class Drawing:
             self.node_of[client] = node
             self.lines.append(f'client {client} at {node}')
 
-    def add(self, client, *words):
-        """One command, if there is room."""
-        if self.room > 0:
-            self.room -= 1
-            self.todo[client].append(' '.join((client,) + words))
+    def add(self, client, *group):
+        """Commands of a client; where there is no room for all, one that gives up what is hardly held."""
+        if len(group) > self.room:
+            group = [f'unlock {self.sets[0]} read']
+        self.room -= len(group)
+        self.todo[client] += [f'{client} {command}' for command in group]
 
     def fill(self, kind):
         """Commands of a kind, until there is no room."""
@@ -59,23 +60,17 @@ def tidy(drawing, client):
     draw, name = drawing.draw, drawing.draw.choice(drawing.sets)
     mode, kind = draw.choice(MODES), draw.randrange(5)
     if kind == 0:
-        drawing.add(client, 'lock', name, 'upgrade')
-        drawing.add(client, 'change', name, 'upgrade', 'write')
-        drawing.add(client, 'unlock', name, 'write')
+        drawing.add(client, f'lock {name} upgrade', f'change {name} upgrade write', f'unlock {name} write')
     else:
-        drawing.add(client, 'try' if kind == 1 else 'lock', name, mode)
-        drawing.add(client, 'unlock', name, mode)
+        drawing.add(client, f'{"try" if kind == 1 else "lock"} {name} {mode}', f'unlock {name} {mode}')
 
 
 def ordered(drawing, client):
-    """Some locks in the order of the sets, and all are given up."""
+    """Some locks in the order of the sets, and all are given up: nobody waits for ever."""
     draw = drawing.draw
-    names = sorted(draw.sample(range(len(drawing.sets)), draw.randint(1, min(4, len(drawing.sets)))))
-    held = [(drawing.sets[name], draw.choice(MODES)) for name in names]
-    for name, mode in held:
-        drawing.add(client, 'lock', name, mode)
-    for name, mode in reversed(held):
-        drawing.add(client, 'unlock', name, mode)
+    places = sorted(draw.sample(range(len(drawing.sets)), draw.randint(1, min(4, len(drawing.sets)))))
+    held = [f'{drawing.sets[place]} {draw.choice(MODES)}' for place in places]
+    drawing.add(client, *[f'lock {lock}' for lock in held], *[f'unlock {lock}' for lock in reversed(held)])
 
 
 def wild(drawing, client):
@@ -83,20 +78,20 @@ def wild(drawing, client):
     draw, name = drawing.draw, drawing.draw.choice(drawing.sets)
     kind = draw.choice(['lock', 'lock', 'try', 'unlock', 'unlock', 'change', 'drop'])
     if kind == 'change':
-        drawing.add(client, kind, name, draw.choice(MODES), draw.choice(MODES))
+        drawing.add(client, f'change {name} {draw.choice(MODES)} {draw.choice(MODES)}')
     elif kind == 'drop':
         beside = [other for other in drawing.clients if drawing.node_of[other] == drawing.node_of[client]]
-        drawing.add(client, kind, draw.choice(beside), name)
+        drawing.add(client, f'drop {draw.choice(beside)} {name}')
     else:
-        drawing.add(client, kind, name, draw.choice(MODES))
+        drawing.add(client, f'{kind} {name} {draw.choice(MODES)}')
 
 
 def mixed(drawing, client):
     """Any of the other kinds, and now and then a drop of what a client holds."""
     kind = drawing.draw.choice([tidy, tidy, ordered, ordered, wild])
     kind(drawing, client)
-    if drawing.draw.random() < 0.1:
-        drawing.add(client, 'drop', client, drawing.draw.choice(drawing.sets))
+    if drawing.room > 0 and drawing.draw.random() < 0.1:
+        drawing.add(client, f'drop {client} {drawing.draw.choice(drawing.sets)}')
 
 
 def draw_script(seed):
