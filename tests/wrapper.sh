@@ -126,6 +126,8 @@ sleep 0.02 && touch "$top/crates/lockrun/src/main.rt" && is_stale 'a source was 
 sleep 0.02 && : >"$top/crates/lockrun/src/more.rt" && is_stale 'a source came'
 sleep 0.02 && rm "$top/crates/lockrun/src/more.rt" && is_stale 'a source went'
 sleep 0.02 && touch "$top/crates.txt" && is_stale 'crates.txt was edited'
+: >"$top/crates/lockrun/out/sources" && is_stale 'the list of sources is empty'
+rm "$top/crates/lockrun/out/sources" && is_stale 'the list of sources is gone'
 mkdir -p "$top/crates/lockrun/must-fail" && touch "$top/crates/lockrun/must-fail/x.edit"
 expect 'what no program is made from' '<run>' "$(said "$top/lockrun" run </dev/null | head -n 1)"
 

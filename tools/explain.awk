@@ -116,5 +116,5 @@ function show(    text, carets) {
   if (length(text) > 90) text = substr(text, 1, 86) " ..."
   if (width > 91 - from) width = 91 - from
   for (carets = ""; length(carets) < width; ) carets = carets "^"
-  printf "  %s\n  %*s%s\n  %s\n", text, from - 1, "", carets, said
+  printf "  %s\n%" (from + 1) "s%s\n  %s\n", text, "", carets, said
 }
