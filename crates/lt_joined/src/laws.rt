@@ -2,6 +2,8 @@ ghost use Rattle.lt_joined.specs.JoinedRun.{JoinedRuns, JoinedMerges, LogsOfPart
 ghost use Rattle.lt_joined.specs.States.{StatesWithin, AsksHavePlace, ClocksBelow, LettersLeftFit};
 ghost use Rattle.lt_joined.specs.CanMove.{CanMoveIsEnabled, RestIsNoMove};
 
+use lt_order::law_order;
+
 /// The plays of all nodes, merged by stamps, are a run that ends with the nodes' states and with the letters that are left;
 /// and what `merge` makes of their logs is that run.
 pub fn law_joined()
@@ -23,4 +25,6 @@ pub fn law_hand_fits()
 pub fn law_can_move()
     ensures enabled { CanMoveIsEnabled }
     ensures rest { RestIsNoMove }
-{}
+{
+    law_order();
+}
