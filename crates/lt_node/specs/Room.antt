@@ -1,0 +1,34 @@
+-- Room for one move of a node.
+use Rattle.std.specs.Prelude.{ℕ, List, ◌+◌, ◌<◌, All, length, sum_by}
+use Rattle.lt_letter.specs.declared.letter.Letter.{Letter}
+use Rattle.lt_letter.specs.Seen.{body_seen}
+use Rattle.lt_letter.specs.Hands.{asks_in, RoomIn}
+use Rattle.lt_letter.specs.OutData.{OutData}
+use Rattle.lt_core.specs.CoreData.{CoreData, HasMemory, HasRoom, waiting}
+use Rattle.lt_core.specs.Bound.{RoomToSend, most, brought}
+use Rattle.lt_node.specs.NodeData.{NodeData, core_at}
+
+-- so many letters at most, and so many event lines, come from a set in one move
+abbrev pub most_sent : CoreData → ℕ
+most_sent core = most core.state + 2
+
+-- room for one command, which may touch all sets and has a line of its own
+pub record RoomToAct (n : NodeData) (out : OutData) : Type 0 where
+  pub cores : All (HasMemory 0) n.cores
+  pub send : RoomToSend (sum_by most_sent n.cores + 1) out
+
+-- room for the letter, in its set and in the desk that it brings
+pub record RoomToTake (n : NodeData) (letter : Letter) (out : OutData) : Type 0 where
+  pub core : HasMemory (asks_in letter.body) (core_at n letter.set)
+  pub desk : RoomIn (waiting (core_at n letter.set).state + asks_in letter.body + 2) letter.body
+  pub send : RoomToSend (most_sent (core_at n letter.set) + brought (body_seen letter.body)) out
+
+-- one client more may wait in the set
+abbrev pub LeavesAsk : CoreData → Type 0
+LeavesAsk core = length core.state.pending < 16
+
+-- the sets are ready for a move with this clock
+pub record IsReady (clock : ℕ) (cores : List CoreData) (out : OutData) : Type 0 where
+  pub rooms : All (HasRoom 2 clock) cores
+  pub asks : All LeavesAsk cores
+  pub send : RoomToSend (sum_by most_sent cores + 1) out

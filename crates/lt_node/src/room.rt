@@ -1,0 +1,67 @@
+ghost use Rattle.std.specs.Prelude.{◌≡◌, ◌+◌, ◌<◌, ◌^◌, IsTrue, OnOk, sum_by};
+ghost use Rattle.lt_modes.specs.Fits.{fits};
+ghost use Rattle.lt_letter.specs.Seen.{letter_seen};
+ghost use Rattle.lt_letter.specs.Seen.{body_seen};
+ghost use Rattle.lt_core.specs.Bound.{brought};
+ghost use Rattle.lt_limits.specs.Limits.{node_within};
+ghost use Rattle.lt_node.specs.NodeData.{SameNode, state_of, numbers_of};
+ghost use Rattle.lt_node.specs.Room.{RoomToAct, RoomToTake, most_sent};
+
+use crate::node::Node;
+use lt_core::Core;
+use lt_letter::{Body, Letter, Out};
+use std::alloc::AllocError;
+
+impl Node<'_> {
+    /// Makes room for one command.
+    pub fn reserve(&mut self, out: &mut Out) -> Result<(), AllocError>
+        requires { IsTrue (node_within self.old.script (state_of self.old)) }
+        ensures node { SameNode self.old self.new }
+        ensures out { (out.new.posts ≡ out.old.posts) × (out.new.events ≡ out.old.events) }
+        ensures room { OnOk result (RoomToAct self.new out.new) }
+    {
+        for set in 0..self.cores.len() {
+            self.cores[set].reserve()?;
+        }
+        let sent = self.most_sent() + 1;
+        out.reserve(sent, sent)
+    }
+
+    /// Makes room to take the letter, in its set and in the desk that it brings.
+    pub fn reserve_for(&mut self, letter: &mut Letter, out: &mut Out) -> Result<(), AllocError>
+        requires fits { IsTrue (fits (numbers_of self.old.script) self.old.me self.old.clock ((state_of self.old).set letter.old.set) (letter_seen letter.old)) }
+        requires within { IsTrue (node_within self.old.script (state_of self.old)) }
+        ensures node { SameNode self.old self.new }
+        ensures letter { letter_seen letter.new ≡ letter_seen letter.old }
+        ensures out { (out.new.posts ≡ out.old.posts) × (out.new.events ≡ out.old.events) }
+        ensures room { OnOk result (RoomToTake self.new letter.new out.new) }
+    {
+        let core = &mut self.cores[usize::from(letter.set)];
+        core.reserve_for(letter)?;
+        let sent = core.most_sent() + 2 + brought(&letter.body);
+        out.reserve(sent, sent)
+    }
+
+    // How many letters, and event lines, all sets may send in one move.
+    fn most_sent(&self) -> u32
+        requires { IsTrue (node_within self.now.script (state_of self.now)) }
+        ensures sum { result ≡ sum_by most_sent self.now.cores }
+        ensures few { result + 1 < 2 ^ 32 }
+    {
+        let mut sent = 0;
+        for set in 0..self.cores.len() {
+            sent += self.cores[set].most_sent() + 2;
+        }
+        sent
+    }
+}
+
+// How many asks and nodes come with what the letter says.
+fn brought(body: &Body) -> u32
+    ensures { result ≡ brought (body_seen body.now) }
+{
+    match body {
+        Body::Token(desk) => desk.len() + u32::from(desk.nodes()),
+        _ => 0,
+    }
+}
