@@ -1,9 +1,11 @@
 -- Room for one move of a node.
-use Rattle.std.specs.Prelude.{ℕ, List, ◌+◌, ◌<◌, All, length, sum_by}
+use Rattle.std.specs.Prelude.{ℕ, List, ◌+◌, ◌≤◌, ◌<◌, All, length, sum_by}
 use Rattle.lt_letter.specs.declared.letter.Letter.{Letter}
 use Rattle.lt_letter.specs.Seen.{body_seen}
 use Rattle.lt_letter.specs.Hands.{asks_in, RoomIn}
 use Rattle.lt_letter.specs.OutData.{OutData}
+use Rattle.lt_modes.specs.Held.{locks_in}
+use Rattle.lt_held.specs.HeldData.{most_locks}
 use Rattle.lt_core.specs.CoreData.{CoreData, HasMemory, HasRoom, waiting}
 use Rattle.lt_core.specs.Bound.{RoomToSend, most, brought}
 use Rattle.lt_node.specs.NodeData.{NodeData, core_at}
@@ -26,6 +28,10 @@ pub record RoomToTake (n : NodeData) (letter : Letter) (out : OutData) : Type 0 
 -- one client more may wait in the set
 abbrev pub LeavesAsk : CoreData → Type 0
 LeavesAsk core = length core.state.pending < 16
+
+-- no more locks are held than one client may hold of one mode
+abbrev pub HasFewLocks : CoreData → Type 0
+HasFewLocks core = locks_in core.state.held ≤ most_locks
 
 -- the sets are ready for a move with this clock
 pub record IsReady (clock : ℕ) (cores : List CoreData) (out : OutData) : Type 0 where

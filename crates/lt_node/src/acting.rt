@@ -8,6 +8,7 @@ ghost use Rattle.lt_limits.specs.Limits.{node_within, leaves_asks};
 ghost use Rattle.lt_script.specs.Script.{HasTargets};
 ghost use Rattle.lt_runs.specs.Families.{home};
 ghost use Rattle.lt_runs.specs.NodeMove.{node_waits, has_command, next_command, node_act, act_stamp, one_made, at_clock, obey, touched, drop_all};
+ghost use Rattle.lt_modes.specs.declared.command.Command.TheVariants as commands;
 ghost use Rattle.lt_node.specs.NodeData.{NodeDoes, state_of, core_at};
 ghost use Rattle.lt_node.specs.Answers.{answer_of_act, answer_to};
 ghost use Rattle.lt_node.specs.Room.{RoomToAct, IsReady, most_sent};
@@ -97,8 +98,8 @@ impl Node<'_> {
         requires node { stamp.node ≡ self.old.me }
         requires set { set < length self.old.script.sets }
         requires ready { IsReady stamp.clock self.old.cores out.old }
-        ensures answer { result ≡ answer_to self.old.script self.old.me client (state_of self.old) (DropAll other set) }
-        ensures does { NodeDoes (obey self.old.script stamp client (Some (DropAll other set)) (state_of self.old)) self.old out.old self.new out.new }
+        ensures answer { result ≡ answer_to self.old.script self.old.me client (state_of self.old) (commands.DropAll other set) }
+        ensures does { NodeDoes (obey self.old.script stamp client (Some (commands.DropAll other set)) (state_of self.old)) self.old out.old self.new out.new }
     {
         if self.waits(other) {
             out.push_event(Event::Busy { client, other, set });

@@ -1,4 +1,4 @@
-ghost use Rattle.std.specs.Prelude.{◌≡◌, ◌+◌, ◌≤◌, ◌<◌, ℕ, All, length, slice_index_or, sum_by};
+ghost use Rattle.std.specs.Prelude.{◌≡◌, ◌+◌, ◌≤◌, ◌<◌, ◌^◌, ℕ, All, length, slice_index_or, sum_by};
 ghost use Rattle.lt_letter.specs.OutData.{OutData};
 ghost use Rattle.lt_core.specs.Bound.{RoomToSend};
 ghost use Rattle.lt_core.specs.CoreData.{Does, HasRoom};
@@ -6,7 +6,7 @@ ghost use Rattle.lt_runs.specs.Families.{related};
 ghost use Rattle.lt_runs.specs.NodeMove.{NodeState, each_touched, locks_in_sets};
 ghost use Rattle.lt_node.specs.NodeData.{IsCoreOf, first_core};
 ghost use Rattle.lt_node.specs.Family.{SetsDo, ending, with_sets};
-ghost use Rattle.lt_node.specs.Room.{most_sent};
+ghost use Rattle.lt_node.specs.Room.{HasFewLocks, most_sent};
 
 use lt_core::{Answer, Core, Order};
 use lt_letter::Out;
@@ -59,7 +59,7 @@ fn end(core: &mut Core, dropped: Option<u16>, stamp: Stamp, out: &mut Out)
 pub(crate) fn locks(cores: &[Core], script: &Script, set: u8, client: u16) -> u32
     requires set { set < length script.now.sets }
     requires count { length cores.now ≡ length script.now.sets }
-    requires few { sum_by most_sent cores.now < 2 ^ 32 }
+    requires few { All HasFewLocks cores.now }
     ensures { (n : NodeState) (q : ℕ) → result ≡ locks_in_sets (with_sets script.now q cores.now n) client (related script.now set) }
 {
     let family = script.family(set);

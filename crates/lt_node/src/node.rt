@@ -150,7 +150,7 @@ impl<'a> Node<'a> {
 
     // The numbers of the script by which letters are tested.
     fn numbers(&self) -> Numbers<'_>
-        ensures { numbers_seen result.now ≡ numbers_of self.now.script }
+        ensures { numbers_seen result ≡ numbers_of self.now.script }
     {
         Numbers {
             nodes: self.script.nodes(),

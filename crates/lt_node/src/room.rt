@@ -1,7 +1,8 @@
-ghost use Rattle.std.specs.Prelude.{◌≡◌, ◌+◌, ◌<◌, ◌^◌, IsTrue, OnOk, sum_by};
+ghost use Rattle.std.specs.Prelude.{◌≡◌, ◌+◌, ◌≤◌, ◌<◌, ◌^◌, IsTrue, OnOk, sum_by};
 ghost use Rattle.lt_modes.specs.Fits.{fits};
 ghost use Rattle.lt_letter.specs.Seen.{letter_seen};
 ghost use Rattle.lt_letter.specs.Seen.{body_seen};
+ghost use Rattle.lt_letter.specs.Hands.{asks_in};
 ghost use Rattle.lt_core.specs.Bound.{brought};
 ghost use Rattle.lt_limits.specs.Limits.{node_within};
 ghost use Rattle.lt_node.specs.NodeData.{SameNode, state_of, numbers_of};
@@ -58,7 +59,9 @@ impl Node<'_> {
 
 // How many asks and nodes come with what the letter says.
 fn brought(body: &Body) -> u32
-    ensures { result ≡ brought (body_seen body.now) }
+    requires { asks_in body.now + 64 < 2 ^ 32 }
+    ensures brought { result ≡ brought (body_seen body.now) }
+    ensures within { result ≤ asks_in body.now + 64 }
 {
     match body {
         Body::Token(desk) => desk.len() + u32::from(desk.nodes()),
