@@ -5,3 +5,7 @@ pub mod TakeLemmas
 pub mod ActLemmas
 pub mod AdvanceLemmas
 pub mod FamilyLemmas
+pub mod CountLemmas
+pub mod StartLemmas
+pub mod KeptLemmas
+pub mod DropLemmas

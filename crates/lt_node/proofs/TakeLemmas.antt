@@ -59,7 +59,7 @@ pub record CanTake (stamp : Stamp) (core : CoreData) (letter : Letter) (out : Ou
 pub can_take : (n : NodeData) (letter : Letter) (core : CoreData) (out : OutData) (stamp : Stamp) → IsNode n → IsTakenBy n letter core → RoomToTake n letter out
     → n.clock < stamp.clock → letter.stamp.clock < stamp.clock → CanTake stamp core letter out
 can_take n letter core out stamp node taken room later after =
-    let memory = subst (λ (c : CoreData). HasMemory (asks_in letter.body) c) (sym taken.core_is) room.core in
+    let memory = subst (λ (c : CoreData). HasMemory (asks_in letter.body) c) (sym taken.core_is) room.memory in
     record {
       room = room_later n.clock stamp.clock (asks_in letter.body) core taken.within later memory;
       desk = room_for_body (numbers_of n.script) n.me n.clock letter.stamp.clock stamp.clock core letter.body (few_homes n node) taken.fit.body taken.within after memory

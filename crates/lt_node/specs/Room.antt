@@ -4,6 +4,7 @@ use Rattle.lt_letter.specs.declared.letter.Letter.{Letter}
 use Rattle.lt_letter.specs.Seen.{body_seen}
 use Rattle.lt_letter.specs.Hands.{asks_in, RoomIn}
 use Rattle.lt_letter.specs.OutData.{OutData}
+use Rattle.lt_modes.specs.State.{SetState}
 use Rattle.lt_modes.specs.Held.{locks_in}
 use Rattle.lt_held.specs.HeldData.{most_locks}
 use Rattle.lt_core.specs.CoreData.{CoreData, HasMemory, HasRoom, waiting}
@@ -20,10 +21,27 @@ pub record RoomToAct (n : NodeData) (out : OutData) : Type 0 where
   pub send : RoomToSend (sum_by most_sent n.cores + 1) out
 
 -- room for the letter, in its set and in the desk that it brings
-pub record RoomToTake (n : NodeData) (letter : Letter) (out : OutData) : Type 0 where
-  pub core : HasMemory (asks_in letter.body) (core_at n letter.set)
-  pub desk : RoomIn (waiting (core_at n letter.set).state + asks_in letter.body + 2) letter.body
-  pub send : RoomToSend (most_sent (core_at n letter.set) + brought (body_seen letter.body)) out
+pub record RoomForLetter (core : CoreData) (letter : Letter) (out : OutData) : Type 0 where
+  pub memory : HasMemory (asks_in letter.body) core
+  pub desk : RoomIn (waiting core.state + asks_in letter.body + 2) letter.body
+  pub send : RoomToSend (most_sent core + brought (body_seen letter.body)) out
+
+-- the same at the node
+abbrev pub RoomToTake : NodeData → Letter → OutData → Type 0
+RoomToTake n letter out = RoomForLetter (core_at n letter.set) letter out
+
+-- no more asks wait in the set than a script has clients
+abbrev pub HasFewAsks : CoreData → Type 0
+HasFewAsks core = waiting core.state ≤ 64
+
+-- what stays of a set where memory is taken
+pub record KeptData : Type 0 where
+  pub node : ℕ
+  pub set : ℕ
+  pub state : SetState
+
+abbrev pub kept_of : CoreData → KeptData
+kept_of core = record { node = core.node; set = core.set; state = core.state }
 
 -- one client more may wait in the set
 abbrev pub LeavesAsk : CoreData → Type 0

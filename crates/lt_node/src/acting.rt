@@ -9,7 +9,7 @@ ghost use Rattle.lt_script.specs.Script.{HasTargets};
 ghost use Rattle.lt_runs.specs.Families.{home};
 ghost use Rattle.lt_runs.specs.NodeMove.{node_waits, has_command, next_command, node_act, act_stamp, one_made, at_clock, obey, touched, drop_all};
 ghost use Rattle.lt_modes.specs.declared.command.Command.TheVariants as commands;
-ghost use Rattle.lt_node.specs.NodeData.{NodeDoes, state_of, core_at};
+ghost use Rattle.lt_node.specs.NodeData.{NodeDoes, IsNode, state_of, core_at};
 ghost use Rattle.lt_node.specs.Answers.{answer_of_act, answer_to};
 ghost use Rattle.lt_node.specs.Room.{RoomToAct, IsReady, most_sent};
 
@@ -45,6 +45,7 @@ impl Node<'_> {
         requires clock { self.old.clock + 1 < 2 ^ 32 }
         ensures command { next_command self.old.script (state_of self.old) client ≡ Some result }
         ensures targets { HasTargets self.old.script.sets self.old.script.clients client result }
+        ensures kept { IsNode self.old }
         ensures place { (self.new.script ≡ self.old.script) × (self.new.me ≡ self.old.me) }
         ensures cores { self.new.cores ≡ self.old.cores }
         ensures state { state_of self.new ≡ one_made client (at_clock (self.old.clock + 1) (state_of self.old)) }

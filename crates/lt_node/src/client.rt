@@ -105,7 +105,8 @@ pub(crate) fn clients_of(
 
 /// The node of each client.
 pub(crate) fn homes_of(alloc: Global, script: &Script) -> Result<Vec<u8>, AllocError>
-    ensures { IfOk result (λ homes. homes.items ≡ map (λ (client : ClientData). client.node) script.now.clients) }
+    ensures script { IsScript script.now }
+    ensures homes { IfOk result (λ homes. homes.items ≡ map (λ (client : ClientData). client.node) script.now.clients) }
 {
     let mut homes = Vec::new(alloc);
     for client in 0..script.clients() {

@@ -1,12 +1,12 @@
-ghost use Rattle.std.specs.Prelude.{◌≡◌, ◌+◌, ◌≤◌, ◌<◌, ◌^◌, IsTrue, OnOk, sum_by};
+ghost use Rattle.std.specs.Prelude.{◌≡◌, ◌+◌, ◌≤◌, ◌<◌, ◌^◌, All, IsTrue, OnOk, length, map, sum_by};
 ghost use Rattle.lt_modes.specs.Fits.{fits};
-ghost use Rattle.lt_letter.specs.Seen.{letter_seen};
-ghost use Rattle.lt_letter.specs.Seen.{body_seen};
+ghost use Rattle.lt_letter.specs.Seen.{letter_seen, body_seen};
 ghost use Rattle.lt_letter.specs.Hands.{asks_in};
 ghost use Rattle.lt_core.specs.Bound.{brought};
+ghost use Rattle.lt_core.specs.CoreData.{HasMemory};
 ghost use Rattle.lt_limits.specs.Limits.{node_within};
 ghost use Rattle.lt_node.specs.NodeData.{SameNode, state_of, numbers_of};
-ghost use Rattle.lt_node.specs.Room.{RoomToAct, RoomToTake, most_sent};
+ghost use Rattle.lt_node.specs.Room.{RoomToAct, RoomToTake, RoomForLetter, HasFewAsks, kept_of, most_sent};
 
 use crate::node::Node;
 use lt_core::Core;
@@ -21,10 +21,8 @@ impl Node<'_> {
         ensures out { (out.new.posts ≡ out.old.posts) × (out.new.events ≡ out.old.events) }
         ensures room { OnOk result (RoomToAct self.new out.new) }
     {
-        for set in 0..self.cores.len() {
-            self.cores[set].reserve()?;
-        }
-        let sent = self.most_sent() + 1;
+        reserve_each(&mut self.cores)?;
+        let sent = most_sent(&self.cores) + 1;
         out.reserve(sent, sent)
     }
 
@@ -37,24 +35,49 @@ impl Node<'_> {
         ensures out { (out.new.posts ≡ out.old.posts) × (out.new.events ≡ out.old.events) }
         ensures room { OnOk result (RoomToTake self.new letter.new out.new) }
     {
-        let core = &mut self.cores[usize::from(letter.set)];
-        core.reserve_for(letter)?;
-        let sent = core.most_sent() + 2 + brought(&letter.body);
-        out.reserve(sent, sent)
+        reserve_for(&mut self.cores[usize::from(letter.set)], letter, out)
     }
+}
 
-    // How many letters, and event lines, all sets may send in one move.
-    fn most_sent(&self) -> u32
-        requires { IsTrue (node_within self.now.script (state_of self.now)) }
-        ensures sum { result ≡ sum_by most_sent self.now.cores }
-        ensures few { result + 1 < 2 ^ 32 }
-    {
-        let mut sent = 0;
-        for set in 0..self.cores.len() {
-            sent += self.cores[set].most_sent() + 2;
-        }
-        sent
+// Makes room in each set for one move that takes no letter.
+fn reserve_each(cores: &mut Vec<Core>) -> Result<(), AllocError>
+    requires { All HasFewAsks cores.old.items }
+    ensures kept { map kept_of cores.new.items ≡ map kept_of cores.old.items }
+    ensures room { OnOk result (All (HasMemory 0) cores.new.items) }
+{
+    for set in 0..cores.len() {
+        cores[set].reserve()?;
     }
+    Ok(())
+}
+
+// Makes room in a set, and in the desk that the letter brings, to take the letter.
+fn reserve_for(core: &mut Core, letter: &mut Letter, out: &mut Out) -> Result<(), AllocError>
+    requires few { HasFewAsks core.old }
+    requires asks { asks_in letter.old.body ≤ 64 }
+    ensures kept { kept_of core.new ≡ kept_of core.old }
+    ensures letter { letter_seen letter.new ≡ letter_seen letter.old }
+    ensures out { (out.new.posts ≡ out.old.posts) × (out.new.events ≡ out.old.events) }
+    ensures room { OnOk result (RoomForLetter core.new letter.new out.new) }
+{
+    core.reserve_for(letter)?;
+    let sent = core.most_sent() + 2 + brought(&letter.body);
+    out.reserve(sent, sent)?;
+    Ok(())
+}
+
+// How many letters, and event lines, all sets may send in one move.
+fn most_sent(cores: &[Core]) -> u32
+    requires asks { All HasFewAsks cores.now }
+    requires few { length cores.now ≤ 8 }
+    ensures sum { result ≡ sum_by most_sent cores.now }
+    ensures small { result + 1 < 2 ^ 32 }
+{
+    let mut sent = 0;
+    for set in 0..cores.len() {
+        sent += cores[set].most_sent() + 2;
+    }
+    sent
 }
 
 // How many asks and nodes come with what the letter says.
