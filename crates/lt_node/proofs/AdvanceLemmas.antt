@@ -1,5 +1,5 @@
 -- A client makes its next command.
-use Rattle.std.proofs.Common.{◌≡◌, ◌+◌, ◌<◌, ◌≤◌, ◌==◌, ◌++◌, ℕ, List, [], ◌∷◌, Option, Some, None, length, map, arith, refl, sym, ap, subst, ◌∙◌, slice_get, slice_index_or, slice_set, Contains, All, if◌then◌else◌, Bool, true, false, nat_lt, inl, inr}
+use Rattle.std.proofs.Common.{◌≡◌, ◌+◌, ◌<◌, ◌≤◌, ◌==◌, ℕ, List, [], ◌∷◌, Option, Some, None, length, map, arith, refl, sym, ap, subst, ◌∙◌, slice_get, slice_index_or, slice_set, Contains, if◌then◌else◌, Bool, true, false, inl, inr}
 use Rattle.std.specs.Prelude.{filter_map}
 use Rattle.std.specs.List.{cons_option}
 use Rattle.std.proofs.lemmas.Bool.{ltb-true, eqb-true, cases_eq}
@@ -55,7 +55,7 @@ has_next n homes clients client progress node made knows inside own left at =
     let within : client < length clients = omega (arith, inside, node.clients, ap (λ (l : List ℕ). length l) made, length-map clients made_of) in
     let commands = ap (λ (p : Progress). p.commands) at ∙ knows.own client within own in
     let count : progress.made ≡ (state_of n).made client =
-        ap made_of at ∙ sym (get_or-map made_of clients client no_progress 0 within) ∙ sym (ap (λ (l : List ℕ). slice_index_or l client 0) made) in
+    ap made_of at ∙ sym (get_or-map made_of clients client no_progress 0 within) ∙ sym (ap (λ (l : List ℕ). slice_index_or l client 0) made) in
     let some = ltb-true ((state_of n).made client) (length (commands_of n.script client)) left in
     record {
       commands = commands;
@@ -79,7 +79,7 @@ pub advanced : (n : NodeData) (clients : List Progress) (client : ℕ) (progress
     → state_of (record n { clock = n.clock + 1; made = map made_of (slice_set clients client (one_more progress)) }) ≡ one_made client (at_clock (n.clock + 1) (state_of n))
 advanced n clients client progress made inside count =
     let list : map made_of (slice_set clients client (one_more progress)) ≡ slice_set n.made client (progress.made + 1) =
-        map-set made_of clients client (one_more progress) ∙ sym (ap (λ (l : List ℕ). slice_set l client (progress.made + 1)) made) in
+    map-set made_of clients client (one_more progress) ∙ sym (ap (λ (l : List ℕ). slice_set l client (progress.made + 1)) made) in
     let puts = put_read (λ (k : ℕ). k) n.made (λ k. 0) client (progress.made + 1) inside in
     ap (λ (f : ℕ → ℕ). let s : NodeState = record { clock = n.clock + 1; made = f; set = λ s. (core_at n s).state } in s)
     (ap (λ (l : List ℕ). λ k. slice_index_or l k 0) list ∙ puts ∙ ap (λ (v : ℕ). put (λ k. slice_index_or n.made k 0) client (v + 1)) count)
@@ -105,9 +105,9 @@ pub next_at : (m n : NodeData) (homes : List ℕ) (clients : List Progress) (cli
 next_at m n homes clients client k progress same node made knows place at =
     subst (λ (n : NodeData). client < length n.script.clients → home n.script client ≡ n.me → has_command n.script (state_of n) client ≡ true → HasNext n client progress) same
     (λ inside own left.
-      let within : client < length clients = omega (arith, inside, node.clients, ap (λ (l : List ℕ). length l) made, length-map clients made_of) in
-      has_next m homes clients client progress node made knows inside own left
-      (at ∙ ap (λ (i : ℕ). slice_index_or clients i progress) place ∙ get_or_default clients client progress no_progress within))
+    let within : client < length clients = omega (arith, inside, node.clients, ap (λ (l : List ℕ). length l) made, length-map clients made_of) in
+    has_next m homes clients client progress node made knows inside own left
+    (at ∙ ap (λ (i : ℕ). slice_index_or clients i progress) place ∙ get_or_default clients client progress no_progress within))
 
 pub advanced_at : (m n : NodeData) (clients : List Progress) (client k : ℕ) (progress new : Progress) → m ≡ n → IsNode m → m.made ≡ map made_of clients → k ≡ client → client < length n.script.clients
     → HasNext n client progress → new ≡ one_more progress
@@ -116,9 +116,9 @@ advanced_at m n clients client k progress new same node made place =
     subst (λ (n : NodeData). client < length n.script.clients → HasNext n client progress → new ≡ one_more progress
     → state_of (record m { clock = m.clock + 1; made = map made_of (slice_set clients k new) }) ≡ one_made client (at_clock (n.clock + 1) (state_of n))) same
     (λ inside next is.
-      ap (λ (i : ℕ). state_of (record m { clock = m.clock + 1; made = map made_of (slice_set clients i new) })) place
-      ∙ ap (λ (p : Progress). state_of (record m { clock = m.clock + 1; made = map made_of (slice_set clients client p) })) is
-      ∙ advanced m clients client progress made (omega (arith, inside, node.clients)) next.made)
+    ap (λ (i : ℕ). state_of (record m { clock = m.clock + 1; made = map made_of (slice_set clients i new) })) place
+    ∙ ap (λ (p : Progress). state_of (record m { clock = m.clock + 1; made = map made_of (slice_set clients client p) })) is
+    ∙ advanced m clients client progress made (omega (arith, inside, node.clients)) next.made)
 
 pub node_advanced : (m : NodeData) (clients : List Progress) (k : ℕ) (new : Progress) → IsNode m → m.made ≡ map made_of clients
     → IsNode (record m { clock = m.clock + 1; made = map made_of (slice_set clients k new) })

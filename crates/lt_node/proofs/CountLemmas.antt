@@ -3,7 +3,7 @@ use Rattle.std.proofs.Common.{◌≡◌, ◌+◌, ◌<◌, ◌≤◌, ◌==◌, 
 use Rattle.std.proofs.lemmas.List.{get_or_default, drop_all}
 use Rattle.std.proofs.lemmas.List.Sums.{sum_by-cons}
 use Rattle.lt_modes.specs.declared.parts.Row.{Row}
-use Rattle.lt_modes.specs.Held.{locks_of, locks_in, is_of}
+use Rattle.lt_modes.specs.Held.{locks_of, is_of}
 use Rattle.lt_modes.specs.Places.{places_from}
 use Rattle.lt_modes.specs.Script.{ScriptData, SetData, family_at}
 use Rattle.lt_core.specs.CoreData.{CoreData}

@@ -1,5 +1,5 @@
 -- The sets of a family one after the other.
-use Rattle.std.proofs.Common.{◌≡◌, ◌≢◌, ◌+◌, ◌<◌, ◌≤◌, ◌==◌, ◌++◌, ℕ, zero, suc, List, [], ◌∷◌, Option, Some, None, length, drop, slice_get, slice_index_or, slice_set, sum_by, arith, refl, sym, ap, subst, ◌∙◌, append_assoc, if◌then◌else◌, Bool, true, false}
+use Rattle.std.proofs.Common.{◌≡◌, ◌+◌, ◌<◌, ◌≤◌, ◌==◌, ◌++◌, ℕ, List, [], ◌∷◌, Option, Some, None, length, drop, slice_index_or, slice_set, sum_by, arith, refl, sym, ap, subst, ◌∙◌, append_assoc, if◌then◌else◌, Bool, true, false}
 use Rattle.std.proofs.lemmas.Option.{slice_get-get_or}
 use Rattle.std.proofs.lemmas.List.{drop_more, drop_all, drop-set-lt, length-set, get_or_default, append-nil}
 use Rattle.std.proofs.lemmas.Grind.{drop_more_same}
@@ -9,14 +9,14 @@ use Rattle.lt_modes.specs.Places.{places_from}
 use Rattle.lt_modes.specs.Script.{ScriptData, SetData, family_at, family_of_set}
 use Rattle.lt_modes.specs.State.{SetState}
 use Rattle.lt_modes.specs.Made.{Made}
-use Rattle.lt_letter.specs.OutData.{OutData, FitsOut, out_after}
+use Rattle.lt_letter.specs.OutData.{OutData, FitsOut}
 use Rattle.lt_core.specs.declared.order.Order.TheVariants as orders
 use Rattle.lt_core.specs.Bound.{RoomToSend}
 use Rattle.lt_core.specs.CoreData.{CoreData, Does}
 use Rattle.lt_core.proofs.BoundLemmas.{ends_fit, orders_fit}
 use Rattle.lt_lists.specs.Below.{put}
 use Rattle.lt_runs.specs.Families.{family, related}
-use Rattle.lt_runs.specs.NodeMove.{NodeState, NodeMade, each_touched, touched}
+use Rattle.lt_runs.specs.NodeMove.{NodeState, each_touched, touched}
 use Rattle.lt_node.specs.NodeData.{IsCoreOf, first_core, sent_by}
 use Rattle.lt_node.specs.Family.{ending, with_sets, sets_in, SetsDo}
 use Rattle.lt_node.specs.Room.{most_sent}
@@ -56,8 +56,8 @@ one_done script me k rule rest cores core new had out n inside at does =
     let first = rule k (sets_in script me cores k) in
     let does : Does first core had new out = subst (λ (c : CoreData). Does (rule k c.state) core had new out) at does in
     let nodes : with_sets script me (slice_set cores k new) n ≡ (touched (with_sets script me cores n) k first).node =
-        ap (λ (f : ℕ → SetState). let s : NodeState = record n { set = f } in s)
-        (put_read (λ (c : CoreData). c.state) cores (first_core script me) k new inside ∙ ap (λ (v : SetState). put (sets_in script me cores) k v) does.state) in
+    ap (λ (f : ℕ → SetState). let s : NodeState = record n { set = f } in s)
+    (put_read (λ (c : CoreData). c.state) cores (first_core script me) k new inside ∙ ap (λ (v : SetState). put (sets_in script me cores) k v) does.state) in
     let after = each_touched rule rest (touched (with_sets script me cores n) k first).node in
     record {
       node = ap (λ (s : NodeState). (each_touched rule rest s).node) nodes;
@@ -78,9 +78,9 @@ pub all_done : (script : ScriptData) (me : ℕ) (rule : ℕ → SetState → Mad
 all_done script me rule whole old new had out n left =
     let same : the_same out ≡ out = rw (append-nil out.posts, append-nil out.events) refl in
     record {
-  node = left.node;
-  sent = sym same ∙ left.sent;
-}
+      node = left.node;
+      sent = sym same ∙ left.sent;
+    }
 
 -- the end of a move fits
 pub end_fits : (dropped : Option ℕ) (stamp : Stamp) (core : CoreData) (out : OutData) → RoomToSend (most_sent core) out → FitsOut (ending dropped stamp core.set core.state) out
@@ -133,10 +133,10 @@ pub at_ended : (script : ScriptData) (stamp : Stamp) (dropped : Option ℕ) (set
 at_ended script stamp dropped set old had k j cores core new out after at inside mine place is does leaves =
     let within : k < length cores = omega (arith, inside, at.count) in
     let here : core ≡ slice_index_or cores k (first_core script stamp.node k) =
-        is ∙ ap (λ (i : ℕ). slice_index_or cores i core) place ∙ get_or_default cores k core (first_core script stamp.node k) within in
+    is ∙ ap (λ (i : ℕ). slice_index_or cores i core) place ∙ get_or_default cores k core (first_core script stamp.node k) within in
     let own : IsCoreOf stamp.node k core = subst (λ (c : CoreData). IsCoreOf stamp.node k c) (sym here) (at.places k within) in
     let sum : sum_by most_sent (drop k cores) ≡ most_sent core + sum_by most_sent (drop (k + 1) cores) =
-        sum_at cores k (first_core script stamp.node k) within ∙ ap (λ (c : CoreData). most_sent c + sum_by most_sent (drop (k + 1) cores)) (sym here) in
+    sum_at cores k (first_core script stamp.node k) within ∙ ap (λ (c : CoreData). most_sent c + sum_by most_sent (drop (k + 1) cores)) (sym here) in
     let tail : drop (k + 1) (slice_set cores k new) ≡ drop (k + 1) cores = drop-set-lt (k + 1) cores k new (omega arith) in
     subst (λ (i : ℕ). IsAt script stamp dropped set old had (k + 1) (slice_set cores i new) after) (sym place)
     (record {
@@ -148,7 +148,7 @@ at_ended script stamp dropped set old had k j cores core new out after at inside
       left = λ n. left_then script stamp.node (ending dropped stamp) (related_from script set (k + 1)) (k ∷ related_from script set (k + 1)) (related_from script set 0)
           (slice_set cores k new) cores old after out had n
           (one_done script stamp.node k (ending dropped stamp) (related_from script set (k + 1)) cores core new out after n within here
-            (subst (λ (s : ℕ). Does (ending dropped stamp s core.state) core out new after) own.set does))
+          (subst (λ (s : ℕ). Does (ending dropped stamp s core.state) core out new after) own.set does))
           (subst (λ (left : List ℕ). IsLeft script stamp.node (ending dropped stamp) left cores out (related_from script set 0) old had n) (related_in script set k inside mine) (at.left n));
     })
 

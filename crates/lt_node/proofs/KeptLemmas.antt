@@ -10,7 +10,7 @@ use Rattle.lt_modes.specs.State.{SetState}
 use Rattle.lt_core.specs.CoreData.{CoreData, HasMemory, waiting}
 use Rattle.lt_limits.specs.Limits.{node_within}
 use Rattle.lt_runs.specs.NodeMove.{NodeState}
-use Rattle.lt_node.specs.NodeData.{NodeData, IsNode, IsCoreOf, SameNode, state_of, core_at, first_core}
+use Rattle.lt_node.specs.NodeData.{NodeData, IsNode, SameNode, state_of, first_core}
 use Rattle.lt_node.specs.Room.{KeptData, HasFewAsks, kept_of}
 use Rattle.lt_node.proofs.NodeLemmas.{node_is}
 use Rattle.lt_node.proofs.WithinLemmas.{each_within}
@@ -68,4 +68,4 @@ pub few_asks : (m n : NodeData) → m ≡ n → IsNode m → IsTrue (node_within
 few_asks m n same node within =
     subst (λ (m : NodeData). All HasFewAsks m.cores) (sym same)
     (λ k d inside. subst (λ (c : CoreData). HasFewAsks c) (get_or_default n.cores k (first_core n.script n.me k) d inside)
-      (each_within n (node_is m n same node) within k inside).asks)
+    (each_within n (node_is m n same node) within k inside).asks)

@@ -1,10 +1,9 @@
 -- One set or one client of a node changes.
-use Rattle.std.proofs.Common.{◌≡◌, ◌≢◌, ◌+◌, ◌<◌, ◌==◌, Bool, true, ℕ, List, length, map, inl, inr, refl, sym, ap, subst, arith, ◌∙◌, slice_index_or, slice_set, if◌then◌else◌}
+use Rattle.std.proofs.Common.{◌≡◌, ◌<◌, Bool, true, ℕ, List, length, inl, inr, refl, sym, ap, subst, arith, ◌∙◌, slice_index_or, slice_set}
 use Rattle.std.proofs.Math.Path.{fun_ext}
 use Rattle.std.proofs.lemmas.Bool.{cases_eq, eq-eqb, ne_eqb}
 use Rattle.std.proofs.lemmas.List.{get_or-set_other, length-set, get_or_default}
 use Rattle.std.proofs.lemmas.Grind.{get_or-set_at}
-use Rattle.lt_modes.specs.Script.{ScriptData}
 use Rattle.lt_modes.specs.State.{SetState}
 use Rattle.lt_modes.specs.Made.{Made}
 use Rattle.lt_lists.specs.Below.{put, any_below}
@@ -12,8 +11,7 @@ use Rattle.lt_lists.proofs.Searches.{any_below_at}
 use Rattle.lt_letter.specs.OutData.{OutData}
 use Rattle.lt_core.specs.CoreData.{CoreData, Does}
 use Rattle.lt_runs.specs.NodeMove.{NodeState, touched}
-use Rattle.lt_node.specs.NodeData.{NodeData, NodeDoes, IsNode, IsCoreOf, SameNode, state_of, core_at, first_core}
-use Rattle.lt_node.specs.Family.{sets_in}
+use Rattle.lt_node.specs.NodeData.{NodeData, NodeDoes, IsNode, IsCoreOf, state_of, core_at, first_core}
 
 -- a list written at one place is a function changed at one number
 pub put_read : {X Y : Type 0} (f : X → Y) (xs : List X) (d : ℕ → X) (i : ℕ) (x : X) → i < length xs

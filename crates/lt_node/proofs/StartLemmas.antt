@@ -1,5 +1,5 @@
 -- A node at the start.
-use Rattle.std.proofs.Common.{◌≡◌, ◌+◌, ◌<◌, ◌==◌, ◌++◌, ℕ, List, [], ◌∷◌, length, map, take, arith, refl, sym, ap, subst, ◌∙◌, slice_get, slice_index_or, if◌then◌else◌, true, inl, inr}
+use Rattle.std.proofs.Common.{◌≡◌, ◌+◌, ◌<◌, ◌==◌, ◌++◌, ℕ, List, [], ◌∷◌, length, map, take, arith, refl, sym, ap, subst, ◌∙◌, slice_index_or, if◌then◌else◌, inl, inr}
 use Rattle.std.proofs.Math.Path.{fun_ext}
 use Rattle.std.proofs.lemmas.Bool.{cases_eq, cases_lt, eq-eqb}
 use Rattle.std.proofs.lemmas.Option.{slice_get-get_or}
@@ -65,7 +65,7 @@ pub state_at_start : (script : ScriptData) (q : ℕ) (clients : List Progress) (
     → state_of (record { script = script; me = q; clock = 0; made = map made_of clients; cores = cores }) ≡ (start script).node q
 state_at_start script q clients cores new states =
     let made : (λ (c : ℕ). slice_index_or (map made_of clients) c 0) ≡ (λ c. 0) =
-        fun_ext (λ c. map_read made_of clients c no_progress ∙ nothing_made script q clients c new) in
+    fun_ext (λ c. map_read made_of clients c no_progress ∙ nothing_made script q clients c new) in
     let sets : (λ (s : ℕ). (slice_index_or cores s (first_core script q s)).state) ≡ (λ s. first_state script.nodes q) = fun_ext states in
     λ i. record { clock = 0; made = made i; set = sets i }
 

@@ -3,7 +3,6 @@ use Rattle.std.proofs.Common.{◌≡◌, ◌+◌, ◌<◌, ◌≤◌, ℕ, lengt
 use Rattle.std.proofs.lemmas.List.{length-map}
 use Rattle.lt_modes.specs.declared.stamp.Stamp.{Stamp}
 use Rattle.lt_modes.specs.Script.{ClientData}
-use Rattle.lt_modes.specs.State.{SetState}
 use Rattle.lt_modes.specs.SetMove.{take}
 use Rattle.lt_modes.specs.Fits.{fits}
 use Rattle.lt_letter.specs.declared.letter.Letter.{Letter}
@@ -73,7 +72,7 @@ can_take n letter core out stamp node taken room later after =
 take_here : (n : NodeData) (letter : Letter) (new : CoreData) (had out : OutData) → letter.set < length n.cores
     → Does (take (take_stamp n.me (state_of n) (letter_seen letter)) (letter_seen letter) (core_at n letter.set).state) (core_at n letter.set) had new out
     → NodeDoes (node_take n.me (letter_seen letter) (state_of n)) n had
-      (record n { clock = (take_stamp n.me (state_of n) (letter_seen letter)).clock; cores = slice_set n.cores letter.set new }) out
+    (record n { clock = (take_stamp n.me (state_of n) (letter_seen letter)).clock; cores = slice_set n.cores letter.set new }) out
 take_here n letter new had out inside does =
     let stamp = take_stamp n.me (state_of n) (letter_seen letter) in
     let done = touch_does (record n { clock = stamp.clock }) had out letter.set (take stamp (letter_seen letter) (core_at n letter.set).state) new inside does in

@@ -1,12 +1,11 @@
 -- A letter that fits brings few asks, and so there is room for what it says.
-use Rattle.std.proofs.Common.{◌≡◌, ◌≢◌, ◌+◌, ◌≤◌, ◌<◌, ◌==◌, ◌++◌, ◌&&◌, ◌||◌, ◌^◌, Bool, true, false, ℕ, zero, suc, List, [], ◌∷◌, length, nat_lt, nat_le, refl, sym, ap, arith, ◌∙◌, length-append, IsTrue, if◌then◌else◌}
+use Rattle.std.proofs.Common.{◌≡◌, ◌+◌, ◌≤◌, ◌<◌, ◌==◌, ◌++◌, ◌&&◌, ◌||◌, ◌^◌, Bool, true, false, ℕ, zero, suc, List, [], ◌∷◌, length, nat_lt, nat_le, refl, sym, arith, if◌then◌else◌}
 use Rattle.std.specs.Prelude.{not, is_none, slice_index}
 use Rattle.std.specs.List.{list_all}
 use Rattle.std.proofs.lemmas.Bool.{and_parts, leb-true, ltb-true, not-true, eq-eqb, ne_eqb}
 use Rattle.lt_modes.specs.declared.ask.Ask.{Ask}
 use Rattle.lt_modes.specs.State.{SetState, Desk}
-use Rattle.lt_modes.specs.Held.{locks_in}
-use Rattle.lt_modes.specs.Fits.{Numbers, fits, head_fits, body_fits, token_fits, queue_fits, are_apart, has_client, is_at_home, is_known, parked_asks}
+use Rattle.lt_modes.specs.Fits.{Numbers, fits, head_fits, body_fits, token_fits, queue_fits, are_apart, has_client, is_at_home, parked_asks}
 use Rattle.lt_lists.specs.Below.{count_below}
 use Rattle.lt_lists.proofs.Searches.{one_less}
 use Rattle.lt_letter.specs.declared.letter.Letter.{Letter}
@@ -32,13 +31,16 @@ few_apart numbers (ask ∷ rest) home apart =
     let homes = and_parts (is_at_home numbers ask) (list_all (is_at_home numbers) rest) home in
     let aparts = and_parts (not (has_client ask.client rest)) (are_apart rest) apart in
     let client = and_parts (nat_lt ask.client (length numbers.homes)) (slice_index numbers.homes ask.client == ask.node)
-        (and_parts (nat_lt ask.node numbers.nodes) (nat_lt ask.client (length numbers.homes) && slice_index numbers.homes ask.client == ask.node) homes.0).1 in
-    omega (arith, few_apart numbers rest homes.1 aparts.1,
-    one_less (length numbers.homes) ask.client (λ k. has_client k (ask ∷ rest)) (λ k. has_client k rest)
-    (ltb-true ask.client (length numbers.homes) client.0)
-    (rw (eq-eqb ask.client ask.client refl) refl)
-    (not-true (has_client ask.client rest) aparts.0)
-    (λ k within other. rw (ne_eqb ask.client k (λ same. other (sym same))) refl))
+    (and_parts (nat_lt ask.node numbers.nodes) (nat_lt ask.client (length numbers.homes) && slice_index numbers.homes ask.client == ask.node) homes.0).1 in
+    omega (
+      arith,
+      few_apart numbers rest homes.1 aparts.1,
+      one_less (length numbers.homes) ask.client (λ k. has_client k (ask ∷ rest)) (λ k. has_client k rest)
+          (ltb-true ask.client (length numbers.homes) client.0)
+          (rw (eq-eqb ask.client ask.client refl) refl)
+          (not-true (has_client ask.client rest) aparts.0)
+          (λ k within other. rw (ne_eqb ask.client k (λ same. other (sym same))) refl),
+    )
 
 not_among : (client : ℕ) (asks more : List Ask) → has_client client (asks ++ more) ≡ false → has_client client asks ≡ false
 not_among client [] more h = refl
@@ -70,8 +72,12 @@ small numbers q s clock desk few h =
     let homes = and_parts (list_all (is_at_home numbers) desk.queue) _ queue.1 in
     let apart = and_parts (are_apart (desk.queue ++ parked_asks s)) _ homes.1 in
     record {
-      queue = omega (arith, few, few_apart numbers desk.queue homes.0 (apart_front desk.queue (parked_asks s) apart.0),
-          count_most (length numbers.homes) (λ client. has_client client desk.queue));
+      queue = omega (
+        arith,
+        few,
+        few_apart numbers desk.queue homes.0 (apart_front desk.queue (parked_asks s) apart.0),
+        count_most (length numbers.homes) (λ client. has_client client desk.queue),
+      );
       epoch = leb-true desk.epoch clock number.0;
       number = leb-true desk.number clock entries.0;
     }

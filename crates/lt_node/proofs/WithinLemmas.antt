@@ -1,10 +1,9 @@
 -- What the limits of a node give of the premises of its moves.
-use Rattle.std.proofs.Common.{◌≡◌, ◌+◌, ◌≤◌, ◌<◌, ◌++◌, true, ℕ, Option, Some, None, length, nat_le, arith, subst, IsTrue}
+use Rattle.std.proofs.Common.{◌≡◌, ◌≤◌, ◌<◌, true, ℕ, Option, Some, None, length, nat_le, arith, subst, IsTrue}
 use Rattle.std.specs.Prelude.{not}
 use Rattle.std.proofs.Common.{length-append}
 use Rattle.std.proofs.lemmas.Bool.{and_parts, leb-true, ltb-true, not-true, not-false}
 use Rattle.std.proofs.lemmas.List.{get_or_default}
-use Rattle.lt_modes.specs.Script.{ScriptData}
 use Rattle.lt_modes.specs.State.{SetState, Desk}
 use Rattle.lt_modes.specs.Held.{locks_in}
 use Rattle.lt_modes.specs.Serving.{queue_of}

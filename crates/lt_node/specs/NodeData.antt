@@ -1,7 +1,7 @@
 -- What contracts see of a node, and what a move of it does.
 use Rattle.std.specs.Prelude.{◌≡◌, ◌<◌, ◌++◌, ℕ, List, length, map, slice_index_or}
 use Rattle.lt_modes.specs.Script.{ScriptData, ClientData}
-use Rattle.lt_modes.specs.State.{SetState, first_state}
+use Rattle.lt_modes.specs.State.{first_state}
 use Rattle.lt_modes.specs.Fits.{Numbers}
 use Rattle.lt_letter.specs.OutData.{OutData}
 use Rattle.lt_core.specs.CoreData.{CoreData}

@@ -1,4 +1,4 @@
-use Rattle.std.proofs.Common.{◌≡◌, ◌<◌, ◌+◌, ◌∙◌, ℕ, List, Vec, sym, ap, arith, subst, length, slice_index_or}
+use Rattle.std.proofs.Common.{◌≡◌, ◌<◌, ◌+◌, ◌∙◌, ℕ, List, sym, ap, arith, subst, length, slice_index_or}
 use Rattle.std.proofs.lemmas.Bool.{eq-eqb, ne_eqb}
 use Rattle.lt_letter.specs.OutData.{OutData}
 use Rattle.lt_modes.specs.Script.{family_at}
@@ -16,7 +16,7 @@ end-requires-clause-node c =
     let core = c.index_mut.result.now in
     let inside : c.loop-k.k < length c.loop-k.cores.items = omega (arith, c.loop-k-test.true, c.sets-k-end.ensures, at.count) in
     let here = c.index_mut.ensures.value ∙ ap (λ (i : ℕ). slice_index_or c.loop-k.cores.items i core) c.from.ensures
-        ∙ get_or_default c.loop-k.cores.items c.loop-k.k core (first_core c.args.script.now c.args.stamp.node c.loop-k.k) inside in
+    ∙ get_or_default c.loop-k.cores.items c.loop-k.k core (first_core c.args.script.now c.args.stamp.node c.loop-k.k) inside in
     sym ((at.places c.loop-k.k inside).node) ∙ ap (λ (c : CoreData). c.node) (sym here)
 
 pub end-requires-clause-room : goal.end-requires-clause-room
@@ -40,7 +40,7 @@ loop-k-preserved c =
           (subst (λ (cores : List CoreData). IsAt script c.args.stamp c.args.dropped c.args.set c.args.cores.now.items c.args.out.now (c.loop-k.k + 1) cores w.end.new.out)
           (sym (ap (λ v. v.items) w.cores-is))
           (at_ended script c.args.stamp c.args.dropped c.args.set c.args.cores.now.items c.args.out.now c.loop-k.k w.from.result c.loop-k.cores.items w.index_mut.result.now w.end.new.core
-            c.loop-k.out w.end.new.out at inside mine w.from.ensures w.index_mut.ensures.value w.end.ensures.does w.end.ensures.send))
+          c.loop-k.out w.end.new.out at inside mine w.from.ensures w.index_mut.ensures.value w.end.ensures.does w.end.ensures.send))
       | else-family w ↦
           let other = ne_eqb (family_at script.sets c.loop-k.k) (family script c.args.set) (λ e. w.if-family.false (c.family.ensures.family ∙ e ∙ sym c.family-family.ensures.family)) in
           subst (λ (o : OutData). IsAt script c.args.stamp c.args.dropped c.args.set c.args.cores.now.items c.args.out.now (c.loop-k.k + 1) c.if-family.cores.items o) (sym w.out-is)

@@ -22,7 +22,7 @@ loop-k-preserved c =
           subst (λ (locks : ℕ). IsCounted script c.args.set c.args.client c.args.cores.now (c.loop-k.k + 1) locks)
           (sym (w.locks-is ∙ ap (λ (held : ℕ). c.loop-k.locks + held) w.held_count-locks.ensures))
           (counted_in script c.args.set c.args.client c.args.cores.now c.loop-k.k w.from.result c.loop-k.locks w.index-cores-from.result c.loop-k.invariant c.requires.few
-            (omega (arith, within, c.requires.count)) within mine w.from.ensures w.index-cores-from.is)
+          (omega (arith, within, c.requires.count)) within mine w.from.ensures w.index-cores-from.is)
       | else-family w ↦
           let other = ne_eqb (family_at script.sets c.loop-k.k) (family script c.args.set) (λ e. w.if-family.false (c.family.ensures.family ∙ e ∙ sym c.family-family.ensures.family)) in
           subst (λ (locks : ℕ). IsCounted script c.args.set c.args.client c.args.cores.now (c.loop-k.k + 1) locks) (sym w.locks-is)

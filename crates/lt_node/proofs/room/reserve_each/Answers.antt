@@ -10,7 +10,7 @@ inside len set xs ys count same below = omega (arith, below, count, kept_length 
 pub reserve-requires : goal.reserve-requires
 reserve-requires c =
     let within : c.loop-set.set < length c.loop-set.cores.items =
-        inside c.len-set-end.result c.loop-set.set c.loop-set.cores.items c.args.cores.now.items (c.len-set-end.ensures ∙ c.args.cores.now.ok.0) c.loop-set.invariant.kept c.loop-set-test.true in
+    inside c.len-set-end.result c.loop-set.set c.loop-set.cores.items c.args.cores.now.items (c.len-set-end.ensures ∙ c.args.cores.now.ok.0) c.loop-set.invariant.kept c.loop-set-test.true in
     let few = few_kept c.loop-set.cores.items c.args.cores.now.items c.loop-set.invariant.kept c.requires c.loop-set.set c.index_mut.result.now within in
     record { few = omega (arith, few, ap (λ (core : CoreData). waiting core.state) c.index_mut.ensures.value) }
 

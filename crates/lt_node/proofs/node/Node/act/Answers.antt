@@ -1,8 +1,7 @@
-use Rattle.std.proofs.Common.{◌≡◌, ◌<◌, ◌∙◌, ◌+◌, List, ℕ, Some, ap, arith, subst, sym}
+use Rattle.std.proofs.Common.{◌≡◌, ◌∙◌, ◌+◌, List, ℕ, Some, ap, arith, subst, sym}
 use Rattle.lt_modes.specs.declared.stamp.Stamp.{Stamp}
 use Rattle.lt_modes.specs.Script.{ScriptData}
 use Rattle.lt_core.specs.CoreData.{CoreData}
-use Rattle.lt_core.specs.declared.order.Answer.{Answer}
 use Rattle.lt_runs.specs.NodeMove.{NodeState}
 use Rattle.lt_node.specs.NodeData.{state_of}
 use Rattle.lt_node.specs.Answers.{answer_to, answer_if}
@@ -23,9 +22,9 @@ returns-clause-answer c =
     let mid = c.advance-command.new.self in
     let place = c.advance-command.ensures.place in
     let same : c.obey.result ≡ answer_to n.script n.me c.args.client (state_of n) c.advance-command.result =
-        c.obey.ensures.answer
-        ∙ ap (λ (script : ScriptData). answer_to script mid.me c.args.client (state_of mid) c.advance-command.result) place.0
-        ∙ ap (λ (q : ℕ). answer_to n.script q c.args.client (state_of mid) c.advance-command.result) place.1
-        ∙ ap (λ (s : NodeState). answer_to n.script n.me c.args.client s c.advance-command.result) c.advance-command.ensures.state
-        ∙ answer_after n.script n.me c.args.client (n.clock + 1) c.args.client (state_of n) c.advance-command.result in
+    c.obey.ensures.answer
+    ∙ ap (λ (script : ScriptData). answer_to script mid.me c.args.client (state_of mid) c.advance-command.result) place.0
+    ∙ ap (λ (q : ℕ). answer_to n.script q c.args.client (state_of mid) c.advance-command.result) place.1
+    ∙ ap (λ (s : NodeState). answer_to n.script n.me c.args.client s c.advance-command.result) c.advance-command.ensures.state
+    ∙ answer_after n.script n.me c.args.client (n.clock + 1) c.args.client (state_of n) c.advance-command.result in
     ap Some same ∙ sym (ap (λ command. answer_if n.script n.me c.args.client (state_of n) command) c.advance-command.ensures.command)

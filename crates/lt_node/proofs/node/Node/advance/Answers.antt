@@ -1,4 +1,4 @@
-use Rattle.std.proofs.Common.{Some, ap, arith, refl, subst, sym, ◌∙◌, length, List, ℕ}
+use Rattle.std.proofs.Common.{Some, ap, arith, refl, subst, sym, ◌∙◌, length}
 use Rattle.std.proofs.lemmas.List.{length-map}
 use Rattle.lt_modes.specs.declared.command.Command.{Command}
 use Rattle.lt_script.specs.Script.{HasTargets}
@@ -11,7 +11,7 @@ use Rattle.lt_node.proofs.node.Node.advance.Goals as goal
 pub next-requires-clause-few : goal.next-requires-clause-few
 next-requires-clause-few c =
     let next = next_at _ c.args.self.now c.self.inside.homes.items c.self.inside.clients.items c.args.client c.from.result c.index_mut.result.now c.self.view_is c.self.invariant.0 refl c.self.invariant.1
-        c.from.ensures c.index_mut.ensures.value c.requires.client c.requires.home c.requires.left in
+    c.from.ensures c.index_mut.ensures.value c.requires.client c.requires.home c.requires.left in
     omega (arith, next.few)
 
 next : (c : goal.After-self-2-1) → HasNext c.args.self.now c.args.client c.index_mut.result.now
@@ -22,10 +22,11 @@ next c =
 pub invariant_of-self : goal.invariant_of-self
 invariant_of-self c =
     let clients = c.self.inside.clients.items in
-    let count = ap (λ (n : NodeData). length n.script.clients) c.self.view_is in
-    (node_advanced _ clients c.from.result c.next.new.self c.self.invariant.0 refl,
-    clients_advanced c.self.inside.script.now c.self.inside.me c.self.inside.homes.items clients c.from.result c.index_mut.result.now c.next.new.self c.self.invariant.1
-    (omega (arith, c.from.ensures, c.requires.client, count, c.self.invariant.0.clients, length-map clients made_of)) c.index_mut.ensures.value c.next.ensures.made)
+    let count = ap (λ (n : NodeData). length n.script.clients) c.self.view_is in (
+      node_advanced _ clients c.from.result c.next.new.self c.self.invariant.0 refl,
+      clients_advanced c.self.inside.script.now c.self.inside.me c.self.inside.homes.items clients c.from.result c.index_mut.result.now c.next.new.self c.self.invariant.1
+          (omega (arith, c.from.ensures, c.requires.client, count, c.self.invariant.0.clients, length-map clients made_of)) c.index_mut.ensures.value c.next.ensures.made,
+    )
 
 pub returns-clause-command : goal.returns-clause-command
 returns-clause-command c = next_is c.args.self.now c.args.client c.index_mut.result.now (next c) ∙ sym (ap Some c.next.ensures.command)

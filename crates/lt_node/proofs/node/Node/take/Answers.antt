@@ -1,7 +1,5 @@
-use Rattle.std.proofs.Common.{ap, subst, arith, sym, ◌∙◌}
+use Rattle.std.proofs.Common.{ap, arith}
 use Rattle.lt_modes.specs.declared.stamp.Stamp.{Stamp}
-use Rattle.lt_core.specs.CoreData.{CoreData, Does}
-use Rattle.lt_node.specs.NodeData.{NodeData}
 use Rattle.lt_node.proofs.NodeLemmas.{node_is, node_kept}
 use Rattle.lt_node.proofs.TakeLemmas.{IsTakenBy, CanTake, taken_by, can_take, take_does, place_stays}
 use Rattle.lt_node.proofs.node.Node.take.Goals as goal
@@ -28,10 +26,11 @@ taken_here : (c : goal.After-self-2-1) → IsTakenBy c.args.self.now c.args.lett
 taken_here c = taken_by _ c.args.self.now c.from.result c.args.letter c.index_mut.result.now c.self.view_is c.self.invariant.0 c.from.ensures c.index_mut.ensures.value c.requires.fits c.requires.within
 
 pub invariant_of-self : goal.invariant_of-self
-invariant_of-self c =
-    (node_kept _ c.stamp_of_take-stamp.result.clock c.from.result c.take.new.self c.self.invariant.0
-    (place_stays _ c.args.self.now c.from.result c.args.letter c.index_mut.result.now c.take.new.self _ c.args.out.now c.take.new.out c.self.view_is c.from.ensures (taken_here c) c.take.ensures.does),
-    c.self.invariant.1)
+invariant_of-self c = (
+  node_kept _ c.stamp_of_take-stamp.result.clock c.from.result c.take.new.self c.self.invariant.0
+      (place_stays _ c.args.self.now c.from.result c.args.letter c.index_mut.result.now c.take.new.self _ c.args.out.now c.take.new.out c.self.view_is c.from.ensures (taken_here c) c.take.ensures.does),
+  c.self.invariant.1,
+)
 
 pub returns : goal.returns
 returns c = record {

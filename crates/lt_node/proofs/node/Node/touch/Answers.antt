@@ -1,10 +1,8 @@
-use Rattle.std.proofs.Common.{◌∙◌, sym, ap, arith, subst, List, length}
-use Rattle.lt_letter.specs.OutData.{FitsOut}
-use Rattle.lt_core.specs.CoreData.{CoreData}
+use Rattle.std.proofs.Common.{◌∙◌, sym, ap, arith, subst, length}
 use Rattle.lt_core.specs.Orders.{move_of}
 use Rattle.lt_node.specs.NodeData.{NodeData}
 use Rattle.lt_node.specs.Room.{IsReady}
-use Rattle.lt_node.proofs.NodeLemmas.{IsTouched, touched_by, touch_done}
+use Rattle.lt_node.proofs.NodeLemmas.{touched_by, touch_done}
 use Rattle.lt_node.proofs.ActLemmas.{order_fits}
 use Rattle.lt_node.proofs.node.Node.touch.Goals as goal
 
