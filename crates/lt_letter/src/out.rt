@@ -51,6 +51,22 @@ impl Out {
         self.events.reserve(events as usize)
     }
 
+    /// For how many letters there is room, with those that are here.
+    pub fn post_room(&self) -> usize
+        ensures room { result ≡ self.now.post_room }
+        ensures within { length self.now.posts ≤ self.now.post_room }
+    {
+        self.posts.capacity()
+    }
+
+    /// For how many event lines there is room, with those that are here.
+    pub fn event_room(&self) -> usize
+        ensures room { result ≡ self.now.event_room }
+        ensures within { length self.now.events ≤ self.now.event_room }
+    {
+        self.events.capacity()
+    }
+
     pub fn push_letter(&mut self, post: Post)
         requires { length self.old.posts < self.old.post_room }
         ensures { self.new ≡ record self.old { posts = self.old.posts ++ post_seen post ∷ [] } }

@@ -1,6 +1,4 @@
-mod Alone
-mod Moved
-mod Picks
-mod Places
 mod Recorded
-mod Runs
+pub mod Senders
+pub mod Wires
+pub mod Delivered
