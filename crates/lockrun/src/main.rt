@@ -2,7 +2,7 @@
 #![tactic(auto)]
 
 use lt_io::{ReaderSource, WriterSink};
-use lt_serve::{Gate, serve};
+use lt_serve::{Gate, program};
 use std::io;
 use std::process::ExitCode;
 
@@ -14,26 +14,18 @@ impl Gate for Open {
     fn pass(&self, _node: u8) {}
 }
 
-// The exit status where the words can't be had: that of wrong words, and that of no memory.
-const UNREADABLE_WORDS: u8 = 1;
-
-const NO_MEMORY: u8 = 6;
+// The words after the program's name. One that isn't text is an error.
+fn words(rt: &HostRuntime) -> io::Result<Vec<String>> {
+    let arguments = std::env::args(rt)?;
+    Ok(arguments.skip(1).collect(rt.alloc())?)
+}
 
 fn main(rt: HostRuntime) -> io::Result<ExitCode> {
-    let alloc = rt.alloc();
-    let Ok(arguments) = std::env::args(&rt) else {
-        return Ok(ExitCode::from(UNREADABLE_WORDS));
-    };
-    let Ok(words) = arguments.skip(1).collect::<Vec<String>>(alloc) else {
-        return Ok(ExitCode::from(NO_MEMORY));
-    };
     let mut source = ReaderSource::new(rt.stdin());
     let mut sink = WriterSink::new(rt.stdout());
-    let served = serve(&rt, alloc, words.as_slice(), &mut source, &mut sink, &Open);
-    if let Ok(text) = served.status.text(alloc) {
-        if !text.is_empty() {
-            let _ = rt.eprintln(text.as_str());
-        }
+    let status = program(&rt, rt.alloc(), &words(&rt), &mut source, &mut sink, &Open).status;
+    if status.is_told() {
+        let _ = eprintln!(rt; "{status}");
     }
-    Ok(ExitCode::from(served.status.code()))
+    Ok(ExitCode::from(status.code()))
 }

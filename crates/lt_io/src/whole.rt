@@ -86,6 +86,9 @@ pub fn read_all<S: Source>(
     ensures no_other_fault { IfErr result (λ why. why ≢ failure.Failed →
         S.faults source.new ≡ S.faults source.old) }
     ensures none_uncounted { S.given source.old ≤ S.given source.new }
+    ensures no_more { OnOk result (S.given source.new ≤ S.given source.old + limit) }
+    ensures no_more_read { IfErr result (λ why. why ≢ failure.TooLong →
+        S.given source.new ≤ S.given source.old + limit) }
 {
     let mut bytes = Vec::new(alloc);
     let mut buf = [0; ROOM];

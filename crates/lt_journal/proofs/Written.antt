@@ -83,7 +83,7 @@ plain_event script (Freeze set to number modes) named few fits =
 plain_event script (Token set to epoch) named few fits =
     (plain (codes "token") refl, (plain_set script set named fits.0, (plain_node script to few fits.1, (plain_number epoch fits.2, tt))))
 
-plain_line : (script : ScriptData) (x : Line) → IsNamed script → FewNodes script → FitsLine script x → ArePlain (line_words script x)
+pub plain_line : (script : ScriptData) (x : Line) → IsNamed script → FewNodes script → FitsLine script x → ArePlain (line_words script x)
 plain_line script (MoveLine clock node step) named few fits =
     (plain (codes "move") refl, (plain_number clock fits.0, (plain_node script node few fits.1, plain_step script step named few fits.2)))
 plain_line script (EventLine event) named few fits = plain_event script event named few fits

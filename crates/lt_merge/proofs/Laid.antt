@@ -2,7 +2,7 @@
 use Rattle.std.proofs.Common.{◌≡◌, ℕ, zero, suc, ◌+◌, ◌-◌, ◌<◌, ◌≤◌, List, [], ◌∷◌, ◌++◌, length, take, drop, Some, refl, sym, ap, ◌∙◌, arith}
 use Rattle.std.specs.Prelude.{slice_get, slice_range, slice_index_or}
 use Rattle.std.specs.Option.{option_map}
-use Rattle.std.proofs.lemmas.List.{take-append-le, drop-append-le}
+use Rattle.std.proofs.lemmas.List.{take-append-le, drop-append-le, drop_at}
 use Rattle.std.proofs.lemmas.Slice.{between_to_end, between_is}
 use Rattle.lt_modes.specs.declared.event.Event.{Event}
 use Rattle.lt_runs.specs.Log.{Logged}
@@ -19,14 +19,18 @@ pub first_place_within : (marks : List Mark) (count : ℕ) → IsLaid marks coun
 first_place_within [] count laid = omega arith
 first_place_within (mark ∷ later) count laid = omega (arith, laid.0, first_place_within later count laid.1)
 
-first_place-push : (marks : List Mark) (mark : Mark) (count : ℕ) → mark.start ≡ count → first_place (marks ++ mark ∷ []) count ≡ first_place marks count
-first_place-push [] mark count e = e
-first_place-push (first ∷ later) mark count e = refl
+first_place-add : (marks : List Mark) (mark : Mark) (count all : ℕ) → mark.start ≡ count → first_place (marks ++ mark ∷ []) all ≡ first_place marks count
+first_place-add [] mark count all e = e
+first_place-add (first ∷ later) mark count all e = refl
+
+-- a mark at the end of the events, and events after it
+pub laid_add : (marks : List Mark) (mark : Mark) (count all : ℕ) → mark.start ≡ count → count ≤ all → IsLaid marks count → IsLaid (marks ++ mark ∷ []) all
+laid_add [] mark count all e more laid = (omega (arith, e, more), tt)
+laid_add (first ∷ later) mark count all e more laid =
+    (omega (arith, laid.0, first_place-add later mark count all e), laid_add later mark count all e more laid.1)
 
 pub laid_push : (marks : List Mark) (mark : Mark) (count : ℕ) → mark.start ≡ count → IsLaid marks count → IsLaid (marks ++ mark ∷ []) count
-laid_push [] mark count e laid = (omega (arith, e), tt)
-laid_push (first ∷ later) mark count e laid =
-    (omega (arith, laid.0, first_place-push later mark count e), laid_push later mark count e laid.1)
+laid_push marks mark count e laid = laid_add marks mark count count e (omega arith) laid
 
 first_place_grows : (marks : List Mark) (count : ℕ) → first_place marks count ≤ first_place marks (count + 1)
 first_place_grows [] count = omega arith
@@ -47,7 +51,7 @@ entries_of-push [] mark events e =
     (ap (λ (n : ℕ). slice_range events n (length events)) e ∙ empty_range events (length events))
 entries_of-push (first ∷ later) mark events e =
     ap (λ (n : ℕ). record { made = first.made; events = slice_range events first.start n } ∷ entries_of (later ++ mark ∷ []) events)
-    (first_place-push later mark (length events) e)
+    (first_place-add later mark (length events) (length events) e)
     ∙ ap (λ (es : List Logged). record { made = first.made; events = slice_range events first.start (first_place later (length events)) } ∷ es)
     (entries_of-push later mark events e)
 
@@ -57,10 +61,10 @@ range_to_end-push events event i h =
     ∙ (drop-append-le i events (event ∷ []) h
     ∙ ap (λ (es : List Event). es ++ event ∷ []) (sym (between_to_end events i _ (omega arith))))
 
-range-push : (events : List Event) (event : Event) (i j : ℕ) → j ≤ length events → slice_range (events ++ event ∷ []) i j ≡ slice_range events i j
-range-push events event i j h =
-    between_is (events ++ event ∷ []) i j
-    ∙ (ap (λ (es : List Event). drop i es) (take-append-le j events (event ∷ []) h)
+range-add : (events more : List Event) (i j : ℕ) → j ≤ length events → slice_range (events ++ more) i j ≡ slice_range events i j
+range-add events more i j h =
+    between_is (events ++ more) i j
+    ∙ (ap (λ (es : List Event). drop i es) (take-append-le j events more h)
     ∙ sym (between_is events i j))
 
 pub entries_of-event : (marks : List Mark) (events : List Event) (event : Event) → IsLaid marks (length events) → 0 < length marks → entries_of marks (events ++ event ∷ []) ≡ with_event (entries_of marks events) event
@@ -69,9 +73,23 @@ entries_of-event (mark ∷ []) events event laid some =
     ap (λ (es : List Event). record { made = mark.made; events = es } ∷ []) (range_to_end-push events event mark.start laid.0)
 entries_of-event (mark ∷ next ∷ later) events event laid some =
     ap (λ (es : List Event). record { made = mark.made; events = es } ∷ entries_of (next ∷ later) (events ++ event ∷ []))
-    (range-push events event mark.start next.start (first_place_within (next ∷ later) (length events) laid.1))
+    (range-add events (event ∷ []) mark.start next.start (first_place_within (next ∷ later) (length events) laid.1))
     ∙ ap (λ (es : List Logged). record { made = mark.made; events = slice_range events mark.start next.start } ∷ es)
     (entries_of-event (next ∷ later) events event laid.1 (omega arith))
+
+-- a move with its events after the others
+pub entries_of-add : (marks : List Mark) (mark : Mark) (events more : List Event) → mark.start ≡ length events → IsLaid marks (length events)
+    → entries_of (marks ++ mark ∷ []) (events ++ more) ≡ entries_of marks events ++ record { made = mark.made; events = more } ∷ []
+entries_of-add [] mark events more e laid =
+    ap (λ (es : List Event). record { made = mark.made; events = es } ∷ [])
+    (between_to_end (events ++ more) mark.start _ (omega arith) ∙ drop_at events more mark.start (sym e))
+entries_of-add (first ∷ later) mark events more e laid =
+    ap (λ (n : ℕ). record { made = first.made; events = slice_range (events ++ more) first.start n } ∷ entries_of (later ++ mark ∷ []) (events ++ more))
+    (first_place-add later mark (length events) (length (events ++ more)) e)
+    ∙ (ap (λ (es : List Event). record { made = first.made; events = es } ∷ entries_of (later ++ mark ∷ []) (events ++ more))
+    (range-add events more first.start (first_place later (length events)) (first_place_within later (length events) laid.1))
+    ∙ ap (λ (es : List Logged). record { made = first.made; events = slice_range events first.start (first_place later (length events)) } ∷ es)
+    (entries_of-add later mark events more e laid.1))
 
 pub made_at-entries_of : (marks : List Mark) (events : List Event) (k : ℕ) → made_at (entries_of marks events) k ≡ option_map (λ (mark : Mark). mark.made) (slice_get marks k)
 made_at-entries_of [] events k = refl

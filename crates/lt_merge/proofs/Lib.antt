@@ -1,1 +1,5 @@
+pub mod Filters
+pub mod MergedLists
+pub mod MergedHalves
+pub mod Copying
 pub mod Laid

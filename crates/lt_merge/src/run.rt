@@ -1,4 +1,4 @@
-ghost use Rattle.std.specs.Prelude.{◌≡◌, ◌+◌, ◌<◌, ◌≤◌, ◌^◌, [], ◌∷◌, ◌++◌, Some, length, OnOk};
+ghost use Rattle.std.specs.Prelude.{◌≡◌, ◌+◌, ◌<◌, ◌≤◌, ◌^◌, [], ◌∷◌, ◌++◌, Some, length, take, drop, OnOk};
 ghost use Rattle.lt_merge.specs.Run.{just_made, with_event, made_at, events_at};
 ghost use Rattle.lt_merge.specs.Marks.{entries_of, IsLaid, part_at};
 
@@ -84,6 +84,22 @@ impl Run {
         ensures room { self.old.room ≤ self.new.room + 1 }
     {
         self.events.push_reserved(event);
+    }
+
+    // Adds the move at place `k` of another run, with its events.
+    pub(crate) fn copy_move(&mut self, other: &Run, k: u32) -> Result<(), AllocError>
+        requires inside { k < length other.now.entries }
+        requires few { length self.old.entries + 1 < 2 ^ 32 }
+        ensures { OnOk result (self.new.entries ≡ self.old.entries ++ take 1 (drop k other.now.entries)) }
+    {
+        let mark = Mark {
+            made: other.made(k),
+            start: self.events.len(),
+        };
+        self.moves.reserve(1)?;
+        self.events.extend_from_slice(other.events(k))?;
+        self.moves.push_reserved(mark);
+        Ok(())
     }
 
     /// The number of moves.

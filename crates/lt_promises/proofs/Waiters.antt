@@ -1,6 +1,6 @@
 -- Some client waits exactly where the lines have an open `wait` line.
-use Rattle.std.proofs.Common.{◌≡◌, ◌≢◌, ℕ, zero, suc, ◌<◌, List, length, Bool, true, false, refl, sym, ap, subst, arith, take, inl, inr, ◌∙◌}
-use Rattle.std.specs.Prelude.{◌==◌, ◌↔◌, ◌⊎◌, Contains}
+use Rattle.std.proofs.Common.{◌≡◌, ℕ, zero, suc, ◌<◌, List, length, Bool, true, refl, arith, inl, inr}
+use Rattle.std.specs.Prelude.{◌==◌, ◌↔◌}
 use Rattle.std.proofs.lemmas.Bool.{or_cases, eq-eqb, eqb-true}
 use Rattle.lt_modes.specs.declared.mode.Mode.{Mode}
 use Rattle.lt_modes.specs.declared.ask.Ask.{Ask}

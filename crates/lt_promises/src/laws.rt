@@ -3,6 +3,7 @@ ghost use Rattle.lt_kept.specs.RunLaws.{KeptInRuns, LettersFitInRuns, LedInRuns,
 ghost use Rattle.lt_kept.specs.Services.{ServedInTurn};
 ghost use Rattle.lt_lines.specs.LineLaws.{LinesTellHeld, HoldingsAreLawful, LinesTellWaits, LinesTellOwners, FirstWaiterByLines};
 ghost use Rattle.lt_promises.specs.Promises.{SomebodyWaits};
+ghost use Rattle.lt_promises.specs.Promised.{RunsKeepPromises};
 
 use lt_kept::{law_in_turn, law_kept_in_runs};
 use lt_lines::law_lines_tell;
@@ -37,4 +38,11 @@ pub fn law_run()
     law_one_token();
     law_one_place();
     law_exact_try();
+}
+
+/// The same of one run, as one record: what a reader of a journal may rely on.
+pub fn law_promised()
+    ensures { RunsKeepPromises }
+{
+    law_run();
 }

@@ -3,4 +3,4 @@
 
 mod laws;
 
-pub use laws::law_run;
+pub use laws::{law_promised, law_run};

@@ -3,3 +3,5 @@ pub mod Scripts
 pub mod Status
 pub mod Words
 pub mod TopCall
+pub mod Causes
+pub mod Literals

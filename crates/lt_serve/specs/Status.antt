@@ -1,7 +1,7 @@
 -- The exit status of each answer, and the line that tells it.
 use Rattle.std.specs.Prelude.{ℕ, List, [], ◌++◌, codes}
 use Rattle.std.specs.Fmt.{decimal}
-use Rattle.lt_script.specs.Fault.{number_of}
+use Rattle.lt_script.specs.Fault.{text_of_fault}
 use Rattle.lt_serve.specs.declared.status.Status.{Status}
 use Rattle.lt_serve.specs.declared.status.Status.TheVariants.{Done, Stuck, Usage, Refused, TooLong, ReadFault, WriteFault, NoMemory, Cut, BadJournal, NotBuilt}
 
@@ -18,28 +18,15 @@ code_of (Cut node) = 7
 code_of (BadJournal line) = 8
 code_of NotBuilt = 9
 
--- the line of the input that is at fault
-abbrev pub line_text : ℕ → List ℕ
-line_text line = codes "lockrun: line " ++ decimal line
-
-abbrev pub refused_text : ℕ → ℕ → List ℕ
-refused_text line number = line_text line ++ (codes ": S" ++ decimal number)
-
-abbrev pub bad_journal_text : ℕ → List ℕ
-bad_journal_text line = line_text line ++ codes ": journal"
-
-abbrev pub cut_text : ℕ → List ℕ
-cut_text node = codes "lockrun: cut at node " ++ decimal node
-
 abbrev pub text_of : Status → List ℕ
 text_of Done = []
 text_of Stuck = []
 text_of Usage = codes "lockrun: usage: run | sim first | sim SEED | check | make NODES CLIENTS COMMANDS SEED | soak SEED"
-text_of (Refused fault) = refused_text fault.line (number_of fault.fault)
+text_of (Refused fault) = codes "lockrun: " ++ text_of_fault fault
 text_of TooLong = codes "lockrun: input too long"
 text_of ReadFault = codes "lockrun: read fault"
 text_of WriteFault = codes "lockrun: write fault"
 text_of NoMemory = codes "lockrun: no memory"
-text_of (Cut node) = cut_text node
-text_of (BadJournal line) = bad_journal_text line
+text_of (Cut node) = codes "lockrun: cut at node " ++ decimal node
+text_of (BadJournal line) = codes "lockrun: line " ++ decimal line ++ codes ": journal"
 text_of NotBuilt = codes "lockrun: not built yet"

@@ -1,10 +1,7 @@
 -- What each answer of the top call means.
-use Rattle.std.specs.Prelude.{◌≡◌, ◌↔◌, ◌⊎◌, true, false, ℕ, ◌≤◌, List, [], Option, Some, None, Ok, Err, length, take}
+use Rattle.std.specs.Prelude.{◌≡◌, true, false, ℕ, List, [], Option, Some, None, Ok, Err, length, take}
 use Rattle.std.specs.Io.KnownBytes.{Appends}
-use Rattle.lt_io.specs.FaultCounts.{Counts}
 use Rattle.lt_io.specs.Sink.{AppendsPart}
-use Rattle.lt_io.specs.declared.whole.ReadFailure.{ReadFailure}
-use Rattle.lt_io.specs.declared.whole.ReadFailure.TheVariants.{Memory, Failed, TooLong as Long}
 use Rattle.lt_modes.specs.Script.{ScriptData}
 use Rattle.lt_runs.specs.Log.{Logged}
 use Rattle.lt_runs.specs.World.{world_after, IsRun, is_at_rest, anyone_waits}
@@ -15,9 +12,7 @@ use Rattle.lt_alone.specs.Laws.{ClientsAgree}
 use Rattle.lt_script.specs.declared.fault.ScriptFault.{ScriptFault}
 use Rattle.lt_script.specs.Reading.{read_of}
 use Rattle.lt_serve.specs.Scripts.{can_run}
-use Rattle.lt_serve.specs.Words.{command_of, IsSimFirst, IsUnbuilt}
 use Rattle.lt_world.specs.declared.limits.TheConstants.{MAX_MOVES}
-use Rattle.lt_serve.specs.declared.limits.TheConstants.{MAX_INPUT}
 use Rattle.lt_serve.specs.declared.status.Status.{Status}
 use Rattle.lt_serve.specs.declared.status.Status.TheVariants.{Done, Stuck, Usage, Refused, TooLong, ReadFault, WriteFault, NoMemory, Cut, BadJournal, NotBuilt}
 
@@ -107,61 +102,3 @@ Tells ReadFault left run old new = TellsNothing run old new
 Tells NoMemory left run old new = TellsNothing run old new
 Tells NotBuilt left run old new = TellsNothing run old new
 Tells (BadJournal line) left run old new = ⊥
-
--- after these words the status tells what the bytes are or what came of them
-abbrev pub HasRead : List (List ℕ) → Status → Type 0
-HasRead words Done = Unit {0}
-HasRead words Stuck = Unit {0}
-HasRead words (Cut node) = Unit {0}
-HasRead words WriteFault = Unit {0}
-HasRead words (Refused fault) = Unit {0}
-HasRead words NotBuilt = IsSimFirst words
-HasRead words other = ⊥
-
--- the source came to its end, and gave no more bytes than a script may have
-pub record IsReadWhole (given given' ends ends' : ℕ) : Type 0 where
-  pub ended : Counts 1 ends ends'
-  pub few : (count : ℕ) × (count ≤ MAX_INPUT) × Counts count given given'
-
--- what the call did to the source and the sink: a read failed, the source gave more bytes than a script may have, it came to
--- its end and gave no more, it stayed as it was, a write failed
-pub record Outside : Type 1 where
-  pub read_failed : Type 0
-  pub gave_more : Type 0
-  pub read_whole : Type 0
-  pub unread : Type 0
-  pub write_failed : Type 0
-
--- the causes of an answer to these words, where the source had these bytes left: each answer but want of memory has one, the
--- ends of a run in `Tells`
-pub record HasCause (words : List (List ℕ)) (left : Option (List ℕ)) (did : Outside) (answer : Status) : Type 0 where
-  pub usage : (answer ≡ Usage) ↔ (command_of words ≡ None)
-  pub unbuilt : IsUnbuilt words → answer ≡ NotBuilt
-  pub not_built : answer ≡ NotBuilt → IsUnbuilt words ⊎ (IsSimFirst words × DenotesOther left)
-  pub read_fault : answer ≡ ReadFault → did.read_failed
-  pub too_long : answer ≡ TooLong → did.gave_more
-  pub refused : (fault : ScriptFault) → answer ≡ Refused fault → HasFault left fault
-  pub write_fault : answer ≡ WriteFault → did.write_failed
-  pub read_to_the_end : HasRead words answer → did.read_whole
-  pub unread : ¬ (IsSimFirst words) → did.unread
-
--- the answers of reading alone
-abbrev pub IsReadAnswer : Status → Type 0
-IsReadAnswer (Refused fault) = Unit {0}
-IsReadAnswer TooLong = Unit {0}
-IsReadAnswer ReadFault = Unit {0}
-IsReadAnswer NoMemory = Unit {0}
-IsReadAnswer NotBuilt = Unit {0}
-IsReadAnswer other = ⊥
-
--- those of them that tell what the bytes are
-abbrev pub TellsBytes : Status → Type 0
-TellsBytes (Refused fault) = Unit {0}
-TellsBytes NotBuilt = Unit {0}
-TellsBytes other = ⊥
-
--- why a source could not be read, as a status
-abbrev pub status_of : ReadFailure → Status
-status_of Memory = NoMemory
-status_of Failed = ReadFault
-status_of Long = TooLong

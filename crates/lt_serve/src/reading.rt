@@ -1,12 +1,12 @@
-ghost use Rattle.std.specs.Prelude.{◌≡◌, ◌+◌, IsTrue, IfOk, OnOk, IfErr};
-ghost use Rattle.lt_io.specs.FaultCounts.{Rose, RoseBy};
-ghost use Rattle.lt_modes.specs.Script.{ScriptData};
+ghost use Rattle.std.specs.Prelude.{◌≡◌, ◌≤◌, ◌+◌, IsTrue, IfOk, OnOk, IfErr};
+ghost use Rattle.lt_io.specs.FaultCounts.{Counts};
 ghost use Rattle.lt_script.specs.declared.fault.ScriptFault.{ScriptFault as AnyFault};
 ghost use Rattle.lt_script.specs.Script.{IsScript};
 ghost use Rattle.lt_serve.specs.Scripts.{can_run};
 ghost use Rattle.lt_serve.specs.declared.limits.TheConstants.{MAX_INPUT};
 ghost use Rattle.lt_serve.specs.declared.status.Status.TheVariants as status;
-ghost use Rattle.lt_serve.specs.TopCall.{Denotes, HasFault, DenotesOther, IsReadWhole, IsReadAnswer, TellsBytes, status_of};
+ghost use Rattle.lt_serve.specs.Causes.{TellsSource, IsReadAnswer, status_of};
+ghost use Rattle.lt_serve.specs.TopCall.{Denotes, HasFault, DenotesOther};
 
 use crate::limits::MAX_INPUT;
 use crate::scripts::can_run;
@@ -20,11 +20,19 @@ pub(crate) fn read_script<S: Source>(alloc: Global, source: &mut S) -> Result<Sc
     ensures script { IfOk result (Denotes (S.left source.old)) }
     ensures built { IfOk result (λ script. IsTrue (can_run script)) }
     ensures kept { IfOk result IsScript }
-    ensures whole { OnOk result (IsReadWhole (S.given source.old) (S.given source.new) (S.ends source.old) (S.ends source.new)) }
-    ensures whole_too { IfErr result (λ answer. TellsBytes answer → IsReadWhole (S.given source.old) (S.given source.new) (S.ends source.old) (S.ends source.new)) }
+    ensures whole { OnOk result (Counts 1 (S.ends source.old) (S.ends source.new)) }
+    ensures few { OnOk result (S.given source.new ≤ S.given source.old + MAX_INPUT) }
+    ensures without_fault { OnOk result (S.faults source.new ≡ S.faults source.old) }
     ensures answer { IfErr result IsReadAnswer }
-    ensures read_fault { IfErr result (λ answer. answer ≡ status.ReadFault → Rose (S.faults source.old) (S.faults source.new)) }
-    ensures too_long { IfErr result (λ answer. answer ≡ status.TooLong → RoseBy (MAX_INPUT + 1) (S.given source.old) (S.given source.new)) }
+    ensures reading { IfErr result (λ answer. TellsSource MAX_INPUT answer (record {
+      given = S.given source.old;
+      faults = S.faults source.old;
+      ends = S.ends source.old;
+    }) (record {
+      given = S.given source.new;
+      faults = S.faults source.new;
+      ends = S.ends source.new;
+    })) }
     ensures refused { IfErr result (λ answer. (fault : AnyFault) → answer ≡ status.Refused fault → HasFault (S.left source.old) fault) }
     ensures not_built { IfErr result (λ answer. answer ≡ status.NotBuilt → DenotesOther (S.left source.old)) }
 {

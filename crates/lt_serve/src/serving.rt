@@ -1,11 +1,11 @@
-ghost use Rattle.std.specs.Prelude.{◌≡◌, ◌+◌, map, [], IsTrue};
+ghost use Rattle.std.specs.Prelude.{◌≡◌, map, [], IsTrue};
 ghost use Rattle.std.specs.String.{string_bytes};
-ghost use Rattle.lt_io.specs.FaultCounts.{Rose, RoseBy};
 ghost use Rattle.lt_script.specs.Script.{IsScript};
 ghost use Rattle.lt_serve.specs.Scripts.{can_run};
+ghost use Rattle.lt_serve.specs.Words.{IsSimFirst};
 ghost use Rattle.lt_serve.specs.declared.limits.TheConstants.{MAX_INPUT};
-ghost use Rattle.lt_serve.specs.declared.status.Status.TheVariants as status;
-ghost use Rattle.lt_serve.specs.TopCall.{Tells, TellsOf, HasCause, IsReadWhole};
+ghost use Rattle.lt_serve.specs.Causes.{HasCause, TellsSource, TellsSink, WritesNothing};
+ghost use Rattle.lt_serve.specs.TopCall.{Tells, TellsOf};
 
 use crate::command::Command;
 use crate::first::first_run;
@@ -40,13 +40,19 @@ pub fn serve<R: Threads + Sync, S: Source, K: Sink, G: Gate>(
     _gate: &G,
 ) -> Served
     // Each answer but want of memory has its cause.
-    ensures causes { HasCause (map string_bytes words.now) (S.left source.old) (record {
-      read_failed = Rose (S.faults source.old) (S.faults source.new);
-      gave_more = RoseBy (MAX_INPUT + 1) (S.given source.old) (S.given source.new);
-      read_whole = IsReadWhole (S.given source.old) (S.given source.new) (S.ends source.old) (S.ends source.new);
-      unread = source.new ≡ source.old;
-      write_failed = Rose (K.faults sink.old) (K.faults sink.new);
-    }) result.status }
+    ensures causes { HasCause (map string_bytes words.now) (S.left source.old) result.status }
+    ensures reading { TellsSource MAX_INPUT result.status (record {
+      given = S.given source.old;
+      faults = S.faults source.old;
+      ends = S.ends source.old;
+    }) (record {
+      given = S.given source.new;
+      faults = S.faults source.new;
+      ends = S.ends source.new;
+    }) }
+    ensures writing { TellsSink result.status (K.faults sink.old) (K.faults sink.new) }
+    ensures unread { ¬ (IsSimFirst (map string_bytes words.now)) → source.new ≡ source.old }
+    ensures unwritten { WritesNothing result.status → sink.new ≡ sink.old }
 
     // What the run is, how it ended, and what was written.
     ensures tells { Tells result.status (S.left source.old) result.run.entries (K.held sink.old) (K.held sink.new) }
@@ -64,7 +70,7 @@ pub fn serve<R: Threads + Sync, S: Source, K: Sink, G: Gate>(
 
 impl Served {
     // No move was made.
-    fn without_run(alloc: Global, status: Status) -> Served
+    pub(crate) fn without_run(alloc: Global, status: Status) -> Served
         ensures status { result.status ≡ status }
         ensures run { result.run.entries ≡ [] }
     {
@@ -80,7 +86,8 @@ fn run_script<K: Sink>(alloc: Global, script: &Script, sink: &mut K) -> Served
     requires built { IsTrue (can_run script.now) }
     requires kept { IsScript script.now }
     ensures tells { TellsOf result.status script.now result.run.entries (K.held sink.old) (K.held sink.new) }
-    ensures cause { result.status ≡ status.WriteFault → Rose (K.faults sink.old) (K.faults sink.new) }
+    ensures writing { TellsSink result.status (K.faults sink.old) (K.faults sink.new) }
+    ensures unwritten { WritesNothing result.status → sink.new ≡ sink.old }
 {
     let Ok((status, run)) = first_run(alloc, script) else {
         return Served::without_run(alloc, Status::NoMemory);

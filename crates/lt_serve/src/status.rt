@@ -1,10 +1,8 @@
-ghost use Rattle.std.specs.Prelude.{◌≡◌, IfOk};
-ghost use Rattle.std.specs.String.{string_bytes};
-ghost use Rattle.lt_serve.specs.Status.{code_of, text_of, refused_text, cut_text, line_text, bad_journal_text};
+ghost use Rattle.std.specs.Prelude.{◌≡◌, ◌≢◌, ◌↔◌, [], IsTrue};
+ghost use Rattle.lt_serve.specs.Status.{code_of, text_of};
 
 use lt_script::ScriptFault;
-use std::alloc::{AllocError, Global};
-use std::fmt::Write;
+use std::fmt;
 
 /// How a command ended.
 #[derive(Clone, Copy, Debug, PartialEq, Eq)]
@@ -61,52 +59,36 @@ impl Status {
         }
     }
 
-    /// The line that the program writes on standard error, without its line end; empty where it writes none.
-    pub fn text(&self, alloc: Global) -> Result<String, AllocError>
-        ensures { IfOk result (λ text. string_bytes text ≡ text_of self.now) }
+    /// Whether the program writes a line on standard error.
+    pub fn is_told(&self) -> bool
+        ensures { IsTrue result ↔ (text_of self.now ≢ []) }
     {
+        !matches!(self, Status::Done | Status::Stuck)
+    }
+}
+
+/// The line that the program writes on standard error, without its line end; empty where it writes none.
+impl fmt::Display for Status {
+    ghost use Rattle.std.specs.Prelude.{Some};
+    ghost use Rattle.lt_serve.specs.Status.{text_of};
+
+    ghost output = { λ status. Some (text_of status) };
+
+    fn fmt<W: fmt::Write>(&self, f: &mut fmt::Formatter<W>) -> fmt::Result {
         match self {
-            Status::Done | Status::Stuck => Ok(String::new(alloc)),
-            Status::Usage => String::from_str(alloc, USAGE),
-            Status::Refused(fault) => refused(alloc, fault.line, fault.fault.number()),
-            Status::TooLong => String::from_str(alloc, "lockrun: input too long"),
-            Status::ReadFault => String::from_str(alloc, "lockrun: read fault"),
-            Status::WriteFault => String::from_str(alloc, "lockrun: write fault"),
-            Status::NoMemory => String::from_str(alloc, "lockrun: no memory"),
-            Status::Cut { node } => cut_line(alloc, *node),
-            Status::BadJournal { line } => bad_journal(alloc, *line),
-            Status::NotBuilt => String::from_str(alloc, "lockrun: not built yet"),
+            Status::Done | Status::Stuck => Ok(()),
+            Status::Usage => f.write_str(USAGE),
+            Status::Refused(fault) => write!(f, "lockrun: {fault}"),
+            Status::TooLong => f.write_str("lockrun: input too long"),
+            Status::ReadFault => f.write_str("lockrun: read fault"),
+            Status::WriteFault => f.write_str("lockrun: write fault"),
+            Status::NoMemory => f.write_str("lockrun: no memory"),
+            Status::Cut { node } => write!(f, "lockrun: cut at node {node}"),
+            Status::BadJournal { line } => write!(f, "lockrun: line {line}: journal"),
+            Status::NotBuilt => f.write_str("lockrun: not built yet"),
         }
     }
 }
 
 const USAGE: &str =
     "lockrun: usage: run | sim first | sim SEED | check | make NODES CLIENTS COMMANDS SEED | soak SEED";
-
-fn refused(alloc: Global, line: u32, number: u8) -> Result<String, AllocError>
-    ensures { IfOk result (λ text. string_bytes text ≡ refused_text line number) }
-{
-    let mut text = at_line(alloc, line)?;
-    write!(text, ": S{number}")?;
-    Ok(text)
-}
-
-fn bad_journal(alloc: Global, line: u32) -> Result<String, AllocError>
-    ensures { IfOk result (λ text. string_bytes text ≡ bad_journal_text line) }
-{
-    let mut text = at_line(alloc, line)?;
-    text.push_str(": journal")?;
-    Ok(text)
-}
-
-fn at_line(alloc: Global, line: u32) -> Result<String, AllocError>
-    ensures { IfOk result (λ text. string_bytes text ≡ line_text line) }
-{
-    format!(in alloc; "lockrun: line {line}")
-}
-
-fn cut_line(alloc: Global, node: u8) -> Result<String, AllocError>
-    ensures { IfOk result (λ text. string_bytes text ≡ cut_text node) }
-{
-    format!(in alloc; "lockrun: cut at node {node}")
-}

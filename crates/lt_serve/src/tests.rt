@@ -228,7 +228,7 @@ fn texts(rt: HostRuntime) -> Result<(), Fail> {
         (Status::NotBuilt, 9, "lockrun: not built yet"),
     ] {
         assert_eq!(rt; status.code(), code);
-        assert_eq!(rt; status.text(alloc)?.as_str(), text);
+        assert_eq!(rt; format!(in alloc; "{status}")?.as_str(), text);
     }
     Ok(())
 }
@@ -270,7 +270,11 @@ fn refused(rt: HostRuntime) -> Result<(), Fail> {
         let mut source = source_of(alloc, script, &[])?;
         let mut sink = sink_of(alloc, 1_000, &[])?;
         let served = serve(&rt, alloc, words.as_slice(), &mut source, &mut sink, &Open);
-        assert_eq!(rt; served.status.text(alloc)?.as_str(), *text, "{script}");
+        assert_eq!(rt;
+            format!(in alloc; "{}", served.status)?.as_str(),
+            *text,
+            "{script}"
+        );
         assert_eq!(rt; served.status.code(), 2);
         assert!(rt; sink.bytes.is_empty());
     }

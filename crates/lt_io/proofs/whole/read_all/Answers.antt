@@ -9,6 +9,7 @@ loop-bytes-init g c = record {
   no_fault = refl;
   all_counted = rw c.new-bytes.ensures.len refl;
   none_uncounted = omega arith;
+  none_made_up = omega (arith, c.new-bytes.ensures.len);
   no_longer = omega (arith, c.new-bytes.ensures.len);
 }
 

@@ -11,6 +11,7 @@ invariant-loop-bytes g l = record {
   no_fault : g.S.Source.faults l.source ≡ g.S.Source.faults l.initial.source;
   all_counted : count_after (g.S.Source.given l.source) 0 ≡ count_after (g.S.Source.given l.initial.source) (vec_len l.bytes);
   none_uncounted : g.S.Source.given l.initial.source ≤ g.S.Source.given l.source;
+  none_made_up : g.S.Source.given l.source ≤ g.S.Source.given l.initial.source + vec_len l.bytes;
   no_longer : vec_len l.bytes ≤ l.limit;
 }
 

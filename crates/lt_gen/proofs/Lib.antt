@@ -1,0 +1,4 @@
+pub mod ClientNames
+pub mod Loads
+pub mod Turns
+pub mod Generated

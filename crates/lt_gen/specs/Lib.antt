@@ -1,0 +1,4 @@
+pub mod Draws
+pub mod Groups
+pub mod Generator
+pub mod Making

@@ -1,0 +1,42 @@
+-- What the exit statuses, their texts and the limits are.
+use Rattle.std.specs.Prelude.{◌≡◌, [], codes}
+use Rattle.lt_script.specs.declared.fault.Fault.TheVariants as faults
+use Rattle.lt_world.specs.declared.limits.TheConstants.{MAX_MOVES}
+use Rattle.lt_serve.specs.declared.limits.TheConstants.{MAX_INPUT}
+use Rattle.lt_serve.specs.declared.status.Status.{Status}
+use Rattle.lt_serve.specs.declared.status.Status.TheVariants.{Done, Stuck, Usage, Refused, TooLong, ReadFault, WriteFault, NoMemory, Cut, BadJournal, NotBuilt}
+use Rattle.lt_serve.specs.Status.{code_of, text_of}
+
+-- the fault that a script of nothing has
+abbrev pub empty_script : Status
+empty_script = Refused (record { line = 1; fault = faults.Nodes })
+
+pub record CodesAre : Type 0 where
+  pub done : code_of Done ≡ 0
+  pub usage : code_of Usage ≡ 1
+  pub refused : code_of empty_script ≡ 2
+  pub too_long : code_of TooLong ≡ 2
+  pub stuck : code_of Stuck ≡ 3
+  pub read_fault : code_of ReadFault ≡ 4
+  pub write_fault : code_of WriteFault ≡ 5
+  pub no_memory : code_of NoMemory ≡ 6
+  pub cut : code_of (Cut 7) ≡ 7
+  pub bad_journal : code_of (BadJournal 4) ≡ 8
+  pub not_built : code_of NotBuilt ≡ 9
+
+pub record TextsAre : Type 0 where
+  pub done : text_of Done ≡ []
+  pub stuck : text_of Stuck ≡ []
+  pub usage : text_of Usage ≡ codes "lockrun: usage: run | sim first | sim SEED | check | make NODES CLIENTS COMMANDS SEED | soak SEED"
+  pub refused : text_of empty_script ≡ codes "lockrun: line 1: S5"
+  pub too_long : text_of TooLong ≡ codes "lockrun: input too long"
+  pub read_fault : text_of ReadFault ≡ codes "lockrun: read fault"
+  pub write_fault : text_of WriteFault ≡ codes "lockrun: write fault"
+  pub no_memory : text_of NoMemory ≡ codes "lockrun: no memory"
+  pub cut : text_of (Cut 7) ≡ codes "lockrun: cut at node 7"
+  pub bad_journal : text_of (BadJournal 4) ≡ codes "lockrun: line 4: journal"
+  pub not_built : text_of NotBuilt ≡ codes "lockrun: not built yet"
+
+pub record LimitsAre : Type 0 where
+  pub input : MAX_INPUT ≡ 1048576
+  pub moves : MAX_MOVES ≡ 1048576

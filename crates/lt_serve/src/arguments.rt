@@ -1,0 +1,38 @@
+ghost use Rattle.std.specs.Prelude.{◌≡◌, ◌≢◌, map, IfOk, IfErr};
+ghost use Rattle.std.specs.IoError.{error_kind};
+ghost use Rattle.std.specs.String.{string_bytes};
+ghost use Rattle.lt_serve.specs.Causes.{HasCause};
+ghost use Rattle.lt_serve.specs.TopCall.{Tells};
+
+use crate::gate::Gate;
+use crate::serving::{Served, serve};
+use crate::status::Status;
+use lt_io::{Sink, Source};
+use std::alloc::Global;
+use std::io::{self, ErrorKind};
+use std::thread::Threads;
+
+/// What the program does with its words, if they can be had: words that aren't text are wrong words.
+pub fn program<R: Threads + Sync, S: Source, K: Sink, G: Gate>(
+    rt: &R,
+    alloc: Global,
+    words: &io::Result<Vec<String>>,
+    source: &mut S,
+    sink: &mut K,
+    gate: &G,
+) -> Served
+    ensures causes { IfOk words.now (λ texts. HasCause (map string_bytes texts.items) (S.left source.old) result.status) }
+    ensures tells { IfOk words.now (λ texts. Tells result.status (S.left source.old) result.run.entries (K.held sink.old) (K.held sink.new)) }
+    ensures no_memory { IfErr words.now (λ error. error_kind error ≡ ErrorKind.OutOfMemory → result.status ≡ Status.NoMemory) }
+    ensures no_text { IfErr words.now (λ error. error_kind error ≢ ErrorKind.OutOfMemory → result.status ≡ Status.Usage) }
+    ensures unread { IfErr words.now (λ error. source.new ≡ source.old) }
+    ensures unwritten { IfErr words.now (λ error. sink.new ≡ sink.old) }
+{
+    match words {
+        Ok(words) => serve(rt, alloc, words.as_slice(), source, sink, gate),
+        Err(error) if error.kind() == ErrorKind::OutOfMemory => {
+            Served::without_run(alloc, Status::NoMemory)
+        }
+        Err(_) => Served::without_run(alloc, Status::Usage),
+    }
+}
