@@ -53,18 +53,25 @@ impl Out {
 
     /// For how many letters there is room, with those that are here.
     pub fn post_room(&self) -> usize
-        ensures room { result ≡ self.now.post_room }
-        ensures within { length self.now.posts ≤ self.now.post_room }
+        ensures { result ≡ self.now.post_room }
     {
         self.posts.capacity()
     }
 
     /// For how many event lines there is room, with those that are here.
     pub fn event_room(&self) -> usize
-        ensures room { result ≡ self.now.event_room }
-        ensures within { length self.now.events ≤ self.now.event_room }
+        ensures { result ≡ self.now.event_room }
     {
         self.events.capacity()
+    }
+
+    /// No more is here than there is room for.
+    pub fn is_within(&self)
+        ensures posts { length self.now.posts ≤ self.now.post_room }
+        ensures events { length self.now.events ≤ self.now.event_room }
+    {
+        let _ = &self.posts;
+        let _ = &self.events;
     }
 
     pub fn push_letter(&mut self, post: Post)

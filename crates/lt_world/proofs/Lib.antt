@@ -2,3 +2,9 @@ mod Recorded
 pub mod Senders
 pub mod Wires
 pub mod Delivered
+pub mod Bridge
+pub mod Runs
+pub mod Premises
+pub mod Moves
+pub mod Acting
+pub mod Taking

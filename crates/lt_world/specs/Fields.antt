@@ -1,5 +1,5 @@
 -- What the fields of a world hold, for the moves that were made.
-use Rattle.std.specs.Prelude.{◌≡◌, ◌<◌, ◌≤◌, ◌&&◌, ◌||◌, ◌==◌, nat_lt, Bool, ℕ, List, [], length, count_by, slice_index_or, IsTrue, Option}
+use Rattle.std.specs.Prelude.{◌≡◌, ◌<◌, ◌≤◌, ◌&&◌, ◌||◌, ◌==◌, nat_lt, Bool, ℕ, List, [], length, count_by, slice_index_or, slice_set, IsTrue, Option}
 use Rattle.lt_modes.specs.declared.moves.Step.TheVariants.{Act, Take}
 use Rattle.lt_modes.specs.Script.{ScriptData}
 use Rattle.lt_lists.specs.Below.{any_below, first_below, sum_below}
@@ -8,9 +8,10 @@ use Rattle.lt_runs.specs.Log.{Logged}
 use Rattle.lt_runs.specs.NodeMove.{NodeState}
 use Rattle.lt_runs.specs.World.{World, world_after, is_enabled, is_runnable, is_of_node, IsRun}
 use Rattle.lt_letter.specs.OutData.{OutData}
-use Rattle.lt_node.specs.NodeData.{NodeData, state_of}
-use Rattle.lt_world.specs.declared.limits.TheConstants.{MAX_MOVES}
-use Rattle.lt_world.specs.Mail.{WireData, inbox_at, mail_in}
+use Rattle.lt_node.specs.NodeData.{NodeData, SameNode, state_of}
+use Rattle.lt_merge.specs.Run.{RunData}
+use Rattle.lt_limits.specs.declared.moves.TheConstants.{MAX_MOVES}
+use Rattle.lt_world.specs.Mail.{WireData, inbox_at, mail_in, HasRoomFrom}
 
 -- what contracts see of a world: its script, how many moves a node may make, and the run so far
 pub record WorldData : Type 0 where
@@ -59,6 +60,17 @@ pub record IsNodeOf (script : ScriptData) (q : ℕ) (state : NodeState) (n : Nod
   pub script_is : n.script ≡ script
   pub me : n.me ≡ q
   pub state_is : state_of n ≡ state
+
+-- node q may have other memory, and nothing else changed
+pub record OnlyMemory (q : ℕ) (old new : List NodeData) : Type 0 where
+  pub others : new ≡ slice_set old q (node_at new q)
+  pub node : SameNode (node_at old q) (node_at new q)
+
+-- there is room for what the node sends out, for which out has room
+pub record RoomToSend (q : ℕ) (inboxes : List (List WireData)) (run : RunData) (out : OutData) : Type 0 where
+  pub letters : HasRoomFrom q out.post_room inboxes
+  pub move : 1 ≤ run.spare
+  pub lines : out.event_room ≤ run.room
 
 -- the nodes and the letters on their way are those of this world
 pub record IsWorld (script : ScriptData) (nodes : List NodeData) (inboxes : List (List WireData)) (w : World) : Type 0 where

@@ -60,11 +60,12 @@ takes_at inboxes q = map (take_turn q) (senders_in (inbox_at inboxes q))
 abbrev pub takes_in : List (List WireData) → List Turn
 takes_in inboxes = flat_map (takes_at inboxes) (range_with_len 0 (length inboxes))
 
--- the same letters, for which there may be other room
+-- the same letters, for which there may be more room
 pub record SameLetters (old new : List (List WireData)) : Type 0 where
   pub receivers : length new ≡ length old
   pub senders : (q : ℕ) → length (inbox_at new q) ≡ length (inbox_at old q)
   pub letters : (p q : ℕ) → mail_in new p q ≡ mail_in old p q
+  pub room : (p q : ℕ) → (wire_between old p q).room ≤ (wire_between new p q).room
 
 -- there is room for so many letters more from p to each node
 abbrev pub HasRoomFrom : ℕ → ℕ → List (List WireData) → Type 0

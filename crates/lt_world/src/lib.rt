@@ -3,10 +3,11 @@
 #![tactic(auto)]
 
 mod choice;
+mod delivery;
 mod inbox;
-mod limits;
 mod network;
+mod recording;
 mod wire;
 
 pub use choice::Choice;
-pub use limits::MAX_MOVES;
+pub use lt_limits::MAX_MOVES;

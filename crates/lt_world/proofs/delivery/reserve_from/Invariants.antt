@@ -1,6 +1,6 @@
 use Rattle.std.proofs.Common.{◌≡◌, ℕ, ◌<◌, ◌≤◌, ◌+◌, length}
 use Rattle.lt_world.specs.Mail.{SameLetters, mail_in, wire_between}
-use Rattle.lt_world.proofs.network.reserve_from.Given as goal
+use Rattle.lt_world.proofs.delivery.reserve_from.Given as goal
 
 abbrev pub invariant-loop-receiver : goal.invariant-loop-receiver
 invariant-loop-receiver l = record {

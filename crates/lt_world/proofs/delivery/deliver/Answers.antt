@@ -4,7 +4,7 @@ use Rattle.lt_letter.specs.OutData.{OutData}
 use Rattle.lt_letter.specs.Seen.{post_seen}
 use Rattle.lt_world.specs.Mail.{WireData, inbox_at}
 use Rattle.lt_world.proofs.Delivered.{LeftToDeliver, delivered_one}
-use Rattle.lt_world.proofs.network.deliver.Goals as goal
+use Rattle.lt_world.proofs.delivery.deliver.Goals as goal
 
 -- the letter in hand is the next one
 next : (p : ℕ) (posts left : List Post) (old now : List (List WireData)) (post : Post) (rest : List Post) → left ≡ post ∷ rest

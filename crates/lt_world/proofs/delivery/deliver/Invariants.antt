@@ -1,6 +1,6 @@
 use Rattle.std.proofs.Common.{◌≡◌, [], length}
 use Rattle.lt_world.proofs.Delivered.{LeftToDeliver}
-use Rattle.lt_world.proofs.network.deliver.Given as goal
+use Rattle.lt_world.proofs.delivery.deliver.Given as goal
 
 abbrev pub invariant-loop-post : goal.invariant-loop-post
 invariant-loop-post l = record {
