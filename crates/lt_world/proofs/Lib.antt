@@ -8,3 +8,8 @@ pub mod Premises
 pub mod Moves
 pub mod Acting
 pub mod Taking
+pub mod TakeOrder
+pub mod ActOrder
+pub mod Counts
+pub mod Rest
+pub mod Picks

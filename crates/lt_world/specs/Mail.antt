@@ -52,13 +52,17 @@ mail_in inboxes p q = (wire_between inboxes p q).letters
 abbrev pub put_wire : List (List WireData) → ℕ → ℕ → WireData → List (List WireData)
 put_wire inboxes p q wire = slice_set inboxes q (slice_set (inbox_at inboxes q) p wire)
 
--- the takes of one receiver
-abbrev pub takes_at : List (List WireData) → ℕ → List Turn
-takes_at inboxes q = map (take_turn q) (senders_in (inbox_at inboxes q))
+-- the takes of one receiver, by sender
+abbrev pub takes_of : ℕ → List WireData → List Turn
+takes_of q wires = map (take_turn q) (senders_in wires)
+
+-- the takes of so many receivers from q on
+abbrev pub takes_from : List (List WireData) → ℕ → ℕ → List Turn
+takes_from inboxes q count = flat_map (λ r. takes_of r (inbox_at inboxes r)) (range_with_len q count)
 
 -- all takes, by receiver and then by sender
 abbrev pub takes_in : List (List WireData) → List Turn
-takes_in inboxes = flat_map (takes_at inboxes) (range_with_len 0 (length inboxes))
+takes_in inboxes = takes_from inboxes 0 (length inboxes)
 
 -- the same letters, for which there may be more room
 pub record SameLetters (old new : List (List WireData)) : Type 0 where

@@ -7,7 +7,10 @@ mod delivery;
 mod inbox;
 mod network;
 mod recording;
+mod takes;
 mod wire;
+mod world;
 
 pub use choice::Choice;
 pub use lt_limits::MAX_MOVES;
+pub use world::World;

@@ -1,15 +1,17 @@
-ghost use Rattle.std.specs.Prelude.{◌≡◌, ◌<◌, ◌≤◌, ◌+◌, ◌^◌, ℕ, [], ◌∷◌, ◌++◌, All, length, slice_set, IsTrue, OnOk, OnErr};
+ghost use Rattle.std.specs.Prelude.{◌≡◌, ◌<◌, ◌≤◌, ◌+◌, ◌^◌, ℕ, [], ◌∷◌, ◌++◌, All, length, slice_set, IsTrue, IfOk, OnOk, OnErr};
 ghost use Rattle.lt_modes.specs.Made as rules;
 ghost use Rattle.lt_modes.specs.declared.moves.Step.TheVariants.{Act, Take};
-ghost use Rattle.lt_runs.specs.World.{world_after, is_enabled, logged};
+ghost use Rattle.lt_runs.specs.World.{start, world_after, is_enabled, logged};
 ghost use Rattle.lt_letter.specs.Seen.{letter_seen};
 ghost use Rattle.lt_runs.specs.NodeMove.{node_act, node_take, act_stamp, take_stamp};
 ghost use Rattle.lt_node.specs.NodeData.{NodeDoes, state_of};
 ghost use Rattle.lt_node.specs.Room.{RoomToAct, RoomToTake};
-ghost use Rattle.lt_world.specs.Mail.{SameLetters, AreDelivered, inbox_at};
+ghost use Rattle.lt_world.specs.Mail.{SameLetters, AreDelivered, inbox_at, mail_in};
+ghost use Rattle.lt_script.specs.Script.{IsScript};
 ghost use Rattle.lt_world.specs.Moving.{IsWithin, CanAct, CanTake};
-ghost use Rattle.lt_world.specs.Fields.{Holds, OnlyMemory, RoomToSend, node_at};
+ghost use Rattle.lt_world.specs.Fields.{Holds, IsNodeOf, OnlyMemory, RoomToSend, node_at};
 
+use crate::choice::Choice;
 use crate::delivery::{deliver, pop_front, put_front, reserve_from};
 use crate::inbox::Inbox;
 use crate::recording::note_events;
@@ -18,7 +20,7 @@ use lt_merge::Run;
 use lt_modes::{Move, Stamp, Step};
 use lt_node::Node;
 use lt_script::Script;
-use std::alloc::AllocError;
+use std::alloc::{AllocError, Global};
 
 /// The nodes of a script, the letters on their way to each of them, and the moves made.
 #[derive(Drop)]
@@ -30,9 +32,39 @@ pub(crate) struct Network<'a> {
     pub(crate) run: Run,
 }
 
-impl Network<'_> {
-    /// Makes the next command of a client of this node.
-    pub(crate) fn act(&mut self, script: &Script, node: u8, client: u16) -> Result<(), AllocError>
+impl<'a> Network<'a> {
+    /// The nodes of the script at its start.
+    pub(crate) fn new(alloc: Global, script: &'a Script) -> Result<Network<'a>, AllocError>
+        ensures holds { IfOk result (λ n. Holds script.now n.nodes.items n.inboxes.items n.out n.run.entries) }
+        ensures start { IfOk result (λ n. n.run.entries ≡ []) }
+    {
+        let nodes = nodes_of(alloc, script)?;
+        let inboxes = inboxes_of(alloc, script.nodes())?;
+        Ok(Network {
+            nodes,
+            inboxes,
+            out: Out::new(alloc),
+            run: Run::new(alloc),
+        })
+    }
+
+    /// Makes the move.
+    pub(crate) fn make(&mut self, script: &Script, choice: Choice) -> Result<(), AllocError>
+        requires holds { Holds script.now self.old.nodes.items self.old.inboxes.items self.old.out self.old.run.entries }
+        requires enabled { IsTrue (is_enabled script.now (world_after script.now self.old.run.entries) choice.node choice.step) }
+        requires few { length self.old.run.entries + 1 < 2 ^ 32 }
+        ensures holds { Holds script.now self.new.nodes.items self.new.inboxes.items self.new.out self.new.run.entries }
+        ensures ok { OnOk result (self.new.run.entries ≡ self.old.run.entries ++ logged script.now (world_after script.now self.old.run.entries) choice.node choice.step ∷ []) }
+        ensures err { OnErr result (self.new.run.entries ≡ self.old.run.entries) }
+    {
+        match choice.step {
+            Step::Act(client) => self.act(script, choice.node, client),
+            Step::Take(sender) => self.take(script, choice.node, sender),
+        }
+    }
+
+    // Makes the next command of a client of this node.
+    fn act(&mut self, script: &Script, node: u8, client: u16) -> Result<(), AllocError>
         requires holds { Holds script.now self.old.nodes.items self.old.inboxes.items self.old.out self.old.run.entries }
         requires enabled { IsTrue (is_enabled script.now (world_after script.now self.old.run.entries) node (Act client)) }
         requires few { length self.old.run.entries + 1 < 2 ^ 32 }
@@ -47,8 +79,8 @@ impl Network<'_> {
         Ok(())
     }
 
-    /// Takes the front letter from the sender to this node.
-    pub(crate) fn take(&mut self, script: &Script, node: u8, sender: u8) -> Result<(), AllocError>
+    // Takes the front letter from the sender to this node.
+    fn take(&mut self, script: &Script, node: u8, sender: u8) -> Result<(), AllocError>
         requires holds { Holds script.now self.old.nodes.items self.old.inboxes.items self.old.out self.old.run.entries }
         requires enabled { IsTrue (is_enabled script.now (world_after script.now self.old.run.entries) node (Take sender)) }
         requires few { length self.old.run.entries + 1 < 2 ^ 32 }
@@ -99,6 +131,32 @@ impl Network<'_> {
         self.nodes[usize::from(node)].reserve_for(letter, &mut self.out)?;
         reserve_all(&mut self.inboxes, &mut self.run, node, &self.out)
     }
+}
+
+// All nodes of the script at its start.
+fn nodes_of<'a>(alloc: Global, script: &'a Script) -> Result<Vec<Node<'a>>, AllocError>
+    ensures count { IfOk result (λ nodes. length nodes.items ≡ script.now.nodes) }
+    ensures each { IfOk result (λ nodes. (q : ℕ) → q < script.now.nodes → IsNodeOf script.now q ((start script.now).node q) (node_at nodes.items q)) }
+    ensures script { IsScript script.now }
+{
+    let mut nodes = Vec::new(alloc);
+    for node in 0..script.nodes() {
+        nodes.push(Node::new(alloc, script, node)?)?;
+    }
+    Ok(nodes)
+}
+
+// So many inboxes without letters, each for so many senders.
+fn inboxes_of(alloc: Global, nodes: u8) -> Result<Vec<Inbox>, AllocError>
+    ensures count { IfOk result (λ inboxes. length inboxes.items ≡ nodes) }
+    ensures senders { IfOk result (λ inboxes. (q : ℕ) → q < nodes → length (inbox_at inboxes.items q) ≡ nodes) }
+    ensures empty { IfOk result (λ inboxes. (p q : ℕ) → mail_in inboxes.items p q ≡ []) }
+{
+    let mut inboxes = Vec::new(alloc);
+    for _ in 0..nodes {
+        inboxes.push(Inbox::new(alloc, nodes)?)?;
+    }
+    Ok(inboxes)
 }
 
 // This node makes the next command of the client.

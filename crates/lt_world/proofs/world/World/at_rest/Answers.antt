@@ -1,0 +1,9 @@
+use Rattle.std.proofs.Common.{◌≡◌, ◌∙◌, ℕ, sym, ap}
+use Rattle.std.specs.Prelude.{◌==◌}
+use Rattle.lt_world.specs.Fields.{world_of}
+use Rattle.lt_world.proofs.Rest.{rest_counted}
+use Rattle.lt_world.proofs.world.World.at_rest.Goals as goal
+
+pub returns : goal.returns
+returns c =
+    ap (λ (n : ℕ). n == 0) c.count.ensures ∙ sym (rest_counted c.args.self.now.script (world_of c.args.self.now))

@@ -1,0 +1,12 @@
+use Rattle.std.proofs.Common.{◌≡◌, ◌∙◌, List, sym, subst}
+use Rattle.lt_runs.specs.Log.{Logged}
+use Rattle.lt_world.specs.Fields.{AreCounted}
+use Rattle.lt_world.proofs.Counts.{counted_at_start}
+use Rattle.lt_world.proofs.world.World.new.Goals as goal
+
+pub invariant_of-result : goal.invariant_of-result
+invariant_of-result c = record {
+  holds = c.in_ok-network.ensures.holds;
+  counted = subst (AreCounted c.args.script.now c.args.limit c.in_ok-moves.moves.items) (sym c.in_ok-network.ensures.start)
+      (counted_at_start c.args.script.now c.args.limit c.in_ok-moves.moves.items c.requires.1 (c.in_ok-moves.ensures.count ∙ c.nodes.ensures.nodes) c.in_ok-moves.ensures.none);
+}

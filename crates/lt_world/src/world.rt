@@ -1,0 +1,174 @@
+mod full;
+mod order;
+
+ghost use Rattle.std.specs.Prelude.{◌≡◌, ◌≤◌, ◌<◌, ◌↔◌, ℕ, [], ◌∷◌, ◌++◌, length, IsTrue, IsFalse, IsNone, IfOk, IfSome, OnSome, OnOk, OnErr, option_map, slice_index_or};
+ghost use Rattle.lt_limits.specs.declared.moves.TheConstants.{MAX_MOVES};
+
+ghost use Rattle.lt_runs.specs.World.{is_runnable, is_enabled, is_at_rest, anyone_waits, is_waiting, has_mail, logged, IsRun};
+ghost use Rattle.lt_runs.specs.FixedOrder.{pick, count_turns};
+ghost use Rattle.lt_world.specs.Choice.{choice_of};
+ghost use Rattle.lt_world.specs.Fields.{moves_of, world_of};
+
+use crate::choice::Choice;
+use crate::network::Network;
+
+use lt_limits::MAX_MOVES;
+use lt_merge::Run;
+use lt_modes::Step;
+use lt_script::Script;
+use std::alloc::{AllocError, Global};
+use std::marker::Model;
+
+/// The nodes of a script, the letters on their way, and the run so far.
+#[derive(Drop)]
+pub struct World<'a> {
+    script: &'a Script,
+    limit: u32,
+    network: Network<'a>,
+    // How many moves each node has made.
+    moves: Vec<u32>,
+}
+
+impl<'a> Model for World<'a> {
+    ghost use Rattle.lt_world.specs.Fields.{WorldData, Stands};
+
+    ghost Value = { WorldData };
+
+    ghost view = { λ w. record { script = w.script.now; limit = w.limit; run = w.network.run.entries } };
+
+    ghost invariant = { λ w. Stands w.script.now w.limit w.network.nodes.items w.network.inboxes.items w.moves.items w.network.out w.network.run.entries };
+}
+
+impl<'a> World<'a> {
+    /// The world at the start of a script, in which a node may make up to `limit` moves.
+    pub fn new(alloc: Global, script: &'a Script, limit: u32) -> Result<World<'a>, AllocError>
+        requires { (0 < limit) × (limit ≤ MAX_MOVES) }
+        ensures { IfOk result (λ w. w ≡ record { script = script.now; limit = limit; run = [] }) }
+    {
+        let network = Network::new(alloc, script)?;
+        let moves = no_moves(alloc, script.nodes())?;
+        Ok(World {
+            script,
+            limit,
+            network,
+            moves,
+        })
+    }
+
+    /// Whether the node can make the move now.
+    pub fn enabled(&self, choice: Choice) -> bool
+        ensures { result ≡ is_enabled self.now.script (world_of self.now) choice.node choice.step }
+    {
+        match choice.step {
+            Step::Act(client) => client < self.script.clients()
+                && (self.script.home(client) == choice.node && self.is_runnable(client)),
+            Step::Take(sender) => self.has_mail(sender, choice.node),
+        }
+    }
+
+    /// Whether no move is enabled.
+    pub fn at_rest(&self) -> bool
+        ensures { result ≡ is_at_rest self.now.script (world_of self.now) }
+    {
+        self.count() == 0
+    }
+
+    /// The number of enabled moves.
+    pub fn count(&self) -> u32
+        ensures { result ≡ count_turns self.now.script (world_of self.now) }
+    {
+        self.count_takes() + self.count_acts()
+    }
+
+    /// Whether some client waits.
+    pub fn anyone_waits(&self) -> bool
+        ensures { result ≡ anyone_waits self.now.script (world_of self.now) }
+    {
+        for client in 0..self.script.clients() {
+            if self.is_waiting(client) {
+                return true;
+            }
+        }
+        false
+    }
+
+    /// The enabled move at place `k`, from 0: takes before acts; takes by receiver and then by sender; acts by the number of
+    /// commands that the client has made, and then in the order of the clients' declaration.
+    pub fn pick(&self, k: u32) -> Option<Choice>
+        ensures place { result ≡ option_map choice_of (pick self.now.script (world_of self.now) k) }
+        ensures enabled { IfSome result (λ choice. IsTrue (is_enabled self.now.script (world_of self.now) choice.node choice.step)) }
+        ensures none { IsNone result ↔ (count_turns self.now.script (world_of self.now) ≤ k) }
+        ensures going { OnSome result (IsFalse (is_at_rest self.now.script (world_of self.now))) }
+        ensures rest { IsNone result → k ≡ 0 → IsTrue (is_at_rest self.now.script (world_of self.now)) }
+    {
+        self.turn_at(k)
+    }
+
+    /// Makes an enabled move of a node that has made fewer moves than the limit.
+    pub fn step(&mut self, choice: Choice) -> Result<(), AllocError>
+        requires enabled { IsTrue (is_enabled self.old.script (world_of self.old) choice.node choice.step) }
+        requires room { moves_of choice.node self.old.run < self.old.limit }
+        ensures ok { OnOk result (self.new ≡ record self.old { run = self.old.run ++ logged self.old.script (world_of self.old) choice.node choice.step ∷ [] }) }
+        ensures err { OnErr result (self.new ≡ self.old) }
+    {
+        self.network.make(self.script, choice)?;
+        self.moves[usize::from(choice.node)] += 1;
+        Ok(())
+    }
+
+    /// The moves made so far.
+    pub fn run(&self) -> &Run
+        ensures { result.now.entries ≡ self.now.run }
+    {
+        &self.network.run
+    }
+
+    /// The moves made, without the world.
+    pub fn into_run(self) -> Run
+        ensures run { result.entries ≡ self.entry.run }
+        ensures is_run { IsRun self.entry.script self.entry.run }
+    {
+        self.network.run
+    }
+
+    // Whether the client doesn't wait and has a command left.
+    fn is_runnable(&self, client: u16) -> bool
+        requires { client < length self.now.script.clients }
+        ensures { result ≡ is_runnable self.now.script (world_of self.now) client }
+    {
+        let home = usize::from(self.script.home(client));
+        self.network.nodes[home].runnable(client)
+    }
+
+    // Whether an ask of the client is unanswered.
+    fn is_waiting(&self, client: u16) -> bool
+        requires { client < length self.now.script.clients }
+        ensures { result ≡ is_waiting self.now.script (world_of self.now) client }
+    {
+        let home = usize::from(self.script.home(client));
+        self.network.nodes[home].waits(client)
+    }
+
+    // Whether a letter is on its way from the sender to the receiver.
+    fn has_mail(&self, sender: u8, receiver: u8) -> bool
+        ensures { result ≡ has_mail self.now.script (world_of self.now) sender receiver }
+    {
+        let nodes = self.script.nodes();
+        sender < nodes
+            && (receiver < nodes
+                && (sender != receiver
+                    && self.network.inboxes[usize::from(receiver)].has_from(sender)))
+    }
+}
+
+// No move of so many nodes.
+fn no_moves(alloc: Global, nodes: u8) -> Result<Vec<u32>, AllocError>
+    ensures count { IfOk result (λ moves. length moves.items ≡ nodes) }
+    ensures none { IfOk result (λ moves. (q : ℕ) → slice_index_or moves.items q 0 ≡ 0) }
+{
+    let mut moves = Vec::new(alloc);
+    for _ in 0..nodes {
+        moves.push(0)?;
+    }
+    Ok(moves)
+}

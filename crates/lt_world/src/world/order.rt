@@ -1,0 +1,143 @@
+ghost use Rattle.std.specs.Prelude.{◌≡◌, ◌<◌, ◌^◌, length, IfSome, None, slice_get, option_map};
+ghost use Rattle.lt_runs.specs.World.{made_by};
+ghost use Rattle.lt_runs.specs.FixedOrder.{pick, takes, count_acts, next_act, act_after, act_turn, acts_before, comes_after};
+ghost use Rattle.lt_world.specs.Fields.{IsRunnable, world_of};
+ghost use Rattle.lt_world.specs.Choice.{choice_of, first_with};
+
+use super::World;
+use crate::choice::Choice;
+use crate::takes;
+use lt_modes::Step;
+
+// The order of the enabled moves.
+impl<'a> World<'a> {
+    // The enabled move at place `k`.
+    pub(super) fn turn_at(&self, k: u32) -> Option<Choice>
+        ensures { result ≡ option_map choice_of (pick self.now.script (world_of self.now) k) }
+    {
+        let takes = self.count_takes();
+        if k < takes {
+            self.take_at(k)
+        } else {
+            self.act_at(k - takes)
+        }
+    }
+
+    // The number of enabled takes.
+    pub(super) fn count_takes(&self) -> u32
+        ensures count { result ≡ length (takes self.now.script (world_of self.now)) }
+        ensures few { result < 2 ^ 16 }
+    {
+        takes::count(&self.network.inboxes)
+    }
+
+    // The number of clients that can act.
+    pub(super) fn count_acts(&self) -> u32
+        ensures count { result ≡ count_acts self.now.script (world_of self.now) }
+        ensures few { result < 2 ^ 16 }
+    {
+        let mut count = 0;
+        for client in 0..self.script.clients() {
+            if self.is_runnable(client) {
+                count += 1;
+            }
+        }
+        count
+    }
+
+    // The take at place `k`, by receiver and then by sender.
+    fn take_at(&self, k: u32) -> Option<Choice>
+        ensures { result ≡ option_map choice_of (slice_get (takes self.now.script (world_of self.now)) k) }
+    {
+        takes::at(&self.network.inboxes, k)
+    }
+
+    // The act at place `k`.
+    fn act_at(&self, k: u32) -> Option<Choice>
+        ensures { result ≡ option_map choice_of (option_map (act_turn self.now.script) (act_after self.now.script (world_of self.now) None k)) }
+    {
+        let client = self.client_at(k)?;
+        Some(Choice {
+            node: self.script.home(client),
+            step: Step::Act(client),
+        })
+    }
+
+    // The client that acts at place `k`.
+    #[tactic(auto, using(crate::proofs::ActOrder::act_after_next, crate::proofs::ActOrder::act_after_none))]
+    fn client_at(&self, k: u32) -> Option<u16>
+        ensures client { result ≡ act_after self.now.script (world_of self.now) None k }
+        ensures runnable { IfSome result (IsRunnable self.now) }
+    {
+        let mut earlier = None;
+        let mut left = k;
+        while left > 0 {
+            match self.next_act(earlier) {
+                Some(client) => earlier = Some(client),
+                None => return None,
+            }
+            left -= 1;
+        }
+        self.next_act(earlier)
+    }
+
+    // The first runnable client after this one, in the order of moves.
+    fn next_act(&self, earlier: Option<u16>) -> Option<u16>
+        requires { IfSome earlier (λ client. client < length self.now.script.clients) }
+        ensures next { result ≡ next_act self.now.script (world_of self.now) earlier }
+        ensures runnable { IfSome result (IsRunnable self.now) }
+    {
+        let mut first = None;
+        for client in 0..self.script.clients() {
+            first = self.first_with(earlier, first, client);
+        }
+        first
+    }
+
+    // The first of `first` and this client, where it is runnable and comes after the earlier one.
+    fn first_with(&self, earlier: Option<u16>, first: Option<u16>, client: u16) -> Option<u16>
+        requires earlier { IfSome earlier (λ client. client < length self.now.script.clients) }
+        requires first { IfSome first (IsRunnable self.now) }
+        requires client { client < length self.now.script.clients }
+        ensures first { result ≡ first_with self.now.script (world_of self.now) earlier first client }
+        ensures runnable { IfSome result (IsRunnable self.now) }
+    {
+        if !self.is_runnable(client) || !self.comes_after(earlier, client) {
+            return first;
+        }
+        match first {
+            Some(first) if !self.acts_before(client, first) => Some(first),
+            _ => Some(client),
+        }
+    }
+
+    fn comes_after(&self, earlier: Option<u16>, client: u16) -> bool
+        requires earlier { IfSome earlier (λ client. client < length self.now.script.clients) }
+        requires client { client < length self.now.script.clients }
+        ensures { result ≡ comes_after self.now.script (world_of self.now) earlier client }
+    {
+        match earlier {
+            None => true,
+            Some(earlier) => self.acts_before(earlier, client),
+        }
+    }
+
+    // Whether the first client's next command comes before the second's.
+    fn acts_before(&self, a: u16, b: u16) -> bool
+        requires { (a < length self.now.script.clients) × (b < length self.now.script.clients) }
+        ensures { result ≡ acts_before self.now.script (world_of self.now) a b }
+    {
+        let made_a = self.made(a);
+        let made_b = self.made(b);
+        made_a < made_b || made_a == made_b && a < b
+    }
+
+    // How many commands the client has made.
+    fn made(&self, client: u16) -> u32
+        requires { client < length self.now.script.clients }
+        ensures { result ≡ made_by self.now.script (world_of self.now) client }
+    {
+        let home = usize::from(self.script.home(client));
+        self.network.nodes[home].made(client)
+    }
+}
