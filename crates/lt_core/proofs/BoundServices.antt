@@ -3,11 +3,9 @@ use Rattle.std.proofs.Common.{◌≡◌, ℕ, zero, suc, ◌+◌, ◌≤◌, Boo
 use Rattle.std.specs.Prelude.{slice_set, remove}
 use Rattle.std.proofs.lemmas.List.{length-map}
 use Rattle.lt_modes.specs.State.{SetState, Desk, Entry}
-use Rattle.lt_modes.specs.Tells.{told}
 use Rattle.lt_modes.specs.Serving.{queue_of, next_service, ask_at, serve_one, serve_local, serve_copy, serve_step, serve_up_to, owed_at, put_queue}
 use Rattle.lt_core.specs.Bound.{nodes_of}
 use Rattle.lt_modes.specs.Made.{Made, then_do}
-use Rattle.lt_modes.specs.declared.event.Event.TheVariants as event
 use Rattle.lt_modes.specs.declared.stamp.Stamp.{Stamp}
 use Rattle.lt_modes.specs.declared.ask.Ask.{Ask}
 use Rattle.lt_modes.specs.Places.{places_from, cons_if}

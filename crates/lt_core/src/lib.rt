@@ -5,6 +5,7 @@ mod act;
 mod fits;
 mod granting;
 mod handing;
+mod keeping;
 mod laws;
 mod numbers;
 mod one_set;

@@ -221,7 +221,7 @@ fn count_asks(parked: &VecDeque<Parked>) -> u32
 }
 
 // How many asks it is.
-fn asks_of(item: &Parked) -> u32
+pub(crate) fn asks_of(item: &Parked) -> u32
     ensures { result ≡ ask_count (parked_seen item.now) }
 {
     match item {

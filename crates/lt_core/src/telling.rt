@@ -10,7 +10,7 @@ use lt_modes::{Mode, ModeSet, Stamp};
 
 impl Core {
     /// The end of a move: the desk's turn where it is here, else a tell where one is due.
-    pub(crate) fn finish(&mut self, stamp: Stamp, out: &mut Out)
+    pub fn finish(&mut self, stamp: Stamp, out: &mut Out)
         requires node { stamp.node ≡ self.old.node }
         requires room { HasRoom 1 stamp.clock self.old }
         requires fits { FitsOut (finish self.old.set stamp self.old.state) out.old }

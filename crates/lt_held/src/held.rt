@@ -1,4 +1,4 @@
-ghost use Rattle.std.specs.Prelude.{◌≡◌, ◌+◌, ◌==◌, not, ◌≤◌, ◌<◌, [], if◌then◌else◌, IfOk, OnOk, OnErr};
+ghost use Rattle.std.specs.Prelude.{◌≡◌, ◌+◌, ◌==◌, not, nat_le, ◌≤◌, ◌<◌, [], if◌then◌else◌, IfOk, OnOk, OnErr};
 ghost use Rattle.std.specs.Bool.{OnTrue, OnFalse};
 ghost use Rattle.std.specs.List.{list_any};
 ghost use Rattle.lt_modes.specs.declared.mode.Mode.{Mode as AnyMode};
@@ -66,6 +66,13 @@ impl Held {
         ensures { result ≡ locks_of self.now.rows client }
     {
         rows::locks(&self.rows, client)
+    }
+
+    /// Whether no more locks than that are held.
+    pub fn holds_at_most(&self, locks: u32) -> bool
+        ensures { result ≡ nat_le (locks_in self.now.rows) locks }
+    {
+        rows::hold_at_most(&self.rows, locks)
     }
 
     /// The modes that are held.

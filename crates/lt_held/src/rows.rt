@@ -1,5 +1,5 @@
-ghost use Rattle.std.specs.Prelude.{◌≡◌, ◌<◌, length, IfSome};
-ghost use Rattle.lt_modes.specs.Held.{row_place, held_modes, own_modes, other_modes, locks_of};
+ghost use Rattle.std.specs.Prelude.{◌≡◌, ◌<◌, nat_le, length, IfSome};
+ghost use Rattle.lt_modes.specs.Held.{row_place, held_modes, own_modes, other_modes, locks_of, locks_in};
 ghost use Rattle.lt_held.specs.HeldData.{AreRows};
 
 use lt_modes::{Mode, ModeSet, Row};
@@ -60,4 +60,18 @@ pub(crate) fn locks(rows: &[Row], client: u16) -> u32
         }
     }
     locks
+}
+
+/// Whether no more locks than that are held.
+pub(crate) fn hold_at_most(rows: &[Row], locks: u32) -> bool
+    ensures { result ≡ nat_le (locks_in rows.now) locks }
+{
+    let mut left = locks;
+    for row in rows {
+        if row.count > left {
+            return false;
+        }
+        left -= row.count;
+    }
+    true
 }

@@ -17,7 +17,7 @@ both_empty : {X : Type 0} (xs ys : List X) → xs ++ ys ≡ [] → (xs ≡ []) �
 both_empty [] ys e = (refl, e)
 both_empty (x ∷ xs) ys e = absurd (omega (arith, ap length e))
 
-join_empty : {X : Type 0} (xs ys : List X) → xs ≡ [] → ys ≡ [] → xs ++ ys ≡ []
+pub join_empty : {X : Type 0} (xs ys : List X) → xs ≡ [] → ys ≡ [] → xs ++ ys ≡ []
 join_empty xs ys e f = ap (λ l. l ++ ys) e ∙ f
 
 record AreSplit (first second : List RunData) : Type 0 where

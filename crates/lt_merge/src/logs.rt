@@ -1,4 +1,6 @@
-ghost use Rattle.std.specs.Prelude.{◌≡◌, ◌+◌, ◌<◌, ◌^◌, length, drop, IfOk};
+ghost use Rattle.std.specs.Prelude.{◌≡◌, ◌+◌, ◌<◌, ◌^◌, [], ◌∷◌, length, drop, IfOk};
+ghost use Rattle.lt_modes.specs.declared.moves.Step.TheVariants.{Act};
+ghost use Rattle.lt_merge.specs.Run.{just_made};
 ghost use Rattle.lt_merge.specs.Merging.{all_entries, AreLogs, Merges, both_merged, takes_first};
 
 use crate::run::{Log, Run};
@@ -58,4 +60,35 @@ fn is_next(first: &Run, i: u32, second: &Run, k: u32) -> bool
         return false;
     }
     k >= second.len() || second.made(k).stamp.is_newer(first.made(i).stamp)
+}
+
+#[cfg(test)]
+mod tests {
+    use super::*;
+    use lt_modes::{Move, Stamp, Step};
+    use std::test::Fail;
+
+    fn log_of(alloc: Global, stamp: Stamp) -> Result<Log, AllocError>
+        ensures { IfOk result (λ log. log.entries ≡ just_made (record { stamp = stamp; step = Act 0 }) ∷ []) }
+    {
+        let mut log = Log::new(alloc);
+        log.reserve(0)?;
+        log.push(Move {
+            stamp,
+            step: Step::Act(0),
+        });
+        Ok(log)
+    }
+
+    #[test]
+    fn merges_two_logs(rt: HostRuntime) -> Result<(), Fail> {
+        let mut logs = Vec::new(rt.alloc());
+        logs.push(log_of(rt.alloc(), Stamp { clock: 3, node: 1 })?)?;
+        logs.push(log_of(rt.alloc(), Stamp { clock: 3, node: 0 })?)?;
+        let run = merge(rt.alloc(), logs)?;
+        assert_eq!(rt; run.len(), 2);
+        assert_eq!(rt; run.made(0).stamp.node, 0);
+        assert_eq!(rt; run.made(1).stamp.node, 1);
+        Ok(())
+    }
 }

@@ -1,5 +1,6 @@
 pub mod PlayLemmas
 pub mod MergedLogs
+pub mod Steps
 pub mod MergedRun
 pub mod LowClocks
 pub mod RunParts

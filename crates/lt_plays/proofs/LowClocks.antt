@@ -27,7 +27,7 @@ clocks_are_counted script l h x =
     ap (λ (r : List Logged). ((world_after script r).node x).clock) whole ∙ ap (λ (w : World). (w.node x).clock) (merged_ends script l run h is_merged) in
     omega (arith, bound, clock, merged_has_all script l run h is_merged)
 
-sum_within : (n : ℕ) (f : ℕ → ℕ) → ((x : ℕ) → f x ≤ 1048576) → sum_below n f ≤ n * 1048576
+pub sum_within : (n : ℕ) (f : ℕ → ℕ) → ((x : ℕ) → f x ≤ 1048576) → sum_below n f ≤ n * 1048576
 sum_within zero f h = omega arith
 sum_within (suc n) f h = omega (arith, sum_within n f h, h n)
 
@@ -42,7 +42,7 @@ letters_are_low script l h few short p q letter among =
     (All-from_recursion (IsSentIn p 0 (l.last p).clock) (l.sent p q) sent) among in
     omega (arith, here.2, clocks_are_low script l h few short p)
 
-same_runnable : (script : ScriptData) (w : World) (q client : ℕ)
+pub same_runnable : (script : ScriptData) (w : World) (q client : ℕ)
     → home script client == q && is_runnable script w client ≡ (home script client == q && (not (node_waits script (w.node q) client) && has_command script (w.node q) client))
 same_runnable script w q client = by_test (home script client == q) (λ e. eqb-true (home script client) q e)
   where

@@ -16,7 +16,7 @@ use Rattle.lt_plays.specs.Merged.{merged}
 use Rattle.lt_plays.specs.MergeLaws.{MergedExists, MergedHasAll, MergedIsOne}
 use Rattle.lt_plays.proofs.PlayLemmas.{plays_rise}
 
-abbrev IsOwn : ℕ → Logged → Type 0
+abbrev pub IsOwn : ℕ → Logged → Type 0
 IsOwn x entry = entry.made.stamp.node ≡ x
 
 record AreMerged (n : ℕ) (log : ℕ → List Logged) (all : List Logged) : Type 0 where
@@ -25,7 +25,7 @@ record AreMerged (n : ℕ) (log : ℕ → List Logged) (all : List Logged) : Typ
   beyond : (x : ℕ) → n ≤ x → filter (is_of_node x) all ≡ []
 
 -- a log of one node has no entries of another
-none_of_other : (n x : ℕ) (log : List Logged) → x ≢ n → AllByRecursion (IsOwn n) log → filter (is_of_node x) log ≡ []
+pub none_of_other : (n x : ℕ) (log : List Logged) → x ≢ n → AllByRecursion (IsOwn n) log → filter (is_of_node x) log ≡ []
 none_of_other n x log d own = none_left (is_of_node x) log
     (all_weaker (IsOwn n) (λ (entry : Logged). is_of_node x entry ≡ false) (λ (entry : Logged) e. ne_eqb entry.made.stamp.node x (λ same. d (sym same ∙ e))) log own)
 

@@ -1,21 +1,19 @@
 -- Plays that are merged by stamps are a run of the world.
-use Rattle.std.proofs.Common.{◌≡◌, ℕ, zero, suc, ◌<◌, ◌≤◌, inl, inr, List, [], ◌∷◌, ◌++◌, length, Bool, true, false, refl, sym, ap, subst, arith, ◌∙◌, take as take_first}
-use Rattle.std.specs.Prelude.{Contains, ◌&&◌, ◌==◌, not, nat_lt, if◌then◌else◌, IsTrue, filter, filter_map, drop}
+use Rattle.std.proofs.Common.{◌≡◌, ℕ, zero, suc, ◌<◌, ◌≤◌, inl, inr, List, [], ◌∷◌, ◌++◌, Bool, true, false, refl, sym, ap, subst, arith, ◌∙◌, take as take_first}
+use Rattle.std.specs.Prelude.{Contains, ◌==◌, if◌then◌else◌, IsTrue, filter, filter_map, drop}
 use Rattle.std.specs.List.{AllByRecursion}
 use Rattle.std.proofs.Math.Path.{fun_ext}
-use Rattle.std.proofs.lemmas.Bool.{cases_eq, eq-eqb, ne_eqb, eqb-true, and_from, and_parts}
+use Rattle.std.proofs.lemmas.Bool.{cases_eq, eq-eqb, ne_eqb, eqb-true}
 use Rattle.std.proofs.lemmas.List.{append-nil, append_assoc, append_cancel_left}
 use Rattle.std.proofs.lemmas.List.Elements.{Contains-append_cases, Contains-append_left, Contains-append_right}
 use Rattle.lt_modes.specs.declared.stamp.Stamp.{Stamp}
-use Rattle.lt_modes.specs.declared.moves.Step.TheVariants.{Act, Take}
 use Rattle.lt_modes.specs.Script.{ScriptData}
 use Rattle.lt_modes.specs.State.{Letter}
 use Rattle.lt_modes.specs.Made.{Post}
 use Rattle.lt_runs.specs.Log.{Logged}
 use Rattle.lt_lists.specs.Below.{put}
-use Rattle.lt_runs.specs.Families.{home}
-use Rattle.lt_runs.specs.NodeMove.{NodeState, NodeMade, has_command, node_waits}
-use Rattle.lt_runs.specs.World.{World, start, token_to, is_some_letter, is_enabled, take_front, front_stamp, put_mail, logged, after_made, after, after_run, world_after, IsRunFrom, is_of_node}
+use Rattle.lt_runs.specs.NodeMove.{NodeState, NodeMade}
+use Rattle.lt_runs.specs.World.{World, start, token_to, take_front, after, after_run, world_after, IsRunFrom, is_of_node}
 use Rattle.lt_accounts.proofs.AccountFacts.{newer_not_before}
 use Rattle.lt_lists.proofs.Puts.{put-same, put-other}
 use Rattle.lt_lists.proofs.AllLemmas.{all_weaker, all_append}
@@ -24,86 +22,10 @@ use Rattle.lt_plays.specs.Plays.{Cause, OfClient, OfLetter, can_make, made_of, s
 use Rattle.lt_merge.specs.Merging.{IsBefore, AreRising, IsMerged}
 use Rattle.lt_plays.specs.Merged.{Logs, ArePlays, step_made, step_left, token_goes}
 use Rattle.lt_plays.specs.MergeLaws.{MergedIsRun, MergedEnds, HandIsFront, SentWereOnWay, OnWayWereSent}
-use Rattle.lt_plays.proofs.PlayLemmas.{plays_same, stamped_move, all_letters_for, IsFromOther, from_other}
+use Rattle.lt_plays.proofs.PlayLemmas.{plays_same, stamped_move, all_letters_for, from_other}
 use Rattle.lt_merge.proofs.Filters.{filter_yes, filter_no, all_filter}
 use Rattle.lt_plays.proofs.MergedLogs.{head_or}
-
--- what a move needs of the world: the letter that it takes is in front
-abbrev pub IsFront : World → ℕ → Cause → Type 0
-IsFront w q (OfClient client) = Unit {0}
-IsFront w q (OfLetter p letter) = (others : List Letter) × (w.mail p q ≡ letter ∷ others)
-
--- the letters from a to b that the move of q takes away, and those that it adds
-abbrev pub gone : ℕ → Cause → ℕ → ℕ → List Letter
-gone q cause a b = if b == q then used_by cause a else []
-
-abbrev pub added : ℕ → List Post → ℕ → ℕ → List Letter
-added q posts a b = if a == q then letters_for b posts else []
-
--- the move of the play is a move of the world
-pub record IsStep (script : ScriptData) (w : World) (q : ℕ) (cause : Cause) (later : World) : Type 0 where
-  pub enabled : IsTrue (is_enabled script w q (step_of cause))
-  pub logged : entry_of script q (w.node q) cause ≡ logged script w q (step_of cause)
-  pub node : (x : ℕ) → later.node x ≡ put w.node q (made_of script q (w.node q) cause).node x
-  pub mail : (a b : ℕ) → (mid : List Letter) × (w.mail a b ≡ gone q cause a b ++ mid)
-      × (later.mail a b ≡ mid ++ added q (made_of script q (w.node q) cause).posts a b)
-  pub went : (s : ℕ) → later.went s ≡ w.went s ++ filter_map (token_to s) (made_of script q (w.node q) cause).posts
-
-client_enabled : (script : ScriptData) (w : World) (q client : ℕ) → IsTrue (can_make script q (w.node q) (OfClient client)) → IsTrue (is_enabled script w q (Act client))
-client_enabled script w q client can =
-    let runs : ℕ → Bool = λ x. not (node_waits script (w.node x) client) && has_command script (w.node x) client in
-    let first = and_parts (nat_lt client (length script.clients)) (home script client == q && runs q) can in
-    let second = and_parts (home script client == q) (runs q) first.1 in
-    and_from (nat_lt client (length script.clients)) (home script client == q && runs (home script client)) first.0
-    (and_from (home script client == q) (runs (home script client)) second.0
-    (subst (λ (x : ℕ). runs x ≡ true) (sym (eqb-true (home script client) q second.0)) second.1))
-
-one_less : (taker sender : Bool) (letter : Letter) (mail others : List Letter) → (sender ≡ true → taker ≡ true → mail ≡ letter ∷ others)
-    → mail ≡ (if taker then (if sender then letter ∷ [] else []) else []) ++ (if sender && taker then others else mail)
-one_less true true letter mail others front = front refl refl
-one_less true false letter mail others front = refl
-one_less false true letter mail others front = refl
-one_less false false letter mail others front = refl
-
--- the entry and the world of a take of the front one of these letters
-abbrev entry_with : World → ℕ → ℕ → List Letter → Logged
-entry_with w q p letters = record {
-  made = record { stamp = front_stamp q (w.node q) letters; step = Take p };
-  events = (take_front q (w.node q) letters).events;
-}
-
-abbrev world_with : World → ℕ → ℕ → List Letter → World
-world_with w q p letters = after_made q (take_front q (w.node q) letters) (record w { mail = put_mail w.mail p q (drop 1 letters) })
-
-other : (script : ScriptData) (w : World) (q p : ℕ) (letter : Letter) → IsTrue (can_make script q (w.node q) (OfLetter p letter)) → IsFromOther script p q
-other script w q p letter can = from_other script p q (w.node q) letter can
-
-pub is_step : (script : ScriptData) (w : World) (q : ℕ) (cause : Cause) → IsTrue (can_make script q (w.node q) cause) → IsFront w q cause
-    → IsStep script w q cause (after script w q (step_of cause))
-is_step script w q (OfClient client) can front = record {
-  enabled = client_enabled script w q client can;
-  logged = refl;
-  node = λ x. refl;
-  mail = λ a b. (w.mail a b, nothing_gone (b == q) (w.mail a b), refl);
-  went = λ s. refl;
-}
-  where
-    nothing_gone : (t : Bool) (letters : List Letter) → letters ≡ (if t then [] else []) ++ letters
-    nothing_gone true letters = refl
-    nothing_gone false letters = refl
-is_step script w q (OfLetter p letter) can front = record {
-  enabled = and_from (nat_lt p script.nodes) _ (other script w q p letter can).sender (and_from (nat_lt q script.nodes) _ (other script w q p letter can).receiver
-      (and_from (not (p == q)) (is_some_letter (w.mail p q)) (other script w q p letter can).other (subst (λ letters. is_some_letter letters ≡ true) (sym front.1) refl)));
-  logged = subst (λ letters. entry_of script q (w.node q) (OfLetter p letter) ≡ entry_with w q p letters) (sym front.1) refl;
-  node = λ x. subst (λ letters. (world_with w q p letters).node x ≡ put w.node q (made_of script q (w.node q) (OfLetter p letter)).node x) (sym front.1) refl;
-  mail = λ a b. (
-    put_mail w.mail p q front.0 a b,
-    one_less (b == q) (a == p) letter (w.mail a b) front.0
-        (λ sender taker. ap (λ x. w.mail x b) (eqb-true a p sender) ∙ (ap (w.mail p) (eqb-true b q taker) ∙ front.1)),
-    subst (λ letters. (world_with w q p letters).mail a b ≡ put_mail w.mail p q front.0 a b ++ added q (made_of script q (w.node q) (OfLetter p letter)).posts a b) (sym front.1) refl,
-  );
-  went = λ s. subst (λ letters. (world_with w q p letters).went s ≡ w.went s ++ filter_map (token_to s) (made_of script q (w.node q) (OfLetter p letter)).posts) (sym front.1) refl;
-}
+use Rattle.lt_plays.proofs.Steps.{IsFront, gone, added, IsStep, is_step}
 
 -- the letters that are sent in a play have clocks of its entries
 late_letters : (script : ScriptData) (c x : ℕ) (log : List Logged) (n last : NodeState) (used sent : ℕ → List Letter) → Plays script x n log used sent last

@@ -17,7 +17,7 @@ use Rattle.lt_plays.specs.Plays.{Cause, OfClient, OfLetter, can_make, made_of, s
 use Rattle.lt_plays.specs.MergeLaws.{RunsArePlays}
 use Rattle.lt_plays.proofs.PlayLemmas.{plays_same}
 use Rattle.lt_merge.proofs.Filters.{filter_yes, filter_no}
-use Rattle.lt_plays.proofs.MergedRun.{IsFront, gone, added, IsStep, is_step}
+use Rattle.lt_plays.proofs.Steps.{IsFront, gone, added, IsStep, is_step}
 
 -- an enabled step has a cause
 record HasCause (script : ScriptData) (w : World) (q : ℕ) (step : Step) : Type 0 where

@@ -1,0 +1,11 @@
+use Rattle.std.proofs.Common.{◌≡◌, ◌+◌, ◌≤◌, length, map, drop}
+use Rattle.std.specs.Prelude.{filter_map}
+use Rattle.lt_modes.specs.Fits.{ask_if}
+use Rattle.lt_letter.specs.Seen.{parked_seen}
+use Rattle.lt_core.proofs.keeping.count_parked.Given as goal
+
+abbrev pub invariant-loop-k : goal.invariant-loop-k
+invariant-loop-k l = record {
+  few : l.asks ≤ l.k;
+  left : l.asks + length (filter_map ask_if (map parked_seen (drop l.k l.parked.items))) ≡ length (filter_map ask_if (map parked_seen l.parked.items));
+}

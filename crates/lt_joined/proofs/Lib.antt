@@ -1,0 +1,4 @@
+pub mod Moving
+pub mod Joining
+pub mod PartLogs
+pub mod LeftLetters

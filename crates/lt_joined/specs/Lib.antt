@@ -1,0 +1,3 @@
+pub mod JoinedRun
+pub mod States
+pub mod CanMove

@@ -1,0 +1,73 @@
+-- Mails one after the other: the same ends, the same letters, more room.
+use Rattle.std.proofs.Common.{◌≡◌, ℕ, ◌+◌, ◌<◌, inl, inr, Option, Some, None, sym, subst, arith, ◌∙◌}
+use Rattle.std.proofs.lemmas.Bool.{cases_eq}
+use Rattle.std.proofs.lemmas.Option.{slice_get_cases}
+use Rattle.lt_mail.specs.declared.lane.OutLane.{OutLane}
+use Rattle.lt_mail.specs.declared.lane.InLane.{InLane}
+use Rattle.lt_mail.specs.declared.mail.Mail.{Mail}
+use Rattle.lt_mail.specs.Words.{Both, IsOpenLink, AreLinked, out_at, in_at, outs_count, given_to, HasRoomAt, HasRoom, Alike, SameOut, SameIn, SameEnds}
+use Rattle.lt_mail.specs.Changes.{OutChanges, Stays, KeepsSent, Reserved}
+
+alike_out : (a b c : Option OutLane) → Alike SameOut a b → Alike SameOut b c → Alike SameOut a c
+alike_out None None None h k = tt
+alike_out None None (Some z) h k = k
+alike_out None (Some y) c h k = absurd h
+alike_out (Some x) None c h k = absurd h
+alike_out (Some x) (Some y) None h k = k
+alike_out (Some x) (Some y) (Some z) h k =
+    ((k.0.0 ∙ h.0.0, k.0.1 ∙ h.0.1, k.0.2 ∙ h.0.2, k.0.3 ∙ h.0.3), k.1 ∙ h.1)
+
+alike_in : (a b c : Option InLane) → Alike SameIn a b → Alike SameIn b c → Alike SameIn a c
+alike_in None None None h k = tt
+alike_in None None (Some z) h k = k
+alike_in None (Some y) c h k = absurd h
+alike_in (Some x) None c h k = absurd h
+alike_in (Some x) (Some y) None h k = k
+alike_in (Some x) (Some y) (Some z) h k =
+    ((k.0.0 ∙ h.0.0, k.0.1 ∙ h.0.1, k.0.2 ∙ h.0.2, k.0.3 ∙ h.0.3), k.1 ∙ h.1)
+
+pub ends_join : (a b c : Mail) → SameEnds a b → SameEnds b c → SameEnds a c
+ends_join a b c h k = record {
+  me = k.me ∙ h.me;
+  counts = (k.counts.0 ∙ h.counts.0, k.counts.1 ∙ h.counts.1);
+  outs = λ node. alike_out (out_at a node) (out_at b node) (out_at c node) (h.outs node) (k.outs node);
+  ins = λ node. alike_in (in_at a node) (in_at b node) (in_at c node) (h.ins node) (k.ins node);
+}
+
+pub kept_join : (a b c : Mail) → KeepsSent a b → KeepsSent b c → KeepsSent a c
+kept_join a b c h k = record {
+  sent = λ node. k.sent node ∙ h.sent node;
+  ins = λ node. k.ins node ∙ h.ins node;
+  ends = ends_join a b c h.ends k.ends;
+}
+
+pub one_more_reserved : (letters first : ℕ) (a b c : Mail) → Reserved letters first a b → OutChanges Stays b c first → KeepsSent b c
+    → ((node : ℕ) → given_to c node ≡ given_to b node) → HasRoomAt letters (out_at c first) → Reserved letters (first + 1) a c
+one_more_reserved letters first a b c h lane kept given room = record {
+  kept = kept_join a b c h.kept kept;
+  given = λ node. given node ∙ h.given node;
+  room = λ node below. elim (cases_eq node first) [
+    | inl e ↦ subst (λ (n : ℕ). HasRoomAt letters (out_at c n)) (sym e) room
+    | inr apart ↦ subst (λ (o : Option OutLane). HasRoomAt letters o) (sym (lane.others node apart)) (h.room node (omega (arith, below, apart)))
+  ];
+}
+
+pub all_reserved : (letters : ℕ) (a b : Mail) → Reserved letters (outs_count b) a b → HasRoom b letters
+all_reserved letters a b h node = elim (slice_get_cases b.outs.items node).1 [
+  | inl there ↦ h.room node there.1
+  | inr past ↦ subst (λ (o : Option OutLane). HasRoomAt letters o) (sym past.1) tt
+]
+
+-- ends that are linked stay so
+pub links_last : (a b x y : Mail) → SameEnds a b → SameEnds x y → AreLinked a x → AreLinked b y
+links_last a b x y h k l =
+    rw h.me (rw k.me (linked (out_at a x.me) (in_at x a.me) (out_at b x.me) (in_at y a.me) (h.outs x.me) (k.ins a.me) l))
+  where
+    linked : (o : Option OutLane) (i : Option InLane) (p : Option OutLane) (j : Option InLane) → Alike SameOut o p → Alike SameIn i j
+        → Both IsOpenLink o i → Both IsOpenLink p j
+    linked None i p j u v e = absurd e
+    linked (Some o) None p j u v e = absurd e
+    linked (Some o) (Some i) None j u v e = absurd u
+    linked (Some o) (Some i) (Some p) None u v e = absurd v
+    linked (Some o) (Some i) (Some p) (Some j) u v e =
+        ((v.0.0 ∙ e.0.0 ∙ sym u.0.0, v.0.1 ∙ e.0.1 ∙ sym u.0.1, v.0.2 ∙ e.0.2 ∙ sym u.0.2, v.0.3 ∙ e.0.3 ∙ sym u.0.3), subst (λ (n : ℕ). 0 < n) (sym u.1) e.1)

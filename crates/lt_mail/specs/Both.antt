@@ -1,0 +1,24 @@
+-- What two mails did that looked at a ring from both ends.
+use Rattle.std.specs.Prelude.{◌≡◌, ◌<◌, ◌⊎◌, [], ◌++◌, length}
+use mathlib.Core.List.{IsPrefix}
+use Rattle.lt_mail.specs.declared.lane.OutLane.{OutLane}
+use Rattle.lt_mail.specs.declared.lane.InLane.{InLane}
+use Rattle.lt_mail.specs.Lanes.{given, waiting, sent_by, taken, known}
+use Rattle.lt_mail.specs.Words.{SameOut, SameIn}
+
+-- letters may have gone from the outbox to the ring
+pub record Gives (x y : OutLane) : Type 0 where
+  pub ring : SameOut x y
+  pub sent : sent_by y ≡ sent_by x
+  pub grew : IsPrefix (given x) (given y)
+
+-- more letters may be known
+pub record Sees (x y : InLane) : Type 0 where
+  pub ring : SameIn x y
+  pub taken : taken y ≡ taken x
+  pub learnt : IsPrefix (known x) (known y)
+
+-- all letters in the ring are known, and it has one where the outbox does
+pub record IsMet (out : OutLane) (into : InLane) : Type 0 where
+  pub whole : taken into ++ known into ≡ given out
+  pub moves : (waiting out ≡ []) ⊎ (0 < length (known into))

@@ -1,0 +1,5 @@
+pub mod Lanes
+pub mod Words
+pub mod Changes
+pub mod Both
+pub mod Opening

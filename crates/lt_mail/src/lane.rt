@@ -1,0 +1,21 @@
+ghost use Rattle.std.specs.Prelude.{◌+◌, ◌≤◌, length};
+ghost use Rattle.rtrb.specs.Ring.{sent, known_free, producer_capacity};
+
+use lt_letter::Letter;
+use rtrb::{Consumer, Producer};
+use std::collections::VecDeque;
+
+/// The sending end of a ring, and the letters that still wait for a place in it.
+#[derive(Drop)]
+pub struct OutLane {
+    pub(crate) ring: Producer<Letter>,
+    pub(crate) outbox: VecDeque<Letter>,
+    // So many letters at least have found or will find a place.
+    pub(crate) ghost roomy: { producer_capacity ring ≤ known_free ring + length (sent ring) },
+}
+
+/// The taking end of a ring.
+#[derive(Drop)]
+pub struct InLane {
+    pub(crate) ring: Consumer<Letter>,
+}

@@ -1,0 +1,92 @@
+ghost use Rattle.std.specs.Prelude.{◌≡◌, ◌+◌, ◌≤◌, ◌<◌, ◌⊎◌, [], ◌∷◌, ◌++◌, length, OnOk, IfSome, IfNone, MatchOption};
+ghost use Rattle.std.specs.VecDeque.{deque_len, deque_capacity};
+ghost use Rattle.rtrb.specs.Ring.{known_free, producer_capacity, SameProducer, SameConsumer};
+ghost use mathlib.Core.List.{IsPrefix};
+ghost use Rattle.lt_mail.specs.Lanes.{given, waiting, sent_by, taken, known, IsLink};
+
+use crate::lane::{InLane, OutLane};
+use lt_letter::Letter;
+use std::alloc::AllocError;
+
+impl OutLane {
+    /// Makes room in the outbox for so many further letters.
+    pub fn reserve(&mut self, letters: u32) -> Result<(), AllocError>
+        ensures given { given self.new ≡ given self.old }
+        ensures waiting { waiting self.new ≡ waiting self.old }
+        ensures ring { SameProducer self.old.ring self.new.ring }
+        ensures room { OnOk result (deque_len self.new.outbox + letters ≤ deque_capacity self.new.outbox) }
+    {
+        self.outbox.reserve(letters as usize)
+    }
+
+    /// Puts a letter at the end of the outbox.
+    pub fn put(&mut self, letter: Letter)
+        requires { deque_len self.old.outbox < deque_capacity self.old.outbox }
+        ensures sent { sent_by self.new ≡ sent_by self.old ++ letter ∷ [] }
+        ensures given { given self.new ≡ given self.old }
+        ensures ring { SameProducer self.old.ring self.new.ring }
+        ensures len { deque_len self.new.outbox ≡ deque_len self.old.outbox + 1 }
+        ensures room { deque_capacity self.new.outbox ≡ deque_capacity self.old.outbox }
+    {
+        self.outbox.push_back_reserved(letter);
+    }
+
+    /// Gives the ring letters of the outbox, in order, while it has places.
+    pub fn flush(&mut self)
+        ensures sent { sent_by self.new ≡ sent_by self.old }
+        ensures given { IsPrefix (given self.old) (given self.new) }
+        ensures ring { SameProducer self.old.ring self.new.ring }
+        ensures places { known_free self.old.ring + length (given self.old) ≤ known_free self.new.ring + length (given self.new) }
+        ensures first { length (given self.new) < producer_capacity self.new.ring → waiting self.new ≡ [] }
+        ensures stops { (waiting self.new ≡ []) ⊎ (known_free self.new.ring ≡ 0) }
+    {
+        while !self.ring.is_full() {
+            let Some(letter) = self.outbox.pop_front() else {
+                return;
+            };
+            self.ring.push_reserved(letter);
+        }
+    }
+}
+
+impl InLane {
+    /// Takes the next letter that is in the ring.
+    pub fn take(&mut self) -> Option<Letter>
+        ensures ring { SameConsumer self.old.ring self.new.ring }
+        ensures some { IfSome result (λ x. (taken self.new ≡ taken self.old ++ x ∷ []) × IsPrefix (known self.old) (x ∷ known self.new)) }
+        ensures none { IfNone result ((taken self.new ≡ taken self.old) × (known self.old ≡ []) × (known self.new ≡ [])) }
+    {
+        self.ring.pop().ok()
+    }
+
+    /// Takes the first letter that is known to be in the ring.
+    pub fn take_known(&mut self) -> Option<Letter>
+        ensures ring { SameConsumer self.old.ring self.new.ring }
+        ensures some { IfSome result (λ x. (taken self.new ≡ taken self.old ++ x ∷ []) × (known self.old ≡ x ∷ known self.new)) }
+        ensures none { IfNone result ((self.new ≡ self.old) × (known self.old ≡ [])) }
+    {
+        if self.ring.cached_slots() == 0 {
+            None
+        } else {
+            Some(self.ring.pop_known())
+        }
+    }
+}
+
+/// Looks at a ring from both of its ends, after which the taking end knows all letters in it.
+pub fn look_at_both(out: &mut OutLane, into: &mut InLane)
+    requires link { IsLink out.old into.old }
+    requires places { 0 < producer_capacity out.old.ring }
+    ensures sent { sent_by out.new ≡ sent_by out.old }
+    ensures given { IsPrefix (given out.old) (given out.new) }
+    ensures out_ring { SameProducer out.old.ring out.new.ring }
+    ensures taken { taken into.new ≡ taken into.old }
+    ensures known { IsPrefix (known into.old) (known into.new) }
+    ensures in_ring { SameConsumer into.old.ring into.new.ring }
+    ensures whole { taken into.new ++ known into.new ≡ given out.new }
+    ensures moves { (waiting out.new ≡ []) ⊎ (0 < length (known into.new)) }
+{
+    out.ring.slots_beside(&mut into.ring);
+    out.flush();
+    into.ring.slots_beside(&mut out.ring);
+}

@@ -1,0 +1,103 @@
+ghost use Rattle.std.specs.Prelude.{◌≤◌, ◌<◌, ◌+◌, IfOk, OnOk, vec_len};
+ghost use Rattle.lt_mail.specs.Opening.{AreEmpty, Opened, Opening, AtOne, GainsOut, GainsIn, GainsLink, IsNewLink};
+
+use crate::lane::{InLane, OutLane};
+use crate::mail::Mail;
+use rtrb::RingBuffer;
+use std::alloc::{AllocError, Global};
+use std::collections::VecDeque;
+
+/// The most letters that a ring may have places for.
+pub const MAX_CAPACITY: u32 = 1_024;
+
+fn add_out(mails: &mut Vec<Mail>, from: usize, lane: OutLane) -> Result<(), AllocError>
+    requires { from < vec_len mails.old }
+    ensures { OnOk result (AtOne (GainsOut lane) from mails.old.items mails.new.items) }
+{
+    let mail = &mut mails[from];
+    mail.outs.push(lane)?;
+    Ok(())
+}
+
+fn add_in(mails: &mut Vec<Mail>, to: usize, lane: InLane) -> Result<(), AllocError>
+    requires { to < vec_len mails.old }
+    ensures { OnOk result (AtOne (GainsIn lane) to mails.old.items mails.new.items) }
+{
+    let mail = &mut mails[to];
+    mail.ins.push(lane)?;
+    Ok(())
+}
+
+// The two ends of a new ring.
+fn new_link(alloc: Global, capacity: u32) -> Result<(OutLane, InLane), AllocError>
+    ensures { IfOk result (λ lanes. IsNewLink capacity lanes.0 lanes.1) }
+{
+    let (sender, taker) = RingBuffer::new(alloc, capacity as usize)?;
+    let out = OutLane {
+        ring: sender,
+        outbox: VecDeque::new(alloc),
+    };
+    Ok((out, InLane { ring: taker }))
+}
+
+// A ring from the one node to the other.
+fn add_link(
+    alloc: Global,
+    mails: &mut Vec<Mail>,
+    from: usize,
+    to: usize,
+    capacity: u32,
+) -> Result<(), AllocError>
+    requires { (from < vec_len mails.old) × (to < vec_len mails.old) }
+    ensures { OnOk result (GainsLink capacity from to mails.old.items mails.new.items) }
+{
+    let (out, into) = new_link(alloc, capacity)?;
+    add_out(mails, from, out)?;
+    add_in(mails, to, into)?;
+    Ok(())
+}
+
+// The rings from one node to each.
+fn open_row(
+    alloc: Global,
+    mails: &mut Vec<Mail>,
+    nodes: u8,
+    from: u8,
+    capacity: u32,
+) -> Result<(), AllocError>
+    requires rows { Opening nodes capacity from 0 mails.old.items }
+    requires node { from < nodes }
+    ensures { OnOk result (Opening nodes capacity (from + 1) 0 mails.new.items) }
+{
+    for to in 0..nodes {
+        add_link(alloc, mails, usize::from(from), usize::from(to), capacity)?;
+    }
+    Ok(())
+}
+
+fn empty_mails(alloc: Global, nodes: u8) -> Result<Vec<Mail>, AllocError>
+    ensures { IfOk result (λ mails. AreEmpty nodes mails.items) }
+{
+    let mut mails = Vec::new(alloc);
+    for node in 0..nodes {
+        mails.push(Mail {
+            me: node,
+            outs: Vec::new(alloc),
+            ins: Vec::new(alloc),
+        })?;
+    }
+    Ok(mails)
+}
+
+/// A mail for each node, in order, and a ring with so many places for each ordered pair of nodes.
+#[tactic(auto, using(crate::proofs::OpeningLemmas::first_row))]
+pub fn open(alloc: Global, nodes: u8, capacity: u32) -> Result<Vec<Mail>, AllocError>
+    requires capacity { (0 < capacity) × (capacity ≤ MAX_CAPACITY) }
+    ensures { IfOk result (λ mails. Opened nodes capacity mails.items) }
+{
+    let mut mails = empty_mails(alloc, nodes)?;
+    for from in 0..nodes {
+        open_row(alloc, &mut mails, nodes, from, capacity)?;
+    }
+    Ok(mails)
+}

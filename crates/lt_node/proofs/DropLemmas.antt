@@ -1,0 +1,64 @@
+-- A drop: its line, and then what the sets make.
+use Rattle.std.proofs.Common.{◌≡◌, ◌++◌, ◌∷◌, [], Bool, true, false, ℕ, List, Option, Some, None, refl, sym, ap, subst, ◌∙◌, append_assoc}
+use Rattle.lt_modes.specs.declared.stamp.Stamp.{Stamp}
+use Rattle.lt_modes.specs.declared.event.Event.{Event}
+use Rattle.lt_modes.specs.declared.event.Event.TheVariants.{Busy, DropAll as Dropped}
+use Rattle.lt_modes.specs.declared.command.Command.{Command}
+use Rattle.lt_modes.specs.declared.command.Command.TheVariants as commands
+use Rattle.lt_modes.specs.Script.{ScriptData}
+use Rattle.lt_letter.specs.OutData.{OutData}
+use Rattle.lt_core.specs.CoreData.{CoreData}
+use Rattle.lt_runs.specs.Families.{related}
+use Rattle.lt_runs.specs.NodeMove.{NodeState, NodeMade, drop_all, each_touched, answered_first, locks_in_sets, one_made, at_clock}
+use Rattle.lt_node.specs.NodeData.{NodeData, NodeDoes, state_of, sent_by}
+use Rattle.lt_node.specs.Family.{SetsDo, ending, with_sets}
+use Rattle.lt_node.specs.Answers.{answer_to}
+
+ends_here : (n : NodeData) (rule : NodeState → NodeMade) (q : ℕ) (event : Event) (had mid out : OutData) (cores : List CoreData) → q ≡ n.me → mid ≡ record had { events = had.events ++ event ∷ [] }
+    → SetsDo n.script q rule n.cores mid cores out (state_of n) → NodeDoes (answered_first event (rule (state_of n))) n had (record n { cores = cores }) out
+ends_here n rule q event had mid out cores me put does =
+    let here = subst (λ (q : ℕ). SetsDo n.script q rule n.cores mid cores out (state_of n)) me does in
+    let made = rule (state_of n) in
+    record {
+      script = refl;
+      me = refl;
+      state = here.node;
+      sent = here.sent ∙ ap (λ (o : OutData). sent_by made o) put ∙ rw (append_assoc had.events (event ∷ []) made.events) refl;
+    }
+
+-- the line stands first, and then the sets of the family end the move
+pub drop_done : (m n : NodeData) (stamp : Stamp) (client other set : ℕ) (waits : Bool) (dropped : Option ℕ) (event : Event) (had mid out : OutData) (cores : List CoreData) → m ≡ n → stamp.node ≡ n.me
+    → mid ≡ record had { events = had.events ++ event ∷ [] }
+    → ((s : NodeState) → SetsDo m.script stamp.node (each_touched (ending dropped stamp) (related m.script set)) m.cores mid cores out s)
+    → drop_all waits stamp client other set (related n.script set) (state_of n) ≡ answered_first event (each_touched (ending dropped stamp) (related n.script set) (state_of n))
+    → NodeDoes (drop_all waits stamp client other set (related n.script set) (state_of n)) n had (record m { cores = cores }) out
+drop_done m n stamp client other set waits dropped event had mid out cores same node put does is =
+    let here = subst (λ (m : NodeData). (s : NodeState) → SetsDo m.script stamp.node (each_touched (ending dropped stamp) (related m.script set)) m.cores mid cores out s) same does in
+    subst (λ (m : NodeData). NodeDoes (drop_all waits stamp client other set (related n.script set) (state_of n)) n had (record m { cores = cores }) out) (sym same)
+    (subst (λ (made : NodeMade). NodeDoes made n had (record n { cores = cores }) out) (sym is)
+    (ends_here n (each_touched (ending dropped stamp) (related n.script set)) stamp.node event had mid out cores node put (here (state_of n))))
+
+pub busy_is : (waits : Bool) (stamp : Stamp) (client other set : ℕ) (sets : List ℕ) (n : NodeState) → waits ≡ true
+    → drop_all waits stamp client other set sets n ≡ answered_first (Busy client other set) (each_touched (ending None stamp) sets n)
+busy_is true stamp client other set sets n e = refl
+busy_is false stamp client other set sets n e = cc
+
+pub dropped_is : (waits : Bool) (stamp : Stamp) (client other set count : ℕ) (sets : List ℕ) (n : NodeState) → waits ≡ false → count ≡ locks_in_sets n other sets
+    → drop_all waits stamp client other set sets n ≡ answered_first (Dropped client other set count) (each_touched (ending (Some other) stamp) sets n)
+dropped_is true stamp client other set count sets n e is = cc
+dropped_is false stamp client other set count sets n e is = ap (λ (k : ℕ). answered_first (Dropped client other set k) (each_touched (ending (Some other) stamp) sets n)) (sym is)
+
+-- an answer reads the sets alone
+pub answer_after : (script : ScriptData) (q client clock maker : ℕ) (n : NodeState) (command : Command) → answer_to script q client (one_made maker (at_clock clock n)) command ≡ answer_to script q client n command
+answer_after script q client clock maker n (commands.Lock s mode) = refl
+answer_after script q client clock maker n (commands.Try s mode) = refl
+answer_after script q client clock maker n (commands.Unlock s mode) = refl
+answer_after script q client clock maker n (commands.Change s gives_up mode) = refl
+answer_after script q client clock maker n (commands.DropAll other s) = refl
+
+-- the count of the code is the node's
+pub locks_are : (m n : NodeData) (cores : List CoreData) (client set count : ℕ) → m ≡ n → cores ≡ m.cores
+    → ((s : NodeState) (q : ℕ) → count ≡ locks_in_sets (with_sets m.script q cores s) client (related m.script set)) → count ≡ locks_in_sets (state_of n) client (related n.script set)
+locks_are m n cores client set count same here h =
+    let own = subst (λ (cores : List CoreData). count ≡ locks_in_sets (with_sets m.script m.me cores (state_of m)) client (related m.script set)) here (h (state_of m) m.me) in
+    subst (λ (n : NodeData). count ≡ locks_in_sets (state_of n) client (related n.script set)) same own

@@ -1,0 +1,11 @@
+pub mod WithinLemmas
+pub mod TokenLemmas
+pub mod NodeLemmas
+pub mod TakeLemmas
+pub mod ActLemmas
+pub mod AdvanceLemmas
+pub mod FamilyLemmas
+pub mod CountLemmas
+pub mod StartLemmas
+pub mod KeptLemmas
+pub mod DropLemmas

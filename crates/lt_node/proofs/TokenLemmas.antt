@@ -1,0 +1,124 @@
+-- A letter that fits brings few asks, and so there is room for what it says.
+use Rattle.std.proofs.Common.{◌≡◌, ◌+◌, ◌≤◌, ◌<◌, ◌==◌, ◌++◌, ◌&&◌, ◌||◌, ◌^◌, Bool, true, false, ℕ, zero, suc, List, [], ◌∷◌, length, nat_lt, nat_le, refl, sym, arith, if◌then◌else◌}
+use Rattle.std.specs.Prelude.{not, is_none, slice_index}
+use Rattle.std.specs.List.{list_all}
+use Rattle.std.proofs.lemmas.Bool.{and_parts, leb-true, ltb-true, not-true, eq-eqb, ne_eqb}
+use Rattle.lt_modes.specs.declared.ask.Ask.{Ask}
+use Rattle.lt_modes.specs.State.{SetState, Desk}
+use Rattle.lt_modes.specs.Fits.{Numbers, fits, head_fits, body_fits, token_fits, queue_fits, are_apart, has_client, is_at_home, parked_asks}
+use Rattle.lt_lists.specs.Below.{count_below}
+use Rattle.lt_lists.proofs.Searches.{one_less}
+use Rattle.lt_letter.specs.declared.letter.Letter.{Letter}
+use Rattle.lt_letter.specs.declared.letter.Body.{Body}
+use Rattle.lt_letter.specs.declared.letter.Body.TheVariants as bodies
+use Rattle.lt_letter.specs.Seen.{body_seen, letter_seen}
+use Rattle.lt_letter.specs.Hands.{asks_in, RoomIn}
+use Rattle.lt_core.specs.CoreData.{CoreData, HasMemory, RoomForBody, waiting}
+use Rattle.lt_node.proofs.WithinLemmas.{IsWithin}
+
+count_most : (n : ℕ) (test : ℕ → Bool) → count_below n test ≤ n
+count_most zero test = omega arith
+count_most (suc n) test = elim (test n) as (λ t. count_below n test + (if t then 1 else 0) ≤ suc n) [
+  | true ↦ omega (arith, count_most n test)
+  | false ↦ omega (arith, count_most n test)
+]
+
+-- asks of different clients are no more than the clients
+few_apart : (numbers : Numbers) (asks : List Ask) → list_all (is_at_home numbers) asks ≡ true → are_apart asks ≡ true
+    → length asks ≤ count_below (length numbers.homes) (λ client. has_client client asks)
+few_apart numbers [] home apart = omega arith
+few_apart numbers (ask ∷ rest) home apart =
+    let homes = and_parts (is_at_home numbers ask) (list_all (is_at_home numbers) rest) home in
+    let aparts = and_parts (not (has_client ask.client rest)) (are_apart rest) apart in
+    let client = and_parts (nat_lt ask.client (length numbers.homes)) (slice_index numbers.homes ask.client == ask.node)
+    (and_parts (nat_lt ask.node numbers.nodes) (nat_lt ask.client (length numbers.homes) && slice_index numbers.homes ask.client == ask.node) homes.0).1 in
+    omega (
+      arith,
+      few_apart numbers rest homes.1 aparts.1,
+      one_less (length numbers.homes) ask.client (λ k. has_client k (ask ∷ rest)) (λ k. has_client k rest)
+          (ltb-true ask.client (length numbers.homes) client.0)
+          (rw (eq-eqb ask.client ask.client refl) refl)
+          (not-true (has_client ask.client rest) aparts.0)
+          (λ k within other. rw (ne_eqb ask.client k (λ same. other (sym same))) refl),
+    )
+
+not_among : (client : ℕ) (asks more : List Ask) → has_client client (asks ++ more) ≡ false → has_client client asks ≡ false
+not_among client [] more h = refl
+not_among client (ask ∷ rest) more h =
+    elim (ask.client == client) as (λ t. (t || has_client client (rest ++ more)) ≡ false → (t || has_client client rest) ≡ false) [
+      | true ↦ λ h. h
+      | false ↦ λ h. not_among client rest more h
+    ] h
+
+apart_front : (asks more : List Ask) → are_apart (asks ++ more) ≡ true → are_apart asks ≡ true
+apart_front [] more h = refl
+apart_front (ask ∷ rest) more h =
+    let parts = and_parts (not (has_client ask.client (rest ++ more))) (are_apart (rest ++ more)) h in
+    rw (not_among ask.client rest more (not-true (has_client ask.client (rest ++ more)) parts.0), apart_front rest more parts.1) refl
+
+-- what the token brings: few asks, and no number above its letter's clock
+record IsSmall (clock : ℕ) (desk : Desk) : Type 0 where
+  queue : length desk.queue ≤ 64
+  epoch : desk.epoch ≤ clock
+  number : desk.number ≤ clock
+
+small : (numbers : Numbers) (q : ℕ) (s : SetState) (clock : ℕ) (desk : Desk) → length numbers.homes ≤ 64 → token_fits numbers q s clock desk ≡ true → IsSmall clock desk
+small numbers q s clock desk few h =
+    let firm = and_parts (is_none s.desk) _ h in
+    let epoch = and_parts (nat_le s.firm.epoch desk.epoch) _ firm.1 in
+    let number = and_parts (nat_le desk.epoch clock) _ epoch.1 in
+    let entries = and_parts (nat_le desk.number clock) _ number.1 in
+    let queue = and_parts (length desk.entries == numbers.nodes) (queue_fits numbers q s desk.queue) entries.1 in
+    let homes = and_parts (list_all (is_at_home numbers) desk.queue) _ queue.1 in
+    let apart = and_parts (are_apart (desk.queue ++ parked_asks s)) _ homes.1 in
+    record {
+      queue = omega (
+        arith,
+        few,
+        few_apart numbers desk.queue homes.0 (apart_front desk.queue (parked_asks s) apart.0),
+        count_most (length numbers.homes) (λ client. has_client client desk.queue),
+      );
+      epoch = leb-true desk.epoch clock number.0;
+      number = leb-true desk.number clock entries.0;
+    }
+
+-- a letter brings few asks
+pub few_brought : (numbers : Numbers) (q clock : ℕ) (s : SetState) (body : Body) → length numbers.homes ≤ 64 → body_fits numbers q s clock (body_seen body) ≡ true → asks_in body ≤ 64
+few_brought numbers q clock s (bodies.Ask ask marked) few h = omega arith
+few_brought numbers q clock s (bodies.Tell tell) few h = omega arith
+few_brought numbers q clock s (bodies.Copy ask) few h = omega arith
+few_brought numbers q clock s (bodies.Token d) few h = (small numbers q s clock d.desk few h).queue
+few_brought numbers q clock s (bodies.Freeze news) few h = omega arith
+
+-- there is room for what it says, with memory
+pub room_for_body : (numbers : Numbers) (q before sent now : ℕ) (core : CoreData) (body : Body) → length numbers.homes ≤ 64 → body_fits numbers q core.state sent (body_seen body) ≡ true
+    → IsWithin before core.state → sent < now → HasMemory (asks_in body) core → RoomIn (waiting core.state + asks_in body + 2) body → RoomForBody now core body
+room_for_body numbers q before sent now core (bodies.Ask ask marked) few h within later memory room = tt
+room_for_body numbers q before sent now core (bodies.Tell tell) few h within later memory room = tt
+room_for_body numbers q before sent now core (bodies.Copy ask) few h within later memory room = tt
+room_for_body numbers q before sent now core (bodies.Token d) few h within later memory room =
+    let brings = small numbers q core.state sent d.desk few h in
+    record {
+      places = omega (arith, room.0);
+      owed = omega (arith, room.1);
+      rows = omega (arith, memory.rows);
+      locks = omega (arith, within.locks, within.asks, brings.queue);
+      epoch = omega (arith, brings.epoch, later);
+      number = omega (arith, brings.number, later);
+    }
+room_for_body numbers q before sent now core (bodies.Freeze news) few h within later memory room = tt
+
+-- the letter's set is of the script, its clock is small, and what it says fits
+pub record IsFitting (numbers : Numbers) (q clock : ℕ) (s : SetState) (letter : Letter) : Type 0 where
+  pub set : letter.set < numbers.sets
+  pub clock_small : letter.stamp.clock + 1 < 2 ^ 32
+  pub body : body_fits numbers q s letter.stamp.clock (body_seen letter.body) ≡ true
+
+pub fitting : (numbers : Numbers) (q clock : ℕ) (s : SetState) (letter : Letter) → fits numbers q clock s (letter_seen letter) ≡ true → IsFitting numbers q clock s letter
+fitting numbers q clock s letter h =
+    let head = and_parts (head_fits numbers clock (letter_seen letter)) (body_fits numbers q s letter.stamp.clock (body_seen letter.body)) h in
+    let set = and_parts (nat_lt letter.set numbers.sets) _ head.0 in
+    let node = and_parts (nat_lt letter.link.node numbers.nodes) _ set.1 in
+    let epoch = and_parts (nat_le letter.link.epoch letter.stamp.clock) _ node.1 in
+    let small = and_parts (nat_lt (letter.stamp.clock + 1) (2 ^ 32)) _ epoch.1 in
+    record { set = ltb-true letter.set numbers.sets set.0; clock_small = ltb-true (letter.stamp.clock + 1) (2 ^ 32) small.0; body = head.1 }

@@ -1,0 +1,42 @@
+use Rattle.std.proofs.Common.{Some, ap, arith, refl, subst, sym, ◌∙◌, length}
+use Rattle.std.proofs.lemmas.List.{length-map}
+use Rattle.lt_modes.specs.declared.command.Command.{Command}
+use Rattle.lt_script.specs.Script.{HasTargets}
+use Rattle.lt_node.specs.NodeData.{NodeData}
+use Rattle.lt_node.specs.Clients.{made_of}
+use Rattle.lt_node.proofs.NodeLemmas.{node_is}
+use Rattle.lt_node.proofs.AdvanceLemmas.{HasNext, next_at, next_is, next_targets, advanced_at, node_advanced, clients_advanced}
+use Rattle.lt_node.proofs.node.Node.advance.Goals as goal
+
+pub next-requires-clause-few : goal.next-requires-clause-few
+next-requires-clause-few c =
+    let next = next_at _ c.args.self.now c.self.inside.homes.items c.self.inside.clients.items c.args.client c.from.result c.index_mut.result.now c.self.view_is c.self.invariant.0 refl c.self.invariant.1
+    c.from.ensures c.index_mut.ensures.value c.requires.client c.requires.home c.requires.left in
+    omega (arith, next.few)
+
+next : (c : goal.After-self-2-1) → HasNext c.args.self.now c.args.client c.index_mut.result.now
+next c =
+    next_at _ c.args.self.now c.self.inside.homes.items c.self.inside.clients.items c.args.client c.from.result c.index_mut.result.now c.self.view_is c.self.invariant.0 refl c.self.invariant.1
+    c.from.ensures c.index_mut.ensures.value c.requires.client c.requires.home c.requires.left
+
+pub invariant_of-self : goal.invariant_of-self
+invariant_of-self c =
+    let clients = c.self.inside.clients.items in
+    let count = ap (λ (n : NodeData). length n.script.clients) c.self.view_is in (
+      node_advanced _ clients c.from.result c.next.new.self c.self.invariant.0 refl,
+      clients_advanced c.self.inside.script.now c.self.inside.me c.self.inside.homes.items clients c.from.result c.index_mut.result.now c.next.new.self c.self.invariant.1
+          (omega (arith, c.from.ensures, c.requires.client, count, c.self.invariant.0.clients, length-map clients made_of)) c.index_mut.ensures.value c.next.ensures.made,
+    )
+
+pub returns-clause-command : goal.returns-clause-command
+returns-clause-command c = next_is c.args.self.now c.args.client c.index_mut.result.now (next c) ∙ sym (ap Some c.next.ensures.command)
+
+pub returns-clause-targets : goal.returns-clause-targets
+returns-clause-targets c =
+    subst (λ (command : Command). HasTargets c.args.self.now.script.sets c.args.self.now.script.clients c.args.client command) (sym c.next.ensures.command)
+    (next_targets c.args.self.now c.args.client c.index_mut.result.now (node_is _ c.args.self.now c.self.view_is c.self.invariant.0) (next c))
+
+pub returns-clause-state : goal.returns-clause-state
+returns-clause-state c =
+    advanced_at _ c.args.self.now c.self.inside.clients.items c.args.client c.from.result c.index_mut.result.now c.next.new.self c.self.view_is c.self.invariant.0 refl c.from.ensures
+    c.requires.client (next c) c.next.ensures.made

@@ -1,0 +1,29 @@
+use Rattle.std.proofs.Common.{◌≡◌, ◌∙◌, ◌<◌, ℕ, List, ap, arith, length, map}
+use Rattle.lt_core.specs.CoreData.{CoreData, waiting}
+use Rattle.lt_node.specs.Room.{kept_of}
+use Rattle.lt_node.proofs.KeptLemmas.{kept_one, kept_set, kept_length, memory_more, few_kept}
+use Rattle.lt_node.proofs.room.reserve_each.Goals as goal
+
+inside : (len set : ℕ) (xs ys : List CoreData) → len ≡ length ys → map kept_of xs ≡ map kept_of ys → set < len → set < length xs
+inside len set xs ys count same below = omega (arith, below, count, kept_length xs ys same)
+
+pub reserve-requires : goal.reserve-requires
+reserve-requires c =
+    let within : c.loop-set.set < length c.loop-set.cores.items =
+    inside c.len-set-end.result c.loop-set.set c.loop-set.cores.items c.args.cores.now.items (c.len-set-end.ensures ∙ c.args.cores.now.ok.0) c.loop-set.invariant.kept c.loop-set-test.true in
+    let few = few_kept c.loop-set.cores.items c.args.cores.now.items c.loop-set.invariant.kept c.requires c.loop-set.set c.index_mut.result.now within in
+    record { few = omega (arith, few, ap (λ (core : CoreData). waiting core.state) c.index_mut.ensures.value) }
+
+pub returns-in_err-reserve-clause-kept : goal.returns-in_err-reserve-clause-kept
+returns-in_err-reserve-clause-kept c =
+    kept_set c.loop-set.cores.items c.loop-set.set c.index_mut.result.now c.reserve.new.self c.index_mut.ensures.value
+    (kept_one c.index_mut.result.now c.reserve.new.self c.reserve.ensures.state c.reserve.ensures.place) ∙ c.loop-set.invariant.kept
+
+pub loop-set-preserved : goal.loop-set-preserved
+loop-set-preserved c = record {
+  kept = kept_set c.loop-set.cores.items c.loop-set.set c.index_mut.result.now c.reserve.new.self c.index_mut.ensures.value
+      (kept_one c.index_mut.result.now c.reserve.new.self c.reserve.ensures.state c.reserve.ensures.place) ∙ c.loop-set.invariant.kept;
+  room = memory_more c.loop-set.cores.items c.loop-set.set c.reserve.new.self
+      (inside c.len-set-end.result c.loop-set.set c.loop-set.cores.items c.args.cores.now.items (c.len-set-end.ensures ∙ c.args.cores.now.ok.0) c.loop-set.invariant.kept c.loop-set-test.true)
+      c.in_ok-reserve.ensures.room c.loop-set.invariant.room;
+}

@@ -1,0 +1,5 @@
+pub mod NodeData
+pub mod Room
+pub mod Answers
+pub mod Clients
+pub mod Family

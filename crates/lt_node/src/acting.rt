@@ -1,0 +1,120 @@
+ghost use Rattle.std.specs.Prelude.{◌≡◌, ◌≢◌, ◌+◌, ◌≤◌, ◌<◌, ◌&&◌, ◌^◌, ℕ, not, All, length, slice_index_or, Some, IsTrue};
+ghost use Rattle.lt_modes.specs.State.{SetState};
+ghost use Rattle.lt_letter.specs.OutData.{OutData};
+ghost use Rattle.lt_core.specs.Bound.{RoomToSend};
+ghost use Rattle.lt_core.specs.CoreData.{CoreData, HasRoom};
+ghost use Rattle.lt_core.specs.Orders.{answer_of, move_of};
+ghost use Rattle.lt_limits.specs.Limits.{node_within, leaves_asks};
+ghost use Rattle.lt_script.specs.Script.{HasTargets};
+ghost use Rattle.lt_runs.specs.Families.{home};
+ghost use Rattle.lt_runs.specs.NodeMove.{node_waits, has_command, next_command, node_act, act_stamp, one_made, at_clock, obey, touched, drop_all};
+ghost use Rattle.lt_modes.specs.declared.command.Command.TheVariants as commands;
+ghost use Rattle.lt_node.specs.NodeData.{NodeDoes, IsNode, state_of, core_at};
+ghost use Rattle.lt_node.specs.Answers.{answer_of_act, answer_to};
+ghost use Rattle.lt_node.specs.Room.{RoomToAct, IsReady, most_sent};
+
+use crate::family;
+use crate::node::Node;
+use lt_core::{Answer, Order};
+use lt_letter::Out;
+use lt_modes::{Command, Event, Stamp};
+
+impl Node<'_> {
+    /// Makes the next command of a client of this node.
+    pub fn act(&mut self, client: u16, out: &mut Out) -> Answer
+        requires client { client < length self.old.script.clients }
+        requires home { home self.old.script client ≡ self.old.me }
+        requires runnable { IsTrue (not (node_waits self.old.script (state_of self.old) client) && has_command self.old.script (state_of self.old) client) }
+        requires within { IsTrue (node_within self.old.script (state_of self.old)) }
+        requires asks { IsTrue (leaves_asks self.old.script (state_of self.old)) }
+        requires room { RoomToAct self.old out.old }
+        requires clock { self.old.clock + 1 < 2 ^ 32 }
+        ensures answer { Some result ≡ answer_of_act self.old.script self.old.me client (state_of self.old) }
+        ensures does { NodeDoes (node_act self.old.script self.old.me client (state_of self.old)) self.old out.old self.new out.new }
+    {
+        let stamp = self.stamp_of_act();
+        let command = self.advance(client);
+        self.obey(client, command, stamp, out)
+    }
+
+    // The client has made its next command, at the node's next clock.
+    fn advance(&mut self, client: u16) -> Command
+        requires client { client < length self.old.script.clients }
+        requires home { home self.old.script client ≡ self.old.me }
+        requires left { IsTrue (has_command self.old.script (state_of self.old) client) }
+        requires clock { self.old.clock + 1 < 2 ^ 32 }
+        ensures command { next_command self.old.script (state_of self.old) client ≡ Some result }
+        ensures targets { HasTargets self.old.script.sets self.old.script.clients client result }
+        ensures kept { IsNode self.old }
+        ensures place { (self.new.script ≡ self.old.script) × (self.new.me ≡ self.old.me) }
+        ensures cores { self.new.cores ≡ self.old.cores }
+        ensures state { state_of self.new ≡ one_made client (at_clock (self.old.clock + 1) (state_of self.old)) }
+    {
+        self.clock += 1;
+        self.clients[usize::from(client)].next()
+    }
+
+    // Does what the command says.
+    fn obey(&mut self, client: u16, command: Command, stamp: Stamp, out: &mut Out) -> Answer
+        requires node { stamp.node ≡ self.old.me }
+        requires targets { HasTargets self.old.script.sets self.old.script.clients client command }
+        requires ready { IsReady stamp.clock self.old.cores out.old }
+        ensures answer { result ≡ answer_to self.old.script self.old.me client (state_of self.old) command }
+        ensures does { NodeDoes (obey self.old.script stamp client (Some command) (state_of self.old)) self.old out.old self.new out.new }
+    {
+        match command {
+            Command::Lock { set, mode } => self.touch(set, client, Order::Lock(mode), stamp, out),
+            Command::Try { set, mode } => self.touch(set, client, Order::Try(mode), stamp, out),
+            Command::Unlock { set, mode } => self.touch(
+                set,
+                client,
+                Order::Unlock(mode),
+                stamp,
+                out,
+            ),
+            Command::Change {
+                set,
+                gives_up,
+                mode,
+            } => self.touch(set, client, Order::Change(gives_up, mode), stamp, out),
+            Command::DropAll { client: other, set } => self.drop_all(
+                client, other, set, stamp, out,
+            ),
+        }
+    }
+
+    // One set obeys.
+    fn touch(&mut self, set: u8, client: u16, order: Order, stamp: Stamp, out: &mut Out) -> Answer
+        requires node { stamp.node ≡ self.old.me }
+        requires set { set < length self.old.script.sets }
+        requires ready { IsReady stamp.clock self.old.cores out.old }
+        ensures answer { result ≡ answer_of self.old.me client order ((state_of self.old).set set) }
+        ensures does { NodeDoes (touched (state_of self.old) set (move_of stamp client order set ((state_of self.old).set set))) self.old out.old self.new out.new }
+    {
+        self.cores[usize::from(set)].act(client, order, stamp, out)
+    }
+
+    // Drops all locks of a client in a family, unless it waits; the answer stands before what the sets send.
+    fn drop_all(&mut self, client: u16, other: u16, set: u8, stamp: Stamp, out: &mut Out) -> Answer
+        requires node { stamp.node ≡ self.old.me }
+        requires set { set < length self.old.script.sets }
+        requires ready { IsReady stamp.clock self.old.cores out.old }
+        ensures answer { result ≡ answer_to self.old.script self.old.me client (state_of self.old) (commands.DropAll other set) }
+        ensures does { NodeDoes (obey self.old.script stamp client (Some (commands.DropAll other set)) (state_of self.old)) self.old out.old self.new out.new }
+    {
+        if self.waits(other) {
+            out.push_event(Event::Busy { client, other, set });
+            family::end_each(&mut self.cores, self.script, set, None, stamp, out);
+            return Answer::Busy;
+        }
+        let locks = family::locks(&self.cores, self.script, set, other);
+        out.push_event(Event::DropAll {
+            client,
+            other,
+            set,
+            count: locks,
+        });
+        family::end_each(&mut self.cores, self.script, set, Some(other), stamp, out);
+        Answer::Dropped(locks)
+    }
+}

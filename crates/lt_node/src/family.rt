@@ -1,0 +1,73 @@
+ghost use Rattle.std.specs.Prelude.{◌≡◌, ◌+◌, ◌≤◌, ◌<◌, ◌^◌, ℕ, All, length, slice_index_or, sum_by};
+ghost use Rattle.lt_letter.specs.OutData.{OutData};
+ghost use Rattle.lt_core.specs.Bound.{RoomToSend};
+ghost use Rattle.lt_core.specs.CoreData.{Does, HasRoom};
+ghost use Rattle.lt_runs.specs.Families.{related};
+ghost use Rattle.lt_runs.specs.NodeMove.{NodeState, each_touched, locks_in_sets};
+ghost use Rattle.lt_node.specs.NodeData.{IsCoreOf, first_core};
+ghost use Rattle.lt_node.specs.Family.{SetsDo, ending, with_sets};
+ghost use Rattle.lt_node.specs.Room.{HasFewLocks, most_sent};
+
+use lt_core::{Answer, Core, Order};
+use lt_letter::Out;
+use lt_modes::Stamp;
+use lt_script::Script;
+
+/// Ends the move in each set of the family of a set, in order; where a client is given, its locks there go first.
+pub(crate) fn end_each(
+    cores: &mut Vec<Core>,
+    script: &Script,
+    set: u8,
+    dropped: Option<u16>,
+    stamp: Stamp,
+    out: &mut Out,
+)
+    requires set { set < length script.now.sets }
+    requires count { length cores.old.items ≡ length script.now.sets }
+    requires places { (s : ℕ) → s < length cores.old.items → IsCoreOf stamp.node s (slice_index_or cores.old.items s (first_core script.now stamp.node s)) }
+    requires rooms { All (HasRoom 2 stamp.clock) cores.old.items }
+    requires send { RoomToSend (sum_by most_sent cores.old.items) out.old }
+    ensures does { (n : NodeState) → SetsDo script.now stamp.node (each_touched (ending dropped stamp) (related script.now set)) cores.old.items out.old cores.new.items out.new n }
+    ensures count { length cores.new.items ≡ length cores.old.items }
+    ensures places { (s : ℕ) → s < length cores.new.items → IsCoreOf stamp.node s (slice_index_or cores.new.items s (first_core script.now stamp.node s)) }
+{
+    let family = script.family(set);
+    for k in 0..script.sets() {
+        if script.family(k) == family {
+            end(&mut cores[usize::from(k)], dropped, stamp, out);
+        }
+    }
+}
+
+// Ends the move in one set.
+fn end(core: &mut Core, dropped: Option<u16>, stamp: Stamp, out: &mut Out)
+    requires node { stamp.node ≡ core.old.node }
+    requires room { HasRoom 2 stamp.clock core.old }
+    requires send { RoomToSend (most_sent core.old) out.old }
+    ensures does { Does (ending dropped stamp core.old.set core.old.state) core.old out.old core.new out.new }
+    ensures send { (more : ℕ) → RoomToSend (most_sent core.old + more) out.old → RoomToSend more out.new }
+{
+    match dropped {
+        None => core.finish(stamp, out),
+        Some(client) => {
+            core.act(client, Order::DropAll, stamp, out);
+        }
+    }
+}
+
+/// How many locks a client has in the family of a set.
+pub(crate) fn locks(cores: &[Core], script: &Script, set: u8, client: u16) -> u32
+    requires set { set < length script.now.sets }
+    requires count { length cores.now ≡ length script.now.sets }
+    requires few { All HasFewLocks cores.now }
+    ensures { (n : NodeState) (q : ℕ) → result ≡ locks_in_sets (with_sets script.now q cores.now n) client (related script.now set) }
+{
+    let family = script.family(set);
+    let mut locks = 0;
+    for k in 0..script.sets() {
+        if script.family(k) == family {
+            locks += cores[usize::from(k)].held_count(client);
+        }
+    }
+    locks
+}

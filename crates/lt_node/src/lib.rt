@@ -1,0 +1,12 @@
+//! One node: its sets, its clock, and the commands of its clients.
+#![tactic(auto)]
+
+mod acting;
+mod client;
+mod family;
+mod limits;
+mod node;
+mod room;
+mod taking;
+
+pub use node::Node;

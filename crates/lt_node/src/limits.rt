@@ -1,0 +1,46 @@
+ghost use Rattle.std.specs.Prelude.{◌≡◌, ◌==◌, not};
+ghost use Rattle.lt_limits.specs.Limits.{set_within, node_within, leaves_ask, leaves_asks};
+ghost use Rattle.lt_node.specs.NodeData.{state_of};
+
+use crate::node::Node;
+use lt_core::Core;
+use lt_script::{MAX_CLIENTS, MAX_CLIENTS_OF_NODE, MAX_COMMANDS};
+
+impl Node<'_> {
+    /// Whether what the node keeps leaves room for a move.
+    pub fn is_within(&self) -> bool
+        ensures { result ≡ node_within self.now.script (state_of self.now) }
+    {
+        for set in 0..self.cores.len() {
+            if !is_within(&self.cores[set], self.clock) {
+                return false;
+            }
+        }
+        true
+    }
+
+    /// Whether one more client may wait in each set.
+    pub fn leaves_asks(&self) -> bool
+        ensures { result ≡ leaves_asks self.now.script (state_of self.now) }
+    {
+        for set in 0..self.cores.len() {
+            if !leaves_ask(&self.cores[set]) {
+                return false;
+            }
+        }
+        true
+    }
+}
+
+fn is_within(core: &Core, clock: u64) -> bool
+    ensures { result ≡ set_within clock core.now.state }
+{
+    core.holds_at_most(MAX_COMMANDS)
+        && (core.keeps_at_most(u32::from(MAX_CLIENTS)) && core.is_desk_within(clock))
+}
+
+fn leaves_ask(core: &Core) -> bool
+    ensures { result ≡ leaves_ask core.now.state }
+{
+    core.unanswered() < usize::from(MAX_CLIENTS_OF_NODE)
+}

@@ -1,0 +1,174 @@
+ghost use Rattle.std.specs.Prelude.{◌≡◌, ◌<◌, ◌+◌, ◌&&◌, ◌^◌, ℕ, not, length, IfOk, slice_index_or};
+ghost use Rattle.lt_modes.specs.Fits.{fits};
+ghost use Rattle.lt_letter.specs.Seen.{letter_seen};
+ghost use Rattle.lt_core.specs.Tests.{numbers_of as numbers_seen};
+ghost use Rattle.lt_runs.specs.Families.{home};
+ghost use Rattle.lt_runs.specs.NodeMove.{node_waits, has_command, act_stamp, take_stamp};
+ghost use Rattle.lt_runs.specs.World.{start};
+ghost use Rattle.lt_script.specs.Script.{IsScript};
+ghost use Rattle.lt_node.specs.NodeData.{IsNode, IsCoreOf, state_of, numbers_of, first_core};
+
+use crate::client::{Client, clients_of, homes_of};
+use lt_core::{Core, Numbers};
+use lt_letter::Letter;
+use lt_modes::Stamp;
+use lt_script::Script;
+use std::alloc::{AllocError, Global};
+use std::marker::Model;
+
+/// One node of a script: all its sets and its clients.
+#[derive(Drop)]
+pub struct Node<'a> {
+    pub(crate) script: &'a Script,
+    pub(crate) me: u8,
+    pub(crate) clock: u64,
+    // The node of each client, by which letters are tested.
+    homes: Vec<u8>,
+    // All clients of the script; the commands only of this node's own.
+    pub(crate) clients: Vec<Client>,
+    pub(crate) cores: Vec<Core>,
+}
+
+impl<'a> Model for Node<'a> {
+    ghost use Rattle.std.specs.Prelude.{map};
+    ghost use Rattle.lt_node.specs.NodeData.{NodeData, IsNode};
+    ghost use Rattle.lt_node.specs.Clients.{made_of, KnowsClients};
+
+    ghost Value = { NodeData };
+
+    ghost view = { λ n. record {
+      script = n.script.now;
+      me = n.me;
+      clock = n.clock;
+      made = map made_of n.clients.items;
+      cores = n.cores.items;
+    } };
+
+    ghost invariant = { λ n. IsNode (record {
+      script = n.script.now;
+      me = n.me;
+      clock = n.clock;
+      made = map made_of n.clients.items;
+      cores = n.cores.items;
+    }) × KnowsClients n.script.now n.me n.homes.items n.clients.items };
+}
+
+impl<'a> Node<'a> {
+    /// The node at the start of the script.
+    pub fn new(alloc: Global, script: &'a Script, node: u8) -> Result<Node<'a>, AllocError>
+        requires { node < script.now.nodes }
+        ensures script { IfOk result (λ made. made.script ≡ script.now) }
+        ensures me { IfOk result (λ made. made.me ≡ node) }
+        ensures state { IfOk result (λ made. state_of made ≡ (start script.now).node node) }
+    {
+        let homes = homes_of(alloc, script)?;
+        let clients = clients_of(alloc, script, node)?;
+        let cores = cores_of(alloc, script, node)?;
+        Ok(Node {
+            script,
+            me: node,
+            clock: 0,
+            homes,
+            clients,
+            cores,
+        })
+    }
+
+    /// The node's number.
+    pub fn me(&self) -> u8
+        ensures me { result ≡ self.now.me }
+        ensures kept { IsNode self.now }
+    {
+        self.me
+    }
+
+    pub fn clock(&self) -> u64
+        ensures { result ≡ self.now.clock }
+    {
+        self.clock
+    }
+
+    /// How many commands the client has made here.
+    pub fn made(&self, client: u16) -> u32
+        requires { client < length self.now.script.clients }
+        ensures { result ≡ (state_of self.now).made client }
+    {
+        self.clients[usize::from(client)].made()
+    }
+
+    /// Whether an ask of the client is unanswered, in some set.
+    pub fn waits(&self, client: u16) -> bool
+        ensures { result ≡ node_waits self.now.script (state_of self.now) client }
+    {
+        for set in 0..self.cores.len() {
+            if self.cores[set].waits(client) {
+                return true;
+            }
+        }
+        false
+    }
+
+    /// Whether the client, of this node, doesn't wait and has a command left.
+    pub fn runnable(&self, client: u16) -> bool
+        requires client { client < length self.now.script.clients }
+        requires home { home self.now.script client ≡ self.now.me }
+        ensures { result ≡ (not (node_waits self.now.script (state_of self.now) client) && has_command self.now.script (state_of self.now) client) }
+    {
+        !self.waits(client) && self.clients[usize::from(client)].has_next()
+    }
+
+    /// The stamp of the next command that is made here.
+    pub fn stamp_of_act(&self) -> Stamp
+        requires { self.now.clock + 1 < 2 ^ 64 }
+        ensures { result ≡ act_stamp self.now.me (state_of self.now) }
+    {
+        Stamp {
+            clock: self.clock + 1,
+            node: self.me,
+        }
+    }
+
+    /// The stamp with which the letter is taken.
+    pub fn stamp_of_take(&self, letter: &Letter) -> Stamp
+        requires node { self.now.clock + 1 < 2 ^ 64 }
+        requires letter { letter.now.stamp.clock + 1 < 2 ^ 64 }
+        ensures { result ≡ take_stamp self.now.me (state_of self.now) (letter_seen letter.now) }
+    {
+        Stamp {
+            clock: self.clock.max(letter.stamp.clock) + 1,
+            node: self.me,
+        }
+    }
+
+    /// Whether the node can be sent the letter now. Takes no memory.
+    pub fn fits(&self, letter: &Letter) -> bool
+        ensures { result ≡ fits (numbers_of self.now.script) self.now.me self.now.clock ((state_of self.now).set letter.now.set) (letter_seen letter.now) }
+    {
+        let set = usize::from(letter.set);
+        set < self.cores.len() && self.cores[set].fits(self.clock, letter, &self.numbers())
+    }
+
+    // The numbers of the script by which letters are tested.
+    fn numbers(&self) -> Numbers<'_>
+        ensures { numbers_seen result ≡ numbers_of self.now.script }
+    {
+        Numbers {
+            nodes: self.script.nodes(),
+            sets: u16::from(self.script.sets()),
+            homes: &self.homes,
+        }
+    }
+}
+
+// What the node keeps for each set at the start.
+fn cores_of(alloc: Global, script: &Script, node: u8) -> Result<Vec<Core>, AllocError>
+    ensures count { IfOk result (λ cores. length cores.items ≡ length script.now.sets) }
+    ensures states { IfOk result (λ cores. (s : ℕ) → (slice_index_or cores.items s (first_core script.now node s)).state ≡ (first_core script.now node s).state) }
+    ensures places { IfOk result (λ cores. (s : ℕ) → s < length cores.items → IsCoreOf node s (slice_index_or cores.items s (first_core script.now node s))) }
+{
+    let mut cores = Vec::new(alloc);
+    for set in 0..script.sets() {
+        cores.push(Core::new(alloc, script.nodes(), script.clients(), node, set)?)?;
+    }
+    Ok(cores)
+}

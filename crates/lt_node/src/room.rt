@@ -1,0 +1,93 @@
+ghost use Rattle.std.specs.Prelude.{◌≡◌, ◌+◌, ◌≤◌, ◌<◌, ◌^◌, All, IsTrue, OnOk, length, map, sum_by};
+ghost use Rattle.lt_modes.specs.Fits.{fits};
+ghost use Rattle.lt_letter.specs.Seen.{letter_seen, body_seen};
+ghost use Rattle.lt_letter.specs.Hands.{asks_in};
+ghost use Rattle.lt_core.specs.Bound.{brought};
+ghost use Rattle.lt_core.specs.CoreData.{HasMemory};
+ghost use Rattle.lt_limits.specs.Limits.{node_within};
+ghost use Rattle.lt_node.specs.NodeData.{SameNode, state_of, numbers_of};
+ghost use Rattle.lt_node.specs.Room.{RoomToAct, RoomToTake, RoomForLetter, HasFewAsks, kept_of, most_sent};
+
+use crate::node::Node;
+use lt_core::Core;
+use lt_letter::{Body, Letter, Out};
+use std::alloc::AllocError;
+
+impl Node<'_> {
+    /// Makes room for one command.
+    pub fn reserve(&mut self, out: &mut Out) -> Result<(), AllocError>
+        requires { IsTrue (node_within self.old.script (state_of self.old)) }
+        ensures node { SameNode self.old self.new }
+        ensures out { (out.new.posts ≡ out.old.posts) × (out.new.events ≡ out.old.events) }
+        ensures room { OnOk result (RoomToAct self.new out.new) }
+    {
+        reserve_each(&mut self.cores)?;
+        let sent = most_sent(&self.cores) + 1;
+        out.reserve(sent, sent)
+    }
+
+    /// Makes room to take the letter, in its set and in the desk that it brings.
+    pub fn reserve_for(&mut self, letter: &mut Letter, out: &mut Out) -> Result<(), AllocError>
+        requires fits { IsTrue (fits (numbers_of self.old.script) self.old.me self.old.clock ((state_of self.old).set letter.old.set) (letter_seen letter.old)) }
+        requires within { IsTrue (node_within self.old.script (state_of self.old)) }
+        ensures node { SameNode self.old self.new }
+        ensures letter { letter_seen letter.new ≡ letter_seen letter.old }
+        ensures out { (out.new.posts ≡ out.old.posts) × (out.new.events ≡ out.old.events) }
+        ensures room { OnOk result (RoomToTake self.new letter.new out.new) }
+    {
+        reserve_for(&mut self.cores[usize::from(letter.set)], letter, out)
+    }
+}
+
+// Makes room in each set for one move that takes no letter.
+fn reserve_each(cores: &mut Vec<Core>) -> Result<(), AllocError>
+    requires { All HasFewAsks cores.old.items }
+    ensures kept { map kept_of cores.new.items ≡ map kept_of cores.old.items }
+    ensures room { OnOk result (All (HasMemory 0) cores.new.items) }
+{
+    for set in 0..cores.len() {
+        cores[set].reserve()?;
+    }
+    Ok(())
+}
+
+// Makes room in a set, and in the desk that the letter brings, to take the letter.
+fn reserve_for(core: &mut Core, letter: &mut Letter, out: &mut Out) -> Result<(), AllocError>
+    requires few { HasFewAsks core.old }
+    requires asks { asks_in letter.old.body ≤ 64 }
+    ensures kept { kept_of core.new ≡ kept_of core.old }
+    ensures letter { letter_seen letter.new ≡ letter_seen letter.old }
+    ensures out { (out.new.posts ≡ out.old.posts) × (out.new.events ≡ out.old.events) }
+    ensures room { OnOk result (RoomForLetter core.new letter.new out.new) }
+{
+    core.reserve_for(letter)?;
+    let sent = core.most_sent() + 2 + brought(&letter.body);
+    out.reserve(sent, sent)?;
+    Ok(())
+}
+
+// How many letters, and event lines, all sets may send in one move.
+fn most_sent(cores: &[Core]) -> u32
+    requires asks { All HasFewAsks cores.now }
+    requires few { length cores.now ≤ 8 }
+    ensures sum { result ≡ sum_by most_sent cores.now }
+    ensures small { result + 1 < 2 ^ 32 }
+{
+    let mut sent = 0;
+    for set in 0..cores.len() {
+        sent += cores[set].most_sent() + 2;
+    }
+    sent
+}
+
+// How many asks and nodes come with what the letter says.
+fn brought(body: &Body) -> u32
+    requires { asks_in body.now + 64 < 2 ^ 32 }
+    ensures brought { result ≡ brought (body_seen body.now) }
+    ensures within { result ≤ asks_in body.now + 64 }
+{
+    match body {
+        Body::Token(desk) => desk.len() + u32::from(desk.nodes()),
+        _ => 0,
+    }
+}

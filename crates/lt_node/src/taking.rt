@@ -1,0 +1,25 @@
+ghost use Rattle.std.specs.Prelude.{◌+◌, ◌<◌, ◌^◌, IsTrue};
+ghost use Rattle.lt_modes.specs.Fits.{fits};
+ghost use Rattle.lt_letter.specs.Seen.{letter_seen};
+ghost use Rattle.lt_limits.specs.Limits.{node_within};
+ghost use Rattle.lt_runs.specs.NodeMove.{node_take};
+ghost use Rattle.lt_node.specs.NodeData.{NodeDoes, state_of, numbers_of};
+ghost use Rattle.lt_node.specs.Room.{RoomToTake};
+
+use crate::node::Node;
+use lt_letter::{Letter, Out};
+
+impl Node<'_> {
+    /// Takes the letter.
+    pub fn take(&mut self, letter: Letter, out: &mut Out)
+        requires fits { IsTrue (fits (numbers_of self.old.script) self.old.me self.old.clock ((state_of self.old).set letter.set) (letter_seen letter)) }
+        requires within { IsTrue (node_within self.old.script (state_of self.old)) }
+        requires room { RoomToTake self.old letter out.old }
+        requires clock { self.old.clock + 1 < 2 ^ 32 }
+        ensures does { NodeDoes (node_take self.old.me (letter_seen letter) (state_of self.old)) self.old out.old self.new out.new }
+    {
+        let stamp = self.stamp_of_take(&letter);
+        self.clock = stamp.clock;
+        self.cores[usize::from(letter.set)].take(letter, stamp, out);
+    }
+}

@@ -1,0 +1,4 @@
+pub mod Seeds
+pub mod MakeForm
+pub mod Forms
+pub mod NoForm

@@ -1,0 +1,107 @@
+-- Words without a form are no command.
+use Rattle.std.proofs.Common.{◌≡◌, ◌⊎◌, refl, ℕ, true, false, ◌&&◌, ◌==◌, nat_lt, nat_le, length, inl, inr, List, [], ◌∷◌, Option, Some, None, codes}
+use Rattle.std.specs.Str.{bytes_eq}
+use Rattle.std.proofs.lemmas.Bool.{and_cases, and_right, or_parts, cases_Bool, eqb-true}
+use Rattle.lt_text.specs.Number.{are_digits, is_numeral, number}
+use Rattle.lt_words.specs.Words.{command_of, one_word, two_words, sim_of, seed_of, make_of, five_words}
+use Rattle.lt_words.specs.Grammar.{is_plain, has_verb, is_form}
+
+hyphen_first : (byte : ℕ) (rest : List ℕ) → is_plain (byte ∷ rest) ≡ false → byte ≡ 45
+hyphen_first byte rest e = elim (cases_Bool (byte == 45)) [ inl h ↦ eqb-true byte 45 h | inr h ↦ absurd (let wrong = rw h at e in cc) ]
+
+-- a word that isn't plain is no number
+no_numeral : (word : List ℕ) (most : ℕ) → is_plain word ≡ false → is_numeral word most ≡ false
+no_numeral [] most e = refl
+no_numeral (byte ∷ rest) most e =
+    and_right (nat_lt 0 (length (byte ∷ rest)) && nat_le (length (byte ∷ rest)) most) (are_digits (byte ∷ rest)) (rw (hyphen_first byte rest e) refl)
+
+no_seed : (word : List ℕ) → is_plain word ≡ false → seed_of word ≡ None
+no_seed word e = rw (no_numeral word 20 e) refl
+
+no_number : (word : List ℕ) → is_plain word ≡ false → number word ≡ None
+no_number word e = rw (no_numeral word 9 e) refl
+
+-- and it is none of the words that begin otherwise
+no_word : (word rest : List ℕ) (byte : ℕ) → is_plain word ≡ false → (45 == byte) ≡ false → bytes_eq word (byte ∷ rest) ≡ false
+no_word [] rest byte e differ = refl
+no_word (b ∷ word) rest byte e differ = rw (hyphen_first b word e, differ) refl
+
+no_sim : (word : List ℕ) → is_plain word ≡ false → sim_of word ≡ None
+no_sim word e = rw (no_word word (codes "irst") 102 e refl, no_numeral word 20 e) refl
+
+no_make : (a b c d : Option ℕ) → (a ≡ None) ⊎ ((b ≡ None) ⊎ ((c ≡ None) ⊎ (d ≡ None))) → make_of a b c d ≡ None
+no_make None b c d h = refl
+no_make (Some a) None c d h = refl
+no_make (Some a) (Some b) None d h = refl
+no_make (Some a) (Some b) (Some c) None h = refl
+no_make (Some a) (Some b) (Some c) (Some d) (inl h) = absurd (cc)
+no_make (Some a) (Some b) (Some c) (Some d) (inr (inl h)) = absurd (cc)
+no_make (Some a) (Some b) (Some c) (Some d) (inr (inr (inl h))) = absurd (cc)
+no_make (Some a) (Some b) (Some c) (Some d) (inr (inr (inr h))) = absurd (cc)
+
+no_one_word : (verb : List ℕ) → bytes_eq verb (codes "run") ≡ false → bytes_eq verb (codes "check") ≡ false → one_word verb ≡ None
+no_one_word verb e f = rw (e, f) refl
+
+no_two_words : (verb word : List ℕ) → bytes_eq verb (codes "sim") ≡ false → bytes_eq verb (codes "soak") ≡ false → two_words verb word ≡ None
+no_two_words verb word e f = rw (e, f) refl
+
+no_seed_word : (verb word : List ℕ) → is_plain word ≡ false → two_words verb word ≡ None
+no_seed_word verb word e = elim (cases_Bool (bytes_eq verb (codes "sim"))) [
+  | inl h ↦ rw h (no_sim word e)
+  | inr h ↦ rw h (elim (cases_Bool (bytes_eq verb (codes "soak"))) [
+    | inl k ↦ rw (k, no_numeral word 20 e) refl
+    | inr k ↦ rw k refl
+  ])
+]
+
+no_five_words : (verb t u v w : List ℕ) → bytes_eq verb (codes "make") ≡ false → five_words verb t u v w ≡ None
+no_five_words verb t u v w e = rw e refl
+
+no_size : (verb t u v w : List ℕ) → (is_plain t && (is_plain u && (is_plain v && (is_plain w && true)))) ≡ false → five_words verb t u v w ≡ None
+no_size verb t u v w e = elim (cases_Bool (bytes_eq verb (codes "make"))) [
+  | inl h ↦ rw h (no_make (number t) (number u) (number v) (seed_of w) (elim (and_cases (is_plain t) (is_plain u && (is_plain v && (is_plain w && true))) e) [
+    | inl a ↦ inl (no_number t a)
+    | inr rest ↦ inr (elim (and_cases (is_plain u) (is_plain v && (is_plain w && true)) rest) [
+      | inl b ↦ inl (no_number u b)
+      | inr rest ↦ inr (elim (and_cases (is_plain v) (is_plain w && true) rest) [
+        | inl c ↦ inl (no_number v c)
+        | inr rest ↦ inr (elim (and_cases (is_plain w) true rest) [
+          | inl d ↦ no_seed w d
+          | inr never ↦ absurd (cc)
+        ])
+      ])
+    ])
+  ]))
+  | inr h ↦ rw h refl
+]
+
+pub no_form : (words : List (List ℕ)) → is_form words ≡ false → command_of words ≡ None
+no_form [] form = refl
+no_form (verb ∷ []) form = elim (and_cases (has_verb (verb ∷ [])) (is_plain verb && true) form) [
+  | inl none ↦ let parts = or_parts (bytes_eq verb (codes "run")) (bytes_eq verb (codes "check")) none in no_one_word verb parts.0 parts.1
+  | inr word ↦ elim (and_cases (is_plain verb) true word) [
+    | inl e ↦ no_one_word verb (no_word verb (codes "un") 114 e refl) (no_word verb (codes "heck") 99 e refl)
+    | inr never ↦ absurd (cc)
+  ]
+]
+no_form (verb ∷ word ∷ []) form = elim (and_cases (has_verb (verb ∷ word ∷ [])) (is_plain verb && (is_plain word && true)) form) [
+  | inl none ↦ let parts = or_parts (bytes_eq verb (codes "sim")) (bytes_eq verb (codes "soak")) none in no_two_words verb word parts.0 parts.1
+  | inr some ↦ elim (and_cases (is_plain verb) (is_plain word && true) some) [
+    | inl e ↦ no_two_words verb word (no_word verb (codes "im") 115 e refl) (no_word verb (codes "oak") 115 e refl)
+    | inr rest ↦ elim (and_cases (is_plain word) true rest) [
+      | inl e ↦ no_seed_word verb word e
+      | inr never ↦ absurd (cc)
+    ]
+  ]
+]
+no_form (verb ∷ a ∷ b ∷ []) form = refl
+no_form (verb ∷ a ∷ b ∷ c ∷ []) form = refl
+no_form (verb ∷ t ∷ u ∷ v ∷ w ∷ []) form =
+    elim (and_cases (has_verb (verb ∷ t ∷ u ∷ v ∷ w ∷ [])) (is_plain verb && (is_plain t && (is_plain u && (is_plain v && (is_plain w && true))))) form) [
+      | inl none ↦ no_five_words verb t u v w none
+      | inr some ↦ elim (and_cases (is_plain verb) (is_plain t && (is_plain u && (is_plain v && (is_plain w && true)))) some) [
+        | inl e ↦ no_five_words verb t u v w (no_word verb (codes "ake") 109 e refl)
+        | inr rest ↦ no_size verb t u v w rest
+      ]
+    ]
+no_form (verb ∷ t ∷ u ∷ v ∷ w ∷ x ∷ rest) form = refl

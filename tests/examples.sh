@@ -1,0 +1,48 @@
+#!/bin/sh
+# Tests of all examples: both tools run on each; the pictures of docs/ are those that the tool draws; and where the
+# program is built, it makes each journal, with the right status, and accepts it. What isn't built yet is counted.
+cd "$(dirname "$0")/.." || exit 1
+program=crates/lockrun/out/lockrun
+room=$(mktemp -d) || exit 1
+trap 'rm -rf "$room"' EXIT
+examples=0 failed=0 not_built=0
+
+fail() {
+  failed=$((failed + 1))
+  echo "tests/examples.sh: $1"
+}
+
+# Runs the program on an input, and compares what it prints and its status.
+program_says() {
+  [ -x $program ] || { not_built=$((not_built + 1)); return; }
+  status=0
+  # shellcheck disable=SC2086 # the words of a command
+  $program $2 <"$room/input" >"$room/printed" 2>/dev/null || status=$?
+  if [ $status -eq 9 ]; then
+    not_built=$((not_built + 1))
+  elif [ $status -ne "$3" ] || ! cmp -s "$4" "$room/printed"; then
+    fail "$1: lockrun $2 prints something else, or its status isn't $3"
+  fi
+}
+
+for script in examples/*.script; do
+  name=$(basename "$script" .script)
+  journal=examples/$name.journal
+  examples=$((examples + 1))
+  tools/journal-summary "$script" "$journal" >"$room/table" || fail "$name: no summary"
+  tools/journal-picture "$script" "$journal" >"$room/picture" || fail "$name: no picture"
+  if [ -f "docs/pictures/$name.svg" ] && ! cmp -s "docs/pictures/$name.svg" "$room/picture"; then
+    fail "docs/pictures/$name.svg isn't what tools/journal-picture draws of $name"
+  fi
+  status=0
+  if grep -q '^waiting ' "$journal"; then status=3; fi
+  cp "$script" "$room/input"
+  program_says "$name" 'sim first' $status "$journal"
+  { cat "$script"; echo journal; cat "$journal"; } >"$room/input"
+  sed -n 's/^end /ok /p' "$journal" >"$room/wanted"
+  program_says "$name" check 0 "$room/wanted"
+done
+
+if [ -x $program ]; then why="isn't built yet"; else why='needs a program that is built'; fi
+echo "tests/examples.sh: $examples examples, $failed failures, $not_built runs of the program left out ($why)"
+[ $failed -eq 0 ]

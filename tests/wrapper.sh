@@ -1,0 +1,187 @@
+#!/bin/sh
+# Tests of the wrapper `lockrun`, with a program and a toolchain that are stand-ins: each tells what it was given. A
+# terminal is made by `script` (util-linux). Prints what failed, and the number of tests.
+here=$(CDPATH='' cd -- "$(dirname -- "$0")/.." && pwd) || exit 1
+room=$(mktemp -d) || exit 1
+trap 'rm -rf "$room"' EXIT
+top=$room/top
+tests=0 failed=0
+
+# A copy of the wrapper with a program that was built, and a second one with none.
+make_top() {
+  mkdir -p "$1/tools" "$1/crates/lockrun/src" && cp "$here/lockrun" "$1/" &&
+    cp "$here/tools/sources" "$here/tools/explain" "$here/tools/explain.awk" "$1/tools/" &&
+    printf 'lockrun:\n' >"$1/crates.txt" && : >"$1/crates/lockrun/src/main.rt"
+}
+
+# The stand-in for the program: prints its words and its input. The first line of the input may ask for an answer.
+program='#!/bin/sh
+printf "<%s>" "$@"; echo
+case "$1" in make) exit 0 ;; esac
+cat >"$0.input" || { echo "lockrun: read fault" >&2; exit 4; }
+cat "$0.input"
+case $(head -n 1 "$0.input") in
+  "# refuse "*) set -- $(head -n 1 "$0.input"); echo "lockrun: line $3: S$4" >&2; exit 2 ;;
+  "# stuck") exit 3 ;;
+esac
+exit 0'
+
+# The stand-in for the toolchain: an empty input has a fault.
+toolchain='#!/bin/sh
+shift 2
+[ -d /dev/stdin ] && exit 99
+printf "<%s>" "$@"; echo
+echo "checked: ended status=2" >&2
+case "$1" in make) echo "run=ended status=0" >&2; exit 0 ;; esac
+[ -n "$(cat)" ] || { echo "lockrun: line 1: S5" >&2; echo "run=ended status=2" >&2; exit 2; }
+echo "run=ended status=0" >&2'
+
+build() {
+  mkdir -p "$1/crates/lockrun/out" && printf '%s\n' "$program" >"$1/crates/lockrun/out/lockrun" &&
+    chmod +x "$1/crates/lockrun/out/lockrun" && "$1/tools/sources" lockrun >"$1/crates/lockrun/out/sources"
+}
+
+# Compares two texts.
+expect() {
+  tests=$((tests + 1))
+  if [ "$2" != "$3" ]; then
+    failed=$((failed + 1))
+    printf 'tests/wrapper.sh: %s: it is\n%s\nand should be\n%s\n' "$1" "$3" "$2"
+  fi
+}
+
+# What a command prints on both outputs, with its status behind it.
+said() {
+  "$@" 2>&1
+  echo "status $?"
+}
+
+# What a line of commands prints where both outputs are a terminal.
+on_terminal() { script -qec "$1" /dev/null </dev/null 2>/dev/null | tr -d '\r'; }
+
+make_top "$top" && build "$top" && make_top "$room/bare" || exit 1
+printf '%s\n' "$toolchain" >"$room/rt" && chmod +x "$room/rt"
+mkdir "$room/with-rt" && mv "$room/rt" "$room/with-rt/rt"
+with_rt=$room/with-rt:$PATH
+# A path with all but the toolchain.
+mkdir "$room/no-rt"
+for tool in sh cat grep sed awk tr mktemp rm dirname readlink; do
+  ln -s "$(command -v $tool)" "$room/no-rt/$tool"
+done
+
+# Help and version; all other words, and none, go to the program as they are.
+expect '--help has status 0' 'status 0' "$(said "$top/lockrun" --help | tail -n 1)"
+for word in 'sim first' 'sim SEED' run check 'make NODES CLIENTS COMMANDS SEED' 'soak SEED'; do
+  expect "--help names $word" 1 "$("$top/lockrun" --help | grep -c "^  ./lockrun $word  ")"
+done
+expect '--version' "lockrun $(sed -n 's/^version=//p' "$here/lockrun")
+status 0" "$(said "$top/lockrun" --version)"
+expect 'odd words' '<sim><two words><><--help>
+status 0' "$(said "$top/lockrun" sim 'two words' '' --help </dev/null)"
+expect 'no words' '<>
+status 0' "$(said "$top/lockrun" </dev/null)"
+
+# The input reaches the program byte by byte, with a terminal and without.
+awk 'BEGIN { for (k = 0; k < 256; k++) printf "%c", k; printf "# no line end\r" }' >"$room/bytes"
+"$top/lockrun" sim first <"$room/bytes" >/dev/null
+expect 'bytes of the input' '' "$(cmp "$room/bytes" "$top/crates/lockrun/out/lockrun.input" 2>&1)"
+expect 'the status' '<sim><first>
+# stuck
+status 3' "$(echo '# stuck' | said "$top/lockrun" sim first)"
+
+# The wrapper may be called by links, from anywhere, and with CDPATH.
+ln -s "$top/lockrun" "$room/link" && ln -s link "$room/second" && ln -s "$top" "$room/folder"
+mkdir -p "$room/cd/top" "$room/cd/crates"
+for call in "$room/link" "$room/second" "$room/folder/lockrun" ./lockrun "sh lockrun" ../top/lockrun; do
+  # shellcheck disable=SC2086 # a call may be two words
+  expect "called as $call" '<run>
+status 0' "$(cd "$top" && CDPATH="$room/cd:$top" && export CDPATH && said $call run </dev/null)"
+done
+mkdir -p "$room/cd/bare/crates/lockrun"
+expect 'called with CDPATH, unproved' '<run>' \
+  "$(cd "$room" && PATH=$with_rt && CDPATH=$room/cd && export CDPATH && echo x | sh bare/lockrun run 2>/dev/null)"
+expect 'called by the path' '<run>
+status 0' "$(PATH=$top:$PATH && said lockrun run </dev/null)"
+
+# A folder as standard input is a read fault, whichever way the program runs.
+expect 'a folder as input' 'status 4' "$(said "$top/lockrun" run 2>/dev/null </ | tail -n 1)"
+expect 'a folder as input, unproved' 'lockrun: not proved: no program is built from these sources (./build proves and builds it)
+lockrun: read fault
+status 4' "$(PATH=$with_rt && said "$room/bare/lockrun" run </ | grep -v '^<')"
+expect 'a folder as input that nothing reads, unproved' '<make>
+status 0' "$(PATH=$with_rt && said "$room/bare/lockrun" make </ | grep -v '^lockrun: not')"
+
+# Without a program that was built from the sources as they are, the toolchain runs them.
+expect 'unproved' 'lockrun: not proved: no program is built from these sources (./build proves and builds it)
+<sim><first>
+status 0' "$(echo x | (PATH=$with_rt && said "$room/bare/lockrun" sim first))"
+expect 'no toolchain' "lockrun: no program is built, and the toolchain's program rt isn't on the PATH: README.md says what it is, under \"What it needs\"
+status 127" "$(PATH=$room/no-rt && said "$room/bare/lockrun" sim first </dev/null)"
+is_stale() {
+  expect "$1" 'lockrun: not proved: no program is built from these sources (./build proves and builds it)' \
+    "$(PATH=$with_rt && said "$top/lockrun" run <"$room/bytes" 2>&1 | head -n 1)"
+  build "$top"
+}
+sleep 0.02 && touch "$top/crates/lockrun/src/main.rt" && is_stale 'a source was edited'
+sleep 0.02 && : >"$top/crates/lockrun/src/more.rt" && is_stale 'a source came'
+sleep 0.02 && rm "$top/crates/lockrun/src/more.rt" && is_stale 'a source went'
+sleep 0.02 && touch "$top/crates.txt" && is_stale 'crates.txt was edited'
+: >"$top/crates/lockrun/out/sources" && is_stale 'the list of sources is empty'
+rm "$top/crates/lockrun/out/sources" && is_stale 'the list of sources is gone'
+mkdir -p "$top/crates/lockrun/must-fail" && touch "$top/crates/lockrun/must-fail/x.edit"
+expect 'what no program is made from' '<run>' "$(said "$top/lockrun" run </dev/null | head -n 1)"
+
+# What a refused script is told: only where standard error is a terminal.
+printf '# refuse 5 10\nnodes 1\nset s\nclient a at 0\na lock s reed\n' >"$room/refused"
+expect 'refused' 'lockrun: line 5: S10
+status 2' "$(said "$top/lockrun" sim 7 <"$room/refused" | tail -n 2)"
+on_a_terminal() {
+  expect 'refused, on a terminal' 'lockrun: line 5: S10
+  a lock s reed
+           ^^^^
+  not a mode: intention_read, read, upgrade, intention_write or write
+status 2' "$(on_terminal "'$top/lockrun' sim 7 <'$room/refused'; echo status \$?" | tail -n 5)"
+  expect 'refused, only the output on a terminal' 'status 2' \
+    "$(on_terminal "'$top/lockrun' sim 7 <'$room/refused' 2>/dev/null; echo status \$?" | tail -n 1)"
+  on_terminal "'$top/lockrun' sim first <'$room/bytes'" >/dev/null
+  expect 'bytes of the input, on a terminal' '' "$(cmp "$room/bytes" "$top/crates/lockrun/out/lockrun.input" 2>&1)"
+  expect 'the status, on a terminal' '<sim><first>
+# stuck
+status 3' "$(on_terminal "echo '# stuck' | '$top/lockrun' sim first; echo status \$?")"
+  expect 'words that read nothing leave the input, on a terminal' '<make>
+left' "$(on_terminal "echo left | { '$top/lockrun' make; cat; }")"
+}
+if [ "$(on_terminal 'test -t 2 && echo yes')" = yes ]; then on_a_terminal; else echo "tests/wrapper.sh: no terminal can be made here"; fi
+
+# Each fault: the script, the line, the fault, where the caret stands, and how many there are.
+fault() {
+  expect "fault $3 in line $2 of: $1" "$4 $5 $6" "$(printf "$1" | "$here/tools/explain" "$2" "$3" | awk '
+    NR == 2 { match($0, /\^+/); at = RSTART - 2; long = RLENGTH }
+    NR == 3 { print at, long, substr($0, 3) }')"
+}
+head='nodes 2\nset s\nclient a at 0\nclient b at 1\n'
+fault 'nodes 1\nset caf\351\n' 2 1 8 1 'not printable ASCII (shown as ?)'
+fault "nodes 1$(printf '%194s' '')\n" 1 2 35 1 'the line is longer than 200 bytes'
+fault "$head"'a grab s read\n' 5 3 3 4 'not a command: lock, try, unlock, change or drop'
+fault "$head"'a lock s\n' 5 3 10 1 'the form is: CLIENT lock SET MODE'
+fault "$head"'a  change\ts read write more\r\n' 5 3 24 4 'the form is: CLIENT change SET MODE MODE'
+fault 'nodes 2\nclient a on 0\n' 2 3 10 2 'the form is: client NAME at NODE'
+fault 'nodes 2\nset\n' 2 3 5 1 'the forms are: set NAME, and set NAME with SET'
+fault 'nodes 2\nlock\n' 2 3 1 4 'no line of a script: nodes, set, client, or a client with its command'
+fault 'nodes 0\n' 1 4 7 1 'a script has 1 to 16 nodes'
+fault 'nodes two\n' 1 4 7 3 'not a number: 1 to 9 digits'
+fault 'nodes 2\nclient a at 2\n' 2 4 13 1 'not a node of this script, which has nodes 0 to 1'
+fault 'set s\n' 1 5 1 3 'the first line must be `nodes NUMBER`'
+fault "$head"'nodes 2\n' 5 5 1 5 'the number of nodes is given once, first of all'
+fault 'nodes 1\nset 9s\n' 2 6 5 2 'not a name: 1 to 32 letters, digits, _, - and ., a letter first, and not nodes, set, client, journal or version'
+fault "$head"'client s at 0\n' 5 7 8 1 'declared before, in line 2'
+fault 'nodes 1\nset s\na lock s read\n' 3 8 1 1 'no client of this name was declared before'
+fault "$head"'a lock b read\n' 5 8 8 1 'b is a client, and not a set'
+fault "$head"'a drop b t\n' 5 8 10 1 'no set of this name was declared before'
+fault 'nodes 17\n' 1 9 7 2 'a script has at most 16 nodes'
+fault "$head"'a change s read ride\n' 5 10 17 4 'not a mode: intention_read, read, upgrade, intention_write or write'
+fault "$head"'a drop b s\n' 5 11 8 1 'b is on node 1, and a on node 0: a client drops the locks of a client of its own node'
+expect 'a script without a line' '  the script has no line `nodes NUMBER`' "$(printf '# nothing\n' | "$here/tools/explain" 2 5)"
+
+echo "tests/wrapper.sh: $tests tests, $failed failed"
+[ $failed -eq 0 ]

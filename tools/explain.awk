@@ -1,0 +1,120 @@
+# Shows the line of a script that has a fault. `line` is its number and `fault` the number of the fault; the lines
+# before it have none. The forms and the faults are those of docs/FORMATS.md.
+
+BEGIN {
+  split("intention_read read upgrade intention_write write", list, " ")
+  for (k in list) is_mode[list[k]] = 1
+  form["lock"] = "CLIENT lock SET MODE"
+  form["try"] = "CLIENT try SET MODE"
+  form["unlock"] = "CLIENT unlock SET MODE"
+  form["change"] = "CLIENT change SET MODE MODE"
+  form["drop"] = "CLIENT drop CLIENT SET"
+}
+
+{ sub(/\r$/, ""); count = split_words($0) }
+NR < line && count && word[1] !~ /^#/ { declare() }
+NR == line { explain(); show(); is_shown = 1; exit }
+END { if (!is_shown) print "  the script has no line `nodes NUMBER`" }
+
+# Cuts the line into word[1], word[2] .., which begin at place[1], place[2] ..; gives their number.
+function split_words(text,    n, at) {
+  for (k in word) delete word[k]
+  for (n = 0; match(text, /[^ \t]+/); n++) {
+    at += RSTART
+    word[n + 1] = substr(text, RSTART, RLENGTH)
+    place[n + 1] = at
+    at += RLENGTH - 1
+    text = substr(text, RSTART + RLENGTH)
+  }
+  return n
+}
+
+# Keeps what a line without fault declares.
+function declare() {
+  if (word[1] == "nodes") { nodes = word[2] + 0; return }
+  if (word[1] != "set" && word[1] != "client") return
+  kind[word[2]] = word[1]
+  declared_in[word[2]] = NR
+  if (word[1] == "client") { node_of[word[2]] = word[4] + 0; clients++ }
+}
+
+# Points at word k; past the last word, behind the line.
+function point(k, words) {
+  from = k <= count ? place[k] : length($0) + 2
+  width = k <= count ? length(word[k]) : 1
+  said = words
+}
+
+function explain() {
+  if (fault == 1) { match($0, /[^\t -~]/); from = RSTART; width = 1; said = "not printable ASCII (shown as ?)" }
+  else if (fault == 2) { from = 201; width = 1; said = "the line is longer than 200 bytes" }
+  else if (fault == 3) explain_form()
+  else if (fault == 4) explain_number()
+  else if (fault == 5) point(1, word[1] == "nodes" ? "the number of nodes is given once, first of all" \
+                                                   : "the first line must be `nodes NUMBER`")
+  else if (fault == 6) point(2, "not a name: 1 to 32 letters, digits, _, - and ., a letter first, " \
+                                "and not nodes, set, client, journal or version")
+  else if (fault == 7) point(2, "declared before, in line " declared_in[word[2]])
+  else if (fault == 8) explain_unknown()
+  else if (fault == 9) explain_limit()
+  else if (fault == 10) point(word[2] == "change" && word[4] in is_mode ? 5 : 4, \
+                              "not a mode: intention_read, read, upgrade, intention_write or write")
+  else if (fault == 11) point(3, word[3] " is on node " node_of[word[3]] ", and " word[1] " on node " \
+                                 node_of[word[1]] ": a client drops the locks of a client of its own node")
+}
+
+# No form at all: the first word that none of the forms has.
+function explain_form() {
+  if (word[1] == "nodes") point(count < 2 ? 2 : 3, "the form is: nodes NUMBER")
+  else if (word[1] == "set") point(odd_word("with", 4), "the forms are: set NAME, and set NAME with SET")
+  else if (word[1] == "client") point(odd_word("at", 4), "the form is: client NAME at NODE")
+  else if (count == 1) point(1, "no line of a script: nodes, set, client, or a client with its command")
+  else if (!(word[2] in form)) point(2, "not a command: lock, try, unlock, change or drop")
+  else point(count < 4 + (word[2] == "change") ? count + 1 : 5 + (word[2] == "change"), "the form is: " form[word[2]])
+}
+
+# The first word that is wrong or missing, where the third is to be `wanted` and there are so many words.
+function odd_word(wanted, words) {
+  if (count > 2 && word[3] != wanted) return 3
+  return count < words ? count + 1 : words + 1
+}
+
+function explain_number(    k) {
+  k = word[1] == "nodes" ? 2 : 4
+  if (word[k] !~ /^[0-9]+$/ || length(word[k]) > 9) point(k, "not a number: 1 to 9 digits")
+  else if (k == 2) point(k, "a script has 1 to 16 nodes")
+  else point(k, "not a node of this script, which has " (nodes == 1 ? "node 0 alone" : "nodes 0 to " nodes - 1))
+}
+
+function explain_unknown() {
+  if (word[1] == "set") unknown(4, "set")
+  else if (kind[word[1]] != "client") unknown(1, "client")
+  else if (word[2] != "drop") unknown(3, "set")
+  else if (kind[word[3]] != "client") unknown(3, "client")
+  else unknown(4, "set")
+}
+
+function unknown(k, wanted) {
+  if (word[k] in kind && kind[word[k]] != "") point(k, word[k] " is a " kind[word[k]] ", and not a " wanted)
+  else point(k, "no " wanted " of this name was declared before")
+}
+
+function explain_limit() {
+  if (word[1] == "nodes") point(2, "a script has at most 16 nodes")
+  else if (word[1] == "set") point(2, "a script has at most 8 sets")
+  else if (word[1] != "client") point(2, "a script has at most 4,096 commands")
+  else if (clients >= 64) point(2, "a script has at most 64 clients")
+  else point(4, "a node has at most 16 clients")
+}
+
+# Prints the line, the carets and the words. Of a long line the part around the caret is shown.
+function show(    text, carets) {
+  text = $0
+  gsub(/\t/, " ", text)
+  gsub(/[^ -~]/, "?", text)
+  if (from > 60) { text = "... " substr(text, from - 30); from = 35 }
+  if (length(text) > 90) text = substr(text, 1, 86) " ..."
+  if (width > 91 - from) width = 91 - from
+  for (carets = ""; length(carets) < width; ) carets = carets "^"
+  printf "  %s\n%" (from + 1) "s%s\n  %s\n", text, "", carets, said
+}
