@@ -51,36 +51,22 @@ impl Out {
         self.events.reserve(events as usize)
     }
 
-<<<<<<< HEAD
     /// How many letters it has room for in all.
     pub fn post_room(&self) -> usize
         ensures room { result ≡ self.now.post_room }
         ensures within { length self.now.posts ≤ self.now.post_room }
-=======
-    /// For how many letters there is room, with those that are here.
-    pub fn post_room(&self) -> usize
-        ensures { result ≡ self.now.post_room }
->>>>>>> w-world
     {
         self.posts.capacity()
     }
 
-<<<<<<< HEAD
     /// How many event lines it has room for in all.
     pub fn event_room(&self) -> usize
         ensures room { result ≡ self.now.event_room }
         ensures within { length self.now.events ≤ self.now.event_room }
-=======
-    /// For how many event lines there is room, with those that are here.
-    pub fn event_room(&self) -> usize
-        ensures { result ≡ self.now.event_room }
->>>>>>> w-world
     {
         self.events.capacity()
     }
 
-<<<<<<< HEAD
-=======
     /// No more is here than there is room for.
     pub fn is_within(&self)
         ensures posts { length self.now.posts ≤ self.now.post_room }
@@ -90,7 +76,6 @@ impl Out {
         let _ = &self.events;
     }
 
->>>>>>> w-world
     pub fn push_letter(&mut self, post: Post)
         requires { length self.old.posts < self.old.post_room }
         ensures { self.new ≡ record self.old { posts = self.old.posts ++ post_seen post ∷ [] } }
