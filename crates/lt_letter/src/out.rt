@@ -46,6 +46,7 @@ impl Out {
         ensures events { self.new.events ≡ self.old.events }
         ensures post_room { OnOk result (length self.old.posts + letters ≤ self.new.post_room) }
         ensures event_room { OnOk result (length self.old.events + events ≤ self.new.event_room) }
+        ensures kept { (self.old.post_room ≤ self.new.post_room) × (self.old.event_room ≤ self.new.event_room) }
     {
         self.posts.reserve(letters as usize)?;
         self.events.reserve(events as usize)
