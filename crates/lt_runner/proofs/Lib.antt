@@ -6,3 +6,4 @@ pub mod KeptLemmas
 pub mod MoveLemmas
 pub mod TurnLemmas
 pub mod StartLemmas
+pub mod Fetched

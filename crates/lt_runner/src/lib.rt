@@ -6,6 +6,7 @@ mod choosing;
 mod gate;
 mod hand;
 mod making;
+mod meeting;
 mod parts;
 mod polling;
 mod posting;

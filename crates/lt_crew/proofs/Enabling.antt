@@ -1,0 +1,77 @@
+-- The least node that can make a move, as its runner shows it.
+use Rattle.std.proofs.Common.{◌≡◌, ◌<◌, ◌≤◌, ◌+◌, ℕ, inl, inr, List, get_or, Option, Some, None, true, false, length, sym, ap, subst, arith, ◌∙◌}
+use Rattle.std.specs.Prelude.{slice_get}
+use Rattle.std.proofs.lemmas.Bool.{cases_eq}
+use Rattle.std.proofs.lemmas.Option.{slice_get_cases, slice_get-get_or, slice_get_within}
+use Rattle.lt_modes.specs.Script.{ScriptData}
+use Rattle.lt_joined.specs.CanMove.{can_move, RestIsNoMove}
+use Rattle.lt_runner.specs.declared.parts.Parts.{Parts}
+use Rattle.lt_runner.specs.Crew.{InCrew}
+use Rattle.lt_runner.specs.Kept.{SameRunner}
+use Rattle.lt_runner.specs.Choices.{choice_of}
+use Rattle.lt_runner.specs.Looking.{is_move}
+use Rattle.lt_crew.specs.Together.{EachIs, AreKept, IsCrew, crew_world}
+use Rattle.lt_crew.specs.Meeting.{AreLinked, AreMet, AnyTwo, HaveFetched}
+use Rattle.lt_crew.specs.Enabled.{IsLeastEnabled, IsFirstMove, NoneShows}
+use Rattle.lt_crew.proofs.Each.{each_before}
+use Rattle.lt_crew.proofs.Pairs.{links_last, each_len}
+use Rattle.lt_crew.proofs.Shown.{shows_is}
+
+pub crew_linked : (script : ScriptData) (rs : List Parts) → IsCrew script rs → AreLinked rs
+crew_linked script rs crew = record { me = λ k p e. (crew.each k p e).me; links = crew.links }
+
+pub crew_last : (script : ScriptData) (old new : List Parts) → EachIs SameRunner old new → IsCrew script old → IsCrew script new
+crew_last script old new same crew = record {
+  is_script = crew.is_script;
+  count = each_len SameRunner old new same ∙ crew.count;
+  each = each;
+  links = links_last old new same crew.links;
+}
+  where
+    each : (k : ℕ) (p : Parts) → slice_get new k ≡ Some p → InCrew script k p
+    each k p e =
+        let was = each_before SameRunner old new same k p e in
+        let is : SameRunner was.0 p = was.2 in
+        let before = crew.each k was.0 was.1 in record {
+          script_is = is.script ∙ before.script_is;
+          me = is.me ∙ before.me;
+          limit = subst (λ (n : ℕ). n ≤ 1048576) (sym is.limit) before.limit;
+        }
+
+same : {a b : Parts} → Some a ≡ Some b → a ≡ b
+same e = cc
+
+pub next_shows : (n : ℕ) (rs : List Parts) (d : Parts) → n < length rs → NoneShows n rs → is_move (choice_of (get_or rs n d)) ≡ false → NoneShows (n + 1) rs
+next_shows n rs d inside before here k p below e = elim (cases_eq k n) [
+  | inl at ↦ subst (λ (q : Parts). is_move (choice_of q) ≡ false) (same (sym (slice_get-get_or rs n d inside) ∙ ap (slice_get rs) (sym at) ∙ e)) here
+  | inr apart ↦ before k p (omega (arith, below, apart)) e
+]
+
+pub first_shows : (n : ℕ) (rs : List Parts) (d : Parts) → n < length rs → NoneShows n rs → is_move (choice_of (get_or rs n d)) ≡ true → IsFirstMove rs (Some n)
+first_shows n rs d inside before here = (record { p = get_or rs n d; here = slice_get-get_or rs n d inside; shows = here }, before)
+
+pub none_shows : (n : ℕ) (rs : List Parts) → length rs ≤ n → NoneShows n rs → IsFirstMove rs None
+none_shows n rs long before k p e = let inside = slice_get_within rs k p e in before k p (omega (arith, inside, long)) e
+
+pub least_is : RestIsNoMove → (script : ScriptData) (rs : List Parts) (n : ℕ) (first : Option ℕ) → IsCrew script rs → AreKept rs → AreMet AnyTwo rs
+    → HaveFetched n rs → length rs ≤ n → IsFirstMove rs first → IsLeastEnabled script (crew_world script rs) first
+least_is rest script rs n None crew kept met fetched long none = (rest script (crew_world script rs) crew.is_script).1 (λ q below. still q below)
+  where
+    still : (q : ℕ) → q < script.nodes → can_move script (crew_world script rs) q ≡ false
+    still q below = elim (slice_get_cases rs q).1 [
+      | inl there ↦ sym (shows_is script rs crew kept met q there.0 there.2 (fetched q there.0 (omega (arith, there.1, long)) there.2)) ∙ none q there.0 there.2
+      | inr past ↦ absurd (omega (arith, past.0, crew.count, below))
+    ]
+least_is rest script rs n (Some k) crew kept met fetched long first =
+    let p = first.0.p in
+    let inside = slice_get_within rs k p first.0.here in (
+      omega (arith, inside, crew.count),
+      sym (shows_is script rs crew kept met k p first.0.here (fetched k p (omega (arith, inside, long)) first.0.here)) ∙ first.0.shows,
+      λ j below. still j below,
+    )
+  where
+    still : (j : ℕ) → j < k → can_move script (crew_world script rs) j ≡ false
+    still j below = elim (slice_get_cases rs j).1 [
+      | inl there ↦ sym (shows_is script rs crew kept met j there.0 there.2 (fetched j there.0 (omega (arith, there.1, long)) there.2)) ∙ first.1 j there.0 below there.2
+      | inr past ↦ let inside = slice_get_within rs k first.0.p first.0.here in absurd (omega (arith, past.0, inside, below))
+    ]

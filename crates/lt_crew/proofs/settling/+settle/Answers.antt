@@ -1,0 +1,33 @@
+-- The last runner meets all others, which have met.
+use Rattle.std.proofs.Common.{[], ◌∷◌, ◌++◌, List, sym, subst, arith}
+use Rattle.lt_runner.specs.declared.parts.Parts.{Parts}
+use Rattle.lt_crew.specs.Meeting.{AreMet, AnyTwo, AreLinked}
+use Rattle.lt_crew.proofs.Pairs.{linked_rest, linked_after, settled_vec}
+use Rattle.lt_crew.proofs.settling.+settle.Goals as goal
+
+pub settle-requires : goal.settle-requires
+settle-requires t c = (
+  omega (arith, c.in-Some.ensures.cases),
+  linked_rest c.pop.new.self.items c.in-Some.last (subst (λ (rs : List Parts). AreLinked rs) c.in-Some.ensures.items c.requires),
+)
+
+pub meet_all-requires-clause-linked : goal.meet_all-requires-clause-linked
+meet_all-requires-clause-linked t c =
+    subst (λ (rs : List Parts). AreLinked (rs ++ c.in-Some.last ∷ [])) (sym c.deref_mut.ensures.value)
+    (linked_after c.pop.new.self.items c.settle.new.runners.items c.in-Some.last
+    (subst (λ (rs : List Parts). AreLinked rs) c.in-Some.ensures.items c.requires) c.settle.ensures.seen)
+
+pub meet_all-requires-clause-met : goal.meet_all-requires-clause-met
+meet_all-requires-clause-met t c = subst (λ (rs : List Parts). AreMet AnyTwo rs) (sym c.deref_mut.ensures.value) c.settle.ensures.met
+
+pub returns-in-Some-clause-seen : goal.returns-in-Some-clause-seen
+returns-in-Some-clause-seen t c =
+    (settled_vec c.args.runners.now.items c.pop.new.self.items c.settle.new.runners.items c.deref_mut.result.now c.meet_all.new.runners c.push_reserved.new.self.items
+    c.in-Some.last c.meet_all.new.last _ c.in-Some.ensures.items c.deref_mut.ensures.value (sym c.deref_mut.ensures.len) c.meet_all.auto.runners
+    c.push_reserved.ensures.items c.settle.ensures.seen c.meet_all.ensures).seen
+
+pub returns-in-Some-clause-met : goal.returns-in-Some-clause-met
+returns-in-Some-clause-met t c =
+    (settled_vec c.args.runners.now.items c.pop.new.self.items c.settle.new.runners.items c.deref_mut.result.now c.meet_all.new.runners c.push_reserved.new.self.items
+    c.in-Some.last c.meet_all.new.last _ c.in-Some.ensures.items c.deref_mut.ensures.value (sym c.deref_mut.ensures.len) c.meet_all.auto.runners
+    c.push_reserved.ensures.items c.settle.ensures.seen c.meet_all.ensures).met

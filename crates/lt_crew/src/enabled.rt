@@ -1,0 +1,42 @@
+// The node that can make a move.
+ghost use Rattle.std.specs.Prelude.{◌≡◌, ◌<◌, ℕ, Some, true, length, vec_len, slice_get};
+ghost use Rattle.lt_runner.specs.Kept.{AsSeen};
+ghost use Rattle.lt_crew.specs.Together.{EachIs, IsCrew, crew_world};
+ghost use Rattle.lt_crew.specs.Enabled.{IsLeastEnabled, IsFirstMove};
+
+use crate::fetching::{all_kept, fetch_all};
+use crate::settling::settle;
+use lt_joined::law_can_move;
+use lt_runner::Runner;
+use lt_script::Script;
+
+/// The least node that can make a move; none exactly at rest.
+///
+/// Each two runners look at the rings between them, and each that has no letter in hand takes one that came: then who can
+/// make a move shows one.
+pub fn any_enabled<'a>(script: &Script, runners: &mut Vec<Runner<'a>>) -> Option<u8>
+    requires { IsCrew script.now runners.old.items }
+    ensures crew { IsCrew script.now runners.new.items }
+    ensures seen { EachIs AsSeen runners.old.items runners.new.items }
+    ensures least { IsLeastEnabled script.now (crew_world script.now runners.new.items) result }
+    ensures shows { IsFirstMove runners.new.items result }
+{
+    law_can_move();
+    settle(runners);
+    fetch_all(runners);
+    all_kept(runners);
+    first_to_move(runners, script.nodes())
+}
+
+#[tactic(auto, using(crate::proofs::Enabling::next_shows, crate::proofs::Enabling::first_shows, crate::proofs::Enabling::none_shows))]
+fn first_to_move(runners: &[Runner<'_>], nodes: u8) -> Option<u8>
+    requires { nodes ≡ length runners.now }
+    ensures { IsFirstMove runners.now result }
+{
+    for node in 0..nodes {
+        if runners[usize::from(node)].has_move() {
+            return Some(node);
+        }
+    }
+    None
+}

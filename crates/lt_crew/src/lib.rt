@@ -1,0 +1,8 @@
+//! The runners of a script together: each two look at the rings between them, and the run that all have made.
+#![tactic(auto)]
+
+mod enabled;
+mod fetching;
+mod settling;
+
+pub use enabled::any_enabled;
