@@ -1,5 +1,5 @@
-mod Endings
-mod FirstMoves
-mod NoMoves
+mod Causing
+mod Ordered
+mod Rooms
 mod Seeds
 mod Told

@@ -1,5 +1,5 @@
-pub mod Alone
-pub mod Scripts
+pub mod Orders
+pub mod Endings
 pub mod Status
 pub mod Words
 pub mod TopCall

@@ -1,5 +1,5 @@
 -- Which words are a command. They don't have the program's name.
-use Rattle.std.specs.Prelude.{◌≡◌, ◌≢◌, ◌*◌, ◌^◌, Bool, ◌&&◌, nat_lt, nat_le, if◌then◌else◌, ℕ, List, [], ◌∷◌, Option, Some, None, option_map, codes}
+use Rattle.std.specs.Prelude.{◌*◌, ◌^◌, Bool, ◌&&◌, nat_lt, nat_le, if◌then◌else◌, ℕ, List, [], ◌∷◌, Option, Some, None, option_map, codes}
 use Rattle.std.specs.Str.{bytes_eq}
 use Rattle.std.specs.Str.Parse.{digits_value}
 use Rattle.lt_text.specs.Number.{is_numeral, number}
@@ -53,11 +53,3 @@ command_of (word ∷ []) = one_word word
 command_of (word ∷ seed ∷ []) = two_words word seed
 command_of (word ∷ nodes ∷ clients ∷ commands ∷ seed ∷ []) = five_words word nodes clients commands seed
 command_of words = None
-
--- the words are the one command that is built
-abbrev pub IsSimFirst : List (List ℕ) → Type 0
-IsSimFirst words = command_of words ≡ Some SimFirst
-
--- the words are another command
-abbrev pub IsUnbuilt : List (List ℕ) → Type 0
-IsUnbuilt words = (command : Command) × (command_of words ≡ Some command) × (command ≢ SimFirst)

@@ -3,13 +3,16 @@
 
 mod arguments;
 mod command;
-mod first;
 mod gate;
 mod laws;
 mod limits;
+mod made;
+mod making;
+mod order;
 mod reading;
-mod scripts;
 mod serving;
+mod simulated;
+mod simulation;
 mod status;
 #[cfg(test)]
 mod tests;
@@ -19,5 +22,5 @@ pub use command::Command;
 pub use gate::Gate;
 pub use laws::law_literals;
 pub use limits::MAX_INPUT;
-pub use serving::{Served, serve};
+pub use serving::{Served, Setup, serve, serve_with};
 pub use status::Status;

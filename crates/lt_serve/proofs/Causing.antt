@@ -1,0 +1,108 @@
+-- What follows of an answer that comes once the writing has begun, and of words that are a command.
+use Rattle.std.proofs.Common.{◌≡◌, ℕ, Bool, true, false, List, [], ◌∷◌, Option, Some, None, refl, sym, subst, inl, inr, ◌∙◌}
+use Rattle.std.specs.Prelude.{◌⊎◌, option_map, if◌then◌else◌, codes}
+use Rattle.std.specs.Str.{bytes_eq}
+use Rattle.lt_text.specs.Number.{number}
+use Rattle.lt_serve.specs.declared.command.Command.{Command}
+use Rattle.lt_serve.specs.declared.command.Command.TheVariants.{Sim, Make, Soak}
+use Rattle.lt_serve.specs.declared.status.Status.{Status}
+use Rattle.lt_serve.specs.declared.status.Status.TheVariants.{Done, Stuck, Usage, Refused, TooLong, ReadFault, WriteFault, NoMemory, Cut, BadJournal, NotBuilt}
+use Rattle.lt_serve.specs.Words.{seed_of, can_make, make_of, command_of}
+use Rattle.lt_serve.specs.Causes.{HasCause, SourceCounts, TellsSource, IsReadWhole, WritesNothing, IsEnding, CanBeMade, is_unbuilt}
+
+-- the writing has begun
+abbrev pub HasWritten : Status → Type 0
+HasWritten status = IsEnding status ⊎ (status ≡ WriteFault)
+
+never_written : (status : Status) → HasWritten status → WritesNothing status → ⊥
+never_written Done (inl h) n = n
+never_written Done (inr e) n = n
+never_written Stuck (inl h) n = n
+never_written Stuck (inr e) n = n
+never_written (Cut node) (inl h) n = n
+never_written (Cut node) (inr e) n = n
+never_written WriteFault h n = n
+never_written Usage (inl h) n = h
+never_written Usage (inr e) n = cc
+never_written (Refused fault) (inl h) n = h
+never_written (Refused fault) (inr e) n = cc
+never_written TooLong (inl h) n = h
+never_written TooLong (inr e) n = cc
+never_written ReadFault (inl h) n = h
+never_written ReadFault (inr e) n = cc
+never_written NoMemory (inl h) n = h
+never_written NoMemory (inr e) n = cc
+never_written (BadJournal line) (inl h) n = h
+never_written (BadJournal line) (inr e) n = cc
+never_written NotBuilt (inl h) n = h
+never_written NotBuilt (inr e) n = cc
+
+-- so the answer is none that comes before
+is_other : (status other : Status) → HasWritten status → WritesNothing other → status ≡ other → ⊥
+is_other status other h n e = never_written status h (subst WritesNothing (sym e) n)
+
+pub written_causes : (asked : Option Command) (command : Command) (left : Option (List ℕ)) (status : Status) → asked ≡ Some command
+    → is_unbuilt command ≡ false → HasWritten status → HasCause asked left status
+written_causes asked command left status is built h = record {
+  usage = (λ e. absurd (is_other status Usage h tt e), λ none. absurd (not_none (sym none ∙ is)));
+  not_built = (λ e. absurd (is_other status NotBuilt h tt e), λ found. absurd (same_command found.0 (sym is ∙ found.1) found.2));
+  refused = λ fault e. absurd (is_other status (Refused fault) h tt e);
+  read_fault = λ e. absurd (is_other status ReadFault h tt e);
+  too_long = λ e. absurd (is_other status TooLong h tt e);
+}
+  where
+    not_none : None ≡ Some command → ⊥
+    not_none e = cc
+
+    same_command : (other : Command) → Some command ≡ Some other → is_unbuilt other ≡ true → ⊥
+    same_command other e unbuilt =
+        let it : command ≡ other = cc in
+        let now : is_unbuilt command ≡ true = subst (λ (c : Command). is_unbuilt c ≡ true) (sym it) unbuilt in
+        cc
+
+pub written_reading : (limit : ℕ) (status : Status) (before after : SourceCounts) → IsReadWhole limit before after → HasWritten status
+    → TellsSource limit status before after
+written_reading limit status before after whole h = record {
+  too_long = λ e. absurd (is_other status TooLong h tt e);
+  not_too_long = λ other. whole.few;
+  read_fault = λ e. absurd (is_other status ReadFault h tt e);
+  no_read_fault = λ other. whole.without_fault;
+  whole = λ read. whole.ended;
+}
+
+-- a command as an answer to words, if it is one of a script to make
+abbrev pub MayBeMade : Option Command → Type 0
+MayBeMade None = Unit {0}
+MayBeMade (Some command) = CanBeMade command
+
+seed_may : (make : ℕ → Command) → ((seed : ℕ) → CanBeMade (make seed)) → (seed : Option ℕ) → MayBeMade (option_map make seed)
+seed_may make may None = tt
+seed_may make may (Some seed) = may seed
+
+if_may : (test : Bool) (this that : Option Command) → MayBeMade this → MayBeMade that → MayBeMade (if test then this else that)
+if_may true this that h k = h
+if_may false this that h k = k
+
+make_may : (nodes clients commands seed : Option ℕ) → MayBeMade (make_of nodes clients commands seed)
+make_may (Some nodes) (Some clients) (Some commands) (Some seed) = by_test (can_make nodes clients commands) refl
+  where
+    by_test : (test : Bool) → can_make nodes clients commands ≡ test → MayBeMade (if test then Some (Make nodes clients commands seed) else None)
+    by_test true e = e
+    by_test false e = tt
+make_may (Some nodes) (Some clients) (Some commands) None = tt
+make_may (Some nodes) (Some clients) None seed = tt
+make_may (Some nodes) None commands seed = tt
+make_may None clients commands seed = tt
+
+-- the numbers of a command are such that its script can be made
+pub may_be_made : (words : List (List ℕ)) → MayBeMade (command_of words)
+may_be_made [] = tt
+may_be_made (word ∷ []) = if_may (bytes_eq word (codes "run")) _ _ tt (if_may (bytes_eq word (codes "check")) _ _ tt tt)
+may_be_made (word ∷ seed ∷ []) =
+    if_may (bytes_eq word (codes "sim")) _ _ (if_may (bytes_eq seed (codes "first")) _ _ tt (seed_may Sim (λ k. tt) (seed_of seed)))
+    (if_may (bytes_eq word (codes "soak")) _ _ (seed_may Soak (λ k. tt) (seed_of seed)) tt)
+may_be_made (word ∷ a ∷ b ∷ []) = tt
+may_be_made (word ∷ a ∷ b ∷ c ∷ []) = tt
+may_be_made (word ∷ nodes ∷ clients ∷ commands ∷ seed ∷ []) =
+    if_may (bytes_eq word (codes "make")) _ _ (make_may (number nodes) (number clients) (number commands) (seed_of seed)) tt
+may_be_made (word ∷ a ∷ b ∷ c ∷ d ∷ e ∷ rest) = tt

@@ -1,0 +1,22 @@
+use Rattle.std.proofs.Common.{◌≡◌, ◌∙◌, Some, Option, ap, map, sym, subst}
+use Rattle.std.specs.String.{string_bytes}
+use Rattle.lt_serve.specs.declared.command.Command.{Command}
+use Rattle.lt_serve.specs.Words.{command_of}
+use Rattle.lt_serve.specs.Causes.{reads}
+use Rattle.lt_serve.proofs.Causing.{MayBeMade, may_be_made, written_causes, written_reading}
+use Rattle.lt_serve.proofs.serving.serve_with.Goals as goal
+
+pub make-requires-clause-possible : goal.make-requires-clause-possible
+make-requires-clause-possible g c =
+    let is : command_of (map string_bytes c.args.words.now) ≡ Some c.in-Some.command = sym c.in-Some.ensures in
+    subst MayBeMade is (may_be_made (map string_bytes c.args.words.now))
+
+pub returns-in-Ok-clause-causes : goal.returns-in-Ok-clause-causes
+returns-in-Ok-clause-causes g c =
+    written_causes _ c.in-Some.command _ c.write_made.result.status (sym c.in-Some.ensures) c.in-Ok.ensures.built c.write_made.ensures.written
+
+pub returns-in-Ok-clause-reading : goal.returns-in-Ok-clause-reading
+returns-in-Ok-clause-reading g c = λ read.
+    let is : command_of (map string_bytes c.args.words.now) ≡ Some c.in-Some.command = sym c.in-Some.ensures in
+    written_reading _ c.write_made.result.status _ _
+    (c.in-Ok.ensures.whole (sym (ap (λ (asked : Option Command). reads asked) is) ∙ read)) c.write_made.ensures.written
