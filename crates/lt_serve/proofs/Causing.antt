@@ -47,6 +47,7 @@ written_causes asked command left status is built h = record {
   usage = (λ e. absurd (is_other status Usage h tt e), λ none. absurd (not_none (sym none ∙ is)));
   not_built = (λ e. absurd (is_other status NotBuilt h tt e), λ found. absurd (same_command found.0 (sym is ∙ found.1) found.2));
   refused = λ fault e. absurd (is_other status (Refused fault) h tt e);
+  bad_journal = λ line e. absurd (is_other status (BadJournal line) h tt e);
   read_fault = λ e. absurd (is_other status ReadFault h tt e);
   too_long = λ e. absurd (is_other status TooLong h tt e);
 }

@@ -6,7 +6,9 @@ use Rattle.lt_io.specs.declared.whole.ReadFailure.TheVariants.{Memory, Failed, T
 use Rattle.lt_script.specs.declared.fault.ScriptFault.{ScriptFault}
 use Rattle.lt_serve.specs.declared.command.Command.{Command}
 use Rattle.lt_serve.specs.declared.command.Command.TheVariants.{Run, SimFirst, Sim, Check, Make, Soak}
-use Rattle.lt_serve.specs.TopCall.{HasFault}
+use Rattle.lt_modes.specs.Script.{ScriptData}
+use Rattle.lt_serve.specs.declared.limits.TheConstants.{MAX_INPUT, MAX_JOURNAL}
+use Rattle.lt_serve.specs.TopCall.{HasFault, HasFaultBefore, DenotesBefore, IsBadLine}
 use Rattle.lt_serve.specs.Words.{can_make}
 use Rattle.lt_serve.specs.declared.status.Status.{Status}
 use Rattle.lt_serve.specs.declared.status.Status.TheVariants.{Done, Stuck, Usage, Refused, TooLong, ReadFault, WriteFault, NoMemory, Cut, BadJournal, NotBuilt}
@@ -14,7 +16,6 @@ use Rattle.lt_serve.specs.declared.status.Status.TheVariants.{Done, Stuck, Usage
 -- the command isn't built yet
 abbrev pub is_unbuilt : Command → Bool
 is_unbuilt Run = true
-is_unbuilt Check = true
 is_unbuilt (Soak seed) = true
 is_unbuilt other = false
 
@@ -22,14 +23,30 @@ is_unbuilt other = false
 abbrev pub reads : Option Command → Bool
 reads (Some SimFirst) = true
 reads (Some (Sim seed)) = true
+reads (Some Check) = true
 reads other = false
+
+-- so many bytes its input may have
+abbrev pub limit_of : Option Command → ℕ
+limit_of (Some Check) = MAX_JOURNAL
+limit_of other = MAX_INPUT
+
+-- where the bytes are told, this is the first fault of the script that the command reads
+abbrev pub IsRefused : Option Command → Option (List ℕ) → ScriptFault → Type 0
+IsRefused (Some Check) left fault = HasFaultBefore left fault
+IsRefused other left fault = HasFault left fault
+
+-- the input that `check` reads has this first bad line
+abbrev pub IsBad : Option (List ℕ) → ℕ → Type 0
+IsBad left line = (script : ScriptData) × DenotesBefore left script × IsBadLine left script line
 
 -- why a command is answered so, where the source had these bytes left: each answer has a cause here but want of memory, and but
 -- for the ends of a run, of which `Tells` speaks
 pub record HasCause (asked : Option Command) (left : Option (List ℕ)) (answer : Status) : Type 0 where
   pub usage : (answer ≡ Usage) ↔ (asked ≡ None)
   pub not_built : (answer ≡ NotBuilt) ↔ ((command : Command) × (asked ≡ Some command) × (is_unbuilt command ≡ true))
-  pub refused : (fault : ScriptFault) → answer ≡ Refused fault → HasFault left fault
+  pub refused : (fault : ScriptFault) → answer ≡ Refused fault → IsRefused asked left fault
+  pub bad_journal : (line : ℕ) → answer ≡ BadJournal line → (asked ≡ Some Check) × IsBad left line
   -- these come of reading alone
   pub read_fault : answer ≡ ReadFault → reads asked ≡ true
   pub too_long : answer ≡ TooLong → reads asked ≡ true
@@ -89,10 +106,11 @@ IsEnding other = ⊥
 
 -- why a command came to no end
 abbrev pub IsRefusal : Command → Option (List ℕ) → Status → Type 0
-IsRefusal command left (Refused fault) = (reads (Some command) ≡ true) × HasFault left fault
+IsRefusal command left (Refused fault) = (reads (Some command) ≡ true) × IsRefused (Some command) left fault
 IsRefusal command left TooLong = reads (Some command) ≡ true
 IsRefusal command left ReadFault = reads (Some command) ≡ true
 IsRefusal command left NoMemory = is_unbuilt command ≡ false
+IsRefusal command left (BadJournal line) = (command ≡ Check) × IsBad left line
 IsRefusal command left NotBuilt = is_unbuilt command ≡ true
 IsRefusal command left other = ⊥
 

@@ -5,3 +5,4 @@ pub mod Words
 pub mod TopCall
 pub mod Causes
 pub mod Literals
+pub mod Input

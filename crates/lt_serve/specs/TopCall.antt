@@ -1,11 +1,17 @@
 -- What each answer of the top call means.
-use Rattle.std.specs.Prelude.{◌≡◌, ℕ, List, [], Option, Some, None, Ok, Err, length}
+use Rattle.std.specs.Prelude.{◌≡◌, ℕ, List, [], ◌++◌, Option, Some, None, Ok, Err, length, take, codes}
+use Rattle.std.specs.Fmt.{decimal}
 use Rattle.std.specs.Io.KnownBytes.{Appends}
 use Rattle.lt_io.specs.Sink.{AppendsPart}
 use Rattle.lt_modes.specs.Script.{ScriptData}
 use Rattle.lt_runs.specs.Log.{Logged}
 use Rattle.lt_runs.specs.FixedOrder.{first_run}
+use Rattle.lt_journal.specs.Split.{parts_of}
 use Rattle.lt_journal.specs.Text.{text_of}
+use Rattle.lt_text.specs.Text.{lines}
+use Rattle.lt_checking.specs.Input.{checked_input}
+use Rattle.lt_checking.specs.Journals.{IsFinished}
+use Rattle.lt_promises.specs.Promised.{Promised}
 use Rattle.lt_gen.specs.Generator.{script_of}
 use Rattle.lt_script.specs.declared.fault.ScriptFault.{ScriptFault}
 use Rattle.lt_script.specs.Printing.{print_of}
@@ -49,13 +55,47 @@ abbrev pub Prints : ℕ → ℕ → ℕ → ℕ → Status → List Logged → L
 Prints nodes clients commands seed ending run text =
     (ending ≡ Done) × (run ≡ []) × (text ≡ print_of (script_of nodes clients commands seed))
 
+-- where the bytes are told, their lines before the journal denote this script
+abbrev pub DenotesBefore : Option (List ℕ) → ScriptData → Type 0
+DenotesBefore None script = Unit {0}
+DenotesBefore (Some bytes) script = read_of (take (parts_of bytes).script bytes) ≡ Ok script
+
+-- where the bytes are told, this is the first fault of the lines before the journal
+abbrev pub HasFaultBefore : Option (List ℕ) → ScriptFault → Type 0
+HasFaultBefore None fault = Unit {0}
+HasFaultBefore (Some bytes) fault = read_of (take (parts_of bytes).script bytes) ≡ Err fault
+
+-- where the bytes are told, the journal in them is that of this run of the script
+abbrev pub IsJournalOf : Option (List ℕ) → ScriptData → List Logged → Type 0
+IsJournalOf None script run = Unit {0}
+IsJournalOf (Some bytes) script run = checked_input script (lines bytes) ≡ Ok run
+
+-- where the bytes are told, this is the first line in them that is bad
+abbrev pub IsBadLine : Option (List ℕ) → ScriptData → ℕ → Type 0
+IsBadLine None script line = Unit {0}
+IsBadLine (Some bytes) script line = checked_input script (lines bytes) ≡ Err line
+
+-- `ok` and the number of moves
+abbrev pub ok_text : List Logged → List ℕ
+ok_text run = codes "ok " ++ decimal (length run) ++ codes "\n"
+
+-- the input is a script and the journal of a run of it that ended at rest, which is told, and the number of its moves is written
+pub record Checks (ending : Status) (left : Option (List ℕ)) (run : List Logged) (text : List ℕ) : Type 0 where
+  pub done : ending ≡ Done
+  pub script : ScriptData
+  pub denoted : DenotesBefore left script
+  pub accepted : IsJournalOf left script run
+  pub finished : IsFinished script run
+  pub promised : Promised script run
+  pub counted : text ≡ ok_text run
+
 -- what a command did that ended so: its run, and the text that is to be written
 abbrev pub Does : ℕ → Command → Status → Option (List ℕ) → List Logged → List ℕ → Type 0
 Does moves SimFirst ending left run text = JournalsFirst moves ending left run text
 Does moves (Sim seed) ending left run text = JournalsDrawn seed moves ending left run text
 Does moves (Make nodes clients commands seed) ending left run text = Prints nodes clients commands seed ending run text
+Does moves Check ending left run text = Checks ending left run text
 Does moves Run ending left run text = ⊥
-Does moves Check ending left run text = ⊥
 Does moves (Soak seed) ending left run text = ⊥
 
 -- no run is told, and nothing was written

@@ -2,6 +2,7 @@
 #![tactic(auto)]
 
 mod arguments;
+mod checking;
 mod command;
 mod gate;
 mod laws;
@@ -21,6 +22,6 @@ pub use arguments::program;
 pub use command::Command;
 pub use gate::Gate;
 pub use laws::law_literals;
-pub use limits::MAX_INPUT;
+pub use limits::{MAX_CAPACITY, MAX_INPUT, MAX_JOURNAL};
 pub use serving::{Served, Setup, serve, serve_with};
 pub use status::Status;

@@ -1,11 +1,12 @@
 ghost use Rattle.std.specs.Prelude.{◌≡◌, ◌<◌, ◌≤◌, true, false, map, [], Some, IfOk, IfErr, OnOk};
 ghost use Rattle.std.specs.String.{string_bytes};
 ghost use Rattle.lt_limits.specs.declared.moves.TheConstants.{MAX_MOVES};
-ghost use Rattle.lt_serve.specs.declared.limits.TheConstants.{MAX_INPUT, MAX_CAPACITY};
+ghost use Rattle.lt_serve.specs.declared.limits.TheConstants.{MAX_CAPACITY};
 ghost use Rattle.lt_serve.specs.Words.{command_of};
-ghost use Rattle.lt_serve.specs.Causes.{HasCause, TellsSource, TellsSink, WritesNothing, IsReadWhole, IsEnding, IsRefusal, CanBeMade, reads, is_unbuilt};
+ghost use Rattle.lt_serve.specs.Causes.{HasCause, TellsSource, TellsSink, WritesNothing, IsReadWhole, IsEnding, IsRefusal, CanBeMade, reads, is_unbuilt, limit_of};
 ghost use Rattle.lt_serve.specs.TopCall.{Tells, Does};
 
+use crate::checking::checked;
 use crate::command::Command;
 use crate::gate::Gate;
 use crate::made::{Made, write_made};
@@ -53,7 +54,7 @@ pub fn serve<R: Threads + Sync, S: Source, K: Sink, G: Gate>(
     gate: &G,
 ) -> Served
     ensures causes { HasCause (command_of (map string_bytes words.now)) (S.left source.old) result.status }
-    ensures reading { reads (command_of (map string_bytes words.now)) ≡ true → TellsSource MAX_INPUT result.status (record {
+    ensures reading { reads (command_of (map string_bytes words.now)) ≡ true → TellsSource (limit_of (command_of (map string_bytes words.now))) result.status (record {
       given = S.given source.old;
       faults = S.faults source.old;
       ends = S.ends source.old;
@@ -88,7 +89,7 @@ pub fn serve_with<R: Threads + Sync, S: Source, K: Sink, G: Gate>(
 
     // Why the answer came, and what it says of the source and the sink.
     ensures causes { HasCause (command_of (map string_bytes words.now)) (S.left source.old) result.status }
-    ensures reading { reads (command_of (map string_bytes words.now)) ≡ true → TellsSource MAX_INPUT result.status (record {
+    ensures reading { reads (command_of (map string_bytes words.now)) ≡ true → TellsSource (limit_of (command_of (map string_bytes words.now))) result.status (record {
       given = S.given source.old;
       faults = S.faults source.old;
       ends = S.ends source.old;
@@ -138,7 +139,7 @@ fn make<S: Source>(
     ensures ended { IfOk result (λ made. IsEnding made.ending) }
     ensures does { IfOk result (λ made. Does moves command made.ending (S.left source.old) made.run.entries made.text.items) }
     ensures built { OnOk result (is_unbuilt command ≡ false) }
-    ensures whole { OnOk result (reads (Some command) ≡ true → IsReadWhole MAX_INPUT (record {
+    ensures whole { OnOk result (reads (Some command) ≡ true → IsReadWhole (limit_of (Some command)) (record {
       given = S.given source.old;
       faults = S.faults source.old;
       ends = S.ends source.old;
@@ -147,7 +148,7 @@ fn make<S: Source>(
       faults = S.faults source.new;
       ends = S.ends source.new;
     })) }
-    ensures reading { IfErr result (λ answer. reads (Some command) ≡ true → TellsSource MAX_INPUT answer (record {
+    ensures reading { IfErr result (λ answer. reads (Some command) ≡ true → TellsSource (limit_of (Some command)) answer (record {
       given = S.given source.old;
       faults = S.faults source.old;
       ends = S.ends source.old;
@@ -171,6 +172,7 @@ fn make<S: Source>(
             Ok(made) => Ok(made),
             Err(_) => Err(Status::NoMemory),
         },
-        Command::Run | Command::Check | Command::Soak { .. } => Err(Status::NotBuilt),
+        Command::Check => checked(alloc, source),
+        Command::Run | Command::Soak { .. } => Err(Status::NotBuilt),
     }
 }

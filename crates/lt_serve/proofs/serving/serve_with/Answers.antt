@@ -2,7 +2,7 @@ use Rattle.std.proofs.Common.{◌≡◌, ◌∙◌, Some, Option, ap, map, sym, 
 use Rattle.std.specs.String.{string_bytes}
 use Rattle.lt_serve.specs.declared.command.Command.{Command}
 use Rattle.lt_serve.specs.Words.{command_of}
-use Rattle.lt_serve.specs.Causes.{reads}
+use Rattle.lt_serve.specs.Causes.{reads, limit_of}
 use Rattle.lt_serve.proofs.Causing.{MayBeMade, may_be_made, written_causes, written_reading}
 use Rattle.lt_serve.proofs.serving.serve_with.Goals as goal
 
@@ -18,5 +18,6 @@ returns-in-Ok-clause-causes g c =
 pub returns-in-Ok-clause-reading : goal.returns-in-Ok-clause-reading
 returns-in-Ok-clause-reading g c = λ read.
     let is : command_of (map string_bytes c.args.words.now) ≡ Some c.in-Some.command = sym c.in-Some.ensures in
-    written_reading _ c.write_made.result.status _ _
-    (c.in-Ok.ensures.whole (sym (ap (λ (asked : Option Command). reads asked) is) ∙ read)) c.write_made.ensures.written
+    let limit : limit_of (command_of (map string_bytes c.args.words.now)) ≡ limit_of (Some c.in-Some.command) = ap (λ (asked : Option Command). limit_of asked) is in
+    let whole = c.in-Ok.ensures.whole (sym (ap (λ (asked : Option Command). reads asked) is) ∙ read) in
+    rw limit (written_reading (limit_of (Some c.in-Some.command)) c.write_made.result.status _ _ whole c.write_made.ensures.written)
