@@ -23,5 +23,5 @@ pub use command::Command;
 pub use gate::Gate;
 pub use laws::law_literals;
 pub use limits::{MAX_CAPACITY, MAX_INPUT, MAX_JOURNAL};
-pub use serving::{Served, Setup, serve, serve_with};
+pub use serving::{Served, Setup, USUAL, serve, serve_with};
 pub use status::Status;
