@@ -51,6 +51,29 @@ impl Out {
         self.events.reserve(events as usize)
     }
 
+    /// For how many letters there is room, with those that are here.
+    pub fn post_room(&self) -> usize
+        ensures { result ≡ self.now.post_room }
+    {
+        self.posts.capacity()
+    }
+
+    /// For how many event lines there is room, with those that are here.
+    pub fn event_room(&self) -> usize
+        ensures { result ≡ self.now.event_room }
+    {
+        self.events.capacity()
+    }
+
+    /// No more is here than there is room for.
+    pub fn is_within(&self)
+        ensures posts { length self.now.posts ≤ self.now.post_room }
+        ensures events { length self.now.events ≤ self.now.event_room }
+    {
+        let _ = &self.posts;
+        let _ = &self.events;
+    }
+
     pub fn push_letter(&mut self, post: Post)
         requires { length self.old.posts < self.old.post_room }
         ensures { self.new ≡ record self.old { posts = self.old.posts ++ post_seen post ∷ [] } }

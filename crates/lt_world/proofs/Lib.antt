@@ -1,6 +1,15 @@
-mod Alone
-mod Moved
-mod Picks
-mod Places
 mod Recorded
-mod Runs
+pub mod Senders
+pub mod Wires
+pub mod Delivered
+pub mod Bridge
+pub mod Runs
+pub mod Premises
+pub mod Moves
+pub mod Acting
+pub mod Taking
+pub mod TakeOrder
+pub mod ActOrder
+pub mod Counts
+pub mod Rest
+pub mod Picks

@@ -1,20 +1,13 @@
--- The move of a client at node 0, and the choice between clients.
+-- A move as the code names it, and the choice between clients.
 use Rattle.std.specs.Prelude.{ℕ, Option, ◌&&◌, if◌then◌else◌}
-use Rattle.lt_modes.specs.declared.moves.Step.{Step}
-use Rattle.lt_modes.specs.declared.moves.Step.TheVariants.{Act, Take}
 use Rattle.lt_modes.specs.Script.{ScriptData}
 use Rattle.lt_lists.specs.Below.{earlier as earlier_of}
-use Rattle.lt_world.specs.OneNode.{World, is_runnable}
-use Rattle.lt_world.specs.LoneOrder.{acts_before, comes_after}
+use Rattle.lt_runs.specs.World.{World, is_runnable}
+use Rattle.lt_runs.specs.FixedOrder.{Turn, acts_before, comes_after}
 use Rattle.lt_world.specs.declared.choice.Choice.{Choice}
 
-abbrev pub act_choice : ℕ → Choice
-act_choice client = record { node = 0; step = Act client }
-
--- the step makes a command
-abbrev pub IsAct : Step → Type 0
-IsAct (Act client) = Unit {0}
-IsAct (Take p) = ⊥
+abbrev pub choice_of : Turn → Choice
+choice_of turn = record { node = turn.node; step = turn.step }
 
 -- the first of these two, where the client is runnable and comes after the earlier one
 abbrev pub first_with : ScriptData → World → Option ℕ → Option ℕ → ℕ → Option ℕ

@@ -1,37 +1,17 @@
 -- What the fields of a world hold, for the moves that were made.
-use Rattle.std.specs.Prelude.{◌≡◌, Bool, false, ◌&&◌, ◌==◌, ℕ, ◌+◌, ◌≤◌, ◌<◌, ◌^◌, List, [], length, slice_index_or, IsTrue, Option, Some, None, not, if◌then◌else◌}
-use Rattle.std.specs.List.{list_all}
-use Rattle.lt_modes.specs.declared.mode.Mode.TheVariants.{IntentionRead}
-use Rattle.lt_modes.specs.declared.command.Command.{Command}
-use Rattle.lt_modes.specs.declared.command.Command.TheVariants.{Lock, Unlock}
+use Rattle.std.specs.Prelude.{◌≡◌, ◌<◌, ◌≤◌, ◌&&◌, ◌||◌, ◌==◌, nat_lt, Bool, ℕ, List, [], length, count_by, slice_index_or, slice_set, IsTrue, Option}
+use Rattle.lt_modes.specs.declared.moves.Step.TheVariants.{Act, Take}
 use Rattle.lt_modes.specs.Script.{ScriptData}
-use Rattle.lt_lone.specs.Core.{CoreData, OutData, load_of}
-use Rattle.lt_world.specs.declared.limits.TheConstants.{MAX_MOVES}
+use Rattle.lt_lists.specs.Below.{any_below, first_below, sum_below}
+use Rattle.lt_script.specs.Script.{IsScript}
 use Rattle.lt_runs.specs.Log.{Logged}
-use Rattle.lt_world.specs.OneNode.{World, NodeState, IsRun, world_after, is_runnable, is_at_rest, commands_of}
-use Rattle.lt_runs.specs.Families.{home}
-
--- the commands of a client, and how many of them it has made
-pub record Progress : Type 0 where
-  pub commands : List Command
-  pub made : ℕ
-
-abbrev pub no_progress : Progress
-no_progress = record { commands = []; made = 0 }
-
--- the progress of the client with this number
-abbrev pub progress_of : List Progress → ℕ → Progress
-progress_of clients client = slice_index_or clients client no_progress
-
-abbrev pub no_command : Command
-no_command = Unlock 0 IntentionRead
-
--- the next command
-abbrev pub next_of : Progress → Command
-next_of progress = slice_index_or progress.commands progress.made no_command
-
-abbrev pub one_more : Progress → Progress
-one_more progress = record progress { made = progress.made + 1 }
+use Rattle.lt_runs.specs.NodeMove.{NodeState}
+use Rattle.lt_runs.specs.World.{World, world_after, is_enabled, is_runnable, is_of_node, IsRun}
+use Rattle.lt_letter.specs.OutData.{OutData}
+use Rattle.lt_node.specs.NodeData.{NodeData, SameNode, state_of}
+use Rattle.lt_merge.specs.Run.{RunData}
+use Rattle.lt_limits.specs.declared.moves.TheConstants.{MAX_MOVES}
+use Rattle.lt_world.specs.Mail.{WireData, inbox_at, mail_in, HasRoomFrom}
 
 -- what contracts see of a world: its script, how many moves a node may make, and the run so far
 pub record WorldData : Type 0 where
@@ -43,43 +23,79 @@ pub record WorldData : Type 0 where
 abbrev pub world_of : WorldData → World
 world_of w = world_after w.script w.run
 
--- the command locks or unlocks, in the only set
-abbrev pub locks_or_unlocks : Command → Bool
-locks_or_unlocks (Lock set mode) = set == 0
-locks_or_unlocks (Unlock set mode) = set == 0
-locks_or_unlocks other = false
-
--- one node, one set, and only locks and unlocks
-abbrev pub is_lone : ScriptData → Bool
-is_lone script = script.nodes == 1 && (length script.sets == 1 && list_all (λ request. locks_or_unlocks request.1) script.commands)
-
--- the node after the run
-abbrev pub node_after : ScriptData → List Logged → NodeState
-node_after script run = (world_after script run).node 0
-
--- the fields are those of the script's one node after this run
-pub record Stands (script : ScriptData) (limit : ℕ) (clients : List Progress) (core : CoreData) (out : OutData) (run : List Logged) : Type 0 where
-  pub lone : IsTrue (is_lone script)
-  pub homes : (c : ℕ) → c < length script.clients → home script c ≡ 0
-  pub few : length script.clients < 2 ^ 16
-  pub count : length clients ≡ length script.clients
-  pub commands : (c : ℕ) → c < length clients → (progress_of clients c).commands ≡ commands_of script c
-  pub made : (c : ℕ) → c < length clients → (progress_of clients c).made ≡ (node_after script run).made c
-  pub node : core.node ≡ 0
-  pub set : core.set ≡ 0
-  pub state : core.state ≡ (node_after script run).set 0
-  pub clock : (node_after script run).clock ≡ length run
-  pub load : load_of core.state ≤ length run
-  pub no_events : out.events ≡ []
-  pub within : length run ≤ limit
-  pub small : limit ≤ MAX_MOVES
-  pub is_run : IsRun script run
-
 -- a client of the script that can act now
 abbrev pub IsRunnable : WorldData → ℕ → Type 0
 IsRunnable w client =
     (client < length w.script.clients) × IsTrue (is_runnable w.script (world_of w) client)
 
--- the node that has made as many moves as it may and has an enabled one
+-- how many moves of the run are of node q
+abbrev pub moves_of : ℕ → List Logged → ℕ
+moves_of q run = count_by (is_of_node q) run
+
+-- node q can make a move
+abbrev pub can_move : ScriptData → World → ℕ → Bool
+can_move script w q =
+    any_below script.nodes (λ p. is_enabled script w q (Take p))
+    || any_below (length script.clients) (λ client. is_enabled script w q (Act client))
+
+-- node q has made as many moves as it may, and could make another
+abbrev pub is_full : ScriptData → ℕ → List Logged → ℕ → Bool
+is_full script limit run q = moves_of q run == limit && can_move script (world_after script run) q
+
+-- the least such node
 abbrev pub full_node : ScriptData → ℕ → List Logged → Option ℕ
-full_node script limit run = if (length run == limit) && not (is_at_rest script (world_after script run)) then Some 0 else None
+full_node script limit run = first_below script.nodes (is_full script limit run) nat_lt
+
+abbrev pub no_script : ScriptData
+no_script = record { nodes = 0; sets = []; clients = []; commands = [] }
+
+abbrev pub no_node : NodeData
+no_node = record { script = no_script; me = 0; clock = 0; made = []; cores = [] }
+
+abbrev pub node_at : List NodeData → ℕ → NodeData
+node_at nodes q = slice_index_or nodes q no_node
+
+-- the code's node is node q of the script, in this state
+pub record IsNodeOf (script : ScriptData) (q : ℕ) (state : NodeState) (n : NodeData) : Type 0 where
+  pub script_is : n.script ≡ script
+  pub me : n.me ≡ q
+  pub state_is : state_of n ≡ state
+
+-- node q may have other memory, and nothing else changed
+pub record OnlyMemory (q : ℕ) (old new : List NodeData) : Type 0 where
+  pub others : new ≡ slice_set old q (node_at new q)
+  pub node : SameNode (node_at old q) (node_at new q)
+
+-- there is room for what the node sends out, for which out has room
+pub record RoomToSend (q : ℕ) (inboxes : List (List WireData)) (run : RunData) (out : OutData) : Type 0 where
+  pub letters : HasRoomFrom q out.post_room inboxes
+  pub move : 1 ≤ run.spare
+  pub lines : out.event_room ≤ run.room
+
+-- the nodes and the letters on their way are those of this world
+pub record IsWorld (script : ScriptData) (nodes : List NodeData) (inboxes : List (List WireData)) (w : World) : Type 0 where
+  pub node_count : length nodes ≡ script.nodes
+  pub nodes_are : (q : ℕ) → q < script.nodes → IsNodeOf script q (w.node q) (node_at nodes q)
+  pub receivers : length inboxes ≡ script.nodes
+  pub senders : (q : ℕ) → q < script.nodes → length (inbox_at inboxes q) ≡ script.nodes
+  pub mail_is : (p q : ℕ) → p < script.nodes → q < script.nodes → mail_in inboxes p q ≡ w.mail p q
+
+-- the world after this run of the script, between two moves
+pub record Holds (script : ScriptData) (nodes : List NodeData) (inboxes : List (List WireData)) (out : OutData) (run : List Logged) : Type 0 where
+  pub is_script : IsScript script
+  pub world : IsWorld script nodes inboxes (world_after script run)
+  pub no_posts : out.posts ≡ []
+  pub no_events : out.events ≡ []
+  pub is_run : IsRun script run
+
+-- how many moves each node has made, which are no more than it may make
+pub record AreCounted (script : ScriptData) (limit : ℕ) (moves : List ℕ) (run : List Logged) : Type 0 where
+  pub count : length moves ≡ script.nodes
+  pub moves_are : (q : ℕ) → q < script.nodes → slice_index_or moves q 0 ≡ moves_of q run
+  pub within : (q : ℕ) → q < script.nodes → moves_of q run ≤ limit
+  pub all : sum_below script.nodes (λ q. moves_of q run) ≡ length run
+  pub small : limit ≤ MAX_MOVES
+
+pub record Stands (script : ScriptData) (limit : ℕ) (nodes : List NodeData) (inboxes : List (List WireData)) (moves : List ℕ) (out : OutData) (run : List Logged) : Type 0 where
+  pub holds : Holds script nodes inboxes out run
+  pub counted : AreCounted script limit moves run

@@ -1,6 +1,5 @@
-pub mod OneNode
 pub mod Choice
-pub mod Orders
+pub mod Mail
 pub mod Recording
 pub mod Fields
-pub mod LoneOrder
+pub mod Moving

@@ -1,18 +1,16 @@
-//! The world on one thread: which moves are enabled, in which order, and what each of them makes.
-//!
-//! So far a world has one node and one set, whose clients lock and unlock.
+//! The world on one thread: its nodes and the letters on their way, which moves are enabled, in which order, and what each
+//! of them makes.
 #![tactic(auto)]
 
 mod choice;
-mod client;
-mod limits;
-mod lone;
-mod moving;
-#[cfg(test)]
-mod tests;
+mod delivery;
+mod inbox;
+mod network;
+mod recording;
+mod takes;
+mod wire;
 mod world;
 
 pub use choice::Choice;
-pub use limits::MAX_MOVES;
-pub use lone::is_lone;
+pub use lt_limits::MAX_MOVES;
 pub use world::World;

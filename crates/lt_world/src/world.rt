@@ -1,60 +1,57 @@
+mod full;
 mod order;
 
-ghost use Rattle.std.specs.Prelude.{◌≡◌, ◌≤◌, ◌<◌, ◌↔◌, [], ◌∷◌, ◌++◌, length, IsTrue, IsNone, IsFalse, IfOk, IfSome, OnSome, OnOk, OnErr, option_map};
-ghost use Rattle.lt_world.specs.OneNode.{is_runnable, is_enabled, is_at_rest, anyone_waits, logged, IsRun};
-ghost use Rattle.lt_world.specs.LoneOrder.{act_at, count_acts};
-ghost use Rattle.lt_world.specs.Fields.{WorldData, full_node, is_lone, world_of};
-ghost use Rattle.lt_world.specs.Choice.{act_choice, IsAct};
-ghost use Rattle.lt_world.specs.declared.limits.TheConstants.{MAX_MOVES};
+ghost use Rattle.std.specs.Prelude.{◌≡◌, ◌≤◌, ◌<◌, ◌↔◌, ℕ, [], ◌∷◌, ◌++◌, length, IsTrue, IsFalse, IsNone, IfOk, IfSome, OnSome, OnOk, OnErr, option_map, slice_index_or};
+ghost use Rattle.lt_limits.specs.declared.moves.TheConstants.{MAX_MOVES};
+
+ghost use Rattle.lt_runs.specs.World.{is_runnable, is_enabled, is_at_rest, anyone_waits, is_waiting, has_mail, logged, IsRun};
+ghost use Rattle.lt_runs.specs.FixedOrder.{pick, count_turns};
+ghost use Rattle.lt_world.specs.Choice.{choice_of};
+ghost use Rattle.lt_world.specs.Fields.{moves_of, world_of};
 
 use crate::choice::Choice;
-use crate::client::{Client, clients_of};
-use crate::moving::{act, make_room};
-use lt_lone::{Core, Out};
+use crate::network::Network;
+
+use lt_limits::MAX_MOVES;
 use lt_merge::Run;
-use lt_modes::{Stamp, Step};
+use lt_modes::Step;
 use lt_script::Script;
 use std::alloc::{AllocError, Global};
 use std::marker::Model;
 
-/// The one node of a script, its clients, and the run so far.
+/// The nodes of a script, the letters on their way, and the run so far.
 #[derive(Drop)]
 pub struct World<'a> {
     script: &'a Script,
     limit: u32,
-    clients: Vec<Client>,
-    core: Core,
-    // The event lines of a move on their way into the run; none between moves.
-    out: Out,
-    run: Run,
+    network: Network<'a>,
+    // How many moves each node has made.
+    moves: Vec<u32>,
 }
 
 impl<'a> Model for World<'a> {
-    ghost use Rattle.std.specs.Prelude.{◌≡◌, []};
     ghost use Rattle.lt_world.specs.Fields.{WorldData, Stands};
 
     ghost Value = { WorldData };
 
-    ghost view = { λ w. record { script = w.script.now; limit = w.limit; run = w.run.entries } };
+    ghost view = { λ w. record { script = w.script.now; limit = w.limit; run = w.network.run.entries } };
 
-    ghost invariant = { λ w. Stands w.script.now w.limit w.clients.items w.core w.out w.run.entries };
+    ghost invariant = { λ w. Stands w.script.now w.limit w.network.nodes.items w.network.inboxes.items w.moves.items w.network.out w.network.run.entries };
 }
 
 impl<'a> World<'a> {
     /// The world at the start of a script, in which a node may make up to `limit` moves.
     pub fn new(alloc: Global, script: &'a Script, limit: u32) -> Result<World<'a>, AllocError>
-        requires lone { IsTrue (is_lone script.now) }
-        requires limit { (0 < limit) × (limit ≤ MAX_MOVES) }
+        requires { (0 < limit) × (limit ≤ MAX_MOVES) }
         ensures { IfOk result (λ w. w ≡ record { script = script.now; limit = limit; run = [] }) }
     {
-        let clients = clients_of(alloc, script)?;
+        let network = Network::new(alloc, script)?;
+        let moves = no_moves(alloc, script.nodes())?;
         Ok(World {
             script,
             limit,
-            clients,
-            core: Core::new(alloc, 0, 0),
-            out: Out::new(alloc),
-            run: Run::new(alloc),
+            network,
+            moves,
         })
     }
 
@@ -63,10 +60,9 @@ impl<'a> World<'a> {
         ensures { result ≡ is_enabled self.now.script (world_of self.now) choice.node choice.step }
     {
         match choice.step {
-            Step::Act(client) => choice.node == 0
-                && client < self.script.clients()
-                && self.is_runnable(client),
-            Step::Take(_) => false,
+            Step::Act(client) => client < self.script.clients()
+                && (self.script.home(client) == choice.node && self.is_runnable(client)),
+            Step::Take(sender) => self.has_mail(sender, choice.node),
         }
     }
 
@@ -74,25 +70,14 @@ impl<'a> World<'a> {
     pub fn at_rest(&self) -> bool
         ensures { result ≡ is_at_rest self.now.script (world_of self.now) }
     {
-        for client in 0..self.script.clients() {
-            if self.is_runnable(client) {
-                return false;
-            }
-        }
-        true
+        self.count() == 0
     }
 
     /// The number of enabled moves.
     pub fn count(&self) -> u32
-        ensures { result ≡ count_acts self.now.script (world_of self.now) }
+        ensures { result ≡ count_turns self.now.script (world_of self.now) }
     {
-        let mut count = 0;
-        for client in 0..self.script.clients() {
-            if self.is_runnable(client) {
-                count += 1;
-            }
-        }
-        count
+        self.count_takes() + self.count_acts()
     }
 
     /// Whether some client waits.
@@ -100,60 +85,34 @@ impl<'a> World<'a> {
         ensures { result ≡ anyone_waits self.now.script (world_of self.now) }
     {
         for client in 0..self.script.clients() {
-            if self.core.waits(client) {
+            if self.is_waiting(client) {
                 return true;
             }
         }
         false
     }
 
-    /// The enabled move at place `k`, from 0: clients by the number of commands that they have made, and then in
-    /// the order of their declaration.
+    /// The enabled move at place `k`, from 0: takes before acts; takes by receiver and then by sender; acts by the number of
+    /// commands that the client has made, and then in the order of the clients' declaration.
     pub fn pick(&self, k: u32) -> Option<Choice>
-        ensures place { result ≡ option_map act_choice (act_at self.now.script (world_of self.now) k) }
+        ensures place { result ≡ option_map choice_of (pick self.now.script (world_of self.now) k) }
         ensures enabled { IfSome result (λ choice. IsTrue (is_enabled self.now.script (world_of self.now) choice.node choice.step)) }
-        ensures none { IsNone result ↔ (count_acts self.now.script (world_of self.now) ≤ k) }
+        ensures none { IsNone result ↔ (count_turns self.now.script (world_of self.now) ≤ k) }
         ensures going { OnSome result (IsFalse (is_at_rest self.now.script (world_of self.now))) }
         ensures rest { IsNone result → k ≡ 0 → IsTrue (is_at_rest self.now.script (world_of self.now)) }
     {
-        let first = self.next_act(None)?;
-        let client = self.act_from(first, k)?;
-        Some(self.choice_of(client))
-    }
-
-    /// The node that has made as many moves as it may and has an enabled one.
-    pub fn full(&self) -> Option<u8>
-        ensures full { result ≡ full_node self.now.script self.now.limit self.now.run }
-        ensures room { IsNone result → IsFalse (is_at_rest self.now.script (world_of self.now)) → length self.now.run < self.now.limit }
-    {
-        if self.run.len() == self.limit && !self.at_rest() {
-            Some(0)
-        } else {
-            None
-        }
+        self.turn_at(k)
     }
 
     /// Makes an enabled move of a node that has made fewer moves than the limit.
     pub fn step(&mut self, choice: Choice) -> Result<(), AllocError>
         requires enabled { IsTrue (is_enabled self.old.script (world_of self.old) choice.node choice.step) }
-        requires room { length self.old.run < self.old.limit }
+        requires room { moves_of choice.node self.old.run < self.old.limit }
         ensures ok { OnOk result (self.new ≡ record self.old { run = self.old.run ++ logged self.old.script (world_of self.old) choice.node choice.step ∷ [] }) }
         ensures err { OnErr result (self.new ≡ self.old) }
     {
-        let stamp = Stamp {
-            clock: u64::from(self.run.len()) + 1,
-            node: 0,
-        };
-        let client = acting_client(choice.step);
-        make_room(&mut self.core, &mut self.out, &mut self.run)?;
-        act(
-            &mut self.clients,
-            &mut self.core,
-            &mut self.out,
-            &mut self.run,
-            client,
-            stamp,
-        );
+        self.network.make(self.script, choice)?;
+        self.moves[usize::from(choice.node)] += 1;
         Ok(())
     }
 
@@ -161,7 +120,7 @@ impl<'a> World<'a> {
     pub fn run(&self) -> &Run
         ensures { result.now.entries ≡ self.now.run }
     {
-        &self.run
+        &self.network.run
     }
 
     /// The moves made, without the world.
@@ -169,7 +128,7 @@ impl<'a> World<'a> {
         ensures run { result.entries ≡ self.entry.run }
         ensures is_run { IsRun self.entry.script self.entry.run }
     {
-        self.run
+        self.network.run
     }
 
     // Whether the client doesn't wait and has a command left.
@@ -177,18 +136,39 @@ impl<'a> World<'a> {
         requires { client < length self.now.script.clients }
         ensures { result ≡ is_runnable self.now.script (world_of self.now) client }
     {
-        let progress = &self.clients[usize::from(client)];
-        !self.core.waits(client) && progress.has_next()
+        let home = usize::from(self.script.home(client));
+        self.network.nodes[home].runnable(client)
+    }
+
+    // Whether an ask of the client is unanswered.
+    fn is_waiting(&self, client: u16) -> bool
+        requires { client < length self.now.script.clients }
+        ensures { result ≡ is_waiting self.now.script (world_of self.now) client }
+    {
+        let home = usize::from(self.script.home(client));
+        self.network.nodes[home].waits(client)
+    }
+
+    // Whether a letter is on its way from the sender to the receiver.
+    fn has_mail(&self, sender: u8, receiver: u8) -> bool
+        ensures { result ≡ has_mail self.now.script (world_of self.now) sender receiver }
+    {
+        let nodes = self.script.nodes();
+        sender < nodes
+            && (receiver < nodes
+                && (sender != receiver
+                    && self.network.inboxes[usize::from(receiver)].has_from(sender)))
     }
 }
 
-// The client that acts.
-fn acting_client(step: Step) -> u16
-    requires { IsAct step }
-    ensures { step ≡ Step.Act result }
+// No move of so many nodes.
+fn no_moves(alloc: Global, nodes: u8) -> Result<Vec<u32>, AllocError>
+    ensures count { IfOk result (λ moves. length moves.items ≡ nodes) }
+    ensures none { IfOk result (λ moves. (q : ℕ) → slice_index_or moves.items q 0 ≡ 0) }
 {
-    match step {
-        Step::Act(client) => client,
-        Step::Take(_) => unreachable!(),
+    let mut moves = Vec::new(alloc);
+    for _ in 0..nodes {
+        moves.push(0)?;
     }
+    Ok(moves)
 }

@@ -1,51 +1,90 @@
-ghost use Rattle.std.specs.Prelude.{◌≡◌, ◌<◌, length, IsTrue, IfSome, None};
-ghost use Rattle.lt_world.specs.OneNode.{is_enabled, is_at_rest};
-ghost use Rattle.lt_world.specs.LoneOrder.{next_act, act_from, acts_before, comes_after};
+ghost use Rattle.std.specs.Prelude.{◌≡◌, ◌<◌, ◌^◌, length, IfSome, None, slice_get, option_map};
+ghost use Rattle.lt_runs.specs.World.{made_by};
+ghost use Rattle.lt_runs.specs.FixedOrder.{pick, takes, count_acts, next_act, act_after, act_turn, acts_before, comes_after};
 ghost use Rattle.lt_world.specs.Fields.{IsRunnable, world_of};
-ghost use Rattle.lt_world.specs.Choice.{act_choice, first_with};
+ghost use Rattle.lt_world.specs.Choice.{choice_of, first_with};
 
 use super::World;
 use crate::choice::Choice;
+use crate::takes;
 use lt_modes::Step;
 
 // The order of the enabled moves.
 impl<'a> World<'a> {
-    // The move of a client that can act.
-    pub(super) fn choice_of(&self, client: u16) -> Choice
-        requires { IsRunnable self.now client }
-        ensures choice { result ≡ act_choice client }
-        ensures enabled { IsTrue (is_enabled self.now.script (world_of self.now) result.node result.step) }
+    // The enabled move at place `k`.
+    pub(super) fn turn_at(&self, k: u32) -> Option<Choice>
+        ensures { result ≡ option_map choice_of (pick self.now.script (world_of self.now) k) }
     {
-        Choice {
-            node: self.script.home(client),
-            step: Step::Act(client),
+        let takes = self.count_takes();
+        if k < takes {
+            self.take_at(k)
+        } else {
+            self.act_at(k - takes)
         }
     }
 
-    // The client that comes so many places after this one.
-    #[tactic(auto, using(crate::proofs::Picks::act_from_next, crate::proofs::Picks::act_from_none))]
-    pub(super) fn act_from(&self, first: u16, places: u32) -> Option<u16>
-        requires { IsRunnable self.now first }
-        ensures act { result ≡ act_from self.now.script (world_of self.now) first places }
+    // The number of enabled takes.
+    pub(super) fn count_takes(&self) -> u32
+        ensures count { result ≡ length (takes self.now.script (world_of self.now)) }
+        ensures few { result < 2 ^ 16 }
+    {
+        takes::count(&self.network.inboxes)
+    }
+
+    // The number of clients that can act.
+    pub(super) fn count_acts(&self) -> u32
+        ensures count { result ≡ count_acts self.now.script (world_of self.now) }
+        ensures few { result < 2 ^ 16 }
+    {
+        let mut count = 0;
+        for client in 0..self.script.clients() {
+            if self.is_runnable(client) {
+                count += 1;
+            }
+        }
+        count
+    }
+
+    // The take at place `k`, by receiver and then by sender.
+    fn take_at(&self, k: u32) -> Option<Choice>
+        ensures { result ≡ option_map choice_of (slice_get (takes self.now.script (world_of self.now)) k) }
+    {
+        takes::at(&self.network.inboxes, k)
+    }
+
+    // The act at place `k`.
+    fn act_at(&self, k: u32) -> Option<Choice>
+        ensures { result ≡ option_map choice_of (option_map (act_turn self.now.script) (act_after self.now.script (world_of self.now) None k)) }
+    {
+        let client = self.client_at(k)?;
+        Some(Choice {
+            node: self.script.home(client),
+            step: Step::Act(client),
+        })
+    }
+
+    // The client that acts at place `k`.
+    #[tactic(auto, using(crate::proofs::ActOrder::act_after_next, crate::proofs::ActOrder::act_after_none))]
+    fn client_at(&self, k: u32) -> Option<u16>
+        ensures client { result ≡ act_after self.now.script (world_of self.now) None k }
         ensures runnable { IfSome result (IsRunnable self.now) }
     {
-        let mut client = first;
-        let mut left = places;
+        let mut earlier = None;
+        let mut left = k;
         while left > 0 {
-            match self.next_act(Some(client)) {
-                Some(next) => client = next,
+            match self.next_act(earlier) {
+                Some(client) => earlier = Some(client),
                 None => return None,
             }
             left -= 1;
         }
-        Some(client)
+        self.next_act(earlier)
     }
 
     // The first runnable client after this one, in the order of moves.
-    pub(super) fn next_act(&self, earlier: Option<u16>) -> Option<u16>
+    fn next_act(&self, earlier: Option<u16>) -> Option<u16>
         requires { IfSome earlier (λ client. client < length self.now.script.clients) }
         ensures next { result ≡ next_act self.now.script (world_of self.now) earlier }
-        ensures rest { earlier ≡ None → result ≡ None → IsTrue (is_at_rest self.now.script (world_of self.now)) }
         ensures runnable { IfSome result (IsRunnable self.now) }
     {
         let mut first = None;
@@ -88,8 +127,17 @@ impl<'a> World<'a> {
         requires { (a < length self.now.script.clients) × (b < length self.now.script.clients) }
         ensures { result ≡ acts_before self.now.script (world_of self.now) a b }
     {
-        let made_a = self.clients[usize::from(a)].made();
-        let made_b = self.clients[usize::from(b)].made();
+        let made_a = self.made(a);
+        let made_b = self.made(b);
         made_a < made_b || made_a == made_b && a < b
+    }
+
+    // How many commands the client has made.
+    fn made(&self, client: u16) -> u32
+        requires { client < length self.now.script.clients }
+        ensures { result ≡ made_by self.now.script (world_of self.now) client }
+    {
+        let home = usize::from(self.script.home(client));
+        self.network.nodes[home].made(client)
     }
 }

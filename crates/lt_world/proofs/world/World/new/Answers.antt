@@ -1,9 +1,12 @@
-use Rattle.lt_world.proofs.Alone.{stands_at_start}
+use Rattle.std.proofs.Common.{◌≡◌, ◌∙◌, List, sym, subst}
+use Rattle.lt_runs.specs.Log.{Logged}
+use Rattle.lt_world.specs.Fields.{AreCounted}
+use Rattle.lt_world.proofs.Counts.{counted_at_start}
 use Rattle.lt_world.proofs.world.World.new.Goals as goal
 
 pub invariant_of-result : goal.invariant_of-result
-invariant_of-result c =
-    rw c.new-3.ensures
-    (stands_at_start c.args.script.now c.args.limit c.in_ok-clients.clients.items c.new.result c.new-2.result
-    c.clients_of.ensures.script c.requires.lone c.requires.limit.0 c.requires.limit.1
-    c.in_ok-clients.ensures.count c.in_ok-clients.ensures.each c.new.ensures.start c.new.ensures.place.0 c.new.ensures.place.1 c.new-2.ensures)
+invariant_of-result c = record {
+  holds = c.in_ok-network.ensures.holds;
+  counted = subst (AreCounted c.args.script.now c.args.limit c.in_ok-moves.moves.items) (sym c.in_ok-network.ensures.start)
+      (counted_at_start c.args.script.now c.args.limit c.in_ok-moves.moves.items c.requires.1 (c.in_ok-moves.ensures.count ∙ c.nodes.ensures.nodes) c.in_ok-moves.ensures.none);
+}

@@ -1,59 +1,51 @@
-use Rattle.std.proofs.Common.{◌≡◌, ◌∙◌, ◌+◌, ◌<◌, ◌++◌, [], ◌∷◌, true, ℕ, List, length, ap, sym, subst}
-use Rattle.lt_modes.specs.declared.stamp.Stamp.{Stamp}
+use Rattle.std.proofs.Common.{◌≡◌, ◌+◌, ◌<◌, ◌∙◌, ℕ, List, length, arith, sym, ap, subst, slice_set, slice_index_or}
+use Rattle.std.specs.Prelude.{IsTrue}
+use Rattle.std.proofs.lemmas.List.{get_or_default}
 use Rattle.lt_runs.specs.Log.{Logged}
-use Rattle.lt_world.specs.OneNode.{world_after, is_enabled, logged}
-use Rattle.lt_world.specs.Orders.{entry_of, moved}
-use Rattle.lt_world.specs.Fields.{world_of, WorldData, progress_of}
-use Rattle.lt_world.proofs.Alone.{one_node}
-use Rattle.lt_world.proofs.Moved.{is_act, acting, noted, stands_stepped}
+use Rattle.lt_runs.specs.World.{is_enabled, logged}
+use Rattle.lt_world.specs.Fields.{WorldData, world_of, moves_of, AreCounted}
+use Rattle.lt_world.proofs.Runs.{stamp_node}
+use Rattle.lt_world.proofs.Counts.{few_moves, counted_moved, moves_inside}
 use Rattle.lt_world.proofs.world.World.step.Goals as goal
 
-pub acting_client-client-requires : goal.acting_client-client-requires
-acting_client-client-requires c =
-    let s = c.self.inside in
-    let script = s.script.now in
-    let enabled = subst (λ (w : WorldData). is_enabled w.script (world_of w) c.args.choice.node c.args.choice.step ≡ true) (sym c.self.view_is) c.requires.enabled in
-    is_act script (world_after script s.run.entries) c.args.choice.node c.args.choice.step (one_node script c.self.invariant.lone) enabled
+-- what the counter of this node was
+counter : (moves : List ℕ) (place q now : ℕ) → place ≡ q → q < length moves → now ≡ slice_index_or moves place now → now ≡ slice_index_or moves q 0
+counter moves place q now at inside e =
+    e ∙ (ap (λ (k : ℕ). slice_index_or moves k now) at ∙ get_or_default moves q now 0 inside)
 
-pub act-requires-clause-order : goal.act-requires-clause-order
-act-requires-clause-order c =
+pub make-requires-clause-few : goal.make-requires-clause-few
+make-requires-clause-few c =
     let s = c.self.inside in
-    let enabled = subst (λ (w : WorldData). is_enabled w.script (world_of w) c.args.choice.node c.args.choice.step ≡ true) (sym c.self.view_is) c.requires.enabled in
-    (acting s.script.now s.limit s.clients.items s.core s.out s.run.entries c.args.choice.node c.acting_client-client.result c.args.choice.step
-    c.self.invariant enabled c.acting_client-client.ensures).lone
+    few_moves s.script.now s.limit s.moves.items s.network.run.entries c.self.invariant.holds.is_script c.self.invariant.counted
 
--- the entry that the move got
-grown : (c : goal.After-act) → c.act.new.run.entries ≡ c.self.inside.run.entries ++ logged c.self.inside.script.now (world_after c.self.inside.script.now c.self.inside.run.entries) c.args.choice.node c.args.choice.step ∷ []
-grown c =
+pub overflow_add-index_mut : goal.overflow_add-index_mut
+overflow_add-index_mut c =
     let s = c.self.inside in
-    let made = c.make_room.ensures in
-    let client = c.acting_client-client.result in
-    let stamp : Stamp = record { clock = c.from.result + 1; node = 0 } in
-    let enabled = subst (λ (w : WorldData). is_enabled w.script (world_of w) c.args.choice.node c.args.choice.step ≡ true) (sym c.self.view_is) c.requires.enabled in
-    let told = ap (λ (k : ℕ). let z : Stamp = record { clock = k + 1; node = 0 } in z) (c.from.ensures ∙ c.len.ensures) in
-    c.act.ensures.entries
-    ∙ (ap (λ (run : List Logged). run ++ entry_of stamp client (moved c.make_room.new.core stamp client (progress_of s.clients.items client)).events ∷ []) made.entries
-    ∙ ap (λ (entry : Logged). s.run.entries ++ entry ∷ [])
-    (noted s.script.now s.limit s.clients.items s.core c.make_room.new.core s.out c.make_room.new.out s.run.entries c.args.choice.node client c.args.choice.step stamp
-    c.self.invariant made.state made.place made.events enabled c.acting_client-client.ensures told))
+    let q = c.args.choice.node in
+    let step = c.args.choice.step in
+    let counted = c.self.invariant.counted in
+    let enabled = subst (λ (w : WorldData). IsTrue (is_enabled w.script (world_of w) q step)) (sym c.self.view_is) c.requires.enabled in
+    let room = subst (λ (w : WorldData). moves_of q w.run < w.limit) (sym c.self.view_is) c.requires.room in
+    let inside = moves_inside s.script.now (world_of (record { script = s.script.now; limit = s.limit; run = s.network.run.entries })) q step c.self.invariant.holds.is_script enabled in
+    let was = counter s.moves.items c.from.result q c.index_mut.result.now c.from.ensures (omega (arith, inside, counted.count)) c.index_mut.ensures.value in
+    omega (arith, was, counted.moves_are q inside, room, counted.small)
 
 pub invariant_of-self-2 : goal.invariant_of-self-2
 invariant_of-self-2 c =
     let s = c.self.inside in
-    let made = c.make_room.ensures in
-    let acted = c.act.ensures in
-    let client = c.acting_client-client.result in
-    let stamp : Stamp = record { clock = c.from.result + 1; node = 0 } in
-    let enabled = subst (λ (w : WorldData). is_enabled w.script (world_of w) c.args.choice.node c.args.choice.step ≡ true) (sym c.self.view_is) c.requires.enabled in
-    let told = ap (λ (k : ℕ). let z : Stamp = record { clock = k + 1; node = 0 } in z) (c.from.ensures ∙ c.len.ensures) in
-    let room : length s.run.entries < s.limit = subst (λ (w : WorldData). length w.run < w.limit) (sym c.self.view_is) c.requires.room in
-    stands_stepped s.script.now s.limit s.clients.items c.act.new.clients.items s.core c.make_room.new.core c.act.new.core s.out c.make_room.new.out c.act.new.out
-    s.run.entries c.act.new.run.entries c.args.choice.node client c.args.choice.step stamp
-    c.self.invariant made.state made.place made.events enabled c.acting_client-client.ensures room told
-    acted.clients acted.state acted.place acted.load acted.empty (grown c)
-
-pub returns-clause-ok : goal.returns-clause-ok
-returns-clause-ok c =
-    subst (λ (w : WorldData). (let v : WorldData = record { script = c.self.inside.script.now; limit = c.self.inside.limit; run = c.act.new.run.entries } in v)
-    ≡ record w { run = w.run ++ logged w.script (world_of w) c.args.choice.node c.args.choice.step ∷ [] }) c.self.view_is
-    (ap (λ (run : List Logged). let v : WorldData = record { script = c.self.inside.script.now; limit = c.self.inside.limit; run = run } in v) (grown c))
+    let q = c.args.choice.node in
+    let step = c.args.choice.step in
+    let counted = c.self.invariant.counted in
+    let seen : WorldData = record { script = s.script.now; limit = s.limit; run = s.network.run.entries } in
+    let enabled = subst (λ (w : WorldData). IsTrue (is_enabled w.script (world_of w) q step)) (sym c.self.view_is) c.requires.enabled in
+    let room = subst (λ (w : WorldData). moves_of q w.run < w.limit) (sym c.self.view_is) c.requires.room in
+    let inside = moves_inside s.script.now (world_of seen) q step c.self.invariant.holds.is_script enabled in
+    let was = counter s.moves.items c.from.result q c.index_mut.result.now c.from.ensures (omega (arith, inside, counted.count)) c.index_mut.ensures.value in
+    let moved = counted_moved s.script.now s.limit s.moves.items s.network.run.entries (logged s.script.now (world_of seen) q step) q counted inside (stamp_node (world_of seen) q step) room in
+    let moves : slice_set s.moves.items c.from.result (c.index_mut.result.now + 1) ≡ slice_set s.moves.items q (slice_index_or s.moves.items q 0 + 1) =
+        ap (λ (k : ℕ). slice_set s.moves.items k (c.index_mut.result.now + 1)) c.from.ensures ∙ ap (λ (n : ℕ). slice_set s.moves.items q (n + 1)) was in
+    record {
+      holds = c.make.ensures.holds;
+      counted = subst (λ (ms : List ℕ). AreCounted s.script.now s.limit ms c.make.new.self.run.entries) (sym moves)
+          (subst (λ (r : List Logged). AreCounted s.script.now s.limit (slice_set s.moves.items q (slice_index_or s.moves.items q 0 + 1)) r) (sym c.in_ok-make.ensures.ok) moved);
+    }

@@ -1,5 +1,0 @@
-pub mod Granting
-pub mod SetMove
-pub mod Core
-pub mod Order
-pub mod LoneServing

@@ -1,0 +1,135 @@
+-- How many moves each node has made, and all nodes together.
+use Rattle.std.proofs.Common.{◌≡◌, ◌≢◌, Bool, true, false, ℕ, zero, suc, ◌+◌, ◌*◌, ◌<◌, ◌≤◌, ◌^◌, List, [], ◌∷◌, ◌++◌, length, Option, Some, None, inl, inr, refl, sym, ap, subst, ◌∙◌, arith, length-set, get_or-set_same, get_or-set_other}
+use Rattle.std.specs.Prelude.{◌&&◌, ◌==◌, nat_lt, if◌then◌else◌, slice_set, slice_index_or, count_by, IsTrue}
+use Rattle.std.proofs.lemmas.Bool.{cases_eq, cases_order, eq-eqb, ne_eqb, eqb-true, and_from, or_left, or_right, false≢true, ltb-true, false_from_ne_true}
+use Rattle.std.proofs.lemmas.List.{length_push}
+use Rattle.std.proofs.lemmas.List.Sums.{sum_by-append}
+use Rattle.lt_lists.specs.Below.{sum_below, any_below, first_below, earlier}
+use Rattle.lt_lists.proofs.Sums.{sum_below-change, sum_below-none}
+use Rattle.lt_lists.proofs.Searches.{any_below_at}
+use Rattle.lt_modes.specs.declared.moves.Step.{Step}
+use Rattle.lt_modes.specs.declared.moves.Step.TheVariants.{Act, Take}
+use Rattle.lt_modes.specs.Script.{ScriptData}
+use Rattle.lt_script.specs.Script.{IsScript}
+use Rattle.lt_runs.specs.Log.{Logged}
+use Rattle.lt_runs.specs.World.{World, world_after, is_enabled, is_of_node}
+use Rattle.lt_order.specs.OrderLaws.{HasLetter}
+use Rattle.lt_order.proofs.Order.{takes_where}
+use Rattle.lt_world.specs.Fields.{moves_of, can_move, is_full, full_node, AreCounted}
+use Rattle.lt_world.proofs.Premises.{act_parts, act_inside}
+
+few_below : (n : ℕ) (f : ℕ → ℕ) → ((k : ℕ) → k < n → f k ≤ 1048576) → sum_below n f ≤ n * 1048576
+few_below zero f h = omega arith
+few_below (suc n) f h = omega (arith, few_below n f (λ k below. h k (omega (arith, below))), h n (omega arith))
+
+-- a run is far from the most moves that a log may have
+pub few_moves : (script : ScriptData) (limit : ℕ) (moves : List ℕ) (run : List Logged) → IsScript script → AreCounted script limit moves run
+    → length run + 1 < 2 ^ 32
+few_moves script limit moves run good h =
+    omega (arith, few_below script.nodes (λ q. moves_of q run) (λ q below. omega (arith, h.within q below, h.small)), h.all, good.few_nodes)
+
+-- one move more
+moves_more : (q : ℕ) (run : List Logged) (entry : Logged) → moves_of q (run ++ entry ∷ []) ≡ moves_of q run + (if entry.made.stamp.node == q then 1 else 0)
+moves_more q run entry =
+    let last : count_by (is_of_node q) (entry ∷ []) ≡ (if entry.made.stamp.node == q then 1 else 0) = omega arith in
+    sum_by-append (λ (e : Logged). if is_of_node q e then 1 else 0) run (entry ∷ []) ∙ ap (λ (n : ℕ). moves_of q run + n) last
+
+moves_same : (q : ℕ) (run : List Logged) (entry : Logged) → entry.made.stamp.node ≡ q → moves_of q (run ++ entry ∷ []) ≡ moves_of q run + 1
+moves_same q run entry e = moves_more q run entry ∙ ap (λ (b : Bool). moves_of q run + (if b then 1 else 0)) (eq-eqb entry.made.stamp.node q e)
+
+moves_other : (q : ℕ) (run : List Logged) (entry : Logged) → entry.made.stamp.node ≢ q → moves_of q (run ++ entry ∷ []) ≡ moves_of q run
+moves_other q run entry d =
+    moves_more q run entry ∙ (ap (λ (b : Bool). moves_of q run + (if b then 1 else 0)) (ne_eqb entry.made.stamp.node q d) ∙ omega arith)
+
+pub counted_moved : (script : ScriptData) (limit : ℕ) (moves : List ℕ) (run : List Logged) (entry : Logged) (q : ℕ)
+    → AreCounted script limit moves run → q < script.nodes → entry.made.stamp.node ≡ q → moves_of q run < limit
+    → AreCounted script limit (slice_set moves q (slice_index_or moves q 0 + 1)) (run ++ entry ∷ [])
+counted_moved script limit moves run entry q h inside e room = record {
+  count = length-set moves q _ ∙ h.count;
+  moves_are = λ k below. elim (cases_eq k q) [
+    | inl same ↦
+        subst (λ (x : ℕ). slice_index_or (slice_set moves q (slice_index_or moves q 0 + 1)) x 0 ≡ moves_of x (run ++ entry ∷ [])) (sym same)
+        (get_or-set_same moves q _ 0 (omega (arith, inside, h.count)) ∙ (ap (λ (x : ℕ). x + 1) (h.moves_are q inside) ∙ sym (moves_same q run entry e)))
+    | inr other ↦
+        get_or-set_other moves q k _ 0 other ∙ (h.moves_are k below ∙ sym (moves_other k run entry (λ f. other (sym f ∙ e))))
+  ];
+  within = λ k below. elim (cases_eq k q) [
+    | inl same ↦
+        subst (λ (x : ℕ). moves_of x (run ++ entry ∷ []) ≤ limit) (sym same) (omega (arith, moves_same q run entry e, room))
+    | inr other ↦ omega (arith, moves_other k run entry (λ f. other (sym f ∙ e)), h.within k below)
+  ];
+  all =
+      let change = sum_below-change script.nodes q (λ k. moves_of k (run ++ entry ∷ [])) (λ k. moves_of k run) inside (λ k below other. moves_other k run entry (λ f. other (sym f ∙ e))) in
+      omega (arith, change, moves_same q run entry e, h.all, length_push run entry);
+  small = h.small;
+}
+
+pub counted_at_start : (script : ScriptData) (limit : ℕ) (moves : List ℕ) → limit ≤ 1048576 → length moves ≡ script.nodes
+    → ((q : ℕ) → slice_index_or moves q 0 ≡ 0) → AreCounted script limit moves []
+counted_at_start script limit moves small count none = record {
+  count = count;
+  moves_are = λ q below. none q;
+  within = λ q below. omega arith;
+  all = sum_below-none script.nodes (λ q. moves_of q []) (λ k below. refl);
+  small = small;
+}
+
+-- the least number that passes
+least_on : (n q : ℕ) (test : ℕ → Bool) → q < n → ((k : ℕ) → k < q → test k ≡ false) → test q ≡ true → first_below n test nat_lt ≡ Some q
+least_on zero q test inside none here = absurd (omega (arith, inside))
+least_on (suc n) q test inside none here = elim (cases_order n q) [
+  | inl same ↦
+      let before : first_below n test nat_lt ≡ None = least_none n test (λ k below. none k (omega (arith, below, same))) in
+      let at : test n ≡ true = ap test same ∙ here in
+      rw (at, before) (ap Some same)
+  | inr (inl less) ↦ absurd (omega (arith, less, inside))
+  | inr (inr more) ↦
+      let before = least_on n q test more none here in
+      elim (test n) as (λ t. (if t then earlier nat_lt (first_below n test nat_lt) n else first_below n test nat_lt) ≡ Some q) [
+        | true ↦ rw (before, not_less n q more) refl
+        | false ↦ before
+      ]
+]
+  where
+    not_less : (n q : ℕ) → q < n → nat_lt n q ≡ false
+    not_less n q h = false_from_ne_true (nat_lt n q) (λ e. omega (arith, ltb-true n q e, h))
+
+    least_none : (n : ℕ) (test : ℕ → Bool) → ((k : ℕ) → k < n → test k ≡ false) → first_below n test nat_lt ≡ None
+    least_none zero test h = refl
+    least_none (suc n) test h = rw (h n (omega arith)) (least_none n test (λ k below. h k (omega (arith, below))))
+
+pub least_full : (script : ScriptData) (limit : ℕ) (run : List Logged) (q : ℕ) → q < script.nodes
+    → ((k : ℕ) → k < q → is_full script limit run k ≡ false) → is_full script limit run q ≡ true → full_node script limit run ≡ Some q
+least_full script limit run q inside none here = least_on script.nodes q (is_full script limit run) inside none here
+
+pub none_full : (script : ScriptData) (limit : ℕ) (run : List Logged) → ((k : ℕ) → k < script.nodes → is_full script limit run k ≡ false)
+    → full_node script limit run ≡ None
+none_full script limit run h = go script.nodes h
+  where
+    go : (n : ℕ) → ((k : ℕ) → k < n → is_full script limit run k ≡ false) → first_below n (is_full script limit run) nat_lt ≡ None
+    go zero h = refl
+    go (suc n) h = rw (h n (omega arith)) (go n (λ k below. h k (omega (arith, below))))
+
+-- an enabled move is one of a node of the script, which can move
+pub moves_inside : (script : ScriptData) (w : World) (q : ℕ) (step : Step) → IsScript script → IsTrue (is_enabled script w q step) → q < script.nodes
+moves_inside script w q (Act client) good e = act_inside script w q client good e
+moves_inside script w q (Take p) good e = ((takes_where script w p q).0 e).receiver
+
+moves_can : (script : ScriptData) (w : World) (q : ℕ) (step : Step) → IsTrue (is_enabled script w q step) → can_move script w q ≡ true
+moves_can script w q (Act client) e =
+    or_right (any_below script.nodes (λ p. is_enabled script w q (Take p))) _
+    (any_below_at (length script.clients) client (λ c. is_enabled script w q (Act c)) (act_parts script w q client e).client_is e)
+moves_can script w q (Take p) e =
+    or_left (any_below script.nodes (λ p. is_enabled script w q (Take p))) _
+    (any_below_at script.nodes p (λ p. is_enabled script w q (Take p)) ((takes_where script w p q).0 e).sender e)
+
+-- where no node is full, each node that can move has moves left
+pub room_left : (script : ScriptData) (limit : ℕ) (moves : List ℕ) (run : List Logged) → IsScript script → AreCounted script limit moves run
+    → ((k : ℕ) → k < script.nodes → is_full script limit run k ≡ false)
+    → (q : ℕ) (step : Step) → IsTrue (is_enabled script (world_after script run) q step) → moves_of q run < limit
+room_left script limit moves run good h none q step e =
+    let inside = moves_inside script (world_after script run) q step good e in
+    elim (cases_eq (moves_of q run) limit) [
+      | inl same ↦ absurd (false≢true (sym (none q inside) ∙ and_from (moves_of q run == limit) (can_move script (world_after script run) q) (eq-eqb (moves_of q run) limit same) (moves_can script (world_after script run) q step e)))
+      | inr other ↦ omega (arith, h.within q inside, other)
+    ]

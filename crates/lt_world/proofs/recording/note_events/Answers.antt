@@ -1,0 +1,18 @@
+use Rattle.std.proofs.Common.{◌≡◌, ◌∙◌, length, List, [], arith, subst, ap}
+use Rattle.lt_modes.specs.declared.event.Event.{Event}
+use Rattle.lt_letter.specs.OutData.{OutData}
+use Rattle.lt_world.specs.Recording.{with_events}
+use Rattle.lt_world.proofs.Recorded.{length-with_event}
+use Rattle.lt_world.proofs.recording.note_events.Goals as goal
+
+pub loop-event-preserved : goal.loop-event-preserved
+loop-event-preserved c =
+    let first = c.in-Some.ensures.first in
+    record {
+      noted =
+          ap (λ es. with_events es c.next_event.new.self.events) c.add_event.ensures.entries
+          ∙ subst (λ (es : List Event). with_events c.loop-event.run.entries es ≡ with_events c.args.run.now.entries c.args.out.now.events) first c.loop-event.invariant.noted;
+      some = omega (arith, ap length c.add_event.ensures.entries, length-with_event c.loop-event.run.entries c.in-Some.event, c.loop-event.invariant.some);
+      out = ap (λ (o : OutData). record o { events = [] }) c.in-Some.ensures.rest ∙ c.loop-event.invariant.out;
+      room = omega (arith, ap length first, c.add_event.ensures.room, c.loop-event.invariant.room);
+    }

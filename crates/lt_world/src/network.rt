@@ -1,0 +1,218 @@
+ghost use Rattle.std.specs.Prelude.{◌≡◌, ◌<◌, ◌≤◌, ◌+◌, ◌^◌, ℕ, [], ◌∷◌, ◌++◌, All, length, slice_set, IsTrue, IfOk, OnOk, OnErr};
+ghost use Rattle.lt_modes.specs.Made as rules;
+ghost use Rattle.lt_modes.specs.declared.moves.Step.TheVariants.{Act, Take};
+ghost use Rattle.lt_runs.specs.World.{start, world_after, is_enabled, logged};
+ghost use Rattle.lt_letter.specs.Seen.{letter_seen};
+ghost use Rattle.lt_runs.specs.NodeMove.{node_act, node_take, act_stamp, take_stamp};
+ghost use Rattle.lt_node.specs.NodeData.{NodeDoes, state_of};
+ghost use Rattle.lt_node.specs.Room.{RoomToAct, RoomToTake};
+ghost use Rattle.lt_world.specs.Mail.{SameLetters, AreDelivered, inbox_at, mail_in};
+ghost use Rattle.lt_script.specs.Script.{IsScript};
+ghost use Rattle.lt_world.specs.Moving.{IsWithin, CanAct, CanTake};
+ghost use Rattle.lt_world.specs.Fields.{Holds, IsNodeOf, OnlyMemory, RoomToSend, node_at};
+
+use crate::choice::Choice;
+use crate::delivery::{deliver, pop_front, put_front, reserve_from};
+use crate::inbox::Inbox;
+use crate::recording::note_events;
+use lt_letter::{Letter, Out};
+use lt_merge::Run;
+use lt_modes::{Move, Stamp, Step};
+use lt_node::Node;
+use lt_script::Script;
+use std::alloc::{AllocError, Global};
+
+/// The nodes of a script, the letters on their way to each of them, and the moves made.
+#[derive(Drop)]
+pub(crate) struct Network<'a> {
+    pub(crate) nodes: Vec<Node<'a>>,
+    pub(crate) inboxes: Vec<Inbox>,
+    // What a move sends out, on its way to the inboxes and into the run; nothing between moves.
+    pub(crate) out: Out,
+    pub(crate) run: Run,
+}
+
+impl<'a> Network<'a> {
+    /// The nodes of the script at its start.
+    pub(crate) fn new(alloc: Global, script: &'a Script) -> Result<Network<'a>, AllocError>
+        ensures holds { IfOk result (λ n. Holds script.now n.nodes.items n.inboxes.items n.out n.run.entries) }
+        ensures start { IfOk result (λ n. n.run.entries ≡ []) }
+    {
+        let nodes = nodes_of(alloc, script)?;
+        let inboxes = inboxes_of(alloc, script.nodes())?;
+        Ok(Network {
+            nodes,
+            inboxes,
+            out: Out::new(alloc),
+            run: Run::new(alloc),
+        })
+    }
+
+    /// Makes the move.
+    pub(crate) fn make(&mut self, script: &Script, choice: Choice) -> Result<(), AllocError>
+        requires holds { Holds script.now self.old.nodes.items self.old.inboxes.items self.old.out self.old.run.entries }
+        requires enabled { IsTrue (is_enabled script.now (world_after script.now self.old.run.entries) choice.node choice.step) }
+        requires few { length self.old.run.entries + 1 < 2 ^ 32 }
+        ensures holds { Holds script.now self.new.nodes.items self.new.inboxes.items self.new.out self.new.run.entries }
+        ensures ok { OnOk result (self.new.run.entries ≡ self.old.run.entries ++ logged script.now (world_after script.now self.old.run.entries) choice.node choice.step ∷ []) }
+        ensures err { OnErr result (self.new.run.entries ≡ self.old.run.entries) }
+    {
+        match choice.step {
+            Step::Act(client) => self.act(script, choice.node, client),
+            Step::Take(sender) => self.take(script, choice.node, sender),
+        }
+    }
+
+    // Makes the next command of a client of this node.
+    fn act(&mut self, script: &Script, node: u8, client: u16) -> Result<(), AllocError>
+        requires holds { Holds script.now self.old.nodes.items self.old.inboxes.items self.old.out self.old.run.entries }
+        requires enabled { IsTrue (is_enabled script.now (world_after script.now self.old.run.entries) node (Act client)) }
+        requires few { length self.old.run.entries + 1 < 2 ^ 32 }
+        ensures holds { Holds script.now self.new.nodes.items self.new.inboxes.items self.new.out self.new.run.entries }
+        ensures ok { OnOk result (self.new.run.entries ≡ self.old.run.entries ++ logged script.now (world_after script.now self.old.run.entries) node (Act client) ∷ []) }
+        ensures err { OnErr result (self.new.run.entries ≡ self.old.run.entries) }
+    {
+        self.reserve(node)?;
+        let stamp = act_at(&mut self.nodes, node, client, &mut self.out);
+        let step = Step::Act(client);
+        settle(&mut self.inboxes, &mut self.run, Move { stamp, step }, &mut self.out);
+        Ok(())
+    }
+
+    // Takes the front letter from the sender to this node.
+    fn take(&mut self, script: &Script, node: u8, sender: u8) -> Result<(), AllocError>
+        requires holds { Holds script.now self.old.nodes.items self.old.inboxes.items self.old.out self.old.run.entries }
+        requires enabled { IsTrue (is_enabled script.now (world_after script.now self.old.run.entries) node (Take sender)) }
+        requires few { length self.old.run.entries + 1 < 2 ^ 32 }
+        ensures holds { Holds script.now self.new.nodes.items self.new.inboxes.items self.new.out self.new.run.entries }
+        ensures ok { OnOk result (self.new.run.entries ≡ self.old.run.entries ++ logged script.now (world_after script.now self.old.run.entries) node (Take sender) ∷ []) }
+        ensures err { OnErr result (self.new.run.entries ≡ self.old.run.entries) }
+    {
+        let mut letter = pop_front(&mut self.inboxes, sender, node);
+        if let Err(error) = self.reserve_for(node, &mut letter) {
+            put_front(&mut self.inboxes, sender, node, letter);
+            return Err(error);
+        }
+        let stamp = take_at(&mut self.nodes, node, letter, &mut self.out);
+        let step = Step::Take(sender);
+        settle(&mut self.inboxes, &mut self.run, Move { stamp, step }, &mut self.out);
+        Ok(())
+    }
+
+    // Makes room for one command of this node.
+    fn reserve(&mut self, node: u8) -> Result<(), AllocError>
+        requires node { node < length self.old.nodes.items }
+        requires within { IsWithin (node_at self.old.nodes.items node) }
+        requires senders { (q : ℕ) → q < length self.old.inboxes.items → node < length (inbox_at self.old.inboxes.items q) }
+        ensures nodes { OnlyMemory node self.old.nodes.items self.new.nodes.items }
+        ensures letters { SameLetters self.old.inboxes.items self.new.inboxes.items }
+        ensures entries { self.new.run.entries ≡ self.old.run.entries }
+        ensures out { (self.new.out.posts ≡ self.old.out.posts) × (self.new.out.events ≡ self.old.out.events) }
+        ensures room { OnOk result (RoomToAct (node_at self.new.nodes.items node) self.new.out) }
+        ensures send { OnOk result (RoomToSend node self.new.inboxes.items self.new.run self.new.out) }
+    {
+        self.nodes[usize::from(node)].reserve(&mut self.out)?;
+        reserve_all(&mut self.inboxes, &mut self.run, node, &self.out)
+    }
+
+    // Makes room for this node to take the letter.
+    fn reserve_for(&mut self, node: u8, letter: &mut Letter) -> Result<(), AllocError>
+        requires node { node < length self.old.nodes.items }
+        requires takes { CanTake (node_at self.old.nodes.items node) (letter_seen letter.old) }
+        requires senders { (q : ℕ) → q < length self.old.inboxes.items → node < length (inbox_at self.old.inboxes.items q) }
+        ensures nodes { OnlyMemory node self.old.nodes.items self.new.nodes.items }
+        ensures letters { SameLetters self.old.inboxes.items self.new.inboxes.items }
+        ensures entries { self.new.run.entries ≡ self.old.run.entries }
+        ensures out { (self.new.out.posts ≡ self.old.out.posts) × (self.new.out.events ≡ self.old.out.events) }
+        ensures letter { letter_seen letter.new ≡ letter_seen letter.old }
+        ensures room { OnOk result (RoomToTake (node_at self.new.nodes.items node) letter.new self.new.out) }
+        ensures send { OnOk result (RoomToSend node self.new.inboxes.items self.new.run self.new.out) }
+    {
+        self.nodes[usize::from(node)].reserve_for(letter, &mut self.out)?;
+        reserve_all(&mut self.inboxes, &mut self.run, node, &self.out)
+    }
+}
+
+// All nodes of the script at its start.
+fn nodes_of<'a>(alloc: Global, script: &'a Script) -> Result<Vec<Node<'a>>, AllocError>
+    ensures count { IfOk result (λ nodes. length nodes.items ≡ script.now.nodes) }
+    ensures each { IfOk result (λ nodes. (q : ℕ) → q < script.now.nodes → IsNodeOf script.now q ((start script.now).node q) (node_at nodes.items q)) }
+    ensures script { IsScript script.now }
+{
+    let mut nodes = Vec::new(alloc);
+    for node in 0..script.nodes() {
+        nodes.push(Node::new(alloc, script, node)?)?;
+    }
+    Ok(nodes)
+}
+
+// So many inboxes without letters, each for so many senders.
+fn inboxes_of(alloc: Global, nodes: u8) -> Result<Vec<Inbox>, AllocError>
+    ensures count { IfOk result (λ inboxes. length inboxes.items ≡ nodes) }
+    ensures senders { IfOk result (λ inboxes. (q : ℕ) → q < nodes → length (inbox_at inboxes.items q) ≡ nodes) }
+    ensures empty { IfOk result (λ inboxes. (p q : ℕ) → mail_in inboxes.items p q ≡ []) }
+{
+    let mut inboxes = Vec::new(alloc);
+    for _ in 0..nodes {
+        inboxes.push(Inbox::new(alloc, nodes)?)?;
+    }
+    Ok(inboxes)
+}
+
+// This node makes the next command of the client.
+fn act_at(nodes: &mut Vec<Node<'_>>, node: u8, client: u16, out: &mut Out) -> Stamp
+    requires node { node < length nodes.old.items }
+    requires acts { CanAct (node_at nodes.old.items node) client }
+    requires room { RoomToAct (node_at nodes.old.items node) out.old }
+    ensures stamp { result ≡ act_stamp (node_at nodes.old.items node).me (state_of (node_at nodes.old.items node)) }
+    ensures others { nodes.new.items ≡ slice_set nodes.old.items node (node_at nodes.new.items node) }
+    ensures does { NodeDoes (node_act (node_at nodes.old.items node).script (node_at nodes.old.items node).me client (state_of (node_at nodes.old.items node))) (node_at nodes.old.items node) out.old (node_at nodes.new.items node) out.new }
+{
+    let mover = &mut nodes[usize::from(node)];
+    let stamp = mover.stamp_of_act();
+    mover.act(client, out);
+    stamp
+}
+
+// This node takes the letter.
+fn take_at(nodes: &mut Vec<Node<'_>>, node: u8, letter: Letter, out: &mut Out) -> Stamp
+    requires node { node < length nodes.old.items }
+    requires takes { CanTake (node_at nodes.old.items node) (letter_seen letter) }
+    requires room { RoomToTake (node_at nodes.old.items node) letter out.old }
+    ensures stamp { result ≡ take_stamp (node_at nodes.old.items node).me (state_of (node_at nodes.old.items node)) (letter_seen letter) }
+    ensures others { nodes.new.items ≡ slice_set nodes.old.items node (node_at nodes.new.items node) }
+    ensures does { NodeDoes (node_take (node_at nodes.old.items node).me (letter_seen letter) (state_of (node_at nodes.old.items node))) (node_at nodes.old.items node) out.old (node_at nodes.new.items node) out.new }
+{
+    let mover = &mut nodes[usize::from(node)];
+    let stamp = mover.stamp_of_take(&letter);
+    mover.take(letter, out);
+    stamp
+}
+
+// Makes room for what a node sends out, for which `out` has room.
+fn reserve_all(inboxes: &mut Vec<Inbox>, run: &mut Run, sender: u8, out: &Out) -> Result<(), AllocError>
+    requires { (q : ℕ) → q < length inboxes.old.items → sender < length (inbox_at inboxes.old.items q) }
+    ensures letters { SameLetters inboxes.old.items inboxes.new.items }
+    ensures entries { run.new.entries ≡ run.old.entries }
+    ensures send { OnOk result (RoomToSend sender inboxes.new.items run.new out.now) }
+{
+    reserve_from(inboxes, sender, out.post_room())?;
+    let lines = u32::try_from(out.event_room()).map_err(|_| AllocError)?;
+    run.reserve(lines)
+}
+
+// Notes the move that its node made, and sends on what it sent out.
+fn settle(inboxes: &mut Vec<Inbox>, run: &mut Run, made: Move, out: &mut Out)
+    requires senders { (q : ℕ) → q < length inboxes.old.items → made.stamp.node < length (inbox_at inboxes.old.items q) }
+    requires targets { All (λ (post : rules.Post). post.to < length inboxes.old.items) out.old.posts }
+    requires room { RoomToSend made.stamp.node inboxes.old.items run.old out.old }
+    requires few { length run.old.entries + 1 < 2 ^ 32 }
+    ensures delivered { AreDelivered made.stamp.node out.old.posts inboxes.old.items inboxes.new.items }
+    ensures entries { run.new.entries ≡ run.old.entries ++ record { made = made; events = out.old.events } ∷ [] }
+    ensures out { (out.new.posts ≡ []) × (out.new.events ≡ []) }
+{
+    out.is_within();
+    run.push(made);
+    note_events(out, run);
+    deliver(inboxes, made.stamp.node, out);
+}

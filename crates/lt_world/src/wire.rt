@@ -1,0 +1,79 @@
+ghost use Rattle.std.specs.Prelude.{◌≡◌, ◌<◌, ◌+◌, ◌≤◌, [], ◌∷◌, ◌++◌, length, not, OnOk};
+ghost use Rattle.lt_letter.specs.Seen.{letter_seen};
+ghost use Rattle.lt_world.specs.Mail.{has_letters};
+
+use lt_letter::Letter;
+use std::alloc::{AllocError, Global};
+use std::collections::VecDeque;
+use std::marker::Model;
+
+/// The letters that are on their way from one node to another, the oldest first.
+#[derive(Drop)]
+pub(crate) struct Wire {
+    letters: VecDeque<Letter>,
+}
+
+impl Model for Wire {
+    ghost use Rattle.std.specs.Prelude.{map};
+    ghost use Rattle.std.specs.VecDeque.{deque_capacity};
+    ghost use Rattle.lt_letter.specs.Seen.{letter_seen};
+    ghost use Rattle.lt_world.specs.Mail.{WireData};
+
+    ghost Value = { WireData };
+
+    ghost view = { λ w. record { letters = map letter_seen w.letters.items; room = deque_capacity w.letters } };
+}
+
+impl Wire {
+    pub(crate) fn new(alloc: Global) -> Wire
+        ensures { result.letters ≡ [] }
+    {
+        Wire {
+            letters: VecDeque::new(alloc),
+        }
+    }
+
+    pub(crate) fn has_letters(&self) -> bool
+        ensures { result ≡ has_letters self.now }
+    {
+        !self.letters.is_empty()
+    }
+
+    /// Makes room for so many further letters.
+    pub(crate) fn reserve(&mut self, letters: usize) -> Result<(), AllocError>
+        ensures letters { self.new.letters ≡ self.old.letters }
+        ensures room { OnOk result (length self.old.letters + letters ≤ self.new.room) }
+        ensures room_kept { self.old.room ≤ self.new.room }
+    {
+        self.letters.reserve(letters)
+    }
+
+    /// Puts a letter behind the others.
+    pub(crate) fn push(&mut self, letter: Letter)
+        requires { length self.old.letters < self.old.room }
+        ensures { self.new ≡ record self.old { letters = self.old.letters ++ letter_seen letter ∷ [] } }
+    {
+        self.letters.push_back_reserved(letter);
+    }
+
+    /// Takes the front letter.
+    pub(crate) fn pop(&mut self) -> Letter
+        requires { 0 < length self.old.letters }
+        ensures front { self.old.letters ≡ letter_seen result ∷ self.new.letters }
+        ensures room { self.new.room ≡ self.old.room }
+        ensures place { length self.new.letters < self.new.room }
+    {
+        match self.letters.pop_front() {
+            Some(letter) => letter,
+            None => unreachable!(),
+        }
+    }
+
+    /// Puts a letter before the others.
+    pub(crate) fn put_back(&mut self, letter: Letter)
+        requires { length self.old.letters < self.old.room }
+        ensures { self.new ≡ record self.old { letters = letter_seen letter ∷ self.old.letters } }
+    {
+        self.letters.push_front_reserved(letter);
+    }
+}

@@ -1,0 +1,64 @@
+ghost use Rattle.std.specs.Prelude.{◌≡◌, ◌<◌, ℕ, length, IsTrue, IsNone};
+ghost use Rattle.lt_modes.specs.declared.moves.Step.{Step};
+ghost use Rattle.lt_modes.specs.declared.moves.Step.TheVariants.{Act, Take};
+ghost use Rattle.lt_lists.specs.Below.{any_below};
+ghost use Rattle.lt_runs.specs.World.{is_enabled};
+ghost use Rattle.lt_world.specs.Fields.{world_of, moves_of, can_move, is_full, full_node};
+
+use super::World;
+use crate::choice::Choice;
+use lt_modes::Step;
+
+// Nodes that have made as many moves as they may.
+impl<'a> World<'a> {
+    /// The least node that has made as many moves as it may and has an enabled one.
+    pub fn full(&self) -> Option<u8>
+        ensures full { result ≡ full_node self.now.script self.now.limit self.now.run }
+        ensures room { IsNone result → (q : ℕ) (step : Step) → IsTrue (is_enabled self.now.script (world_of self.now) q step) → moves_of q self.now.run < self.now.limit }
+    {
+        for node in 0..self.script.nodes() {
+            if self.is_full(node) {
+                return Some(node);
+            }
+        }
+        None
+    }
+
+    fn is_full(&self, node: u8) -> bool
+        requires { node < self.now.script.nodes }
+        ensures { result ≡ is_full self.now.script self.now.limit self.now.run node }
+    {
+        self.moves[usize::from(node)] == self.limit && self.can_move(node)
+    }
+
+    // Whether the node can make a move.
+    fn can_move(&self, node: u8) -> bool
+        ensures { result ≡ can_move self.now.script (world_of self.now) node }
+    {
+        self.can_take(node) || self.can_act(node)
+    }
+
+    fn can_take(&self, node: u8) -> bool
+        ensures { result ≡ any_below self.now.script.nodes (λ p. is_enabled self.now.script (world_of self.now) node (Take p)) }
+    {
+        for sender in 0..self.script.nodes() {
+            let step = Step::Take(sender);
+            if self.enabled(Choice { node, step }) {
+                return true;
+            }
+        }
+        false
+    }
+
+    fn can_act(&self, node: u8) -> bool
+        ensures { result ≡ any_below (length self.now.script.clients) (λ client. is_enabled self.now.script (world_of self.now) node (Act client)) }
+    {
+        for client in 0..self.script.clients() {
+            let step = Step::Act(client);
+            if self.enabled(Choice { node, step }) {
+                return true;
+            }
+        }
+        false
+    }
+}
