@@ -3,12 +3,12 @@ use Rattle.std.proofs.Common.{◌≡◌, ℕ, Bool, true, false, List, [], ◌�
 use Rattle.std.specs.Prelude.{◌⊎◌, option_map, if◌then◌else◌, codes}
 use Rattle.std.specs.Str.{bytes_eq}
 use Rattle.lt_text.specs.Number.{number}
-use Rattle.lt_serve.specs.declared.command.Command.{Command}
-use Rattle.lt_serve.specs.declared.command.Command.TheVariants.{Sim, Make, Soak}
+use Rattle.lt_words.specs.declared.command.Command.{Command}
+use Rattle.lt_words.specs.declared.command.Command.TheVariants.{Sim, Make, Soak}
 use Rattle.lt_serve.specs.declared.status.Status.{Status}
 use Rattle.lt_serve.specs.declared.status.Status.TheVariants.{Done, Stuck, Usage, Refused, TooLong, ReadFault, WriteFault, NoMemory, Cut, BadJournal, NotBuilt}
-use Rattle.lt_serve.specs.Words.{seed_of, can_make, make_of, command_of}
-use Rattle.lt_serve.specs.Causes.{HasCause, SourceCounts, TellsSource, IsReadWhole, WritesNothing, IsEnding, CanBeMade, is_unbuilt}
+use Rattle.lt_words.specs.Words.{seed_of, can_make, make_of, command_of}
+use Rattle.lt_serve.specs.Causes.{HasCause, SourceCounts, TellsSource, IsReadWhole, WritesNothing, IsEnding, CanBeMade, is_unbuilt, IsUnbuilt}
 
 -- the writing has begun
 abbrev pub HasWritten : Status → Type 0
@@ -44,8 +44,10 @@ is_other status other h n e = never_written status h (subst WritesNothing (sym e
 pub written_causes : (asked : Option Command) (command : Command) (left : Option (List ℕ)) (status : Status) → asked ≡ Some command
     → is_unbuilt command ≡ false → HasWritten status → HasCause asked left status
 written_causes asked command left status is built h = record {
-  usage = (λ e. absurd (is_other status Usage h tt e), λ none. absurd (not_none (sym none ∙ is)));
-  not_built = (λ e. absurd (is_other status NotBuilt h tt e), λ found. absurd (same_command found.0 (sym is ∙ found.1) found.2));
+  usage = λ e. absurd (is_other status Usage h tt e);
+  no_command = λ none. absurd (not_none (sym none ∙ is));
+  not_built = λ e. absurd (is_other status NotBuilt h tt e);
+  unbuilt = λ now. absurd (is_built (subst IsUnbuilt is now));
   refused = λ fault e. absurd (is_other status (Refused fault) h tt e);
   bad_journal = λ line e. absurd (is_other status (BadJournal line) h tt e);
   read_fault = λ e. absurd (is_other status ReadFault h tt e);
@@ -55,11 +57,8 @@ written_causes asked command left status is built h = record {
     not_none : None ≡ Some command → ⊥
     not_none e = cc
 
-    same_command : (other : Command) → Some command ≡ Some other → is_unbuilt other ≡ true → ⊥
-    same_command other e unbuilt =
-        let it : command ≡ other = cc in
-        let now : is_unbuilt command ≡ true = subst (λ (c : Command). is_unbuilt c ≡ true) (sym it) unbuilt in
-        cc
+    is_built : is_unbuilt command ≡ true → ⊥
+    is_built e = cc
 
 pub written_reading : (limit : ℕ) (status : Status) (before after : SourceCounts) → IsReadWhole limit before after → HasWritten status
     → TellsSource limit status before after

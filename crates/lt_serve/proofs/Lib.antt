@@ -2,5 +2,4 @@ mod Causing
 mod Journals
 mod Ordered
 mod Rooms
-mod Seeds
 mod Told

@@ -1,15 +1,15 @@
 -- Why an answer comes, and what it says of the source and the sink.
-use Rattle.std.specs.Prelude.{◌≡◌, ◌≢◌, ◌↔◌, Bool, true, false, ℕ, ◌+◌, ◌≤◌, Option, Some, None, List}
+use Rattle.std.specs.Prelude.{◌≡◌, ◌≢◌, ◌⊎◌, Bool, true, false, ℕ, ◌+◌, ◌≤◌, Option, Some, None, List}
 use Rattle.lt_io.specs.FaultCounts.{Counts}
 use Rattle.lt_io.specs.declared.whole.ReadFailure.{ReadFailure}
 use Rattle.lt_io.specs.declared.whole.ReadFailure.TheVariants.{Memory, Failed, TooLong as Long}
 use Rattle.lt_script.specs.declared.fault.ScriptFault.{ScriptFault}
-use Rattle.lt_serve.specs.declared.command.Command.{Command}
-use Rattle.lt_serve.specs.declared.command.Command.TheVariants.{Run, SimFirst, Sim, Check, Make, Soak}
+use Rattle.lt_words.specs.declared.command.Command.{Command}
+use Rattle.lt_words.specs.declared.command.Command.TheVariants.{Run, SimFirst, Sim, Check, Make, Soak}
 use Rattle.lt_modes.specs.Script.{ScriptData}
 use Rattle.lt_serve.specs.declared.limits.TheConstants.{MAX_INPUT, MAX_JOURNAL}
 use Rattle.lt_serve.specs.TopCall.{HasFault, HasFaultBefore, DenotesBefore, IsBadLine}
-use Rattle.lt_serve.specs.Words.{can_make}
+use Rattle.lt_words.specs.Words.{can_make}
 use Rattle.lt_serve.specs.declared.status.Status.{Status}
 use Rattle.lt_serve.specs.declared.status.Status.TheVariants.{Done, Stuck, Usage, Refused, TooLong, ReadFault, WriteFault, NoMemory, Cut, BadJournal, NotBuilt}
 
@@ -18,6 +18,10 @@ abbrev pub is_unbuilt : Command → Bool
 is_unbuilt Run = true
 is_unbuilt (Soak seed) = true
 is_unbuilt other = false
+
+abbrev pub IsUnbuilt : Option Command → Type 0
+IsUnbuilt None = ⊥
+IsUnbuilt (Some command) = is_unbuilt command ≡ true
 
 -- the command reads the source
 abbrev pub reads : Option Command → Bool
@@ -43,8 +47,10 @@ IsBad left line = (script : ScriptData) × DenotesBefore left script × IsBadLin
 -- why a command is answered so, where the source had these bytes left: each answer has a cause here but want of memory, and but
 -- for the ends of a run, of which `Tells` speaks
 pub record HasCause (asked : Option Command) (left : Option (List ℕ)) (answer : Status) : Type 0 where
-  pub usage : (answer ≡ Usage) ↔ (asked ≡ None)
-  pub not_built : (answer ≡ NotBuilt) ↔ ((command : Command) × (asked ≡ Some command) × (is_unbuilt command ≡ true))
+  pub usage : answer ≡ Usage → asked ≡ None
+  pub no_command : asked ≡ None → (answer ≡ Usage) ⊎ (answer ≡ NoMemory)
+  pub not_built : answer ≡ NotBuilt → IsUnbuilt asked
+  pub unbuilt : IsUnbuilt asked → (answer ≡ NotBuilt) ⊎ (answer ≡ NoMemory)
   pub refused : (fault : ScriptFault) → answer ≡ Refused fault → IsRefused asked left fault
   pub bad_journal : (line : ℕ) → answer ≡ BadJournal line → (asked ≡ Some Check) × IsBad left line
   -- these come of reading alone

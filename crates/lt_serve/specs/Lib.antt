@@ -1,7 +1,6 @@
 pub mod Orders
 pub mod Endings
 pub mod Status
-pub mod Words
 pub mod TopCall
 pub mod Causes
 pub mod Literals

@@ -5,7 +5,7 @@ ghost use Rattle.lt_text.specs.Text.{lines};
 ghost use Rattle.lt_checking.specs.Checking.{checked};
 ghost use Rattle.lt_checker.specs.Checker.{Answers};
 ghost use Rattle.lt_serve.specs.declared.limits.TheConstants.{MAX_JOURNAL};
-ghost use Rattle.lt_serve.specs.declared.command.Command.TheVariants as command;
+ghost use Rattle.lt_words.specs.declared.command.Command.TheVariants as command;
 ghost use Rattle.lt_serve.specs.Causes.{TellsSource, IsReadWhole, IsRefusal};
 ghost use Rattle.lt_serve.specs.Input.{IsAnswerOfBytes};
 ghost use Rattle.lt_serve.specs.TopCall.{Checks, ok_text};

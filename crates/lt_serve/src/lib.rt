@@ -3,7 +3,6 @@
 
 mod arguments;
 mod checking;
-mod command;
 mod gate;
 mod laws;
 mod limits;
@@ -19,7 +18,6 @@ mod status;
 mod tests;
 
 pub use arguments::program;
-pub use command::Command;
 pub use gate::Gate;
 pub use laws::law_literals;
 pub use limits::{MAX_CAPACITY, MAX_INPUT, MAX_JOURNAL};

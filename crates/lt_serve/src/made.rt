@@ -1,5 +1,5 @@
 ghost use Rattle.std.specs.Prelude.{◌≡◌, ◌⊎◌, ℕ, Option, List};
-ghost use Rattle.lt_serve.specs.declared.command.Command.{Command as AnyCommand};
+ghost use Rattle.lt_words.specs.declared.command.Command.{Command as AnyCommand};
 ghost use Rattle.lt_serve.specs.Causes.{TellsSink, WritesNothing, IsEnding};
 ghost use Rattle.lt_serve.specs.TopCall.{Does, TellsOf};
 

@@ -2,7 +2,7 @@ ghost use Rattle.std.specs.Prelude.{◌≡◌, ◌≤◌, Ok, length, IfOk, OnOk
 ghost use Rattle.lt_script.specs.Script.{IsScript};
 ghost use Rattle.lt_script.specs.Reading.{read_of};
 ghost use Rattle.lt_serve.specs.declared.limits.TheConstants.{MAX_INPUT, MAX_JOURNAL};
-ghost use Rattle.lt_serve.specs.declared.command.Command.TheVariants as command;
+ghost use Rattle.lt_words.specs.declared.command.Command.TheVariants as command;
 ghost use Rattle.lt_serve.specs.Causes.{TellsSource, IsReadWhole, IsRefusal, status_of};
 ghost use Rattle.lt_serve.specs.Input.{Left, IsReadFailure, IsFaultOf};
 ghost use Rattle.lt_serve.specs.TopCall.{Denotes};

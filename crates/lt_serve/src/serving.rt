@@ -2,12 +2,11 @@ ghost use Rattle.std.specs.Prelude.{◌≡◌, ◌<◌, ◌≤◌, true, false, 
 ghost use Rattle.std.specs.String.{string_bytes};
 ghost use Rattle.lt_limits.specs.declared.moves.TheConstants.{MAX_MOVES};
 ghost use Rattle.lt_serve.specs.declared.limits.TheConstants.{MAX_CAPACITY};
-ghost use Rattle.lt_serve.specs.Words.{command_of};
+ghost use Rattle.lt_words.specs.Words.{command_of};
 ghost use Rattle.lt_serve.specs.Causes.{HasCause, TellsSource, TellsSink, WritesNothing, IsReadWhole, IsEnding, IsRefusal, CanBeMade, reads, is_unbuilt, limit_of};
 ghost use Rattle.lt_serve.specs.TopCall.{Tells, Does};
 
 use crate::checking::checked;
-use crate::command::Command;
 use crate::gate::Gate;
 use crate::made::{Made, write_made};
 use crate::making::printed;
@@ -16,6 +15,7 @@ use crate::status::Status;
 use lt_io::{Sink, Source};
 use lt_limits::MAX_MOVES;
 use lt_merge::Run;
+use lt_words::Command;
 use std::alloc::Global;
 use std::thread::Threads;
 
@@ -105,8 +105,10 @@ pub fn serve_with<R: Threads + Sync, S: Source, K: Sink, G: Gate>(
     // What the run is, how it ended, and what was written.
     ensures tells { Tells setup.moves (command_of (map string_bytes words.now)) result.status (S.left source.old) result.run.entries (K.held sink.old) (K.held sink.new) }
 {
-    let Some(command) = Command::from_words(words) else {
-        return Served::without_run(alloc, Status::Usage);
+    let command = match Command::from_words(alloc, words) {
+        Ok(Some(command)) => command,
+        Ok(None) => return Served::without_run(alloc, Status::Usage),
+        Err(_) => return Served::without_run(alloc, Status::NoMemory),
     };
     match make(alloc, setup.moves, command, source) {
         Ok(made) => write_made(sink, made),

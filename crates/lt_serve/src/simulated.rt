@@ -6,7 +6,7 @@ ghost use Rattle.lt_limits.specs.declared.moves.TheConstants.{MAX_MOVES};
 ghost use Rattle.lt_serve.specs.Orders.{AreDrawn};
 ghost use Rattle.lt_serve.specs.Endings.{RanTo, cut_of};
 ghost use Rattle.lt_serve.specs.declared.limits.TheConstants.{MAX_INPUT};
-ghost use Rattle.lt_serve.specs.declared.command.Command.TheVariants as command;
+ghost use Rattle.lt_words.specs.declared.command.Command.TheVariants as command;
 ghost use Rattle.lt_serve.specs.Causes.{TellsSource, IsReadWhole, IsRefusal};
 ghost use Rattle.lt_serve.specs.TopCall.{Does};
 

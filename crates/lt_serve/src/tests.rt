@@ -1,7 +1,6 @@
 mod answers;
 mod journals;
 mod refusals;
-mod words;
 
 use super::{Gate, Setup, Status, USUAL, serve_with};
 use lt_io::{MemorySink, MemorySource};

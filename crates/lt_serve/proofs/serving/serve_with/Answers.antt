@@ -1,7 +1,7 @@
 use Rattle.std.proofs.Common.{◌≡◌, ◌∙◌, Some, Option, ap, map, sym, subst}
 use Rattle.std.specs.String.{string_bytes}
-use Rattle.lt_serve.specs.declared.command.Command.{Command}
-use Rattle.lt_serve.specs.Words.{command_of}
+use Rattle.lt_words.specs.declared.command.Command.{Command}
+use Rattle.lt_words.specs.Words.{command_of}
 use Rattle.lt_serve.specs.Causes.{reads, limit_of}
 use Rattle.lt_serve.proofs.Causing.{MayBeMade, may_be_made, written_causes, written_reading}
 use Rattle.lt_serve.proofs.serving.serve_with.Goals as goal
