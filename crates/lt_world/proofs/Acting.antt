@@ -16,7 +16,7 @@ use Rattle.lt_world.specs.Moving.{IsWithin, CanAct}
 use Rattle.lt_world.proofs.Bridge.{Did, did, same_node, world_same}
 use Rattle.lt_world.proofs.Premises.{act_inside, within, can_act}
 use Rattle.lt_world.proofs.Moves.{posts_sent, entry_is, holds_moved}
-use Rattle.lt_world.proofs.Runs.{longer, posts_inside}
+use Rattle.lt_world.proofs.Runs.{posts_inside}
 
 -- an act that is enabled, for which room was made
 pub record Begun (script : ScriptData) (q client : ℕ) (nodes nodes' : List NodeData) (boxes boxes' : List (List WireData)) (had had' : OutData) (run : List Logged) : Type 0 where

@@ -1,18 +1,17 @@
 -- The code's nodes and letters after a part of a move are those of the world after it.
-use Rattle.std.proofs.Common.{◌≡◌, ◌≢◌, ℕ, ◌<◌, List, [], ◌++◌, length, drop, inl, inr, refl, sym, ap, subst, ◌∙◌, arith, length-set, get_or-set_same, get_or-set_other}
+use Rattle.std.proofs.Common.{◌≡◌, ◌≢◌, ℕ, ◌<◌, List, [], ◌++◌, length, inl, inr, refl, sym, ap, subst, ◌∙◌, arith, length-set, get_or-set_same, get_or-set_other}
 use Rattle.std.specs.Prelude.{◌==◌, if◌then◌else◌, slice_set}
 use Rattle.std.specs.List.{filter_map}
 use Rattle.std.proofs.lemmas.Bool.{cases_eq}
-use Rattle.lt_modes.specs.declared.moves.Step.TheVariants.{Take}
 use Rattle.lt_modes.specs.Script.{ScriptData}
 use Rattle.lt_modes.specs.State.{Letter}
 use Rattle.lt_lists.specs.Below.{put}
 use Rattle.lt_lists.proofs.Puts.{put-same, put-other}
 use Rattle.lt_runs.specs.NodeMove.{NodeState, NodeMade}
-use Rattle.lt_runs.specs.World.{World, put_mail, opened, after_made, letter_for}
+use Rattle.lt_runs.specs.World.{World, put_mail, after_made, letter_for}
 use Rattle.lt_letter.specs.OutData.{OutData}
 use Rattle.lt_node.specs.NodeData.{NodeData, NodeDoes, SameNode, state_of, sent_by}
-use Rattle.lt_world.specs.Mail.{WireData, inbox_at, wire_between, mail_in, put_wire, SameLetters, AreDelivered}
+use Rattle.lt_world.specs.Mail.{WireData, inbox_at, mail_in, put_wire, SameLetters, AreDelivered}
 use Rattle.lt_world.specs.Fields.{no_node, node_at, IsNodeOf, IsWorld, OnlyMemory}
 use Rattle.lt_world.proofs.Wires.{senders_put, mail_put}
 
@@ -97,8 +96,8 @@ pub did : (script : ScriptData) (q : ℕ) (state : NodeState) (rule : ScriptData
     → IsNodeOf script q state old → NodeDoes (rule old.script old.me (state_of old)) old had new out → Did script q (rule script q state) had new out
 did script q state rule old had new out is does =
     let same : rule old.script old.me (state_of old) ≡ rule script q state =
-        ap (λ (s : ScriptData). rule s old.me (state_of old)) is.script_is
-        ∙ (ap (λ (x : ℕ). rule script x (state_of old)) is.me ∙ ap (rule script q) is.state_is) in
+    ap (λ (s : ScriptData). rule s old.me (state_of old)) is.script_is
+    ∙ (ap (λ (x : ℕ). rule script x (state_of old)) is.me ∙ ap (rule script q) is.state_is) in
     record {
       node = record {
         script_is = does.script ∙ is.script_is;

@@ -1,7 +1,7 @@
 -- How many moves each node has made, and all nodes together.
-use Rattle.std.proofs.Common.{◌≡◌, ◌≢◌, Bool, true, false, ℕ, zero, suc, ◌+◌, ◌*◌, ◌<◌, ◌≤◌, ◌^◌, List, [], ◌∷◌, ◌++◌, length, Option, Some, None, inl, inr, refl, sym, ap, subst, ◌∙◌, arith, length-set, get_or-set_same, get_or-set_other}
-use Rattle.std.specs.Prelude.{◌&&◌, ◌==◌, nat_lt, if◌then◌else◌, slice_set, slice_index_or, count_by, IsTrue}
-use Rattle.std.proofs.lemmas.Bool.{cases_eq, cases_order, eq-eqb, ne_eqb, eqb-true, and_from, or_left, or_right, false≢true, ltb-true, false_from_ne_true}
+use Rattle.std.proofs.Common.{◌≡◌, ◌≢◌, Bool, true, false, ℕ, zero, suc, ◌+◌, ◌*◌, ◌<◌, ◌≤◌, ◌^◌, List, [], ◌∷◌, ◌++◌, length, Some, None, inl, inr, refl, sym, ap, subst, ◌∙◌, arith, length-set, get_or-set_same, get_or-set_other}
+use Rattle.std.specs.Prelude.{◌==◌, nat_lt, if◌then◌else◌, slice_set, slice_index_or, count_by, IsTrue}
+use Rattle.std.proofs.lemmas.Bool.{cases_eq, cases_order, eq-eqb, ne_eqb, and_from, or_left, or_right, false≢true, ltb-true, false_from_ne_true}
 use Rattle.std.proofs.lemmas.List.{length_push}
 use Rattle.std.proofs.lemmas.List.Sums.{sum_by-append}
 use Rattle.lt_lists.specs.Below.{sum_below, any_below, first_below, earlier}
@@ -13,7 +13,6 @@ use Rattle.lt_modes.specs.Script.{ScriptData}
 use Rattle.lt_script.specs.Script.{IsScript}
 use Rattle.lt_runs.specs.Log.{Logged}
 use Rattle.lt_runs.specs.World.{World, world_after, is_enabled, is_of_node}
-use Rattle.lt_order.specs.OrderLaws.{HasLetter}
 use Rattle.lt_order.proofs.Order.{takes_where}
 use Rattle.lt_world.specs.Fields.{moves_of, can_move, is_full, full_node, AreCounted}
 use Rattle.lt_world.proofs.Premises.{act_parts, act_inside}

@@ -1,26 +1,20 @@
 -- The world and the run after a whole move.
-use Rattle.std.proofs.Common.{◌≡◌, ℕ, ◌+◌, ◌<◌, ◌^◌, List, [], ◌∷◌, ◌++◌, length, drop, refl, sym, ap, subst, ◌∙◌}
-use Rattle.std.specs.Prelude.{IsTrue, All, slice_set}
+use Rattle.std.proofs.Common.{◌≡◌, ℕ, ◌<◌, List, [], ◌∷◌, ◌++◌, sym, ap, subst, ◌∙◌}
+use Rattle.std.specs.Prelude.{IsTrue, slice_set}
 use Rattle.lt_modes.specs.declared.stamp.Stamp.{Stamp}
 use Rattle.lt_modes.specs.declared.event.Event.{Event}
 use Rattle.lt_modes.specs.declared.moves.Step.{Step}
-use Rattle.lt_modes.specs.declared.moves.Step.TheVariants.{Act, Take}
 use Rattle.lt_modes.specs.Script.{ScriptData}
-use Rattle.lt_modes.specs.State.{Letter}
 use Rattle.lt_modes.specs.Made.{Post}
 use Rattle.lt_runs.specs.Log.{Logged}
-use Rattle.lt_runs.specs.NodeMove.{NodeState, NodeMade, node_act, node_take, act_stamp, take_stamp, no_move}
-use Rattle.lt_runs.specs.World.{World, world_after, is_enabled, node_move, take_front, front_stamp, opened, put_mail, move_stamp, logged, IsRun}
+use Rattle.lt_runs.specs.NodeMove.{NodeMade}
+use Rattle.lt_runs.specs.World.{World, world_after, is_enabled, node_move, opened, move_stamp, logged, IsRun}
 use Rattle.lt_letter.specs.OutData.{OutData}
-use Rattle.lt_node.specs.NodeData.{NodeData, NodeDoes, state_of, sent_by}
-use Rattle.lt_world.specs.Mail.{WireData, AreDelivered, SameLetters, mail_in, wire_between, put_wire}
-use Rattle.lt_world.specs.Fields.{IsNodeOf, IsWorld, Holds, OnlyMemory, node_at}
-use Rattle.lt_order.specs.OrderLaws.{HasLetter}
-use Rattle.lt_order.proofs.Order.{takes_where}
-use Rattle.lt_world.specs.Moving.{CanAct, CanTake, IsWithin}
-use Rattle.lt_world.proofs.Bridge.{Did, did, same_node, world_same, world_put, world_moved}
-use Rattle.lt_world.proofs.Premises.{act_inside, within, can_act, can_take}
-use Rattle.lt_world.proofs.Runs.{longer, longer_is_run, longer_world, posts_inside}
+use Rattle.lt_node.specs.NodeData.{NodeData, sent_by}
+use Rattle.lt_world.specs.Mail.{WireData, AreDelivered}
+use Rattle.lt_world.specs.Fields.{IsWorld, Holds}
+use Rattle.lt_world.proofs.Bridge.{Did, world_moved}
+use Rattle.lt_world.proofs.Runs.{longer, longer_is_run, longer_world}
 
 -- what was sent out from an empty out
 pub posts_sent : (made : NodeMade) (had out : OutData) → had.posts ≡ [] → out ≡ sent_by made had → out.posts ≡ made.posts

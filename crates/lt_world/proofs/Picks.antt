@@ -1,15 +1,12 @@
 -- The enabled move at each place.
-use Rattle.std.proofs.Common.{◌≡◌, Bool, true, false, ℕ, zero, suc, ◌+◌, ◌-◌, ◌<◌, ◌≤◌, List, [], ◌∷◌, ◌++◌, length, map, filter, flat_map, Option, Some, None, refl, sym, ap, subst, ◌∙◌, arith}
-use Rattle.std.specs.Prelude.{◌&&◌, ◌↔◌, nat_lt, if◌then◌else◌, IsTrue, IsFalse, IsNone, IfSome, OnSome, is_some, option_map, option_and_then, slice_get}
+use Rattle.std.proofs.Common.{◌≡◌, Bool, true, false, ℕ, zero, suc, ◌+◌, ◌-◌, ◌≤◌, List, [], ◌∷◌, ◌++◌, length, map, filter, flat_map, Option, Some, None, refl, sym, ap, subst, ◌∙◌, arith}
+use Rattle.std.specs.Prelude.{◌↔◌, nat_lt, if◌then◌else◌, IsTrue, IsFalse, IsNone, IfSome, OnSome, is_some, option_map, option_and_then, slice_get}
 use Rattle.std.specs.List.{range_with_len, AllByRecursion}
 use Rattle.std.proofs.lemmas.Bool.{and_parts}
 use Rattle.lt_modes.specs.Script.{ScriptData}
-use Rattle.lt_modes.specs.declared.moves.Step.TheVariants.{Act, Take}
-use Rattle.lt_runs.specs.Families.{home}
 use Rattle.lt_runs.specs.World.{World, has_mail, is_enabled, is_runnable, is_at_rest}
 use Rattle.lt_runs.specs.FixedOrder.{Turn, take_turn, act_turn, senders, takes, acts_before, next_act, act_after, count_turns, pick}
 use Rattle.lt_lists.proofs.Searches.{Found, found}
-use Rattle.lt_order.specs.OrderLaws.{MayAct}
 use Rattle.lt_order.proofs.Acts.{after_this, acts_order}
 use Rattle.lt_order.proofs.Order.{picks_within}
 use Rattle.lt_world.specs.declared.choice.Choice.{Choice}

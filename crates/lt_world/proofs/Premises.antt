@@ -1,5 +1,5 @@
 -- Where a move is enabled, its node can make it.
-use Rattle.std.proofs.Common.{◌≡◌, ℕ, ◌+◌, ◌<◌, ◌≤◌, ◌^◌, List, [], ◌∷◌, length, take, refl, sym, ap, subst, ◌∙◌, arith}
+use Rattle.std.proofs.Common.{◌≡◌, ℕ, ◌+◌, ◌<◌, ◌≤◌, ◌^◌, List, ◌∷◌, length, take, refl, sym, subst, arith}
 use Rattle.std.specs.Prelude.{◌&&◌, ◌==◌, not, nat_lt, nat_le, IsTrue, Contains}
 use Rattle.std.proofs.lemmas.Bool.{and_parts, eqb-true, ltb-true}
 use Rattle.lt_modes.specs.declared.moves.Step.TheVariants.{Act, Take}
@@ -81,10 +81,10 @@ can_take script run q p letter rest n good is_run enabled few front is =
     let has : HasLetter script w p q = (takes_where script w p q).0 enabled in
     let on : Contains (w.mail p q) letter = subst (λ (ls : List Letter). Contains ls letter) (sym front) (0, omega arith, refl) in
     let on' : Contains ((world_after script (take (length run) run)).mail p q) letter =
-        subst (λ (r : List Logged). Contains ((world_after script r).mail p q) letter) (sym (whole_run run)) on in
+    subst (λ (r : List Logged). Contains ((world_after script r).mail p q) letter) (sym (whole_run run)) on in
     let fitting : IsTrue (fits (numbers_of script) q (w.node q).clock ((w.node q).set letter.set) letter) =
-        subst (λ (r : List Logged). IsTrue (fits (numbers_of script) q ((world_after script r).node q).clock (((world_after script r).node q).set letter.set) letter)) (whole_run run)
-        (letters_fit_in_runs script run (whole script good) is_run (length run) p q letter few has.sender has.receiver on') in
+    subst (λ (r : List Logged). IsTrue (fits (numbers_of script) q ((world_after script r).node q).clock (((world_after script r).node q).set letter.set) letter)) (whole_run run)
+    (letters_fit_in_runs script run (whole script good) is_run (length run) p q letter few has.sender has.receiver on') in
     record {
       fits_here = carried (λ s x state. IsTrue (fits (numbers_of s) x state.clock (state.set letter.set) letter)) is fitting;
       within = within script run q n good is_run has.receiver is;

@@ -1,15 +1,14 @@
 -- Where a world rests, and what the enabled move at a place is.
-use Rattle.std.proofs.Common.{◌≡◌, Bool, true, false, ℕ, zero, ◌+◌, ◌-◌, ◌<◌, ◌≤◌, List, [], ◌∷◌, length, Option, Some, None, inl, inr, refl, sym, ap, subst, ◌∙◌, arith}
-use Rattle.std.specs.Prelude.{◌&&◌, ◌==◌, ◌↔◌, nat_lt, if◌then◌else◌, IsTrue, IsFalse, IsNone, IsSome, is_some, option_map, slice_get, IfSome, Contains}
-use Rattle.std.proofs.lemmas.Bool.{cases_eq, eq-eqb, ne_eqb, ltb-true, lt-ltb, false_from_ne_true, false≢true, and_from}
+use Rattle.std.proofs.Common.{◌≡◌, true, false, ℕ, ◌<◌, List, [], ◌∷◌, length, Option, Some, None, inl, inr, refl, sym, ap, ◌∙◌, arith}
+use Rattle.std.specs.Prelude.{◌&&◌, ◌==◌, nat_lt, IsFalse, is_some}
+use Rattle.std.proofs.lemmas.Bool.{cases_eq, eq-eqb, ne_eqb, lt-ltb, false_from_ne_true, false≢true, and_from}
 use Rattle.lt_modes.specs.declared.moves.Step.{Step}
 use Rattle.lt_modes.specs.declared.moves.Step.TheVariants.{Act, Take}
 use Rattle.lt_modes.specs.Script.{ScriptData}
-use Rattle.lt_lists.specs.Below.{count_below}
 use Rattle.lt_lists.proofs.Searches.{none_counted, any_below_at}
 use Rattle.lt_runs.specs.Families.{home}
 use Rattle.lt_runs.specs.World.{World, is_enabled, is_at_rest, is_runnable}
-use Rattle.lt_runs.specs.FixedOrder.{Turn, takes, count_acts, count_turns, pick}
+use Rattle.lt_runs.specs.FixedOrder.{Turn, takes, count_turns, pick}
 use Rattle.lt_order.specs.OrderLaws.{HasLetter}
 use Rattle.lt_order.proofs.Order.{rests, takes_where, picks_first, picks_within}
 use Rattle.lt_order.proofs.Takes.{none_taken}

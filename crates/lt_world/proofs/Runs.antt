@@ -1,5 +1,5 @@
 -- A run and one enabled move more.
-use Rattle.std.proofs.Common.{◌≡◌, ℕ, ◌+◌, ◌<◌, ◌≤◌, List, [], ◌∷◌, ◌++◌, length, take, refl, sym, ap, subst, ◌∙◌, arith, Some}
+use Rattle.std.proofs.Common.{◌≡◌, ℕ, ◌<◌, List, [], ◌∷◌, ◌++◌, length, take, refl, sym, ap, subst, ◌∙◌, arith}
 use Rattle.std.specs.Prelude.{IsTrue, All, Contains, ◌==◌, if◌then◌else◌}
 use Rattle.std.specs.List.{filter_map}
 use Rattle.std.proofs.lemmas.Bool.{eq-eqb}
@@ -15,8 +15,7 @@ use Rattle.lt_runs.specs.Log.{Logged}
 use Rattle.lt_runs.specs.NodeMove.{NodeState}
 use Rattle.lt_runs.specs.World.{World, world_after, is_enabled, logged, after, opened, node_move, front_stamp, move_stamp, letter_for, IsMove, IsRun}
 use Rattle.lt_runs.specs.World as runs
-use Rattle.lt_model.specs.Paths.{Paths, LetterOnPath}
-use Rattle.lt_model.specs.OnWay.{OnWay}
+use Rattle.lt_model.specs.Paths.{Paths}
 use Rattle.lt_model.proofs.Runs.{after_run-push, IsRunFrom-push}
 use Rattle.lt_model.proofs.PathsInRuns.{paths_in_runs}
 
@@ -78,6 +77,6 @@ posts_inside script run q step some is_run below enabled = all_of _ posts (λ po
     there : (post : Post) → Contains posts post → Contains ((world_after script (longer script run q step)).mail q post.to) post.letter
     there post on =
         let sent : Contains (if q == q then filter_map (letter_for post.to) posts else []) post.letter =
-            rw (eq-eqb q q refl) (filter_map-at (letter_for post.to) posts post post.letter on (rw (eq-eqb post.to post.to refl) refl)) in
+        rw (eq-eqb q q refl) (filter_map-at (letter_for post.to) posts post post.letter on (rw (eq-eqb post.to post.to refl) refl)) in
         subst (λ (w : World). Contains (w.mail q post.to) post.letter) (sym (longer_world script run q step))
         (Contains-append_right ((opened (world_after script run) q step).mail q post.to) _ post.letter sent)

@@ -1,9 +1,8 @@
 -- The senders of letters that are on their way to one node.
-use Rattle.std.proofs.Common.{◌≡◌, ◌≢◌, Bool, true, false, ℕ, zero, suc, ◌+◌, ◌-◌, ◌<◌, List, [], ◌∷◌, ◌++◌, length, filter, refl, sym, ap, subst, ◌∙◌, arith, append_assoc}
+use Rattle.std.proofs.Common.{◌≡◌, Bool, true, false, ℕ, zero, suc, ◌+◌, ◌-◌, ◌<◌, List, [], ◌∷◌, ◌++◌, length, filter, refl, sym, ap, subst, ◌∙◌, arith, append_assoc}
 use Rattle.std.proofs.lemmas.List.{length_push}
-use Rattle.std.specs.Prelude.{if◌then◌else◌, count_by, slice_index_or, slice_get}
+use Rattle.std.specs.Prelude.{if◌then◌else◌, count_by, slice_index_or}
 use Rattle.std.specs.List.{range_with_len}
-use Rattle.std.proofs.lemmas.Bool.{true≢false}
 use Rattle.std.proofs.lemmas.List.Sums.{count_by-le-length, length-filter, sum_by-cons}
 use Rattle.lt_world.specs.Mail.{WireData, no_wire, wire_from, has_letters, sender_count, senders_in}
 
@@ -56,9 +55,9 @@ senders_counted wires = length-filter (λ p. has_letters (wire_from wires p)) (r
         let all = before ++ wire ∷ rest in
         let here : has_letters (wire_from all (length before)) ≡ has_letters wire = ap has_letters (same before wire rest) in
         let again : count_by (λ p. has_letters (wire_from all p)) (range_with_len (length before + 1) (length rest)) ≡ sender_count rest =
-            subst (λ (n : ℕ). count_by (λ p. has_letters (wire_from all p)) (range_with_len n (length rest)) ≡ sender_count rest) (length_push before wire)
-            (subst (λ (xs : List WireData). count_by (λ p. has_letters (wire_from xs p)) (range_with_len (length (before ++ wire ∷ [])) (length rest)) ≡ sender_count rest)
-            (append_assoc before (wire ∷ []) rest) (from (before ++ wire ∷ []) rest)) in
+        subst (λ (n : ℕ). count_by (λ p. has_letters (wire_from all p)) (range_with_len n (length rest)) ≡ sender_count rest) (length_push before wire)
+        (subst (λ (xs : List WireData). count_by (λ p. has_letters (wire_from xs p)) (range_with_len (length (before ++ wire ∷ [])) (length rest)) ≡ sender_count rest)
+        (append_assoc before (wire ∷ []) rest) (from (before ++ wire ∷ []) rest)) in
         sum_by-cons (λ p. if has_letters (wire_from all p) then 1 else 0) (length before) (range_with_len (length before + 1) (length rest))
         ∙ (ap (λ (n : ℕ). (if has_letters (wire_from all (length before)) then 1 else 0) + n) again
         ∙ (ap (λ (t : Bool). (if t then 1 else 0) + sender_count rest) here

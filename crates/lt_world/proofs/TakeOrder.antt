@@ -1,15 +1,14 @@
 -- The takes of some receivers, one receiver after another.
-use Rattle.std.proofs.Common.{◌≡◌, ◌≢◌, Bool, true, false, ℕ, zero, suc, ◌+◌, ◌-◌, ◌<◌, ◌≤◌, List, [], ◌∷◌, ◌++◌, length, map, filter, flat_map, Option, Some, None, inl, inr, refl, sym, ap, subst, ◌∙◌, arith, length-append}
-use Rattle.std.specs.Prelude.{◌&&◌, ◌==◌, not, nat_lt, if◌then◌else◌, slice_get}
+use Rattle.std.proofs.Common.{◌≡◌, Bool, ℕ, zero, suc, ◌+◌, ◌-◌, ◌<◌, ◌≤◌, List, [], ◌∷◌, ◌++◌, length, map, filter, flat_map, inl, inr, refl, ap, subst, ◌∙◌, arith, length-append}
+use Rattle.std.specs.Prelude.{if◌then◌else◌, slice_get}
 use Rattle.std.specs.List.{range_with_len}
 use Rattle.std.proofs.lemmas.Bool.{cases_eq, eq-eqb, ne_eqb, lt-ltb}
 use Rattle.std.proofs.lemmas.List.{length-map}
 use Rattle.lt_modes.specs.Script.{ScriptData}
-use Rattle.lt_modes.specs.State.{Letter}
 use Rattle.lt_runs.specs.Log.{Logged}
 use Rattle.lt_runs.specs.World.{World, world_after, has_mail, is_some_letter}
 use Rattle.lt_runs.specs.FixedOrder.{Turn, take_turn, senders, takes}
-use Rattle.lt_world.specs.Mail.{WireData, inbox_at, mail_in, wire_from, has_letters, sender_count, senders_in, takes_of, takes_from, takes_in}
+use Rattle.lt_world.specs.Mail.{WireData, inbox_at, wire_from, has_letters, sender_count, senders_in, takes_of, takes_from, takes_in}
 use Rattle.lt_letter.specs.OutData.{OutData}
 use Rattle.lt_node.specs.NodeData.{NodeData}
 use Rattle.lt_world.specs.Fields.{Holds}

@@ -1,8 +1,7 @@
 -- One list of letters in place of another.
-use Rattle.std.proofs.Common.{◌≡◌, ◌≢◌, Bool, true, false, ℕ, ◌<◌, List, [], length, inl, inr, refl, sym, ap, subst, ◌∙◌, arith, length-set, get_or-set_same, get_or-set_other}
-use Rattle.std.specs.Prelude.{◌&&◌, ◌==◌, if◌then◌else◌, slice_index_or, slice_set}
+use Rattle.std.proofs.Common.{◌≡◌, ◌≢◌, ℕ, ◌<◌, List, [], length, inl, inr, sym, ap, subst, ◌∙◌, length-set, get_or-set_same, get_or-set_other}
+use Rattle.std.specs.Prelude.{slice_set}
 use Rattle.std.proofs.lemmas.Bool.{cases_eq, eq-eqb, ne_eqb}
-use Rattle.lt_modes.specs.State.{Letter}
 use Rattle.lt_runs.specs.World.{put_mail}
 use Rattle.lt_world.specs.Mail.{WireData, no_wire, wire_from, inbox_at, wire_between, mail_in, put_wire}
 
@@ -25,8 +24,8 @@ wire_put_other inboxes p q wire a b inside apart = elim (cases_eq b q) [
   | inr other ↦ ap (λ (box : List WireData). wire_from box a) (at_other inboxes p q wire b other)
   | inl same ↦
       let here : wire_between (put_wire inboxes p q wire) a q ≡ wire_between inboxes a q =
-          ap (λ (box : List WireData). wire_from box a) (at_receiver inboxes p q wire inside)
-          ∙ get_or-set_other (inbox_at inboxes q) p a wire no_wire (λ e. apart e same) in
+      ap (λ (box : List WireData). wire_from box a) (at_receiver inboxes p q wire inside)
+      ∙ get_or-set_other (inbox_at inboxes q) p a wire no_wire (λ e. apart e same) in
       subst (λ (k : ℕ). wire_between (put_wire inboxes p q wire) a k ≡ wire_between inboxes a k) (sym same) here
 ]
 
@@ -36,7 +35,7 @@ senders_put inboxes p q wire b inside = elim (cases_eq b q) [
   | inr other ↦ ap length (at_other inboxes p q wire b other)
   | inl same ↦
       let here : length (inbox_at (put_wire inboxes p q wire) q) ≡ length (inbox_at inboxes q) =
-          ap length (at_receiver inboxes p q wire inside) ∙ length-set (inbox_at inboxes q) p wire in
+      ap length (at_receiver inboxes p q wire inside) ∙ length-set (inbox_at inboxes q) p wire in
       subst (λ (k : ℕ). length (inbox_at (put_wire inboxes p q wire) k) ≡ length (inbox_at inboxes k)) (sym same) here
 ]
 

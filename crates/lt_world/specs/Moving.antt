@@ -1,5 +1,5 @@
 -- When a node can make a move.
-use Rattle.std.specs.Prelude.{◌≡◌, ◌<◌, ◌≤◌, ◌+◌, ◌^◌, ◌&&◌, not, ℕ, length, IsTrue}
+use Rattle.std.specs.Prelude.{◌≡◌, ◌<◌, ◌+◌, ◌^◌, ◌&&◌, not, ℕ, length, IsTrue}
 use Rattle.lt_modes.specs.State.{Letter}
 use Rattle.lt_modes.specs.Fits.{fits}
 use Rattle.lt_limits.specs.Limits.{node_within, leaves_asks}

@@ -75,7 +75,12 @@ impl<'a> Network<'a> {
         self.reserve(node)?;
         let stamp = act_at(&mut self.nodes, node, client, &mut self.out);
         let step = Step::Act(client);
-        settle(&mut self.inboxes, &mut self.run, Move { stamp, step }, &mut self.out);
+        settle(
+            &mut self.inboxes,
+            &mut self.run,
+            Move { stamp, step },
+            &mut self.out,
+        );
         Ok(())
     }
 
@@ -95,7 +100,12 @@ impl<'a> Network<'a> {
         }
         let stamp = take_at(&mut self.nodes, node, letter, &mut self.out);
         let step = Step::Take(sender);
-        settle(&mut self.inboxes, &mut self.run, Move { stamp, step }, &mut self.out);
+        settle(
+            &mut self.inboxes,
+            &mut self.run,
+            Move { stamp, step },
+            &mut self.out,
+        );
         Ok(())
     }
 
@@ -190,7 +200,12 @@ fn take_at(nodes: &mut Vec<Node<'_>>, node: u8, letter: Letter, out: &mut Out) -
 }
 
 // Makes room for what a node sends out, for which `out` has room.
-fn reserve_all(inboxes: &mut Vec<Inbox>, run: &mut Run, sender: u8, out: &Out) -> Result<(), AllocError>
+fn reserve_all(
+    inboxes: &mut Vec<Inbox>,
+    run: &mut Run,
+    sender: u8,
+    out: &Out,
+) -> Result<(), AllocError>
     requires { (q : ℕ) → q < length inboxes.old.items → sender < length (inbox_at inboxes.old.items q) }
     ensures letters { SameLetters inboxes.old.items inboxes.new.items }
     ensures entries { run.new.entries ≡ run.old.entries }

@@ -3,7 +3,6 @@ mod order;
 
 ghost use Rattle.std.specs.Prelude.{◌≡◌, ◌≤◌, ◌<◌, ◌↔◌, ℕ, [], ◌∷◌, ◌++◌, length, IsTrue, IsFalse, IsNone, IfOk, IfSome, OnSome, OnOk, OnErr, option_map, slice_index_or};
 ghost use Rattle.lt_limits.specs.declared.moves.TheConstants.{MAX_MOVES};
-
 ghost use Rattle.lt_runs.specs.World.{is_runnable, is_enabled, is_at_rest, anyone_waits, is_waiting, has_mail, logged, IsRun};
 ghost use Rattle.lt_runs.specs.FixedOrder.{pick, count_turns};
 ghost use Rattle.lt_world.specs.Choice.{choice_of};
@@ -11,7 +10,6 @@ ghost use Rattle.lt_world.specs.Fields.{moves_of, world_of};
 
 use crate::choice::Choice;
 use crate::network::Network;
-
 use lt_limits::MAX_MOVES;
 use lt_merge::Run;
 use lt_modes::Step;

@@ -1,4 +1,4 @@
-use Rattle.std.proofs.Common.{◌≡◌, ℕ, ◌<◌, ◌≤◌, ◌+◌, length}
+use Rattle.std.proofs.Common.{ℕ, ◌<◌, ◌≤◌, ◌+◌, length}
 use Rattle.lt_world.specs.Mail.{SameLetters, mail_in, wire_between}
 use Rattle.lt_world.proofs.delivery.reserve_from.Given as goal
 

@@ -1,4 +1,4 @@
-use Rattle.std.proofs.Common.{◌≡◌, ℕ, ◌-◌, length, filter}
+use Rattle.std.proofs.Common.{◌≡◌, ◌-◌, length, filter}
 use Rattle.std.specs.Prelude.{slice_get}
 use Rattle.std.specs.List.{range_with_len}
 use Rattle.lt_world.specs.Mail.{has_letters, wire_from, senders_in}

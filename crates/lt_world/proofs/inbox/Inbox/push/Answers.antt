@@ -11,6 +11,6 @@ overflow_add-self c =
     let inside : c.args.sender < length wires = subst (λ (w : List WireData). c.args.sender < length w) (sym c.self.view_is) c.requires.inside in
     let place : c.from.result < length wires = omega (arith, inside, c.from.ensures) in
     let same : wire_from wires c.args.sender ≡ wire =
-        ap (λ (k : ℕ). wire_from wires k) (sym c.from.ensures) ∙ (get_or_default wires c.from.result no_wire wire place ∙ sym c.index_mut-wire.ensures.value) in
+    ap (λ (k : ℕ). wire_from wires k) (sym c.from.ensures) ∙ (get_or_default wires c.from.result no_wire wire place ∙ sym c.index_mut-wire.ensures.value) in
     let none : has_letters (wire_from wires c.args.sender) ≡ false = ap has_letters same ∙ (sym c.has_letters.ensures ∙ c.if-not-has_letters.true) in
     omega (arith, fewer_senders wires c.args.sender inside none, c.self.invariant.0, c.self.invariant.1)

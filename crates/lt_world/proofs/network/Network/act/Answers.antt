@@ -1,4 +1,3 @@
-use Rattle.std.proofs.Common.{◌≡◌, ◌∙◌, sym}
 use Rattle.lt_world.specs.Fields.{node_at}
 use Rattle.lt_world.proofs.Acting.{Begun, Acted, within_before, can_act_then, targets, holds_then}
 use Rattle.lt_world.proofs.network.Network.act.Goals as goal

@@ -1,7 +1,6 @@
-use Rattle.std.proofs.Common.{◌≡◌, ◌∙◌, sym}
 use Rattle.lt_letter.specs.Seen.{letter_seen}
 use Rattle.lt_world.specs.Fields.{node_at}
-use Rattle.lt_world.proofs.Taking.{InHand, Begun, Took, took_again, takes_now, takes_then, targets, run_then, holds_then, holds_still}
+use Rattle.lt_world.proofs.Taking.{InHand, Begun, Took, took_again, takes_now, takes_then, targets, run_then, holds_then}
 use Rattle.lt_world.proofs.network.Network.take.Goals as goal
 
 pub reserve_for-requires-clause-takes : goal.reserve_for-requires-clause-takes
@@ -64,7 +63,7 @@ settle-requires-clause-targets c =
       does = c.take_at-stamp.ensures.does;
     } in
     let took = took_again letter (letter_seen c.reserve_for.new.letter) (node_at new.nodes.items c.args.node) (node_at made.nodes.items c.args.node) new.out made.out c.take_at-stamp.result
-        c.reserve_for.ensures.letter taken in
+    c.reserve_for.ensures.letter taken in
     targets c.args.script.now c.args.node c.args.sender letter old.nodes.items new.nodes.items old.inboxes.items popped new.inboxes.items old.out new.out old.run.entries
     (node_at made.nodes.items c.args.node) made.out c.take_at-stamp.result begun took
 
@@ -93,7 +92,7 @@ returns-clause-holds c =
       does = c.take_at-stamp.ensures.does;
     } in
     let took = took_again letter (letter_seen c.reserve_for.new.letter) (node_at new.nodes.items c.args.node) (node_at made.nodes.items c.args.node) new.out made.out c.take_at-stamp.result
-        c.reserve_for.ensures.letter taken in
+    c.reserve_for.ensures.letter taken in
     holds_then c.args.script.now c.args.node c.args.sender letter old.nodes.items new.nodes.items old.inboxes.items popped new.inboxes.items old.out new.out old.run.entries
     (node_at made.nodes.items c.args.node) made.out c.take_at-stamp.result new.run.entries c.settle.new.run.entries c.settle.new.inboxes.items c.settle.new.out made.nodes.items
     begun took c.reserve_for.ensures.entries c.settle.ensures.entries c.take_at-stamp.ensures.others c.settle.ensures.delivered c.settle.ensures.out
@@ -123,7 +122,7 @@ returns-clause-ok c =
       does = c.take_at-stamp.ensures.does;
     } in
     let took = took_again letter (letter_seen c.reserve_for.new.letter) (node_at new.nodes.items c.args.node) (node_at made.nodes.items c.args.node) new.out made.out c.take_at-stamp.result
-        c.reserve_for.ensures.letter taken in
+    c.reserve_for.ensures.letter taken in
     run_then c.args.script.now c.args.node c.args.sender letter old.nodes.items new.nodes.items old.inboxes.items popped new.inboxes.items old.out new.out old.run.entries
     (node_at made.nodes.items c.args.node) made.out c.take_at-stamp.result new.run.entries c.settle.new.run.entries
     begun took c.reserve_for.ensures.entries c.settle.ensures.entries

@@ -1,4 +1,4 @@
-use Rattle.std.proofs.Common.{◌≡◌, ◌∙◌, ℕ, sym, ap}
+use Rattle.std.proofs.Common.{◌∙◌, ℕ, sym, ap}
 use Rattle.std.specs.Prelude.{◌==◌}
 use Rattle.lt_world.specs.Fields.{world_of}
 use Rattle.lt_world.proofs.Rest.{rest_counted}

@@ -1,8 +1,8 @@
-use Rattle.std.proofs.Common.{◌≡◌, ◌<◌, ◌∙◌, ℕ, true, false, Some, length, arith, sym, ap, subst}
+use Rattle.std.proofs.Common.{◌≡◌, ◌<◌, ◌∙◌, ℕ, true, false, arith, sym, ap, subst}
 use Rattle.lt_modes.specs.declared.moves.Step.{Step}
 use Rattle.std.specs.Prelude.{IsTrue}
 use Rattle.lt_runs.specs.World.{is_enabled}
-use Rattle.lt_world.specs.Fields.{WorldData, world_of, moves_of, is_full, full_node}
+use Rattle.lt_world.specs.Fields.{WorldData, world_of, moves_of, is_full}
 use Rattle.lt_world.proofs.Counts.{least_full, none_full, room_left}
 use Rattle.lt_world.proofs.world.World.full.Goals as goal
 
@@ -26,6 +26,6 @@ returns-clause-room c = λ none q step e.
     let s = c.self.inside in
     let nodes = ap (λ (w : WorldData). w.script.nodes) c.self.view_is in
     let none' : (k : ℕ) → k < w.script.nodes → is_full w.script w.limit w.run k ≡ false =
-        λ k below. c.loop-node.invariant k (omega (arith, below, c.loop-node-test.false, c.nodes-node-end.ensures.nodes, nodes)) in
+    λ k below. c.loop-node.invariant k (omega (arith, below, c.loop-node-test.false, c.nodes-node-end.ensures.nodes, nodes)) in
     subst (λ (w : WorldData). ((k : ℕ) → k < w.script.nodes → is_full w.script w.limit w.run k ≡ false) → (q : ℕ) (step : Step) → IsTrue (is_enabled w.script (world_of w) q step) → moves_of q w.run < w.limit)
     c.self.view_is (room_left s.script.now s.limit s.moves.items s.network.run.entries c.self.invariant.holds.is_script c.self.invariant.counted) none' q step e

@@ -1,5 +1,4 @@
-use Rattle.std.proofs.Common.{◌≡◌, ◌∙◌, List, sym, subst}
-use Rattle.lt_runs.specs.Log.{Logged}
+use Rattle.std.proofs.Common.{◌∙◌, sym, subst}
 use Rattle.lt_world.specs.Fields.{AreCounted}
 use Rattle.lt_world.proofs.Counts.{counted_at_start}
 use Rattle.lt_world.proofs.world.World.new.Goals as goal

@@ -1,5 +1,4 @@
-use Rattle.std.proofs.Common.{◌≡◌, Option, sym, subst}
-use Rattle.lt_world.specs.declared.choice.Choice.{Choice}
+use Rattle.std.proofs.Common.{sym, subst}
 use Rattle.lt_world.specs.Fields.{world_of}
 use Rattle.lt_world.proofs.Picks.{Picked, picked}
 use Rattle.lt_world.proofs.world.World.pick.Goals as goal

@@ -43,7 +43,7 @@ invariant_of-self-2 c =
     let was = counter s.moves.items c.from.result q c.index_mut.result.now c.from.ensures (omega (arith, inside, counted.count)) c.index_mut.ensures.value in
     let moved = counted_moved s.script.now s.limit s.moves.items s.network.run.entries (logged s.script.now (world_of seen) q step) q counted inside (stamp_node (world_of seen) q step) room in
     let moves : slice_set s.moves.items c.from.result (c.index_mut.result.now + 1) ≡ slice_set s.moves.items q (slice_index_or s.moves.items q 0 + 1) =
-        ap (λ (k : ℕ). slice_set s.moves.items k (c.index_mut.result.now + 1)) c.from.ensures ∙ ap (λ (n : ℕ). slice_set s.moves.items q (n + 1)) was in
+    ap (λ (k : ℕ). slice_set s.moves.items k (c.index_mut.result.now + 1)) c.from.ensures ∙ ap (λ (n : ℕ). slice_set s.moves.items q (n + 1)) was in
     record {
       holds = c.make.ensures.holds;
       counted = subst (λ (ms : List ℕ). AreCounted s.script.now s.limit ms c.make.new.self.run.entries) (sym moves)
