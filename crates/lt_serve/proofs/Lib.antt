@@ -1,5 +1,4 @@
 mod Causing
-mod Journals
 mod Ordered
 mod Rooms
 mod Told

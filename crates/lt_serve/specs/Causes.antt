@@ -16,6 +16,7 @@ use Rattle.lt_serve.specs.declared.status.Status.TheVariants.{Done, Stuck, Usage
 -- the command isn't built yet
 abbrev pub is_unbuilt : Command → Bool
 is_unbuilt Run = true
+is_unbuilt Check = true
 is_unbuilt (Soak seed) = true
 is_unbuilt other = false
 
@@ -27,7 +28,6 @@ IsUnbuilt (Some command) = is_unbuilt command ≡ true
 abbrev pub reads : Option Command → Bool
 reads (Some SimFirst) = true
 reads (Some (Sim seed)) = true
-reads (Some Check) = true
 reads other = false
 
 -- so many bytes its input may have
@@ -116,7 +116,7 @@ IsRefusal command left (Refused fault) = (reads (Some command) ≡ true) × IsRe
 IsRefusal command left TooLong = reads (Some command) ≡ true
 IsRefusal command left ReadFault = reads (Some command) ≡ true
 IsRefusal command left NoMemory = is_unbuilt command ≡ false
-IsRefusal command left (BadJournal line) = (command ≡ Check) × IsBad left line
+IsRefusal command left (BadJournal line) = (reads (Some command) ≡ true) × (command ≡ Check) × IsBad left line
 IsRefusal command left NotBuilt = is_unbuilt command ≡ true
 IsRefusal command left other = ⊥
 

@@ -2,7 +2,6 @@
 #![tactic(auto)]
 
 mod arguments;
-mod checking;
 mod gate;
 mod laws;
 mod limits;

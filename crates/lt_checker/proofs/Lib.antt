@@ -1,4 +1,0 @@
-mod Keeping
-mod Moving
-mod ClosingLines
-mod DueLines
