@@ -14,15 +14,11 @@ use Rattle.lt_journal.specs.declared.line.Line.{Line}
 use Rattle.lt_journal.specs.LineFits.{FitsLine}
 use Rattle.lt_journal.specs.RunLines.{entry_lines, closing_lines}
 use Rattle.lt_checking.specs.Checking.{Place, Reader, written, first_place, after, read_on, led_to, verdict, checked}
-use Rattle.lt_checking.specs.Journals.{Begins, lines_so_far}
+use Rattle.lt_checking.specs.Journals.{Begins, HasCome, lines_so_far}
 use Rattle.lt_checking.specs.Feeding.{Feed, new_feed, line_ended, fed, fed_piece, ended}
 use Rattle.lt_checking.proofs.Fitting.{all_fit, fit_left}
 use Rattle.lt_checking.proofs.Places.{first_begins, begins_after}
 use Rattle.lt_checking.proofs.Short.{short_line}
-
--- the place is one that a reader has come to
-abbrev pub HasCome : ScriptData → Place → Type 0
-HasCome script place = (read : List (List ℕ)) × Begins script read place
 
 -- the reader met a bad line, or its place is one that a reader has come to
 abbrev pub IsSound : ScriptData → Option Place → Type 0

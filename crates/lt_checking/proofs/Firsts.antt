@@ -16,7 +16,7 @@ use Rattle.lt_journal.specs.RunLines.{entry_lines, closing_lines, run_lines}
 use Rattle.lt_checking.specs.Checking.{Place, Reader, written, closing_at_rest, first_place, by_due, after, first_reader, read_on, reader_after, led_to, verdict, verdict_at, checked}
 use Rattle.lt_checking.specs.Journals.{IsFinished, IsFirstBad, IsContinued, Begins}
 use Rattle.lt_checking.proofs.Fitting.{journal_written}
-use Rattle.lt_checking.proofs.Places.{next_move, not_at_rest, first_begins}
+use Rattle.lt_checking.proofs.Places.{not_bad, next_move, not_at_rest, first_begins}
 use Rattle.lt_checking.proofs.Accepting.{at_place, stays_bad, begins_all, accepted_at, all_lines, means, accepts, begun, none_is_some}
 
 -- where the first bad line is, of lines that are read from this place on
@@ -118,7 +118,7 @@ first_bad script all k is_script e =
 -- the moves of a reader stay
 grows_due : (script : ScriptData) (run : List Logged) (due : List Line) (line : List ℕ) (next : Place) → by_due script run due line ≡ Some next → (later : List Logged) × (next.run ≡ run ++ later)
 grows_due script run [] line next e =
-    let m = next_move script run line next (read_line script line) refl e in
+    let m = next_move script run line next (read_line script line) (not_bad script line) e in
     (logged script (world_after script run) m.node m.step ∷ [], ap (λ (p : Place). p.run) m.place_is)
 grows_due script run (x ∷ due) line next e = elim (cases_Bool (bytes_eq line (written script x))) [
   | inl same ↦

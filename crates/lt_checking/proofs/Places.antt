@@ -81,7 +81,7 @@ at_most_one : (b : Bool) → cond b 1 0 ≤ 1
 at_most_one true = omega arith
 at_most_one false = omega arith
 
-few_push : (run : List Logged) (entry : Logged) (q : ℕ) → HasFewMoves run → entry.made.stamp.node ≡ q → may_move run q ≡ true → HasFewMoves (run ++ entry ∷ [])
+pub few_push : (run : List Logged) (entry : Logged) (q : ℕ) → HasFewMoves run → entry.made.stamp.node ≡ q → may_move run q ≡ true → HasFewMoves (run ++ entry ∷ [])
 few_push run entry q few is_q may node = elim (cases_eq entry.made.stamp.node node) [
   | inl e ↦ omega (
     arith,
@@ -104,16 +104,16 @@ pub record IsNextMove (script : ScriptData) (run : List Logged) (line : List ℕ
   pub place_is : place ≡ moved script run (logged script (world_after script run) node step)
   pub line_is : line ≡ written script (MoveLine (move_stamp (world_after script run) node step).clock node step)
 
-is_written : (script : ScriptData) (line : List ℕ) (clock node : ℕ) (step : Step) → read_line script line ≡ MoveLine clock node step → line ≡ written script (MoveLine clock node step)
-is_written script line clock node step e = by_case (as_written script line)
+pub not_bad : (script : ScriptData) (line : List ℕ) → (read_line script line ≡ Bad → ⊥) → line ≡ written script (read_line script line)
+not_bad script line some = by_case (as_written script line)
   where
-    by_case : IsAsWritten script line (read_line script line) → line ≡ written script (MoveLine clock node step)
-    by_case (inl bad) = absurd (let clash : MoveLine clock node step ≡ Bad = sym e ∙ bad in cc)
-    by_case (inr same) = sym same ∙ ap (written script) e
+    by_case : IsAsWritten script line (read_line script line) → line ≡ written script (read_line script line)
+    by_case (inl bad) = absurd (some bad)
+    by_case (inr same) = sym same
 
-pub next_move : (script : ScriptData) (run : List Logged) (line : List ℕ) (place : Place) (x : Line) → read_line script line ≡ x → by_move script run x ≡ Some place
+pub next_move : (script : ScriptData) (run : List Logged) (line : List ℕ) (place : Place) (x : Line) → ((x ≡ Bad → ⊥) → line ≡ written script x) → by_move script run x ≡ Some place
     → IsNextMove script run line place
-next_move script run line place (MoveLine clock node step) said e = elim (cases_Bool (is_next script run clock node step)) [
+next_move script run line place (MoveLine clock node step) same e = elim (cases_Bool (is_next script run clock node step)) [
   | inl next ↦
       let w = world_after script run in
       let parts = and_parts (is_enabled script w node step) ((clock == (move_stamp w node step).clock) && may_move run node) next in
@@ -125,17 +125,17 @@ next_move script run line place (MoveLine clock node step) said e = elim (cases_
         enabled = parts.0;
         may = more.1;
         place_is = cc;
-        line_is = is_written script line clock node step said ∙ ap (λ (c : ℕ). written script (MoveLine c node step)) (eqb-true clock (move_stamp w node step).clock more.0);
+        line_is = same (λ bad. absurd (cc)) ∙ ap (λ (c : ℕ). written script (MoveLine c node step)) (eqb-true clock (move_stamp w node step).clock more.0);
       }
   | inr none ↦ absurd (let e' : None ≡ Some place = sym (ap (λ (b : Bool). cond b (Some (moved script run (logged script (world_after script run) node step))) None) none) ∙ e in cc)
 ]
-next_move script run line place (EventLine event) said e = absurd (cc)
-next_move script run line place (Held client set mode count) said e = absurd (cc)
-next_move script run line place (Waiting client set mode) said e = absurd (cc)
-next_move script run line place (Owner set node epoch) said e = absurd (cc)
-next_move script run line place (End count) said e = absurd (cc)
-next_move script run line place (Cut node) said e = absurd (cc)
-next_move script run line place Bad said e = absurd (cc)
+next_move script run line place (EventLine event) same e = absurd (cc)
+next_move script run line place (Held client set mode count) same e = absurd (cc)
+next_move script run line place (Waiting client set mode) same e = absurd (cc)
+next_move script run line place (Owner set node epoch) same e = absurd (cc)
+next_move script run line place (End count) same e = absurd (cc)
+next_move script run line place (Cut node) same e = absurd (cc)
+next_move script run line place Bad same e = absurd (cc)
 
 closing_none : (script : ScriptData) (run : List Logged) → is_at_rest script (world_after script run) ≡ false → closing_at_rest script run ≡ []
 closing_none script run e = rw e
@@ -144,7 +144,7 @@ push_lines : (run : List Logged) (entry : Logged) → flat_map entry_lines (run 
 push_lines run entry = flat_map-append entry_lines run (entry ∷ []) ∙ ap (λ (t : List Line). flat_map entry_lines run ++ t) (append-nil (entry_lines entry))
 
 -- a line more was read and isn't bad
-begins_moved : (script : ScriptData) (read : List (List ℕ)) (run : List Logged) (line : List ℕ) (place : Place) → Begins script read (record { run = run; due = [] }) → IsNextMove script run line place
+pub begins_moved : (script : ScriptData) (read : List (List ℕ)) (run : List Logged) (line : List ℕ) (place : Place) → Begins script read (record { run = run; due = [] }) → IsNextMove script run line place
     → Begins script (read ++ line ∷ []) place
 begins_moved script read run line place b m =
     let w = world_after script run in
@@ -169,7 +169,7 @@ begins_moved script read run line place b m =
 
 begins_due : (script : ScriptData) (read : List (List ℕ)) (run : List Logged) (due : List Line) (line : List ℕ) (place : Place) → Begins script read (record { run = run; due = due })
     → by_due script run due line ≡ Some place → Begins script (read ++ line ∷ []) place
-begins_due script read run [] line place b e = begins_moved script read run line place b (next_move script run line place (read_line script line) refl e)
+begins_due script read run [] line place b e = begins_moved script read run line place b (next_move script run line place (read_line script line) (not_bad script line) e)
 begins_due script read run (x ∷ due) line place b e = elim (cases_Bool (bytes_eq line (written script x))) [
   | inl same ↦
       let e' : Some (record { run = run; due = due }) ≡ Some place = sym (ap (λ (b : Bool). cond b (Some (record { run = run; due = due })) None) same) ∙ e in

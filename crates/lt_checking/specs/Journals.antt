@@ -37,6 +37,10 @@ pub record Begins (script : ScriptData) (read : List (List ℕ)) (place : Place)
   pub parts : told ++ place.due ≡ lines_so_far script place.run
   pub lines : read ≡ map (written script) told
 
+-- the place is one that a reader has come to
+abbrev pub HasCome : ScriptData → Place → Type 0
+HasCome script place = (read : List (List ℕ)) × Begins script read place
+
 -- the lines are the first ones of those of a run's moves, and of the closing lines where it is at rest
 abbrev pub IsBeginning : ScriptData → List (List ℕ) → Type 0
 IsBeginning script read = (place : Place) × Begins script read place

@@ -67,7 +67,7 @@ pub fn law_said()
     ensures due { (script : ScriptData) → (read : List (List ℕ)) → (place : Place) → IsScript script
         → (reader_after script read).place ≡ Some place → AllByRecursion (FitsLine script) place.due }
     ensures same { (script : ScriptData) → (line : List ℕ) → (x : AnyLine) → IsScript script → FitsLine script x
-        → Decides (bytes_eq (written script (read_line script line)) (written script x)) (read_line script line ≡ x) }
+        → Decides (bytes_eq line (written script x)) (read_line script line ≡ x) }
 {}
 
 /// An input is split into the lines before its first line `journal` and those after it, and the lines before the journal are counted.

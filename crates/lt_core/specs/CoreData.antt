@@ -83,3 +83,9 @@ pub record HasMemory (brought : ℕ) (core : CoreData) : Type 0 where
   pub asks : waiting core.state + brought + 2 ≤ core.room
   pub rows : waiting core.state + brought + 2 ≤ core.row_room
   pub parked : 2 ≤ core.parked_room
+
+-- there is room for no less than before
+pub record KeepsRoom (old new : CoreData) : Type 0 where
+  pub asks : old.room ≤ new.room
+  pub rows : old.row_room ≤ new.row_room
+  pub parked : old.parked_room ≤ new.parked_room

@@ -1,6 +1,6 @@
 ghost use Rattle.std.specs.Prelude.{◌≡◌, ◌+◌, ◌<◌, ◌^◌, ◌++◌, nat_lt, map, filter_map, drop, length, slice_index_or};
 ghost use Rattle.std.specs.List.{list_all};
-ghost use Rattle.lt_modes.specs.Queue.{no_ask, same_ask, same_choice, same_flag};
+ghost use Rattle.lt_modes.specs.Queue.{no_ask};
 ghost use Rattle.lt_modes.specs.Fits.{fits, head_fits, body_fits, ask_fits, copy_fits, token_fits, tell_fits, queue_fits, is_pending, is_known, is_at_home, has_client, asks_here, parked_asks, are_apart, ask_if};
 ghost use Rattle.lt_modes.specs.State.{ParkedAsk};
 ghost use Rattle.lt_letter.specs.declared.parked.Parked.{Parked as AnyParked};
@@ -11,7 +11,7 @@ use crate::numbers::Numbers;
 use crate::one_set::{Core, is_of};
 use lt_desk::Desk;
 use lt_letter::{Body, Letter, Parked, Tell};
-use lt_modes::{Ask, Mode};
+use lt_modes::Ask;
 use std::collections::VecDeque;
 
 // The bound of the clocks.
@@ -142,7 +142,7 @@ impl Core {
     fn is_pending(&self, ask: &Ask) -> bool
         ensures { result ≡ is_pending self.now.state ask.now }
     {
-        self.pending.asks().iter().any(|own| same_ask(ask, own))
+        self.pending.has(ask)
     }
 
     // Whether an ask of the client is parked or queued here.
@@ -174,33 +174,6 @@ fn tell_fits(clock: u64, tell: &Tell, numbers: &Numbers) -> bool
     tell.node < numbers.nodes && tell.stamp.clock <= clock
 }
 
-// Whether the asks are equal in all fields.
-fn same_ask(a: &Ask, b: &Ask) -> bool
-    ensures { result ≡ same_ask a.now b.now }
-{
-    (b.stamp.clock == a.stamp.clock && b.stamp.node == a.stamp.node)
-        && (a.client == b.client
-            && (a.node == b.node
-                && (a.mode == b.mode
-                    && (same_choice(a.gives_up, b.gives_up) && same_flag(a.holder, b.holder)))))
-}
-
-fn same_choice(a: Option<Mode>, b: Option<Mode>) -> bool
-    ensures { result ≡ same_choice a b }
-{
-    match (a, b) {
-        (None, None) => true,
-        (Some(a), Some(b)) => a == b,
-        _ => false,
-    }
-}
-
-fn same_flag(a: bool, b: bool) -> bool
-    ensures { result ≡ same_flag a b }
-{
-    if a { b } else { !b }
-}
-
 // Whether the asks of the desk's queue are of clients of their nodes.
 #[tactic(auto, using(crate::proofs::FitsLemmas::all_step))]
 fn are_at_home(desk: &Desk, numbers: &Numbers) -> bool
@@ -216,7 +189,7 @@ fn are_at_home(desk: &Desk, numbers: &Numbers) -> bool
 
 // Whether an ask of the client is in the desk's queue, from this place on.
 #[tactic(auto, using(crate::proofs::FitsLemmas::any_step))]
-fn has_later(desk: &Desk, from: u32, client: u16) -> bool
+pub(crate) fn has_later(desk: &Desk, from: u32, client: u16) -> bool
     ensures { result ≡ has_client client (drop from desk.now.desk.queue) }
 {
     for k in from..desk.len() {
@@ -251,7 +224,7 @@ fn is_apart(parked: &VecDeque<Parked>, k: usize) -> bool
 }
 
 // Whether an ask of the client is parked, from this place on.
-fn parks_later(parked: &VecDeque<Parked>, from: usize, client: u16) -> bool
+pub(crate) fn parks_later(parked: &VecDeque<Parked>, from: usize, client: u16) -> bool
     ensures { result ≡ has_client client (filter_map ask_if (map parked_seen (drop from parked.now.items))) }
 {
     for k in from..parked.len() {

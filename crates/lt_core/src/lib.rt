@@ -14,7 +14,8 @@ mod routing;
 mod serving;
 mod taking;
 mod telling;
-mod unanswered;
+#[cfg(test)]
+mod tests;
 
 pub use laws::{law_room_to_move, law_room_to_send};
 pub use numbers::Numbers;

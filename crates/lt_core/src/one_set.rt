@@ -5,11 +5,12 @@ ghost use Rattle.lt_modes.specs.Serving.{queue_of, waits};
 ghost use Rattle.lt_modes.specs.Fits.{has_client, parked_asks, ask_if};
 ghost use Rattle.lt_modes.specs.Made.{post_of};
 ghost use Rattle.lt_letter.specs.Seen.{letter_seen, post_seen, body_seen, parked_seen};
-ghost use Rattle.lt_letter.specs.Hands.{asks_in, RoomIn};
-ghost use Rattle.lt_core.specs.CoreData.{HasMemory, waiting};
+ghost use Rattle.lt_letter.specs.Hands.{asks_in, RoomIn, places_in, spare_in};
+ghost use Rattle.lt_core.specs.CoreData.{HasMemory, KeepsRoom, waiting};
 ghost use Rattle.lt_core.specs.Steps.{ask_count, is_ask_of};
 
-use crate::unanswered::Unanswered;
+use crate::fits::{has_later, parks_later};
+use lt_asks::Unanswered;
 use lt_desk::Desk;
 use lt_held::Held;
 use lt_letter::{Body, Letter, Parked, Post};
@@ -102,6 +103,7 @@ impl Core {
         ensures state { self.new.state ≡ self.old.state }
         ensures place { (self.new.node ≡ self.old.node) × (self.new.set ≡ self.old.set) }
         ensures room { OnOk result (HasMemory 0 self.new) }
+        ensures kept { KeepsRoom self.old self.new }
     {
         self.reserve_with(0)
     }
@@ -114,6 +116,8 @@ impl Core {
         ensures letter { letter_seen letter.new ≡ letter_seen letter.old }
         ensures room { OnOk result (HasMemory (asks_in letter.new.body) self.new) }
         ensures desk { OnOk result (RoomIn (waiting self.new.state + asks_in letter.new.body + 2) letter.new.body) }
+        ensures kept { KeepsRoom self.old self.new }
+        ensures desk_kept { (places_in letter.old.body ≤ places_in letter.new.body) × (spare_in letter.old.body ≤ spare_in letter.new.body) }
     {
         let brought = letter.asks();
         let asks = self.waiting() + brought + 2;
@@ -128,6 +132,7 @@ impl Core {
         ensures state { self.new.state ≡ self.old.state }
         ensures place { (self.new.node ≡ self.old.node) × (self.new.set ≡ self.old.set) }
         ensures room { OnOk result (HasMemory brought self.new) }
+        ensures kept { KeepsRoom self.old self.new }
     {
         let asks = self.waiting() + brought + 2;
         self.held.reserve(asks)?;
@@ -174,7 +179,7 @@ impl Core {
     pub fn parks(&self, client: u16) -> bool
         ensures { result ≡ has_client client (parked_asks self.now.state) }
     {
-        has_parked(&self.parked, client)
+        parks_later(&self.parked, 0, client)
     }
 
     /// Whether an ask of the client is in the queue of the desk here.
@@ -182,7 +187,7 @@ impl Core {
         ensures { result ≡ has_client client (queue_of self.now.state) }
     {
         match &self.desk {
-            Some(desk) => has_queued(desk, client),
+            Some(desk) => has_later(desk, 0, client),
             None => false,
         }
     }
@@ -230,19 +235,6 @@ pub(crate) fn asks_of(item: &Parked) -> u32
     }
 }
 
-// Whether an ask of the client is parked.
-#[tactic(auto, using(crate::proofs::AskLemmas::client_first))]
-fn has_parked(parked: &VecDeque<Parked>, client: u16) -> bool
-    ensures { result ≡ has_client client (filter_map ask_if (map parked_seen parked.now.items)) }
-{
-    for k in 0..parked.len() {
-        if is_of(&parked[k], client) {
-            return true;
-        }
-    }
-    false
-}
-
 // Whether it is an ask of the client.
 pub(crate) fn is_of(item: &Parked, client: u16) -> bool
     ensures { result ≡ is_ask_of client (parked_seen item.now) }
@@ -251,16 +243,4 @@ pub(crate) fn is_of(item: &Parked, client: u16) -> bool
         Parked::Ask(ask) => ask.client == client,
         Parked::Tell(_) => false,
     }
-}
-
-// Whether an ask of the client is in the desk's queue.
-fn has_queued(desk: &Desk, client: u16) -> bool
-    ensures { result ≡ has_client client desk.now.desk.queue }
-{
-    for k in 0..desk.len() {
-        if desk.ask(k).client == client {
-            return true;
-        }
-    }
-    false
 }

@@ -2,7 +2,7 @@ ghost use Rattle.std.specs.Prelude.{◌≡◌, ◌++◌, [], ◌∷◌, OnOk, if
 ghost use Rattle.std.specs.List.{flat_map};
 ghost use Rattle.lt_modes.specs.Modes.{has, word_of};
 ghost use Rattle.lt_journal.specs.declared.line.Line.TheVariants.{Move as MoveLine, Event as EventLine};
-ghost use Rattle.lt_journal.specs.Words.{after_space, spaced, lock_words, drop_words, letter_words, event_words, words_of_modes};
+ghost use Rattle.lt_journal.specs.Words.{after_space, spaced, line_words, lock_words, drop_words, letter_words, event_words, words_of_modes};
 ghost use Rattle.lt_journal.specs.Text.{line_text};
 
 use crate::names::{client_name, set_name};
@@ -15,20 +15,33 @@ use std::alloc::AllocError;
 pub fn move_line(text: &mut Text, script: &Script, made: Move) -> Result<(), AllocError>
     ensures { OnOk result (text.new ≡ text.old ++ line_text script.now (MoveLine made.stamp.clock made.stamp.node made.step)) }
 {
+    words_of_move(text, script, made.stamp.clock, made.stamp.node, made.step)?;
+    text.end_line()
+}
+
+/// Writes the words of a move's line.
+pub fn words_of_move(
+    text: &mut Text,
+    script: &Script,
+    clock: u64,
+    node: u8,
+    step: Step,
+) -> Result<(), AllocError>
+    ensures { OnOk result (text.new ≡ text.old ++ spaced (line_words script.now (MoveLine clock node step))) }
+{
     text.first_word("move")?;
-    text.number(made.stamp.clock)?;
-    text.number(u64::from(made.stamp.node))?;
-    match made.step {
+    text.number(clock)?;
+    text.number(u64::from(node))?;
+    match step {
         Step::Act(client) => {
             text.word(b"act")?;
-            text.word(client_name(script, client))?;
+            text.word(client_name(script, client))
         }
         Step::Take(from) => {
             text.word(b"take")?;
-            text.number(u64::from(from))?;
+            text.number(u64::from(from))
         }
     }
-    text.end_line()
 }
 
 /// Writes the line of an event.
@@ -39,8 +52,8 @@ pub fn event_line(text: &mut Text, script: &Script, event: Event) -> Result<(), 
     text.end_line()
 }
 
-// Writes the words of an event's line.
-fn words_of_event(text: &mut Text, script: &Script, event: Event) -> Result<(), AllocError>
+/// Writes the words of an event's line.
+pub fn words_of_event(text: &mut Text, script: &Script, event: Event) -> Result<(), AllocError>
     ensures { OnOk result (text.new ≡ text.old ++ spaced (event_words script.now event)) }
 {
     match event {

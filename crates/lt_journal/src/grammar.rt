@@ -12,7 +12,8 @@ use lt_modes::{Event, Mode, ModeSet, Step};
 use lt_script::Script;
 use lt_text::{exact_number, is, next_field};
 
-/// What the line says, which stands here without its line end.
+/// What the line says, which stands here without its line end: what [`read`](crate::read) gives for it. It takes no
+/// memory.
 pub fn read_line(script: &Script, line: &[u8]) -> Line
     ensures { result ≡ read_line script.now line.now }
 {

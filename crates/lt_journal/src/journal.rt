@@ -28,6 +28,20 @@ pub fn write(
     Ok(text.into_bytes())
 }
 
+/// The text of the lines after a run's moves alone.
+pub fn write_closing(
+    alloc: Global,
+    script: &Script,
+    run: &Run,
+    cut: Option<u8>,
+) -> Result<Vec<u8>, AllocError>
+    ensures { IfOk result (λ text. text.items ≡ lines_text script.now (closing_lines script.now run.now.entries cut)) }
+{
+    let mut text = Text::new(alloc);
+    closing_lines(alloc, &mut text, script, run, cut)?;
+    Ok(text.into_bytes())
+}
+
 // Writes the lines of all moves.
 fn move_lines(text: &mut Text, script: &Script, run: &Run) -> Result<(), AllocError>
     ensures { OnOk result (text.new ≡ text.old ++ lines_text script.now (moves_lines run.now.entries)) }

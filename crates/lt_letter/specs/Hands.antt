@@ -18,3 +18,12 @@ RoomIn asks (Tell tell) = Unit {0}
 RoomIn asks (Copy ask) = Unit {0}
 RoomIn asks (Token d) = (asks ≤ d.room) × (asks ≤ d.spare)
 RoomIn asks (Freeze news) = Unit {0}
+
+-- how many asks the desk that it brings has places for, and how many more each node may owe word of
+abbrev pub places_in : Body → ℕ
+places_in (Token d) = d.room
+places_in body = 0
+
+abbrev pub spare_in : Body → ℕ
+spare_in (Token d) = d.spare
+spare_in body = 0

@@ -4,6 +4,8 @@
 mod letter;
 mod out;
 mod parked;
+#[cfg(test)]
+mod tests;
 
 pub use letter::{Body, Letter, News, Post};
 pub use out::Out;

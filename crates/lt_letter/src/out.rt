@@ -46,21 +46,24 @@ impl Out {
         ensures events { self.new.events ≡ self.old.events }
         ensures post_room { OnOk result (length self.old.posts + letters ≤ self.new.post_room) }
         ensures event_room { OnOk result (length self.old.events + events ≤ self.new.event_room) }
+        ensures kept { (self.old.post_room ≤ self.new.post_room) × (self.old.event_room ≤ self.new.event_room) }
     {
         self.posts.reserve(letters as usize)?;
         self.events.reserve(events as usize)
     }
 
-    /// For how many letters there is room, with those that are here.
+    /// How many letters it has room for in all.
     pub fn post_room(&self) -> usize
-        ensures { result ≡ self.now.post_room }
+        ensures room { result ≡ self.now.post_room }
+        ensures within { length self.now.posts ≤ self.now.post_room }
     {
         self.posts.capacity()
     }
 
-    /// For how many event lines there is room, with those that are here.
+    /// How many event lines it has room for in all.
     pub fn event_room(&self) -> usize
-        ensures { result ≡ self.now.event_room }
+        ensures room { result ≡ self.now.event_room }
+        ensures within { length self.now.events ≤ self.now.event_room }
     {
         self.events.capacity()
     }

@@ -1,5 +1,5 @@
 -- Mails one after the other: the same ends, the same letters, more room.
-use Rattle.std.proofs.Common.{◌≡◌, ℕ, ◌+◌, ◌<◌, inl, inr, Option, Some, None, sym, subst, arith, ◌∙◌}
+use Rattle.std.proofs.Common.{◌≡◌, refl, ℕ, ◌+◌, ◌<◌, ◌≤◌, inl, inr, Option, Some, None, sym, subst, arith, ◌∙◌}
 use Rattle.std.proofs.lemmas.Bool.{cases_eq}
 use Rattle.std.proofs.lemmas.Option.{slice_get_cases}
 use Rattle.lt_mail.specs.declared.lane.OutLane.{OutLane}
@@ -71,3 +71,22 @@ links_last a b x y h k l =
     linked (Some o) (Some i) (Some p) None u v e = absurd v
     linked (Some o) (Some i) (Some p) (Some j) u v e =
         ((v.0.0 ∙ e.0.0 ∙ sym u.0.0, v.0.1 ∙ e.0.1 ∙ sym u.0.1, v.0.2 ∙ e.0.2 ∙ sym u.0.2, v.0.3 ∙ e.0.3 ∙ sym u.0.3), subst (λ (n : ℕ). 0 < n) (sym u.1) e.1)
+
+same_ends_out : (o : Option OutLane) → Alike SameOut o o
+same_ends_out None = tt
+same_ends_out (Some lane) = ((refl, refl, refl, refl), refl)
+
+same_ends_in : (o : Option InLane) → Alike SameIn o o
+same_ends_in None = tt
+same_ends_in (Some lane) = ((refl, refl, refl, refl), refl)
+
+pub ends_same : (m : Mail) → SameEnds m m
+ends_same m = record { me = refl; counts = (refl, refl); outs = λ node. same_ends_out (out_at m node); ins = λ node. same_ends_in (in_at m node) }
+
+-- with room for more letters there is room for fewer
+pub fewer_letters : (m : Mail) (more fewer : ℕ) → fewer ≤ more → HasRoom m more → HasRoom m fewer
+fewer_letters m more fewer less h node = here (out_at m node) (h node)
+  where
+    here : (o : Option OutLane) → HasRoomAt more o → HasRoomAt fewer o
+    here None room = tt
+    here (Some lane) room = omega (arith, room, less)

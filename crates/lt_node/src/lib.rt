@@ -8,5 +8,7 @@ mod limits;
 mod node;
 mod room;
 mod taking;
+#[cfg(test)]
+mod tests;
 
 pub use node::Node;

@@ -1,17 +1,18 @@
 ghost use Rattle.std.specs.Prelude.{◌≡◌, ◌<◌, [], ◌∷◌, ◌++◌, length, position, IfOk, IfSome};
-ghost use Rattle.lt_modes.specs.Queue.{without, has_stamp};
+ghost use Rattle.std.specs.List.{list_any};
+ghost use Rattle.lt_modes.specs.Queue.{without, has_stamp, same_ask, same_choice, same_flag};
 ghost use Rattle.lt_modes.specs.Fits.{has_client};
 ghost use Rattle.lt_modes.specs.Routing.{is_behind};
 ghost use Rattle.lt_modes.specs.HandingOver.{stamps_of};
 
-use lt_modes::{Ask, Stamp};
+use lt_modes::{Ask, Mode, Stamp};
 use lt_table::Pending;
 use std::alloc::{AllocError, Global};
 use std::marker::Model;
 
 /// The unanswered asks of a node's clients: at most 16.
 #[derive(Drop)]
-pub(crate) struct Unanswered {
+pub struct Unanswered {
     asks: Vec<Ask>,
     // Their stamps, as the desk reads them.
     stamps: Pending,
@@ -30,7 +31,7 @@ impl Model for Unanswered {
 }
 
 impl Unanswered {
-    pub(crate) fn new(alloc: Global) -> Result<Unanswered, AllocError>
+    pub fn new(alloc: Global) -> Result<Unanswered, AllocError>
         ensures { IfOk result (λ asks. asks ≡ []) }
     {
         Ok(Unanswered {
@@ -39,20 +40,20 @@ impl Unanswered {
         })
     }
 
-    pub(crate) fn asks(&self) -> &[Ask]
+    pub fn asks(&self) -> &[Ask]
         ensures { result.now ≡ self.now }
     {
         self.asks.as_slice()
     }
 
     /// The stamps of the asks.
-    pub(crate) fn stamps(&self) -> &Pending
+    pub fn stamps(&self) -> &Pending
         ensures { stamps_of self.now ≡ result.now }
     {
         &self.stamps
     }
 
-    pub(crate) fn push(&mut self, ask: Ask)
+    pub fn push(&mut self, ask: Ask)
         requires { length self.old < 16 }
         ensures { self.new ≡ self.old ++ ask ∷ [] }
     {
@@ -61,7 +62,7 @@ impl Unanswered {
     }
 
     /// Takes away the first ask that has the stamp, where there is one.
-    pub(crate) fn forget(&mut self, stamp: Stamp)
+    pub fn forget(&mut self, stamp: Stamp)
         ensures { self.new ≡ without self.old stamp }
     {
         if let Some(k) = place(self.asks.as_slice(), stamp) {
@@ -70,15 +71,22 @@ impl Unanswered {
         self.stamps.remove(stamp);
     }
 
+    /// Whether the ask is one of these.
+    pub fn has(&self, ask: &Ask) -> bool
+        ensures { result ≡ list_any (same_ask ask.now) self.now }
+    {
+        self.asks.iter().any(|own| same_ask(ask, own))
+    }
+
     /// Whether one of the asks is of the client.
-    pub(crate) fn has_client(&self, client: u16) -> bool
+    pub fn has_client(&self, client: u16) -> bool
         ensures { result ≡ has_client client self.now }
     {
         self.asks.iter().any(|ask| ask.client == client)
     }
 
     /// Whether a taking ask among these is older.
-    pub(crate) fn is_behind(&self, ask: &Ask) -> bool
+    pub fn is_behind(&self, ask: &Ask) -> bool
         ensures { result ≡ is_behind self.now ask.now }
     {
         self.asks
@@ -93,4 +101,31 @@ fn place(asks: &[Ask], stamp: Stamp) -> Option<usize>
     ensures within { IfSome result (λ k. k < length asks.now) }
 {
     asks.iter().position(|ask| ask.stamp.clock == stamp.clock && ask.stamp.node == stamp.node)
+}
+
+// Whether the asks are equal in all fields.
+fn same_ask(a: &Ask, b: &Ask) -> bool
+    ensures { result ≡ same_ask a.now b.now }
+{
+    (b.stamp.clock == a.stamp.clock && b.stamp.node == a.stamp.node)
+        && (a.client == b.client
+            && (a.node == b.node
+                && (a.mode == b.mode
+                    && (same_choice(a.gives_up, b.gives_up) && same_flag(a.holder, b.holder)))))
+}
+
+fn same_choice(a: Option<Mode>, b: Option<Mode>) -> bool
+    ensures { result ≡ same_choice a b }
+{
+    match (a, b) {
+        (None, None) => true,
+        (Some(a), Some(b)) => a == b,
+        _ => false,
+    }
+}
+
+fn same_flag(a: bool, b: bool) -> bool
+    ensures { result ≡ same_flag a b }
+{
+    if a { b } else { !b }
 }

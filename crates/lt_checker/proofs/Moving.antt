@@ -1,0 +1,186 @@
+-- What the next move makes of a place.
+use Rattle.std.proofs.Common.{◌≡◌, ℕ, suc, ◌+◌, ◌-◌, ◌<◌, ◌==◌, ◌&&◌, not, cond, Bool, true, false, nat_lt, List, [], ◌∷◌, ◌++◌, length, set, get_or, slice_get, Some, None, map, refl, sym, ap, ap₂, subst, ◌∙◌, inl, inr, arith, length-set, get_or-set_same, get_or-set_other}
+use Rattle.std.specs.Option.{option_map}
+use Rattle.std.proofs.lemmas.Bool.{cases_eq, eq-eqb, ne_eqb, eqb-true, ltb-true, and_parts, and_from}
+use Rattle.std.proofs.lemmas.List.{length_push}
+use Rattle.lt_modes.specs.declared.moves.Move.{Move}
+use Rattle.lt_modes.specs.declared.moves.Step.{Step}
+use Rattle.lt_modes.specs.declared.moves.Step.TheVariants.{Act, Take}
+use Rattle.lt_modes.specs.Script.{ScriptData}
+use Rattle.lt_runs.specs.Log.{Logged}
+use Rattle.lt_runs.specs.Families.{home}
+use Rattle.lt_runs.specs.World.{World, start, world_after, is_runnable, is_some_letter, is_enabled, move_stamp, logged, IsRun}
+use Rattle.lt_model.proofs.Runs.{IsRunFrom-push}
+use Rattle.lt_script.specs.Script.{IsScript}
+use Rattle.lt_limits.specs.declared.moves.TheConstants.{MAX_MOVES}
+use Rattle.lt_merge.specs.Run.{made_at, events_at}
+use Rattle.lt_modes.specs.declared.event.Event.{Event}
+use Rattle.lt_journal.specs.declared.line.Line.{Line}
+use Rattle.lt_journal.specs.declared.line.Line.TheVariants.{Move as MoveLine, Event as EventLine}
+use Rattle.lt_world.specs.Fields.{WorldData, world_of}
+use Rattle.lt_checking.specs.Checking.{closing_at_rest, moved, may_move, by_move}
+use Rattle.lt_checking.specs.Journals.{HasFewMoves}
+use Rattle.lt_checking.proofs.Places.{stamp_node, is_logged, count_push, few_push}
+use Rattle.lt_checking.proofs.Heard.{come_moved}
+use Rattle.lt_checker.specs.Place.{AreCounts, IsPlace}
+
+-- a move that is enabled is one of a node of the script
+node_inside : (script : ScriptData) (w : World) (q : ℕ) (step : Step) → IsScript script → is_enabled script w q step ≡ true → q < script.nodes
+node_inside script w q (Act client) is_script e =
+    let parts = and_parts (nat_lt client (length script.clients)) (home script client == q && is_runnable script w client) e in
+    let more = and_parts (home script client == q) (is_runnable script w client) parts.1 in
+    subst (λ (n : ℕ). n < script.nodes) (eqb-true (home script client) q more.0)
+    (is_script.homes client (ltb-true client (length script.clients) parts.0))
+node_inside script w q (Take p) is_script e =
+    let parts = and_parts (nat_lt p script.nodes) (nat_lt q script.nodes && (not (p == q) && is_some_letter (w.mail p q))) e in
+    ltb-true q script.nodes (and_parts (nat_lt q script.nodes) (not (p == q) && is_some_letter (w.mail p q)) parts.1).0
+
+-- the node's count is one more after its move
+counts_more : (script : ScriptData) (counts : List ℕ) (run : List Logged) (entry : Logged) (q : ℕ) → AreCounts script counts run → entry.made.stamp.node ≡ q → q < script.nodes
+    → AreCounts script (set counts q (get_or counts q 0 + 1)) (run ++ entry ∷ [])
+counts_more script counts run entry q were is_q inside = record {
+  nodes = length-set counts q (get_or counts q 0 + 1) ∙ were.nodes;
+  each = λ node within. elim (cases_eq entry.made.stamp.node node) [
+    | inl e ↦
+        let same : node ≡ q = sym e ∙ is_q in
+        omega (
+          arith,
+          ap (λ (k : ℕ). get_or (set counts q (get_or counts q 0 + 1)) k 0) same,
+          get_or-set_same counts q (get_or counts q 0 + 1) 0 (omega (arith, were.nodes, inside)),
+          ap (λ (k : ℕ). get_or counts k 0) same,
+          were.each node within,
+          count_push run entry node,
+          ap {B = ℕ} (λ (b : Bool). cond b 1 0) (eq-eqb entry.made.stamp.node node e),
+        )
+    | inr d ↦ omega (
+      arith,
+      get_or-set_other counts q node (get_or counts q 0 + 1) 0 (λ e. d (is_q ∙ sym e)),
+      were.each node within,
+      count_push run entry node,
+      ap {B = ℕ} (λ (b : Bool). cond b 1 0) (ne_eqb entry.made.stamp.node node d),
+    )
+  ];
+}
+
+-- a move that may be the next one was made
+pub record IsStepped (script : ScriptData) (world : WorldData) (counts : List ℕ) (node : ℕ) (step : Step) (next : WorldData) : Type 0 where
+  pub place : IsPlace script world counts []
+  pub enabled : is_enabled script (world_after script world.run) node step ≡ true
+  pub may : may_move world.run node ≡ true
+  pub next_is : next ≡ record world { run = world.run ++ logged script (world_after script world.run) node step ∷ [] }
+
+pub inside : (script : ScriptData) (world : WorldData) (counts : List ℕ) (node : ℕ) (step : Step) → IsPlace script world counts []
+    → is_enabled world.script (world_of world) node step ≡ true → node < script.nodes
+inside script world counts node step place enabled =
+    node_inside script (world_after script world.run) node step place.is_script
+    (subst (λ (s : ScriptData). is_enabled s (world_after s world.run) node step ≡ true) place.script_is enabled)
+
+pub stepped : (script : ScriptData) (world : WorldData) (counts : List ℕ) (node : ℕ) (step : Step) (next : WorldData) → IsPlace script world counts []
+    → is_enabled world.script (world_of world) node step ≡ true → nat_lt (get_or counts node 0) MAX_MOVES ≡ true
+    → next ≡ record world { run = world.run ++ logged world.script (world_of world) node step ∷ [] }
+    → IsStepped script world counts node step next
+stepped script world counts node step next place enabled may next_is = record {
+  place = place;
+  enabled = subst (λ (s : ScriptData). is_enabled s (world_after s world.run) node step ≡ true) place.script_is enabled;
+  may = ap (λ (n : ℕ). nat_lt n MAX_MOVES) (sym (place.counts_are.each node (inside script world counts node step place enabled))) ∙ may;
+  next_is = subst (λ (s : ScriptData). next ≡ record world { run = world.run ++ logged s (world_after s world.run) node step ∷ [] }) place.script_is next_is;
+}
+
+next_run : (script : ScriptData) (world : WorldData) (counts : List ℕ) (node : ℕ) (step : Step) (next : WorldData) → IsStepped script world counts node step next
+    → next.run ≡ world.run ++ logged script (world_after script world.run) node step ∷ []
+next_run script world counts node step next s = ap (λ (w : WorldData). w.run) s.next_is
+
+pub next_is_run : (script : ScriptData) (world : WorldData) (counts : List ℕ) (node : ℕ) (step : Step) (next : WorldData) → IsStepped script world counts node step next
+    → IsRun script next.run
+next_is_run script world counts node step next s =
+    subst (IsRun script) (sym (next_run script world counts node step next s))
+    (IsRunFrom-push script (start script) world.run (logged script (world_after script world.run) node step) s.place.come.1.is_run
+    (is_logged script (world_after script world.run) node step s.enabled))
+
+pub next_few : (script : ScriptData) (world : WorldData) (counts : List ℕ) (node : ℕ) (step : Step) (next : WorldData) → IsStepped script world counts node step next
+    → HasFewMoves next.run
+next_few script world counts node step next s =
+    subst HasFewMoves (sym (next_run script world counts node step next s))
+    (few_push world.run (logged script (world_after script world.run) node step) node s.place.come.1.few (stamp_node (world_after script world.run) node step) s.may)
+
+last_get : (run : List Logged) (entry : Logged) → slice_get (run ++ entry ∷ []) (length run) ≡ Some entry
+last_get [] entry = refl
+last_get (first ∷ run) entry = last_get run entry
+
+-- what stands last in the run is the move
+last_made : (run : List Logged) (entry : Logged) (k : ℕ) (made : Move) → suc k ≡ length (run ++ entry ∷ []) → made_at (run ++ entry ∷ []) k ≡ Some made → entry.made ≡ made
+last_made run entry k made last is =
+    let place : k ≡ length run = omega (arith, last, length_push run entry) in
+    let found : Some entry.made ≡ Some made = sym (ap (option_map (λ (e : Logged). e.made)) (last_get run entry)) ∙ (ap (made_at (run ++ entry ∷ [])) (sym place) ∙ is) in
+    cc
+
+pub next_clock : (script : ScriptData) (world : WorldData) (counts : List ℕ) (node : ℕ) (step : Step) (next : WorldData) (k : ℕ) (made : Move) → IsStepped script world counts node step next
+    → suc k ≡ length next.run → made_at next.run k ≡ Some made → (move_stamp (world_after script world.run) node step).clock ≡ made.stamp.clock
+next_clock script world counts node step next k made s last is =
+    let run_is = next_run script world counts node step next s in
+    ap (λ (m : Move). m.stamp.clock)
+    (last_made world.run (logged script (world_after script world.run) node step) k made (last ∙ ap (λ (r : List Logged). length r) run_is) (ap (λ (r : List Logged). made_at r k) (sym run_is) ∙ is))
+
+no_next : (a b c : Bool) → b ≡ false → a && (b && c) ≡ false
+no_next true false c e = refl
+no_next false false c e = refl
+no_next a true c e = absurd (cc)
+
+pub wrong_clock : (script : ScriptData) (run : List Logged) (clock node : ℕ) (step : Step) → (clock ≡ (move_stamp (world_after script run) node step).clock → ⊥)
+    → by_move script run (MoveLine clock node step) ≡ None
+wrong_clock script run clock node step apart =
+    let w = world_after script run in
+    ap (λ (b : Bool). cond b (Some (moved script run (logged script w node step))) None)
+    (no_next (is_enabled script w node step) (clock == (move_stamp w node step).clock) (may_move run node) (ne_eqb clock (move_stamp w node step).clock apart))
+
+pub right_move : (script : ScriptData) (world : WorldData) (counts : List ℕ) (node : ℕ) (step : Step) (next : WorldData) (clock : ℕ) → IsStepped script world counts node step next
+    → clock ≡ (move_stamp (world_after script world.run) node step).clock
+    → by_move script world.run (MoveLine clock node step) ≡ Some (moved script world.run (logged script (world_after script world.run) node step))
+right_move script world counts node step next clock s same =
+    let w = world_after script world.run in
+    ap (λ (b : Bool). cond b (Some (moved script world.run (logged script w node step))) None)
+    (and_from (is_enabled script w node step) ((clock == (move_stamp w node step).clock) && may_move world.run node) s.enabled
+    (and_from (clock == (move_stamp w node step).clock) (may_move world.run node) (eq-eqb clock (move_stamp w node step).clock same) s.may))
+
+-- the events that stand last in the run are those of the move
+pub last_events : (run : List Logged) (entry : Logged) (k : ℕ) (events : List Event) → suc k ≡ length (run ++ entry ∷ []) → events_at (run ++ entry ∷ []) k ≡ Some events → entry.events ≡ events
+last_events run entry k events last is =
+    let place : k ≡ length run = omega (arith, last, length_push run entry) in
+    let found : Some entry.events ≡ Some events = sym (ap (option_map (λ (e : Logged). e.events)) (last_get run entry)) ∙ (ap (events_at (run ++ entry ∷ [])) (sym place) ∙ is) in
+    cc
+
+-- the next run, with the lines that are then due, is the place after the move
+pub next_place : (script : ScriptData) (world : WorldData) (counts : List ℕ) (node : ℕ) (step : Step) (next : WorldData) (k : ℕ) (events : List Event) (due : List Line)
+    → IsStepped script world counts node step next → suc k ≡ length next.run → events_at next.run k ≡ Some events
+    → due ≡ map EventLine events ++ closing_at_rest script next.run
+    → moved script world.run (logged script (world_after script world.run) node step) ≡ record { run = next.run; due = due }
+next_place script world counts node step next k events due s last is due_is =
+    let run_is = next_run script world counts node step next s in
+    let entry = logged script (world_after script world.run) node step in
+    let told = last_events world.run entry k events (last ∙ ap (λ (r : List Logged). length r) run_is) (ap (λ (r : List Logged). events_at r k) (sym run_is) ∙ is) in
+    let same : map EventLine entry.events ++ closing_at_rest script (world.run ++ entry ∷ []) ≡ due =
+    ap₂ (λ (es : List Event) (r : List Logged). map EventLine es ++ closing_at_rest script r) told (sym run_is) ∙ sym due_is in
+    λ i. record { run = sym run_is i; due = same i }
+
+-- and a reader can come to it
+pub next_is_place : (script : ScriptData) (world : WorldData) (counts : List ℕ) (node : ℕ) (step : Step) (next : WorldData) (line : Line) (due : List Line)
+    → IsStepped script world counts node step next → node < script.nodes → by_move script world.run line ≡ Some (record { run = next.run; due = due })
+    → IsPlace script next (set counts node (get_or counts node 0 + 1)) due
+next_is_place script world counts node step next line due s within led =
+    let run_is = next_run script world counts node step next s in
+    let entry = logged script (world_after script world.run) node step in
+    record {
+      is_script = s.place.is_script;
+      script_is = ap (λ (w : WorldData). w.script) s.next_is ∙ s.place.script_is;
+      limit = ap (λ (w : WorldData). w.limit) s.next_is ∙ s.place.limit;
+      counts_are = subst (AreCounts script (set counts node (get_or counts node 0 + 1))) (sym run_is)
+          (counts_more script counts world.run entry node s.place.counts_are (stamp_node (world_after script world.run) node step) within);
+      come = come_moved script world.run line (record { run = next.run; due = due }) s.place.come led;
+    }
+
+-- the place of the last move of the next run
+pub last_place : (script : ScriptData) (world : WorldData) (counts : List ℕ) (node : ℕ) (step : Step) (next : WorldData) (n : ℕ) → IsStepped script world counts node step next
+    → n ≡ length next.run → suc (n - 1) ≡ length next.run
+last_place script world counts node step next n s is =
+    let entry = logged script (world_after script world.run) node step in
+    omega (arith, is, ap (λ (r : List Logged). length r) (next_run script world counts node step next s), length_push world.run entry)

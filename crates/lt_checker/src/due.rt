@@ -1,0 +1,70 @@
+ghost use Rattle.std.specs.Prelude.{◌≡◌, [], ◌∷◌, ◌++◌, map, OnOk};
+ghost use Rattle.lt_modes.specs.Script.{ScriptData};
+ghost use Rattle.lt_runs.specs.World.{IsRun};
+ghost use Rattle.lt_script.specs.Script.{IsScript};
+ghost use Rattle.lt_journal.specs.declared.line.Line.TheVariants.{Event as EventLine};
+ghost use Rattle.lt_journal.specs.Grammar.{journal_of};
+ghost use Rattle.lt_checking.specs.Checking.{closing_at_rest};
+ghost use Rattle.lt_checking.specs.Journals.{HasFewMoves};
+
+use lt_journal::{Line, read_line, write_closing};
+use lt_modes::Event;
+use lt_script::Script;
+use lt_text::next_line;
+use lt_world::World;
+use std::alloc::{AllocError, Global};
+use std::collections::VecDeque;
+
+// Adds a last line.
+fn push(due: &mut VecDeque<Line>, line: Line) -> Result<(), AllocError>
+    ensures { OnOk result (due.new.items ≡ due.old.items ++ line ∷ []) }
+{
+    // A list of lines grows only where the prover meets the type of events, so this takes one apart.
+    match line {
+        Line::Event(event) => due.push_back(Line::Event(event))?,
+        other => due.push_back(other)?,
+    }
+    Ok(())
+}
+
+/// Adds the lines of the events.
+pub(crate) fn push_events(due: &mut VecDeque<Line>, events: &[Event]) -> Result<(), AllocError>
+    ensures { OnOk result (due.new.items ≡ due.old.items ++ map EventLine events.now) }
+{
+    for event in events {
+        push(due, Line::Event(*event))?;
+    }
+    Ok(())
+}
+
+// Adds what the lines of the text say.
+fn push_lines(due: &mut VecDeque<Line>, script: &Script, text: &[u8]) -> Result<(), AllocError>
+    ensures { OnOk result (due.new.items ≡ due.old.items ++ journal_of script.now text.now) }
+{
+    let mut rest = text;
+    while let Some((line, after)) = next_line(rest) {
+        push(due, read_line(script, line))?;
+        rest = after;
+    }
+    Ok(())
+}
+
+/// Adds the closing lines, where the world is at rest.
+pub(crate) fn push_closing(
+    alloc: Global,
+    due: &mut VecDeque<Line>,
+    script: &Script,
+    world: &World,
+) -> Result<(), AllocError>
+    requires is_script { IsScript script.now }
+    requires script { world.now.script ≡ script.now }
+    requires is_run { IsRun script.now world.now.run }
+    requires few { HasFewMoves world.now.run }
+    ensures { OnOk result (due.new.items ≡ due.old.items ++ closing_at_rest script.now world.now.run) }
+{
+    if world.at_rest() {
+        let text = write_closing(alloc, script, world.run(), None)?;
+        push_lines(due, script, &text)?;
+    }
+    Ok(())
+}

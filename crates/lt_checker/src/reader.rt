@@ -1,0 +1,112 @@
+ghost use Rattle.std.specs.Prelude.{◌≡◌, IfOk};
+ghost use Rattle.lt_script.specs.Script.{IsScript};
+ghost use Rattle.lt_checking.specs.Checking.{first_reader, read_on, verdict};
+ghost use Rattle.lt_checker.specs.Checker.{Answers};
+
+use crate::counts::Counts;
+use crate::due::push_closing;
+use crate::error::ReplayError;
+use crate::following::follow;
+use lt_journal::Line;
+use lt_limits::MAX_MOVES;
+use lt_merge::Run;
+use lt_script::Script;
+use lt_world::World;
+use std::alloc::{AllocError, Global};
+use std::collections::VecDeque;
+use std::marker::Model;
+
+/// What the lines so far have told: the moves, the lines that must come before any further move, and how many lines
+/// were good.
+#[derive(Drop)]
+pub(crate) struct Reader<'a> {
+    alloc: Global,
+    script: &'a Script,
+    world: World<'a>,
+    counts: Counts,
+    due: VecDeque<Line>,
+    good: u32,
+    // A line was bad: the one after the good ones.
+    bad: bool,
+}
+
+impl<'a> Model for Reader<'a> {
+    ghost use Rattle.std.specs.Prelude.{◌<◌, ◌+◌, ◌^◌};
+    ghost use Rattle.lt_script.specs.Script.{IsScript};
+    ghost use Rattle.lt_checker.specs.Place.{ReaderData, KeepsPlace, place_of};
+
+    ghost Value = { ReaderData };
+
+    ghost view = { λ r. record {
+      script = r.script.now;
+      reader = record { place = place_of r.bad r.world.run r.due.items; good = r.good };
+    } };
+
+    ghost invariant = { λ r. IsScript r.script.now × (r.good + 1 < 2 ^ 32) × KeepsPlace r.bad r.script.now r.world r.counts r.due.items };
+}
+
+impl<'a> Reader<'a> {
+    /// Before the first line.
+    pub(crate) fn new(alloc: Global, script: &'a Script) -> Result<Reader<'a>, AllocError>
+        ensures { IfOk result (λ reader. reader ≡ record { script = script.now; reader = first_reader script.now }) }
+    {
+        let world = World::new(alloc, script, MAX_MOVES)?;
+        let counts = Counts::new(alloc, script)?;
+        let mut due = VecDeque::new(alloc);
+        push_closing(alloc, &mut due, script, &world)?;
+        Ok(Reader {
+            alloc,
+            script,
+            world,
+            counts,
+            due,
+            good: 0,
+            bad: false,
+        })
+    }
+
+    /// Takes one line. It also fails where the count of lines would pass the largest number.
+    pub(crate) fn take(self, line: &[u8]) -> Result<Reader<'a>, AllocError>
+        ensures script { IfOk result (λ reader. reader.script ≡ self.entry.script) }
+        ensures reader { IfOk result (λ reader. reader.reader ≡ read_on self.entry.script self.entry.reader line.now) }
+    {
+        if self.bad {
+            return Ok(self);
+        }
+        let Reader {
+            alloc,
+            script,
+            mut world,
+            mut counts,
+            mut due,
+            good,
+            ..
+        } = self;
+        let is_good = follow(alloc, script, &mut world, &mut counts, &mut due, line)?;
+        if good == u32::MAX - 1 {
+            return Err(AllocError);
+        }
+        Ok(Reader {
+            alloc,
+            script,
+            world,
+            counts,
+            due,
+            good: if is_good { good + 1 } else { good },
+            bad: !is_good,
+        })
+    }
+
+    /// The run, where all its lines are there.
+    pub(crate) fn finish(self) -> Result<Run, ReplayError>
+        ensures answers { Answers (verdict self.entry.script self.entry.reader) result }
+        ensures is_script { IsScript self.entry.script }
+    {
+        if self.bad || !self.due.is_empty() || !self.world.at_rest() {
+            return Err(ReplayError::Bad {
+                line: self.good + 1,
+            });
+        }
+        Ok(self.world.into_run())
+    }
+}

@@ -1,0 +1,38 @@
+ghost use Rattle.std.specs.Prelude.{◌≡◌, ℕ, List, map, IfOk};
+ghost use Rattle.lt_journal.specs.Grammar.{read_line};
+ghost use Rattle.lt_checking.specs.Checking.{written, reader_after, checked};
+ghost use Rattle.lt_checking.specs.Said.{checked_said};
+ghost use Rattle.lt_checker.specs.Checker.{Answers};
+
+use crate::error::ReplayError;
+use crate::reader::Reader;
+use lt_journal::{Journal, write_line};
+use lt_merge::Run;
+use lt_script::Script;
+use std::alloc::{AllocError, Global};
+
+/// The run whose journal this is, or the first bad line of the journal.
+pub fn replay(alloc: Global, script: &Script, journal: &Journal) -> Result<Run, ReplayError>
+    ensures said { Answers (checked_said script.now journal.now) result }
+    ensures read { (all : List (List ℕ)) → journal.now ≡ map (read_line script.now) all
+        → Answers (checked script.now all) result }
+{
+    read_all(alloc, script, journal)?.finish()
+}
+
+// Takes all lines of the journal, as they are written.
+fn read_all<'a>(
+    alloc: Global,
+    script: &'a Script,
+    journal: &Journal,
+) -> Result<Reader<'a>, AllocError>
+    ensures script { IfOk result (λ reader. reader.script ≡ script.now) }
+    ensures reader { IfOk result (λ reader. reader.reader ≡ reader_after script.now (map (written script.now) journal.now)) }
+{
+    let mut reader = Reader::new(alloc, script)?;
+    for k in 0..journal.len() {
+        let line = write_line(alloc, script, journal.line(k))?;
+        reader = reader.take(&line)?;
+    }
+    Ok(reader)
+}

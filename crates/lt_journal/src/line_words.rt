@@ -1,0 +1,53 @@
+ghost use Rattle.std.specs.Prelude.{◌≡◌, ◌++◌, OnOk, IfOk};
+ghost use Rattle.lt_journal.specs.Words.{spaced, line_words};
+
+use crate::events::{lock, words_of_event, words_of_move};
+use crate::line::Line;
+use crate::names::set_name;
+use crate::text::Text;
+use lt_script::Script;
+use std::alloc::{AllocError, Global};
+
+/// How the line is written, without its line end. A bad line is written with no words.
+pub fn write_line(alloc: Global, script: &Script, line: Line) -> Result<Vec<u8>, AllocError>
+    ensures { IfOk result (λ text. text.items ≡ spaced (line_words script.now line)) }
+{
+    let mut text = Text::new(alloc);
+    words_of_line(&mut text, script, line)?;
+    Ok(text.into_bytes())
+}
+
+// Writes the words of the line.
+fn words_of_line(text: &mut Text, script: &Script, line: Line) -> Result<(), AllocError>
+    ensures { OnOk result (text.new ≡ text.old ++ spaced (line_words script.now line)) }
+{
+    match line {
+        Line::Move { clock, node, step } => words_of_move(text, script, clock, node, step),
+        Line::Event(event) => words_of_event(text, script, event),
+        Line::Held {
+            client,
+            set,
+            mode,
+            count,
+        } => {
+            lock(text, script, "held", client, set, mode)?;
+            text.number(u64::from(count))
+        }
+        Line::Waiting { client, set, mode } => lock(text, script, "waiting", client, set, mode),
+        Line::Owner { set, node, epoch } => {
+            text.first_word("owner")?;
+            text.word(set_name(script, set))?;
+            text.number(u64::from(node))?;
+            text.number(epoch)
+        }
+        Line::End { count } => {
+            text.first_word("end")?;
+            text.number(u64::from(count))
+        }
+        Line::Cut { node } => {
+            text.first_word("cut")?;
+            text.number(u64::from(node))
+        }
+        Line::Bad => Ok(()),
+    }
+}

@@ -1,0 +1,129 @@
+ghost use Rattle.std.specs.Prelude.{◌≡◌};
+
+use crate::Node;
+use lt_core::Answer;
+use lt_letter::{Letter, Out};
+use lt_modes::{Command, Event, Mode};
+use lt_script::Script;
+use std::alloc::{AllocError, Global};
+use std::test::Fail;
+
+// Two sets of one family. The second client wants what the first has; the fourth can't drop what the second waits
+// for, and the third drops what the first has.
+fn script(alloc: Global) -> Result<Script, AllocError> {
+    let set = 0;
+    let mode = Mode::Write;
+    let mut script = Script::new(alloc, 2)?;
+    script.add_set("s".as_bytes(), 0)?;
+    script.add_set("t".as_bytes(), 0)?;
+    script.add_client("a".as_bytes(), 0)?;
+    script.add_client("b".as_bytes(), 1)?;
+    script.add_client("c".as_bytes(), 0)?;
+    script.add_client("d".as_bytes(), 1)?;
+    script.add_command(0, Command::Lock { set, mode })?;
+    script.add_command(1, Command::Lock { set, mode })?;
+    script.add_command(3, Command::DropAll { client: 1, set: 1 })?;
+    script.add_command(2, Command::DropAll { client: 0, set: 1 })?;
+    Ok(script)
+}
+
+// The client's next command, where it can make one.
+fn act(
+    node: &mut Node<'_>,
+    script: &Script,
+    client: u16,
+    out: &mut Out,
+) -> Result<Option<Answer>, AllocError>
+    requires { node.old.script ≡ script.now }
+    ensures { node.new.script ≡ node.old.script }
+{
+    if client >= script.clients() || script.home(client) != node.me() || !node.is_within() {
+        return Ok(None);
+    }
+    node.reserve(out)?;
+    if !node.runnable(client) || !node.is_within() || !node.leaves_asks() || node.clock() > 9 {
+        return Ok(None);
+    }
+    Ok(Some(node.act(client, out)))
+}
+
+// Takes the letter, where it fits.
+fn take(node: &mut Node<'_>, mut letter: Letter, out: &mut Out) -> Result<bool, AllocError>
+    ensures { node.new.script ≡ node.old.script }
+{
+    if !node.fits(&letter) || !node.is_within() {
+        return Ok(false);
+    }
+    node.reserve_for(&mut letter, out)?;
+    if !node.fits(&letter) || !node.is_within() || node.clock() > 9 {
+        return Ok(false);
+    }
+    node.take(letter, out);
+    Ok(true)
+}
+
+#[test]
+fn two_nodes_make_their_moves(rt: HostRuntime) -> Result<(), Fail> {
+    let script = script(rt.alloc())?;
+    let mut out = Out::new(rt.alloc());
+    assert_eq!(rt; script.nodes(), 2);
+    let mut first = Node::new(rt.alloc(), &script, 0)?;
+    let mut second = Node::new(rt.alloc(), &script, 1)?;
+    assert_eq!(rt;
+        act(&mut first, &script, 0, &mut out)?,
+        Some(Answer::Granted)
+    );
+    assert_eq!(rt;
+        act(&mut second, &script, 1, &mut out)?,
+        Some(Answer::Waits)
+    );
+    assert!(rt; second.waits(1));
+    assert_eq!(rt; act(&mut second, &script, 3, &mut out)?, Some(Answer::Busy));
+    let ask = out.next_letter().ok_or("no ask")?.letter;
+    assert!(rt; take(&mut first, ask, &mut out)?);
+    assert_eq!(rt;
+        act(&mut first, &script, 2, &mut out)?,
+        Some(Answer::Dropped(1))
+    );
+    let token = out.next_letter().ok_or("no token")?.letter;
+    assert!(rt; take(&mut second, token, &mut out)?);
+    assert!(rt; !second.waits(1));
+    assert_eq!(rt; second.clock(), 4);
+    for want in [
+        Event::Grant {
+            client: 0,
+            set: 0,
+            mode: Mode::Write,
+        },
+        Event::Wait {
+            client: 1,
+            set: 0,
+            mode: Mode::Write,
+        },
+        Event::Busy {
+            client: 3,
+            other: 1,
+            set: 1,
+        },
+        Event::DropAll {
+            client: 2,
+            other: 0,
+            set: 1,
+            count: 1,
+        },
+        Event::Token {
+            set: 0,
+            to: 1,
+            epoch: 1,
+        },
+        Event::Grant {
+            client: 1,
+            set: 0,
+            mode: Mode::Write,
+        },
+    ] {
+        assert_eq!(rt; out.next_event(), Some(want));
+    }
+    assert_eq!(rt; out.next_event(), None);
+    Ok(())
+}

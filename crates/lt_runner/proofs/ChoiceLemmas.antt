@@ -1,0 +1,108 @@
+-- What the move that a runner shows says of its state.
+use Rattle.std.proofs.Common.{◌≡◌, ◌≢◌, ℕ, zero, suc, Option, Some, None, Bool, true, false, refl, ap, subst, ◌∙◌}
+use Rattle.std.specs.Prelude.{nat_lt, if◌then◌else◌, IsTrue, IfSome, length}
+use Rattle.std.proofs.lemmas.Bool.{and_parts}
+use Rattle.lt_modes.specs.Script.{ScriptData}
+use Rattle.lt_modes.specs.Fits.{fits}
+use Rattle.lt_letter.specs.Seen.{letter_seen}
+use Rattle.lt_limits.specs.Limits.{node_within, leaves_asks}
+use Rattle.lt_runs.specs.NodeMove.{NodeState}
+use Rattle.lt_plays.specs.Plays.{can_act}
+use Rattle.lt_node.specs.NodeData.{state_of, numbers_of}
+use Rattle.lt_runner.specs.declared.choice.Choice.TheVariants.{Nothing, Act, Take}
+use Rattle.lt_runner.specs.declared.choice.TheConstants.{LAST_CLOCK}
+use Rattle.lt_runner.specs.declared.hand.Hand.{Hand}
+use Rattle.lt_runner.specs.declared.parts.Parts.{Parts}
+use Rattle.lt_runner.specs.Ready.{FitsNow}
+use Rattle.lt_runner.specs.Choices.{or_this, least_below, first_client, may_move, may_act, may_take, act_of, act_choice, choice_by, choice_of}
+
+-- the least number that passes passes
+least_passes : (n : ℕ) (test : ℕ → Bool) (least : ℕ) → least_below n test ≡ Some least → IsTrue (test least)
+least_passes zero test least e = absurd (cc)
+least_passes (suc n) test least e = before (λ was. least_passes n test least was) (least_below n test) refl e
+  where
+    same : (a b : ℕ) → Some a ≡ Some b → a ≡ b
+    same a b e = cc
+
+    here : (b : Bool) → test n ≡ b → (if b then Some n else None) ≡ Some least → IsTrue (test least)
+    here true t e = subst (λ (k : ℕ). test k ≡ true) (same n least e) t
+    here false t e = absurd (cc)
+
+    before : (least_below n test ≡ Some least → IsTrue (test least)) → (o : Option ℕ) → least_below n test ≡ o → or_this o test n ≡ Some least → IsTrue (test least)
+    before again None was e = here (test n) refl e
+    before again (Some k) was e = again (was ∙ e)
+
+-- the client can act, and there is room for it
+pub record ChoseAct (script : ScriptData) (me : ℕ) (n : NodeState) (client : ℕ) : Type 0 where
+  pub can : IsTrue (can_act script me n client)
+  pub clock : IsTrue (nat_lt n.clock LAST_CLOCK)
+  pub within : IsTrue (node_within script n)
+  pub asks : IsTrue (leaves_asks script n)
+
+act_chosen : (script : ScriptData) (me : ℕ) (n : NodeState) (client : ℕ) → act_choice script me n ≡ Act client → ChoseAct script me n client
+act_chosen script me n client e = by_may (may_act script n) refl e
+  where
+    same : (a b : ℕ) → Act a ≡ Act b → a ≡ b
+    same a b e = cc
+
+    by_client : (o : Option ℕ) → first_client script me n ≡ o → act_of o ≡ Act client → IsTrue (can_act script me n client)
+    by_client None was e = absurd (cc)
+    by_client (Some k) was e = least_passes (length script.clients) (can_act script me n) client (was ∙ ap (λ (i : ℕ). Some i) (same k client e))
+
+    by_may : (b : Bool) → may_act script n ≡ b → (if b then act_of (first_client script me n) else Nothing) ≡ Act client → ChoseAct script me n client
+    by_may false t e = absurd (cc)
+    by_may true t e =
+        let parts = and_parts (may_move script n) (leaves_asks script n) t in
+        let more = and_parts (nat_lt n.clock LAST_CLOCK) (node_within script n) parts.0 in
+        record { can = by_client (first_client script me n) refl e; clock = more.0; within = more.1; asks = parts.1 }
+
+pub act_takes_nothing : (script : ScriptData) (me : ℕ) (n : NodeState) → act_choice script me n ≢ Take
+act_takes_nothing script me n e = by_may (may_act script n) e
+  where
+    by_client : (o : Option ℕ) → act_of o ≢ Take
+    by_client None e = absurd (cc)
+    by_client (Some k) e = absurd (cc)
+
+    by_may : (b : Bool) → (if b then act_of (first_client script me n) else Nothing) ≢ Take
+    by_may false e = absurd (cc)
+    by_may true e = by_client (first_client script me n) e
+
+pub chose_act : (p : Parts) (client : ℕ) → choice_of p ≡ Act client → ChoseAct p.node.script p.node.me (state_of p.node) client
+chose_act p client e = by_hand p.hand e
+  where
+    by_hand : (o : Option Hand) → choice_by p.node.script p.node.me (state_of p.node) o ≡ Act client → ChoseAct p.node.script p.node.me (state_of p.node) client
+    by_hand None e = act_chosen p.node.script p.node.me (state_of p.node) client e
+    by_hand (Some hand) e = by_may (may_take p.node.script p.node.me (state_of p.node) (letter_seen hand.letter)) e
+      where
+        by_may : (b : Bool) → (if b then Take else act_choice p.node.script p.node.me (state_of p.node)) ≡ Act client
+            → ChoseAct p.node.script p.node.me (state_of p.node) client
+        by_may true e = absurd (cc)
+        by_may false e = act_chosen p.node.script p.node.me (state_of p.node) client e
+
+-- there is a letter in hand, and it is such a letter
+pub record ChoseTake (p : Parts) : Type 0 where
+  pub letter : Hand
+  pub there : p.hand ≡ Some letter
+  pub now : FitsNow p.node.script p.node.me (state_of p.node) letter
+
+pub chose_take : (p : Parts) → choice_of p ≡ Take → ChoseTake p
+chose_take p e = by_hand p.hand refl e
+  where
+    by_hand : (o : Option Hand) → p.hand ≡ o → choice_by p.node.script p.node.me (state_of p.node) o ≡ Take → ChoseTake p
+    by_hand None was e = absurd (act_takes_nothing p.node.script p.node.me (state_of p.node) e)
+    by_hand (Some hand) was e = by_may (may_take p.node.script p.node.me (state_of p.node) (letter_seen hand.letter)) refl e
+      where
+        by_may : (b : Bool) → may_take p.node.script p.node.me (state_of p.node) (letter_seen hand.letter) ≡ b
+            → (if b then Take else act_choice p.node.script p.node.me (state_of p.node)) ≡ Take → ChoseTake p
+        by_may false t e = absurd (act_takes_nothing p.node.script p.node.me (state_of p.node) e)
+        by_may true t e =
+            let parts = and_parts (may_move p.node.script (state_of p.node)) (fits (numbers_of p.node.script) p.node.me (state_of p.node).clock ((state_of p.node).set (letter_seen hand.letter).set) (letter_seen hand.letter)) t in
+            let more = and_parts (nat_lt (state_of p.node).clock LAST_CLOCK) (node_within p.node.script (state_of p.node)) parts.0 in
+            record { letter = hand; there = was; now = record { clock = more.0; within = more.1; fits = parts.1 } }
+
+-- as many words for the same
+pub take_fits : (p : Parts) → choice_of p ≡ Take → IfSome p.hand (FitsNow p.node.script p.node.me (state_of p.node))
+take_fits p e = let t = chose_take p e in rw t.there t.now
+
+pub act_within : (p : Parts) (client : ℕ) → choice_of p ≡ Act client → IsTrue (node_within p.node.script (state_of p.node))
+act_within p client e = (chose_act p client e).within

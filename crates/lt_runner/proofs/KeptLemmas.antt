@@ -1,0 +1,132 @@
+-- What a runner keeps, through a look and through a move.
+use Rattle.std.proofs.Common.{◌≡◌, ℕ, ◌+◌, ◌<◌, List, [], ◌∷◌, ◌++◌, Option, Some, None, length, refl, sym, ap, subst, arith, ◌∙◌, append_assoc}
+use Rattle.std.specs.Prelude.{IsTrue}
+use Rattle.std.proofs.lemmas.List.{length_push}
+use Rattle.lt_modes.specs.Script.{ScriptData}
+use Rattle.lt_modes.specs.State.{Letter}
+use Rattle.lt_runs.specs.Log.{Logged}
+use Rattle.lt_runs.specs.NodeMove.{NodeState}
+use Rattle.lt_runs.specs.World.{start}
+use Rattle.lt_plays.specs.Plays.{Cause, can_make, made_of, entry_of, used_by, letters_for, Plays}
+use Rattle.lt_plays.proofs.PlayLemmas.{plays_same, plays_grow}
+use Rattle.lt_peers.specs.Peers.{NodeNames}
+use Rattle.lt_node.specs.NodeData.{state_of}
+use Rattle.lt_mail.specs.Words.{outs_count, ins_count, sent_to, taken_from}
+use Rattle.lt_mail.proofs.MailLemmas.{ends_join}
+use Rattle.lt_runner.specs.declared.hand.Hand.{Hand}
+use Rattle.lt_runner.specs.declared.parts.Parts.{Parts}
+use Rattle.lt_runner.specs.Hands.{in_hand, IsFromPeer, Holds}
+use Rattle.lt_runner.specs.Kept.{Kept, SameRunner, AsSeen}
+
+plays_as : (script new_script : ScriptData) (me new_me : ℕ) (log new_log : List Logged) (used sent new_sent : ℕ → List Letter) (n new_n : NodeState)
+    → new_script ≡ script → new_me ≡ me → new_log ≡ log → ((b : ℕ) → new_sent b ≡ sent b) → new_n ≡ n
+    → Plays script me ((start script).node me) log used sent n → Plays new_script new_me ((start new_script).node new_me) new_log used new_sent new_n
+plays_as script new_script me new_me log new_log used sent new_sent n new_n of_script of_me of_log of_sent of_n h =
+    subst (λ (s : ScriptData). Plays s new_me ((start s).node new_me) new_log used new_sent new_n) (sym of_script)
+    (subst (λ (x : ℕ). Plays script x ((start script).node x) new_log used new_sent new_n) (sym of_me)
+    (subst (λ (l : List Logged). Plays script me ((start script).node me) l used new_sent new_n) (sym of_log)
+    (subst (λ (m : NodeState). Plays script me ((start script).node me) log used new_sent m) (sym of_n)
+    (plays_same script me log ((start script).node me) n used sent used new_sent (λ a. refl) of_sent h))))
+
+-- what doesn't change in a runner of the same node
+same_count : (a b : Parts) (n : ℕ) → SameRunner a b → n ≡ a.node.script.nodes → n ≡ b.node.script.nodes
+same_count a b n s e = e ∙ ap (λ (script : ScriptData). script.nodes) (sym s.script)
+
+from_as : (a b : Parts) → SameRunner a b → IsFromPeer a.node.script.nodes a.node.me b.hand → IsFromPeer b.node.script.nodes b.node.me b.hand
+from_as a b s h =
+    subst (λ (script : ScriptData). IsFromPeer script.nodes b.node.me b.hand) (sym s.script)
+    (subst (λ (me : ℕ). IsFromPeer a.node.script.nodes me b.hand) (sym s.me) h)
+
+names_as : (a b : Parts) (n : NodeState) → SameRunner a b → NodeNames a.node.script.nodes a.node.me n → NodeNames b.node.script.nodes b.node.me n
+names_as a b n s h =
+    subst (λ (script : ScriptData). NodeNames script.nodes b.node.me n) (sym s.script)
+    (subst (λ (me : ℕ). NodeNames a.node.script.nodes me n) (sym s.me) h)
+
+below_as : (a b : Parts) → SameRunner a b → a.node.me < a.node.script.nodes → b.node.me < b.node.script.nodes
+below_as a b s h = subst (λ (script : ScriptData). b.node.me < script.nodes) (sym s.script) (subst (λ (me : ℕ). me < a.node.script.nodes) (sym s.me) h)
+
+-- nothing happened but that letters went on, and one may have come into the hand
+pub kept_still : (a b : Parts) → Kept a → AsSeen a b → IsFromPeer a.node.script.nodes a.node.me b.hand → b.out.posts ≡ [] → b.out.events ≡ [] → Kept b
+kept_still a b h s from posts events = record {
+  used = h.used;
+  script = ap (λ r. r.now) s.same.reads ∙ (h.script ∙ sym s.same.script);
+  me = s.same.ends.me ∙ (h.me ∙ sym s.same.me);
+  below = below_as a b s.same h.below;
+  outs = same_count a b (outs_count b.mail) s.same (s.same.ends.counts.0 ∙ h.outs);
+  ins = same_count a b (ins_count b.mail) s.same (s.same.ends.counts.1 ∙ h.ins);
+  plays = plays_as a.node.script b.node.script a.node.me b.node.me a.log.entries b.log.entries h.used (sent_to a.mail) (sent_to b.mail)
+      (state_of a.node) (state_of b.node) s.same.script s.same.me s.log s.sent s.state h.plays;
+  taken = λ node. s.used node (h.used node) (h.taken node);
+  hand = from_as a b s.same from;
+  names = names_as a b (state_of b.node) s.same (subst (λ (n : NodeState). NodeNames a.node.script.nodes a.node.me n) (sym s.state) h.names);
+  bounded = omega (arith, h.bounded, ap (λ (l : List Logged). length l) s.log, s.same.limit);
+  posts = posts;
+  events = events;
+}
+
+-- one move was made
+pub record Moves (a b : Parts) (cause : Cause) : Type 0 where
+  pub same : SameRunner a b
+  pub can : IsTrue (can_make a.node.script a.node.me (state_of a.node) cause)
+  pub state : state_of b.node ≡ (made_of a.node.script a.node.me (state_of a.node) cause).node
+  pub log : b.log.entries ≡ a.log.entries ++ entry_of a.node.script a.node.me (state_of a.node) cause ∷ []
+  pub sent : (node : ℕ) → sent_to b.mail node ≡ sent_to a.mail node ++ letters_for node (made_of a.node.script a.node.me (state_of a.node) cause).posts
+  pub taken : (node : ℕ) → taken_from b.mail node ≡ taken_from a.mail node
+  pub hands : (node : ℕ) → in_hand node a.hand ≡ used_by cause node ++ in_hand node b.hand
+  pub from : IsFromPeer a.node.script.nodes a.node.me b.hand
+  pub names : NodeNames a.node.script.nodes a.node.me (made_of a.node.script a.node.me (state_of a.node) cause).node
+  pub place : length a.log.entries < a.limit
+  pub posts : b.out.posts ≡ []
+  pub events : b.out.events ≡ []
+
+pub kept_moved : (a b : Parts) (cause : Cause) → Kept a → Moves a b cause → Kept b
+kept_moved a b cause h m = record {
+  used = λ node. h.used node ++ used_by cause node;
+  script = ap (λ r. r.now) m.same.reads ∙ (h.script ∙ sym m.same.script);
+  me = m.same.ends.me ∙ (h.me ∙ sym m.same.me);
+  below = below_as a b m.same h.below;
+  outs = same_count a b (outs_count b.mail) m.same (m.same.ends.counts.0 ∙ h.outs);
+  ins = same_count a b (ins_count b.mail) m.same (m.same.ends.counts.1 ∙ h.ins);
+  plays = plays_as a.node.script b.node.script a.node.me b.node.me _ b.log.entries _ (sent_to b.mail) (sent_to b.mail) _ (state_of b.node)
+      m.same.script m.same.me m.log (λ node. refl) m.state grown;
+  taken = λ node. m.taken node ∙ (h.taken node ∙ (ap (λ (letters : List Letter). h.used node ++ letters) (m.hands node)
+      ∙ sym (append_assoc (h.used node) (used_by cause node) (in_hand node b.hand))));
+  hand = from_as a b m.same m.from;
+  names = names_as a b (state_of b.node) m.same (subst (λ (n : NodeState). NodeNames a.node.script.nodes a.node.me n) (sym m.state) m.names);
+  bounded = omega (arith, m.place, ap (λ (l : List Logged). length l) m.log, m.same.limit, one_longer a.log.entries (entry_of a.node.script a.node.me (state_of a.node) cause));
+  posts = m.posts;
+  events = m.events;
+}
+  where
+    grown : Plays a.node.script a.node.me ((start a.node.script).node a.node.me) (a.log.entries ++ entry_of a.node.script a.node.me (state_of a.node) cause ∷ [])
+        (λ node. h.used node ++ used_by cause node) (sent_to b.mail) (made_of a.node.script a.node.me (state_of a.node) cause).node
+    grown = plays_grow a.node.script a.node.me a.log.entries ((start a.node.script).node a.node.me) (state_of a.node) cause h.used (sent_to a.mail)
+        (λ node. h.used node ++ used_by cause node) (sent_to b.mail) h.plays m.can (λ node. refl) m.sent
+
+    one_longer : (log : List Logged) (entry : Logged) → length (log ++ entry ∷ []) ≡ length log + 1
+    one_longer log entry = length_push log entry
+
+pub same_join : (a b c : Parts) → SameRunner a b → SameRunner b c → SameRunner a c
+same_join a b c h k = record {
+  reads = k.reads ∙ h.reads;
+  script = k.script ∙ h.script;
+  me = k.me ∙ h.me;
+  limit = k.limit ∙ h.limit;
+  ends = ends_join a.mail b.mail c.mail h.ends k.ends;
+}
+
+holds_join : (a b c : Option Hand) → Holds a b → Holds b c → Holds a c
+holds_join None b c h k = tt
+holds_join (Some x) None c h k = absurd h
+holds_join (Some x) (Some y) None h k = absurd k
+holds_join (Some x) (Some y) (Some z) h k = (k.0 ∙ h.0, k.1 ∙ h.1)
+
+pub seen_join : (a b c : Parts) → AsSeen a b → AsSeen b c → AsSeen a c
+seen_join a b c h k = record {
+  same = same_join a b c h.same k.same;
+  state = k.state ∙ h.state;
+  log = k.log ∙ h.log;
+  sent = λ node. k.sent node ∙ h.sent node;
+  used = λ node letters e. k.used node letters (h.used node letters e);
+  hand = holds_join a.hand b.hand c.hand h.hand k.hand;
+}

@@ -1,0 +1,153 @@
+-- A move of the node, its log entry and its letters are a move of the runner.
+use Rattle.std.proofs.Common.{◌≡◌, ◌≢◌, ℕ, ◌+◌, ◌<◌, ◌^◌, List, [], ◌∷◌, ◌++◌, Option, Some, None, length, refl, sym, ap, subst, ◌∙◌}
+use Rattle.std.specs.Prelude.{◌&&◌, ◌==◌, nat_lt, nat_le, not, IsTrue, All}
+use Rattle.std.proofs.lemmas.List.{append-nil}
+use Rattle.std.proofs.lemmas.Bool.{and_parts, ltb-true, lt-ltb, ne_eqb, eqb-true}
+use Rattle.lt_modes.specs.declared.moves.Step.TheVariants.{Act, Take}
+use Rattle.lt_modes.specs.Fits.{Numbers, fits, head_fits, body_fits}
+use Rattle.lt_modes.specs.State.{Letter, SetState}
+use Rattle.lt_modes.specs.Made.{Post}
+use Rattle.lt_letter.specs.OutData.{OutData}
+use Rattle.lt_letter.specs.Seen.{letter_seen}
+use Rattle.lt_runs.specs.Families.{home}
+use Rattle.lt_runs.specs.NodeMove.{NodeMade, node_act, node_take, node_waits, has_command, act_stamp, take_stamp}
+use Rattle.lt_plays.specs.Plays.{Cause, OfClient, OfLetter, can_act, can_make, made_of, letters_for, entry_of, used_by}
+use Rattle.lt_peers.specs.Peers.{IsForPeer}
+use Rattle.lt_peers.specs.PeerLaws.{ReachesPeers}
+use Rattle.lt_peers.proofs.Moves.{acts_reach_peers, takes_reach_peers}
+use Rattle.lt_node.specs.NodeData.{NodeData, NodeDoes, state_of}
+use Rattle.lt_mail.specs.Words.{on_in, sent_to}
+use Rattle.lt_mail.specs.Lanes.{taken}
+use Rattle.lt_mail.specs.declared.lane.InLane.{InLane}
+use Rattle.lt_runner.specs.declared.hand.Hand.{Hand}
+use Rattle.lt_runner.specs.declared.parts.Parts.{Parts}
+use Rattle.lt_runner.specs.declared.choice.Choice.TheVariants as choices
+use Rattle.lt_runner.specs.Choices.{choice_of}
+use Rattle.lt_runner.specs.Hands.{in_hand, IsFromPeer}
+use Rattle.lt_runner.specs.Kept.{Kept}
+use Rattle.lt_runner.specs.Posting.{Finished}
+use Rattle.lt_runner.specs.Ready.{FitsNow}
+use Rattle.lt_runner.proofs.ChoiceLemmas.{ChoseAct, chose_act}
+use Rattle.lt_runner.proofs.KeptLemmas.{Moves}
+
+-- what is in the outgoing letters after the node's move
+posts_made : (made : NodeMade) (old new : NodeData) (had out : OutData) → had.posts ≡ [] → NodeDoes made old had new out → out.posts ≡ made.posts
+posts_made made old new had out none d = ap (λ (o : OutData). o.posts) d.sent ∙ ap (λ (posts : List Post). posts ++ made.posts) none
+
+events_made : (made : NodeMade) (old new : NodeData) (had out : OutData) → had.events ≡ [] → NodeDoes made old had new out → out.events ≡ made.events
+events_made made old new had out none d = ap (λ (o : OutData). o.events) d.sent ∙ ap (λ events. events ++ made.events) none
+
+-- the parts once the node made the move
+abbrev pub moved_node : Parts → NodeData → OutData → Option Hand → Parts
+moved_node a node out hand = record a { node = node; out = out; hand = hand }
+
+-- the runner made the move with this cause
+pub finished : (a f : Parts) (node : NodeData) (out : OutData) (hand : Option Hand) (cause : Cause)
+    → Kept a → IsTrue (can_make a.node.script a.node.me (state_of a.node) cause)
+    → ReachesPeers a.node.script.nodes a.node.me (made_of a.node.script a.node.me (state_of a.node) cause)
+    → NodeDoes (made_of a.node.script a.node.me (state_of a.node) cause) a.node a.out node out
+    → Finished (entry_of a.node.script a.node.me (state_of a.node) cause).made (moved_node a node out hand) f
+    → ((k : ℕ) → in_hand k a.hand ≡ used_by cause k ++ in_hand k hand) → IsFromPeer a.node.script.nodes a.node.me hand → length a.log.entries < a.limit → Moves a f cause
+finished a f node out hand cause h can reaches d e hands peer place = record {
+  same = record {
+    reads = e.script;
+    script = ap (λ (n : NodeData). n.script) e.node ∙ d.script;
+    me = ap (λ (n : NodeData). n.me) e.node ∙ d.me;
+    limit = e.limit;
+    ends = e.mail.ends;
+  };
+  can = can;
+  state = ap (λ (n : NodeData). state_of n) e.node ∙ d.state;
+  log = e.log ∙ ap (λ events. a.log.entries ++ record { made = (entry_of a.node.script a.node.me (state_of a.node) cause).made; events = events } ∷ [])
+      (events_made (made_of a.node.script a.node.me (state_of a.node) cause) a.node node a.out out h.events d);
+  sent = λ k. e.mail.sent k ∙ ap (λ (posts : List Post). sent_to a.mail k ++ letters_for k posts)
+      (posts_made (made_of a.node.script a.node.me (state_of a.node) cause) a.node node a.out out h.posts d);
+  taken = λ k. ap (λ (o : Option InLane). on_in taken o) (e.mail.ins k);
+  hands = λ k. hands k ∙ ap (λ (o : Option Hand). used_by cause k ++ in_hand k o) (sym e.hand);
+  from = subst (λ (o : Option Hand). IsFromPeer a.node.script.nodes a.node.me o) (sym e.hand) peer;
+  names = reaches.node;
+  place = place;
+  posts = e.posts;
+  events = e.events;
+}
+
+-- where the node is that of the script, its letters go to other nodes
+pub posts_for_peers : (a : Parts) (node : NodeData) (out : OutData) (made : NodeMade) → a.out.posts ≡ []
+    → ReachesPeers a.node.script.nodes a.node.me made → NodeDoes made a.node a.out node out → All (IsForPeer node.script.nodes node.me) out.posts
+posts_for_peers a node out made none reaches d =
+    subst (λ (posts : List Post). All (IsForPeer node.script.nodes node.me) posts) (sym (posts_made made a.node node a.out out none d))
+    (subst (λ script. All (IsForPeer script.nodes node.me) made.posts) (sym d.script)
+    (subst (λ (me : ℕ). All (IsForPeer a.node.script.nodes me) made.posts) (sym d.me) reaches.posts))
+
+-- the numbers of a letter that fits are small
+pub letter_early : (numbers : Numbers) (q clock : ℕ) (s : SetState) (letter : Letter) → IsTrue (fits numbers q clock s letter) → letter.stamp.clock + 1 < 2 ^ 32
+letter_early numbers q clock s letter f =
+    let head = (and_parts (head_fits numbers clock letter) (body_fits numbers q s letter.stamp.clock letter.body) f).0 in
+    let link = (and_parts (nat_lt letter.set numbers.sets) (nat_lt letter.link.node numbers.nodes && (nat_le letter.link.epoch letter.stamp.clock && (nat_lt (letter.stamp.clock + 1) (2 ^ 32) && nat_lt (clock + 1) (2 ^ 32)))) head).1 in
+    let epoch = (and_parts (nat_lt letter.link.node numbers.nodes) (nat_le letter.link.epoch letter.stamp.clock && (nat_lt (letter.stamp.clock + 1) (2 ^ 32) && nat_lt (clock + 1) (2 ^ 32))) link).1 in
+    let clocks = (and_parts (nat_le letter.link.epoch letter.stamp.clock) (nat_lt (letter.stamp.clock + 1) (2 ^ 32) && nat_lt (clock + 1) (2 ^ 32)) epoch).1 in
+    ltb-true (letter.stamp.clock + 1) (2 ^ 32) (and_parts (nat_lt (letter.stamp.clock + 1) (2 ^ 32)) (nat_lt (clock + 1) (2 ^ 32)) clocks).0
+
+-- what a client that can act may do
+pub record IsRunnable (a : Parts) (client : ℕ) : Type 0 where
+  pub known : client < length a.node.script.clients
+  pub home : home a.node.script client ≡ a.node.me
+  pub runs : IsTrue (not (node_waits a.node.script (state_of a.node) client) && has_command a.node.script (state_of a.node) client)
+
+pub is_runnable : (a : Parts) (client : ℕ) → IsTrue (can_act a.node.script a.node.me (state_of a.node) client) → IsRunnable a client
+is_runnable a client can =
+    let parts = and_parts (nat_lt client (length a.node.script.clients)) (home a.node.script client == a.node.me && (not (node_waits a.node.script (state_of a.node) client) && has_command a.node.script (state_of a.node) client)) can in
+    let more = and_parts (home a.node.script client == a.node.me) (not (node_waits a.node.script (state_of a.node) client) && has_command a.node.script (state_of a.node) client) parts.1 in
+    record { known = ltb-true client (length a.node.script.clients) parts.0; home = eqb-true (home a.node.script client) a.node.me more.0; runs = more.1 }
+
+-- a letter of another node of the script can be taken
+pub can_take : (a : Parts) (hand : Hand) → a.node.me < a.node.script.nodes → (hand.from < a.node.script.nodes) × (hand.from ≢ a.node.me)
+    → IsTrue (can_make a.node.script a.node.me (state_of a.node) (OfLetter hand.from (letter_seen hand.letter)))
+can_take a hand below from =
+    rw (lt-ltb hand.from a.node.script.nodes from.0) (rw (lt-ltb a.node.me a.node.script.nodes below) (rw (ne_eqb hand.from a.node.me from.1) refl))
+
+-- the command of the client
+pub record ActsNow (a : Parts) (client : ℕ) : Type 0 where
+  pub runs : IsRunnable a client
+  pub chosen : ChoseAct a.node.script a.node.me (state_of a.node) client
+  pub reaches : ReachesPeers a.node.script.nodes a.node.me (node_act a.node.script a.node.me client (state_of a.node))
+
+pub acts_now : (a : Parts) (client : ℕ) → Kept a → choice_of a ≡ choices.Act client → ActsNow a client
+acts_now a client h e =
+    let chosen = chose_act a client e in
+    record {
+      runs = is_runnable a client chosen.can;
+      chosen = chosen;
+      reaches = acts_reach_peers a.node.script a.node.me client (state_of a.node) h.below h.names;
+    }
+
+-- the command was made
+pub acted : (a f : Parts) (node : NodeData) (out : OutData) (client : ℕ) → Kept a → choice_of a ≡ choices.Act client
+    → NodeDoes (node_act a.node.script a.node.me client (state_of a.node)) a.node a.out node out
+    → Finished (record { stamp = act_stamp a.node.me (state_of a.node); step = Act client }) (moved_node a node out a.hand) f
+    → length a.log.entries < a.limit → Moves a f (OfClient client)
+acted a f node out client h e d fin place =
+    finished a f node out a.hand (OfClient client) h (acts_now a client h e).chosen.can (acts_now a client h e).reaches d fin
+    (λ k. refl) h.hand place
+
+-- what the letter that was in hand sends goes to other nodes
+pub take_reaches : (a : Parts) (hand : Hand) → Kept a → FitsNow a.node.script a.node.me (state_of a.node) hand
+    → ReachesPeers a.node.script.nodes a.node.me (node_take a.node.me (letter_seen hand.letter) (state_of a.node))
+take_reaches a hand h fit =
+    takes_reach_peers a.node.script a.node.me (state_of a.node).clock (letter_seen hand.letter) (state_of a.node) h.below h.names fit.fits
+
+-- the letter was taken
+pub took : (a f : Parts) (node : NodeData) (out : OutData) (hand : Hand) (left : Option Hand) → Kept a → a.hand ≡ Some hand → left ≡ None
+    → FitsNow a.node.script a.node.me (state_of a.node) hand
+    → NodeDoes (node_take a.node.me (letter_seen hand.letter) (state_of a.node)) a.node a.out node out
+    → Finished (record { stamp = take_stamp a.node.me (state_of a.node) (letter_seen hand.letter); step = Take hand.from }) (moved_node a node out left) f
+    → length a.log.entries < a.limit → Moves a f (OfLetter hand.from (letter_seen hand.letter))
+took a f node out hand left h there none fit d fin place =
+    finished a f node out left (OfLetter hand.from (letter_seen hand.letter)) h
+    (can_take a hand h.below (subst (λ (o : Option Hand). IsFromPeer a.node.script.nodes a.node.me o) there h.hand))
+    (take_reaches a hand h fit) d fin hands (subst (λ (o : Option Hand). IsFromPeer a.node.script.nodes a.node.me o) (sym none) tt) place
+  where
+    hands : (k : ℕ) → in_hand k a.hand ≡ used_by (OfLetter hand.from (letter_seen hand.letter)) k ++ in_hand k left
+    hands k =
+        ap (λ (o : Option Hand). in_hand k o) there
+        ∙ (sym (append-nil (in_hand k (Some hand))) ∙ ap (λ (o : Option Hand). in_hand k (Some hand) ++ in_hand k o) (sym none))

@@ -1,0 +1,98 @@
+-- What a turn says after a look.
+use Rattle.std.proofs.Common.{◌≡◌, ◌≢◌, ℕ, ◌+◌, ◌<◌, List, [], ◌∷◌, ◌++◌, Option, Some, None, Bool, true, false, length, refl, sym, ap, arith, ◌∙◌}
+use Rattle.std.specs.Prelude.{if◌then◌else◌}
+use Rattle.std.proofs.lemmas.List.{append-nil, append_assoc, length_push}
+use Rattle.lt_modes.specs.Script.{ScriptData}
+use Rattle.lt_modes.specs.State as rules
+use Rattle.lt_letter.specs.Seen.{letter_seen}
+use Rattle.lt_runs.specs.Log.{Logged}
+use Rattle.lt_runs.specs.NodeMove.{NodeState}
+use Rattle.lt_node.specs.NodeData.{state_of}
+use Rattle.lt_runner.specs.declared.choice.Choice.TheVariants.{Nothing, Take}
+use Rattle.lt_runner.specs.declared.turned.Turned.{Turned}
+use Rattle.lt_runner.specs.declared.turned.Turned.TheVariants.{Moved, Quiet, Full, NoMemory}
+use Rattle.lt_runner.specs.declared.hand.Hand.{Hand}
+use Rattle.lt_runner.specs.declared.parts.Parts.{Parts}
+use Rattle.lt_runner.specs.Hands.{Holds}
+use Rattle.lt_runner.specs.Choices.{may_take, act_choice, choice_by, choice_of}
+use Rattle.lt_runner.specs.Kept.{SameRunner, AsSeen, TurnEnds, Grew}
+use Rattle.lt_runner.proofs.ChoiceLemmas.{act_takes_nothing}
+use Rattle.lt_mail.proofs.MailLemmas.{ends_same}
+use Rattle.lt_runner.proofs.KeptLemmas.{same_join, seen_join}
+
+pub same_later : (a b c : Parts) → AsSeen a b → SameRunner b c → SameRunner a c
+same_later a b c h k = same_join a b c h.same k
+
+pub turn_later : (r : Turned) (a b c : Parts) → AsSeen a b → TurnEnds r b c → TurnEnds r a c
+turn_later Moved a b c h k = (
+  (k.0.0, k.0.1 ∙ ap (λ (log : List Logged). log ++ k.0.0 ∷ []) h.log),
+  omega (arith, k.1, ap (λ (log : List Logged). length log) h.log, h.same.limit),
+)
+turn_later Quiet a b c h k = (seen_join a b c h k.0, k.1)
+turn_later Full a b c h k = (seen_join a b c h k.0, k.1)
+turn_later NoMemory a b c h k = seen_join a b c h k
+
+-- the choice is one of script, node and state
+choice_as : (a b : Parts) (hand : Option Hand) → AsSeen a b
+    → choice_by b.node.script b.node.me (state_of b.node) hand ≡ choice_by a.node.script a.node.me (state_of a.node) hand
+choice_as a b hand h =
+    ap (λ (script : ScriptData). choice_by script b.node.me (state_of b.node) hand) h.same.script
+    ∙ (ap (λ (me : ℕ). choice_by a.node.script me (state_of b.node) hand) h.same.me
+    ∙ ap (λ (n : NodeState). choice_by a.node.script a.node.me n hand) h.state)
+
+-- with the same letter in hand
+pub choice_stays : (a b : Parts) → AsSeen a b → b.hand ≡ a.hand → choice_of b ≡ choice_of a
+choice_stays a b h same = ap (λ (o : Option Hand). choice_by b.node.script b.node.me (state_of b.node) o) same ∙ choice_as a b a.hand h
+
+held_choice : (script : ScriptData) (me : ℕ) (n : NodeState) (x y : Hand) → Holds (Some x) (Some y) → choice_by script me n (Some y) ≡ choice_by script me n (Some x)
+held_choice script me n x y h = ap (λ (l : rules.Letter). if may_take script me n l then Take else act_choice script me n) h.1
+
+-- what was there to be done is there to be done
+pub choice_lasts : (a b : Parts) → AsSeen a b → choice_of a ≢ Nothing → choice_of b ≢ Nothing
+choice_lasts a b h some none = by_hands a.hand b.hand h.hand some (sym (choice_as a b b.hand h) ∙ none)
+  where
+    by_may : (script : ScriptData) (me : ℕ) (n : NodeState) (t : Bool) → (if t then Take else act_choice script me n) ≡ Nothing → act_choice script me n ≡ Nothing
+    by_may script me n true e = absurd (cc)
+    by_may script me n false e = e
+
+    by_hands : (x y : Option Hand) → Holds x y → choice_by a.node.script a.node.me (state_of a.node) x ≢ Nothing
+        → choice_by a.node.script a.node.me (state_of a.node) y ≢ Nothing
+    by_hands None None holds some e = some e
+    by_hands None (Some y) holds some e = some (by_may a.node.script a.node.me (state_of a.node) (may_take a.node.script a.node.me (state_of a.node) (letter_seen y.letter)) e)
+    by_hands (Some x) None holds some e = absurd holds
+    by_hands (Some x) (Some y) holds some e = some (sym (held_choice a.node.script a.node.me (state_of a.node) x y holds) ∙ e)
+
+-- the letter that was there to be taken is there to be taken
+pub take_lasts : (a b : Parts) → AsSeen a b → choice_of a ≡ Take → choice_of b ≡ Take
+take_lasts a b h takes = choice_as a b b.hand h ∙ by_hands a.hand b.hand h.hand takes
+  where
+    by_hands : (x y : Option Hand) → Holds x y → choice_by a.node.script a.node.me (state_of a.node) x ≡ Take
+        → choice_by a.node.script a.node.me (state_of a.node) y ≡ Take
+    by_hands None y holds e = absurd (act_takes_nothing a.node.script a.node.me (state_of a.node) e)
+    by_hands (Some x) None holds e = absurd holds
+    by_hands (Some x) (Some y) holds e = held_choice a.node.script a.node.me (state_of a.node) x y holds ∙ e
+
+-- the log goes on through a turn
+pub turn_grew : (r : Turned) (a b c : Parts) → Grew a b → SameRunner b c → TurnEnds r b c → Grew a c
+turn_grew Moved a b c h s k = record {
+  same = same_join a b c h.same s;
+  log = (h.log.0 ++ k.0.0 ∷ [], sym (append_assoc a.log.entries h.log.0 (k.0.0 ∷ [])) ∙ (ap (λ (log : List Logged). log ++ k.0.0 ∷ []) h.log.1 ∙ sym k.0.1));
+}
+turn_grew Quiet a b c h s k = record { same = same_join a b c h.same s; log = (h.log.0, h.log.1 ∙ sym k.0.log) }
+turn_grew Full a b c h s k = record { same = same_join a b c h.same s; log = (h.log.0, h.log.1 ∙ sym k.0.log) }
+turn_grew NoMemory a b c h s k = record { same = same_join a b c h.same s; log = (h.log.0, h.log.1 ∙ sym k.log) }
+
+pub same_self : (a : Parts) → SameRunner a a
+same_self a = record { reads = refl; script = refl; me = refl; limit = refl; ends = ends_same a.mail }
+
+pub grew_self : (a : Parts) → Grew a a
+grew_self a = record { same = same_self a; log = ([], append-nil a.log.entries) }
+
+-- a turn adds no more than one move
+pub turn_left : (r : Turned) (a b : Parts) → SameRunner a b → TurnEnds r a b
+    → (r ≡ Moved → (length b.log.entries ≡ length a.log.entries + 1) × (length a.log.entries < a.limit)) × (r ≡ Quiet → length b.log.entries ≡ length a.log.entries)
+turn_left Moved a b s k =
+    ((λ e. (ap (λ (log : List Logged). length log) k.0.1 ∙ length_push a.log.entries k.0.0, k.1)), (λ e. absurd (cc)))
+turn_left Quiet a b s k = ((λ e. absurd (cc)), (λ e. ap (λ (log : List Logged). length log) k.0.log))
+turn_left Full a b s k = ((λ e. absurd (cc)), (λ e. absurd (cc)))
+turn_left NoMemory a b s k = ((λ e. absurd (cc)), (λ e. absurd (cc)))

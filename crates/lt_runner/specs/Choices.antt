@@ -1,0 +1,56 @@
+-- The move that a runner shows.
+use Rattle.std.specs.Prelude.{Bool, ◌&&◌, nat_lt, ℕ, zero, suc, Option, Some, None, if◌then◌else◌, length}
+use Rattle.lt_modes.specs.Script.{ScriptData}
+use Rattle.lt_modes.specs.State.{Letter}
+use Rattle.lt_modes.specs.Fits.{fits}
+use Rattle.lt_letter.specs.Seen.{letter_seen}
+use Rattle.lt_limits.specs.Limits.{node_within, leaves_asks}
+use Rattle.lt_runs.specs.NodeMove.{NodeState}
+use Rattle.lt_plays.specs.Plays.{can_act}
+use Rattle.lt_node.specs.NodeData.{state_of, numbers_of}
+use Rattle.lt_runner.specs.declared.choice.TheConstants.{LAST_CLOCK}
+use Rattle.lt_runner.specs.declared.choice.Choice.{Choice}
+use Rattle.lt_runner.specs.declared.choice.Choice.TheVariants.{Nothing, Act, Take}
+use Rattle.lt_runner.specs.declared.hand.Hand.{Hand}
+use Rattle.lt_runner.specs.declared.parts.Parts.{Parts}
+
+abbrev pub or_this : Option ℕ → (ℕ → Bool) → ℕ → Option ℕ
+or_this (Some least) test n = Some least
+or_this None test n = if test n then Some n else None
+
+-- the least number below n that passes
+abbrev pub least_below : ℕ → (ℕ → Bool) → Option ℕ
+least_below zero test = None
+least_below (suc n) test = or_this (least_below n test) test n
+
+-- the first client of the node that can act
+abbrev pub first_client : ScriptData → ℕ → NodeState → Option ℕ
+first_client script me n = least_below (length script.clients) (can_act script me n)
+
+-- the clock has not met its bound, and what the node keeps leaves room for a move
+abbrev pub may_move : ScriptData → NodeState → Bool
+may_move script n = nat_lt n.clock LAST_CLOCK && node_within script n
+
+-- so it does for a command
+abbrev pub may_act : ScriptData → NodeState → Bool
+may_act script n = may_move script n && leaves_asks script n
+
+-- and for the letter
+abbrev pub may_take : ScriptData → ℕ → NodeState → Letter → Bool
+may_take script me n letter = may_move script n && fits (numbers_of script) me n.clock (n.set letter.set) letter
+
+abbrev pub act_of : Option ℕ → Choice
+act_of None = Nothing
+act_of (Some client) = Act client
+
+-- the command of the first client that can act
+abbrev pub act_choice : ScriptData → ℕ → NodeState → Choice
+act_choice script me n = if may_act script n then act_of (first_client script me n) else Nothing
+
+-- the letter in hand comes first, and where it doesn't fit the clients are asked
+abbrev pub choice_by : ScriptData → ℕ → NodeState → Option Hand → Choice
+choice_by script me n None = act_choice script me n
+choice_by script me n (Some hand) = if may_take script me n (letter_seen hand.letter) then Take else act_choice script me n
+
+abbrev pub choice_of : Parts → Choice
+choice_of p = choice_by p.node.script p.node.me (state_of p.node) p.hand

@@ -1,0 +1,8 @@
+pub mod Hands
+pub mod Choices
+pub mod Kept
+pub mod Ready
+pub mod Polled
+pub mod Posting
+pub mod Crew
+pub mod Starts

@@ -1,0 +1,49 @@
+-- What is done with the letters and the event lines of a move.
+use Rattle.std.specs.Prelude.{◌≡◌, ℕ, List, [], ◌∷◌, ◌++◌, length, All}
+use Rattle.lt_modes.specs.declared.event.Event.{Event}
+use Rattle.lt_modes.specs.declared.moves.Move.{Move}
+use Rattle.lt_modes.specs.Made.{Post}
+use Rattle.lt_runs.specs.Log.{Logged}
+use Rattle.lt_merge.specs.Run.{with_event}
+use Rattle.lt_letter.specs.OutData.{OutData}
+use Rattle.lt_peers.specs.Peers.{IsForPeer}
+use Rattle.lt_plays.specs.Plays.{letters_for}
+use Rattle.lt_mail.specs.declared.mail.Mail.{Mail}
+use Rattle.lt_mail.specs.Words.{in_at, outs_count, HasRoom, sent_to, SameEnds}
+use Rattle.lt_runner.specs.declared.parts.Parts.{Parts}
+
+-- the entries after the last move has these events more
+abbrev pub with_events : List Logged → List Event → List Logged
+with_events entries [] = entries
+with_events entries (event ∷ events) = with_events (with_event entries event) events
+
+-- the letters are for other nodes, and there is room for them
+pub record CanPost (nodes me : ℕ) (m : Mail) (posts : List Post) : Type 0 where
+  pub count : outs_count m ≡ nodes
+  pub peers : All (IsForPeer nodes me) posts
+  pub room : HasRoom m (length posts)
+
+-- the letters are put into the outboxes to their nodes
+pub record Posted (posts : List Post) (a b : Mail) : Type 0 where
+  pub ends : SameEnds a b
+  pub sent : (node : ℕ) → sent_to b node ≡ sent_to a node ++ letters_for node posts
+  pub ins : (node : ℕ) → in_at b node ≡ in_at a node
+
+-- some letters are put there, and the others are left
+pub record Posting (nodes me : ℕ) (a b : Mail) (all left : OutData) : Type 0 where
+  pub ends : SameEnds a b
+  pub sent : (node : ℕ) → sent_to b node ++ letters_for node left.posts ≡ sent_to a node ++ letters_for node all.posts
+  pub ins : (node : ℕ) → in_at b node ≡ in_at a node
+  pub can : CanPost nodes me b left.posts
+  pub out : left ≡ record all { posts = left.posts }
+
+-- the move is in the log and its letters are in the mail
+pub record Finished (made : Move) (a b : Parts) : Type 0 where
+  pub node : b.node ≡ a.node
+  pub hand : b.hand ≡ a.hand
+  pub script : b.script ≡ a.script
+  pub limit : b.limit ≡ a.limit
+  pub log : b.log.entries ≡ a.log.entries ++ record { made = made; events = a.out.events } ∷ []
+  pub mail : Posted a.out.posts a.mail b.mail
+  pub posts : b.out.posts ≡ []
+  pub events : b.out.events ≡ []

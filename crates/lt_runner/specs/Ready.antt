@@ -1,0 +1,35 @@
+-- Room for one move of a runner.
+use Rattle.std.specs.Prelude.{◌≤◌, ◌<◌, ℕ, nat_lt, IfSome, IsTrue}
+use Rattle.lt_modes.specs.Script.{ScriptData}
+use Rattle.lt_modes.specs.Fits.{fits}
+use Rattle.lt_letter.specs.Seen.{letter_seen}
+use Rattle.lt_limits.specs.Limits.{node_within}
+use Rattle.lt_runs.specs.NodeMove.{NodeState}
+use Rattle.lt_node.specs.NodeData.{numbers_of}
+use Rattle.lt_runner.specs.declared.choice.TheConstants.{LAST_CLOCK}
+use Rattle.lt_node.specs.Room.{RoomToAct, RoomToTake}
+use Rattle.lt_mail.specs.Words.{HasRoom}
+use Rattle.lt_runner.specs.declared.hand.Hand.{Hand}
+use Rattle.lt_runner.specs.declared.parts.Parts.{Parts}
+
+-- the log and the outboxes have room for all that a move may send out
+pub record CanLog (p : Parts) : Type 0 where
+  pub move : 0 < p.log.spare
+  pub events : p.out.event_room ≤ p.log.room
+  pub posts : HasRoom p.mail p.out.post_room
+
+-- and the node has room for a command
+pub record CanAct (p : Parts) : Type 0 where
+  pub log : CanLog p
+  pub node : RoomToAct p.node p.out
+
+-- or for the letter in hand
+pub record CanTake (p : Parts) : Type 0 where
+  pub log : CanLog p
+  pub node : IfSome p.hand (λ (hand : Hand). RoomToTake p.node hand.letter p.out)
+
+-- the letter fits, and there is room for it
+pub record FitsNow (script : ScriptData) (me : ℕ) (n : NodeState) (hand : Hand) : Type 0 where
+  pub clock : IsTrue (nat_lt n.clock LAST_CLOCK)
+  pub within : IsTrue (node_within script n)
+  pub fits : IsTrue (fits (numbers_of script) me n.clock (n.set hand.letter.set) (letter_seen hand.letter))

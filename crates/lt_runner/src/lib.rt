@@ -1,0 +1,21 @@
+//! What runs a node on a thread: its state, its mail and its log, and its moves one after the other.
+#![tactic(auto)]
+
+mod choice;
+mod choosing;
+mod gate;
+mod hand;
+mod making;
+mod parts;
+mod polling;
+mod posting;
+mod readying;
+mod runner;
+mod turned;
+mod turning;
+mod working;
+
+pub use gate::Gate;
+pub use parts::Parts;
+pub use runner::Runner;
+pub use turned::{Turned, Worked};

@@ -1,0 +1,117 @@
+// What a runner does before a move.
+ghost use Rattle.std.specs.Prelude.{◌≡◌, ◌≢◌, ℕ, None, IsTrue, IfSome, OnOk};
+ghost use Rattle.lt_limits.specs.Limits.{node_within};
+ghost use Rattle.lt_node.specs.NodeData.{state_of};
+ghost use Rattle.lt_node.specs.Room.{RoomToAct, RoomToTake};
+ghost use Rattle.lt_runner.specs.declared.choice.Choice.TheVariants as choices;
+ghost use Rattle.lt_runner.specs.Choices.{choice_of};
+ghost use Rattle.lt_runner.specs.Ready.{CanAct, CanTake, CanLog, FitsNow};
+ghost use Rattle.lt_runner.specs.Kept.{Kept, AsSeen, KnowsNoLetter};
+
+use crate::parts::Parts;
+use crate::polling::poll;
+use std::alloc::AllocError;
+
+impl Parts<'_> {
+    // Gives the rings what waits in the outboxes.
+    fn flush(&mut self)
+        requires { Kept self.old }
+        ensures kept { Kept self.new }
+        ensures seen { AsSeen self.old self.new }
+        ensures hand { self.new.hand ≡ self.old.hand }
+    {
+        self.mail.flush_all();
+    }
+
+    // Takes a letter from a ring into the hand.
+    fn fill_hand(&mut self)
+        requires kept { Kept self.old }
+        requires hand { self.old.hand ≡ None }
+        ensures kept { Kept self.new }
+        ensures seen { AsSeen self.old self.new }
+        ensures rings { KnowsNoLetter self.new }
+    {
+        self.hand = poll(&mut self.mail, self.node.me(), self.script.nodes());
+    }
+
+    /// Gives the rings what waits in the outboxes, and takes a letter where none is in hand.
+    pub(crate) fn look(&mut self)
+        requires { Kept self.old }
+        ensures kept { Kept self.new }
+        ensures seen { AsSeen self.old self.new }
+        ensures rings { KnowsNoLetter self.new }
+    {
+        self.flush();
+        if self.hand.is_none() {
+            self.fill_hand();
+        }
+    }
+
+    /// Makes room for a command.
+    #[tactic(auto, using(crate::proofs::ChoiceLemmas::act_within, crate::proofs::KeptLemmas::seen_join))]
+    pub(crate) fn reserve_act(&mut self, _client: u16) -> Result<(), AllocError>
+        requires kept { Kept self.old }
+        requires chosen { choice_of self.old ≡ choices.Act _client }
+        ensures kept { Kept self.new }
+        ensures seen { AsSeen self.old self.new }
+        ensures hand { self.new.hand ≡ self.old.hand }
+        ensures ready { OnOk result (CanAct self.new) }
+    {
+        self.reserve_for_act()?;
+        self.reserve_rest()
+    }
+
+    /// Makes room to take the letter in hand.
+    #[tactic(auto, using(crate::proofs::ChoiceLemmas::take_fits, crate::proofs::KeptLemmas::seen_join))]
+    pub(crate) fn reserve_take(&mut self) -> Result<(), AllocError>
+        requires kept { Kept self.old }
+        requires chosen { choice_of self.old ≡ choices.Take }
+        ensures kept { Kept self.new }
+        ensures seen { AsSeen self.old self.new }
+        ensures ready { OnOk result (CanTake self.new) }
+    {
+        self.reserve_for_hand()?;
+        self.reserve_rest()
+    }
+
+    // Makes room in the node.
+    fn reserve_for_act(&mut self) -> Result<(), AllocError>
+        requires kept { Kept self.old }
+        requires within { IsTrue (node_within self.old.node.script (state_of self.old.node)) }
+        ensures kept { Kept self.new }
+        ensures seen { AsSeen self.old self.new }
+        ensures hand { self.new.hand ≡ self.old.hand }
+        ensures room { OnOk result (RoomToAct self.new.node self.new.out) }
+    {
+        self.node.reserve(&mut self.out)
+    }
+
+    // Makes room in the node and in the letter.
+    fn reserve_for_hand(&mut self) -> Result<(), AllocError>
+        requires kept { Kept self.old }
+        requires fits { IfSome self.old.hand (FitsNow self.old.node.script self.old.node.me (state_of self.old.node)) }
+        ensures kept { Kept self.new }
+        ensures seen { AsSeen self.old self.new }
+        ensures room { OnOk result (IfSome self.new.hand (λ hand. RoomToTake self.new.node hand.letter self.new.out)) }
+    {
+        match &mut self.hand {
+            None => Ok(()),
+            Some(hand) => self.node.reserve_for(&mut hand.letter, &mut self.out),
+        }
+    }
+
+    // Makes room in the log and in the outboxes for all that a move may send out.
+    fn reserve_rest(&mut self) -> Result<(), AllocError>
+        requires { Kept self.old }
+        ensures kept { Kept self.new }
+        ensures seen { AsSeen self.old self.new }
+        ensures hand { self.new.hand ≡ self.old.hand }
+        ensures node { (self.new.node ≡ self.old.node) × (self.new.out ≡ self.old.out) }
+        ensures room { OnOk result (CanLog self.new) }
+    {
+        let lines = u32::try_from(self.out.event_room()).map_err(|_| AllocError)?;
+        let letters = u32::try_from(self.out.post_room()).map_err(|_| AllocError)?;
+        self.log.reserve(lines)?;
+        self.mail.reserve(letters)
+    }
+}

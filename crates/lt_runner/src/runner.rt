@@ -1,0 +1,115 @@
+ghost use Rattle.std.specs.Prelude.{◌≡◌, ◌≢◌, ◌<◌, ◌≤◌, [], length, IfOk};
+ghost use Rattle.lt_mail.specs.Opening.{IsFresh};
+ghost use Rattle.lt_runner.specs.declared.choice.Choice.TheVariants as choices;
+ghost use Rattle.lt_runner.specs.declared.turned.Worked.TheVariants as answers;
+ghost use Rattle.lt_runner.specs.Choices.{choice_of};
+ghost use Rattle.lt_runner.specs.Kept.{Kept, Grew, MovedOne, WorkEnds, OneEnds};
+ghost use Rattle.lt_runner.specs.Starts.{StartsWith};
+
+use crate::gate::Gate;
+use crate::parts::Parts;
+use crate::turned::Worked;
+use lt_letter::Out;
+use lt_mail::Mail;
+use lt_merge::Log;
+use lt_node::Node;
+use lt_script::Script;
+use std::alloc::{AllocError, Global};
+use std::marker::Model;
+
+/// What runs a node: its state, its mail and its log.
+#[derive(Drop)]
+pub struct Runner<'a> {
+    parts: Parts<'a>,
+}
+
+impl<'a> Model for Runner<'a> {
+    ghost use Rattle.lt_runner.specs.declared.parts.Parts.{Parts as RunnerParts};
+    ghost use Rattle.lt_runner.specs.Kept.{Kept};
+
+    ghost Value = { RunnerParts };
+
+    ghost view = { λ r. r.parts };
+
+    ghost invariant = { λ r. Kept r.parts };
+}
+
+impl<'a> Runner<'a> {
+    /// The runner of a node at the start of the script, which makes up to `limit` moves.
+    ///
+    /// Without memory the mail is dropped.
+    pub fn new(
+        alloc: Global,
+        script: &'a Script,
+        node: u8,
+        mail: Mail,
+        limit: u32,
+    ) -> Result<Runner<'a>, AllocError>
+        requires node { node < script.now.nodes }
+        requires mail { IsFresh script.now.nodes node mail }
+        requires limit { (0 < limit) × (limit ≤ 1048576) }
+        ensures { IfOk result (StartsWith script.now node mail limit) }
+    {
+        let parts = begin(alloc, script, node, mail, limit)?;
+        Ok(Runner { parts })
+    }
+
+    /// Makes turns until `patience` of them, one after the other, found no move, or the log is full.
+    ///
+    /// A turn flushes the outboxes, looks for a letter and then for a client that can act, and makes the first move found.
+    pub fn work<G: Gate>(&mut self, patience: u32, gate: &G) -> Worked
+        ensures grew { Grew self.old self.new }
+        ensures ends { WorkEnds result patience self.new }
+        ensures at_once { patience ≡ 0 → (result ≡ answers.Idle) × (self.new ≡ self.old) }
+    {
+        self.parts.work(patience, gate)
+    }
+
+    /// Makes one turn.
+    pub fn one<G: Gate>(&mut self, gate: &G) -> Worked
+        ensures grew { Grew self.old self.new }
+        ensures ends { OneEnds result self.old self.new }
+        ensures moves { choice_of self.old ≢ choices.Nothing → result ≡ answers.Idle → MovedOne self.old self.new }
+    {
+        self.parts.one(gate)
+    }
+
+    /// How many moves were made.
+    pub fn moves(&self) -> u32
+        ensures { result ≡ length self.now.log.entries }
+    {
+        self.parts.moves()
+    }
+
+    /// What a runner keeps.
+    pub fn kept(&self)
+        ensures { Kept self.now }
+    {
+        let _ = &self.parts;
+    }
+}
+
+#[tactic(auto, using(crate::proofs::StartLemmas::kept_at_start))]
+fn begin<'a>(
+    alloc: Global,
+    script: &'a Script,
+    node: u8,
+    mail: Mail,
+    limit: u32,
+) -> Result<Parts<'a>, AllocError>
+    requires node { node < script.now.nodes }
+    requires mail { IsFresh script.now.nodes node mail }
+    ensures kept { IfOk result Kept }
+    ensures starts { IfOk result (StartsWith script.now node mail limit) }
+{
+    let state = Node::new(alloc, script, node)?;
+    Ok(Parts {
+        script,
+        node: state,
+        mail,
+        log: Log::new(alloc),
+        out: Out::new(alloc),
+        hand: None,
+        limit,
+    })
+}
