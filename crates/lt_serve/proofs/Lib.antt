@@ -1,5 +1,4 @@
-mod Endings
-mod FirstMoves
-mod NoMoves
-mod Seeds
+mod Causing
+mod Ordered
+mod Rooms
 mod Told

@@ -1,21 +1,61 @@
 -- Why an answer comes, and what it says of the source and the sink.
-use Rattle.std.specs.Prelude.{◌≡◌, ◌≢◌, ◌↔◌, ◌⊎◌, ℕ, ◌+◌, ◌≤◌, List, Option, None}
+use Rattle.std.specs.Prelude.{◌≡◌, ◌≢◌, ◌⊎◌, Bool, true, false, ℕ, ◌+◌, ◌≤◌, Option, Some, None, List}
 use Rattle.lt_io.specs.FaultCounts.{Counts}
 use Rattle.lt_io.specs.declared.whole.ReadFailure.{ReadFailure}
 use Rattle.lt_io.specs.declared.whole.ReadFailure.TheVariants.{Memory, Failed, TooLong as Long}
 use Rattle.lt_script.specs.declared.fault.ScriptFault.{ScriptFault}
-use Rattle.lt_serve.specs.Words.{command_of, IsSimFirst, IsUnbuilt}
-use Rattle.lt_serve.specs.TopCall.{HasFault, DenotesOther}
+use Rattle.lt_words.specs.declared.command.Command.{Command}
+use Rattle.lt_words.specs.declared.command.Command.TheVariants.{Run, SimFirst, Sim, Check, Make, Soak}
+use Rattle.lt_modes.specs.Script.{ScriptData}
+use Rattle.lt_serve.specs.declared.limits.TheConstants.{MAX_INPUT, MAX_JOURNAL}
+use Rattle.lt_serve.specs.TopCall.{HasFault, HasFaultBefore, DenotesBefore, IsBadLine}
+use Rattle.lt_words.specs.Words.{can_make}
 use Rattle.lt_serve.specs.declared.status.Status.{Status}
-use Rattle.lt_serve.specs.declared.status.Status.TheVariants.{Done, Stuck, Usage, Refused, TooLong, ReadFault, WriteFault, NoMemory, Cut, NotBuilt}
+use Rattle.lt_serve.specs.declared.status.Status.TheVariants.{Done, Stuck, Usage, Refused, TooLong, ReadFault, WriteFault, NoMemory, Cut, BadJournal, NotBuilt}
 
--- the causes of an answer to these words, where the source had these bytes left: each answer has one but want of memory, and
--- but for the ends of a run, of which `Tells` speaks
-pub record HasCause (words : List (List ℕ)) (left : Option (List ℕ)) (answer : Status) : Type 0 where
-  pub usage : (answer ≡ Usage) ↔ (command_of words ≡ None)
-  pub unbuilt : IsUnbuilt words → answer ≡ NotBuilt
-  pub not_built : answer ≡ NotBuilt → IsUnbuilt words ⊎ (IsSimFirst words × DenotesOther left)
-  pub refused : (fault : ScriptFault) → answer ≡ Refused fault → HasFault left fault
+-- the command isn't built yet
+abbrev pub is_unbuilt : Command → Bool
+is_unbuilt Run = true
+is_unbuilt Check = true
+is_unbuilt (Soak seed) = true
+is_unbuilt other = false
+
+abbrev pub IsUnbuilt : Option Command → Type 0
+IsUnbuilt None = ⊥
+IsUnbuilt (Some command) = is_unbuilt command ≡ true
+
+-- the command reads the source
+abbrev pub reads : Option Command → Bool
+reads (Some SimFirst) = true
+reads (Some (Sim seed)) = true
+reads other = false
+
+-- so many bytes its input may have
+abbrev pub limit_of : Option Command → ℕ
+limit_of (Some Check) = MAX_JOURNAL
+limit_of other = MAX_INPUT
+
+-- where the bytes are told, this is the first fault of the script that the command reads
+abbrev pub IsRefused : Option Command → Option (List ℕ) → ScriptFault → Type 0
+IsRefused (Some Check) left fault = HasFaultBefore left fault
+IsRefused other left fault = HasFault left fault
+
+-- the input that `check` reads has this first bad line
+abbrev pub IsBad : Option (List ℕ) → ℕ → Type 0
+IsBad left line = (script : ScriptData) × DenotesBefore left script × IsBadLine left script line
+
+-- why a command is answered so, where the source had these bytes left: each answer has a cause here but want of memory, and but
+-- for the ends of a run, of which `Tells` speaks
+pub record HasCause (asked : Option Command) (left : Option (List ℕ)) (answer : Status) : Type 0 where
+  pub usage : answer ≡ Usage → asked ≡ None
+  pub no_command : asked ≡ None → (answer ≡ Usage) ⊎ (answer ≡ NoMemory)
+  pub not_built : answer ≡ NotBuilt → IsUnbuilt asked
+  pub unbuilt : IsUnbuilt asked → (answer ≡ NotBuilt) ⊎ (answer ≡ NoMemory)
+  pub refused : (fault : ScriptFault) → answer ≡ Refused fault → IsRefused asked left fault
+  pub bad_journal : (line : ℕ) → answer ≡ BadJournal line → (asked ≡ Some Check) × IsBad left line
+  -- these come of reading alone
+  pub read_fault : answer ≡ ReadFault → reads asked ≡ true
+  pub too_long : answer ≡ TooLong → reads asked ≡ true
 
 -- how many bytes a source gave, how often it failed, and how often it was found at its end
 pub record SourceCounts : Type 0 where
@@ -29,6 +69,7 @@ HasRead Done = Unit {0}
 HasRead Stuck = Unit {0}
 HasRead (Cut node) = Unit {0}
 HasRead WriteFault = Unit {0}
+HasRead (BadJournal line) = Unit {0}
 HasRead (Refused fault) = Unit {0}
 HasRead other = ⊥
 
@@ -43,6 +84,12 @@ pub record TellsSource (limit : ℕ) (answer : Status) (before after : SourceCou
   -- it came to its end
   pub whole : HasRead answer → Counts 1 before.ends after.ends
 
+-- the source came to its end, no read failed, and it gave no more bytes than the input may have
+pub record IsReadWhole (limit : ℕ) (before after : SourceCounts) : Type 0 where
+  pub ended : Counts 1 before.ends after.ends
+  pub few : after.given ≤ before.given + limit
+  pub without_fault : after.faults ≡ before.faults
+
 -- what the answer says of the sink's count of faults: one write failed, or none
 pub record TellsSink (answer : Status) (before after : ℕ) : Type 0 where
   pub write_fault : answer ≡ WriteFault → Counts 1 before after
@@ -56,14 +103,27 @@ WritesNothing (Cut node) = ⊥
 WritesNothing WriteFault = ⊥
 WritesNothing other = Unit {0}
 
--- the answers of reading alone
-abbrev pub IsReadAnswer : Status → Type 0
-IsReadAnswer (Refused fault) = Unit {0}
-IsReadAnswer TooLong = Unit {0}
-IsReadAnswer ReadFault = Unit {0}
-IsReadAnswer NoMemory = Unit {0}
-IsReadAnswer NotBuilt = Unit {0}
-IsReadAnswer other = ⊥
+-- the command's work came to an end, and its text is to be written
+abbrev pub IsEnding : Status → Type 0
+IsEnding Done = Unit {0}
+IsEnding Stuck = Unit {0}
+IsEnding (Cut node) = Unit {0}
+IsEnding other = ⊥
+
+-- why a command came to no end
+abbrev pub IsRefusal : Command → Option (List ℕ) → Status → Type 0
+IsRefusal command left (Refused fault) = (reads (Some command) ≡ true) × IsRefused (Some command) left fault
+IsRefusal command left TooLong = reads (Some command) ≡ true
+IsRefusal command left ReadFault = reads (Some command) ≡ true
+IsRefusal command left NoMemory = is_unbuilt command ≡ false
+IsRefusal command left (BadJournal line) = (reads (Some command) ≡ true) × (command ≡ Check) × IsBad left line
+IsRefusal command left NotBuilt = is_unbuilt command ≡ true
+IsRefusal command left other = ⊥
+
+-- of a script that is to be made, the numbers are such that it can be
+abbrev pub CanBeMade : Command → Type 0
+CanBeMade (Make nodes clients commands seed) = can_make nodes clients commands ≡ true
+CanBeMade other = Unit {0}
 
 -- why a source could not be read, as a status
 abbrev pub status_of : ReadFailure → Status

@@ -1,7 +1,7 @@
-pub mod Alone
-pub mod Scripts
+pub mod Orders
+pub mod Endings
 pub mod Status
-pub mod Words
 pub mod TopCall
 pub mod Causes
 pub mod Literals
+pub mod Input

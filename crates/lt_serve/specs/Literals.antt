@@ -1,8 +1,8 @@
 -- What the exit statuses, their texts and the limits are.
 use Rattle.std.specs.Prelude.{◌≡◌, [], codes}
 use Rattle.lt_script.specs.declared.fault.Fault.TheVariants as faults
-use Rattle.lt_world.specs.declared.limits.TheConstants.{MAX_MOVES}
-use Rattle.lt_serve.specs.declared.limits.TheConstants.{MAX_INPUT}
+use Rattle.lt_limits.specs.declared.moves.TheConstants.{MAX_MOVES}
+use Rattle.lt_serve.specs.declared.limits.TheConstants.{MAX_INPUT, MAX_JOURNAL, MAX_CAPACITY}
 use Rattle.lt_serve.specs.declared.status.Status.{Status}
 use Rattle.lt_serve.specs.declared.status.Status.TheVariants.{Done, Stuck, Usage, Refused, TooLong, ReadFault, WriteFault, NoMemory, Cut, BadJournal, NotBuilt}
 use Rattle.lt_serve.specs.Status.{code_of, text_of}
@@ -39,4 +39,6 @@ pub record TextsAre : Type 0 where
 
 pub record LimitsAre : Type 0 where
   pub input : MAX_INPUT ≡ 1048576
+  pub journal : MAX_JOURNAL ≡ 67108864
+  pub capacity : MAX_CAPACITY ≡ 1024
   pub moves : MAX_MOVES ≡ 1048576

@@ -1,20 +1,27 @@
 -- What each answer of the top call means.
-use Rattle.std.specs.Prelude.{◌≡◌, true, false, ℕ, List, [], Option, Some, None, Ok, Err, length, take}
+use Rattle.std.specs.Prelude.{◌≡◌, ℕ, List, [], ◌++◌, Option, Some, None, Ok, Err, length, take, codes}
+use Rattle.std.specs.Fmt.{decimal}
 use Rattle.std.specs.Io.KnownBytes.{Appends}
 use Rattle.lt_io.specs.Sink.{AppendsPart}
 use Rattle.lt_modes.specs.Script.{ScriptData}
 use Rattle.lt_runs.specs.Log.{Logged}
-use Rattle.lt_runs.specs.World.{world_after, IsRun, is_at_rest, anyone_waits}
 use Rattle.lt_runs.specs.FixedOrder.{first_run}
-use Rattle.lt_runs.specs.Facts.{token_count}
+use Rattle.lt_journal.specs.Split.{parts_of}
 use Rattle.lt_journal.specs.Text.{text_of}
-use Rattle.lt_alone.specs.Laws.{ClientsAgree}
+use Rattle.lt_text.specs.Text.{lines}
+use Rattle.lt_checking.specs.Input.{checked_input}
+use Rattle.lt_checking.specs.Journals.{IsFinished}
+use Rattle.lt_promises.specs.Promised.{Promised}
+use Rattle.lt_gen.specs.Generator.{script_of}
 use Rattle.lt_script.specs.declared.fault.ScriptFault.{ScriptFault}
+use Rattle.lt_script.specs.Printing.{print_of}
 use Rattle.lt_script.specs.Reading.{read_of}
-use Rattle.lt_serve.specs.Scripts.{can_run}
-use Rattle.lt_world.specs.declared.limits.TheConstants.{MAX_MOVES}
+use Rattle.lt_words.specs.declared.command.Command.{Command}
+use Rattle.lt_words.specs.declared.command.Command.TheVariants.{Run, SimFirst, Sim, Check, Make, Soak}
 use Rattle.lt_serve.specs.declared.status.Status.{Status}
 use Rattle.lt_serve.specs.declared.status.Status.TheVariants.{Done, Stuck, Usage, Refused, TooLong, ReadFault, WriteFault, NoMemory, Cut, BadJournal, NotBuilt}
+use Rattle.lt_serve.specs.Endings.{RanTo, cut_of}
+use Rattle.lt_serve.specs.Orders.{AreDrawn}
 
 -- where the bytes are told, they denote this script
 abbrev pub Denotes : Option (List ℕ) → ScriptData → Type 0
@@ -26,79 +33,99 @@ abbrev pub HasFault : Option (List ℕ) → ScriptFault → Type 0
 HasFault None fault = Unit {0}
 HasFault (Some bytes) fault = read_of bytes ≡ Err fault
 
--- where the bytes are told, they denote a script that this version can't run: one with more than one node, more than
--- one set, or a command other than `lock` and `unlock`
-abbrev pub DenotesOther : Option (List ℕ) → Type 0
-DenotesOther None = Unit {0}
-DenotesOther (Some bytes) = (script : ScriptData) × (read_of bytes ≡ Ok script) × (can_run script ≡ false)
+-- a run of the script that the bytes denote, which ended so, and its journal
+pub record Journals (moves : ℕ) (ending : Status) (left : Option (List ℕ)) (run : List Logged) (text : List ℕ) : Type 0 where
+  pub script : ScriptData
+  pub denoted : Denotes left script
+  pub ran : RanTo moves ending script run
+  pub journal : text ≡ text_of script run (cut_of ending)
 
--- the node has made as many moves as it may, and a further one is enabled
-pub record IsCutAt (node : ℕ) (script : ScriptData) (run : List Logged) : Type 0 where
-  pub node_is : node ≡ 0
-  pub moves : length run ≡ MAX_MOVES
-  pub going : is_at_rest script (world_after script run) ≡ false
+-- the same, each move the first enabled one
+pub record JournalsFirst (moves : ℕ) (ending : Status) (left : Option (List ℕ)) (run : List Logged) (text : List ℕ) : Type 0 where
+  pub journals : Journals moves ending left run text
+  pub in_order : run ≡ first_run journals.script (length run)
 
--- the run ended as this status says: at rest with nobody waiting, at rest with somebody waiting, or at a node's limit of moves
-abbrev pub EndsAs : Status → ScriptData → List Logged → Type 0
-EndsAs Done script run =
-    (is_at_rest script (world_after script run) ≡ true) × (anyone_waits script (world_after script run) ≡ false)
-EndsAs Stuck script run =
-    (is_at_rest script (world_after script run) ≡ true) × (anyone_waits script (world_after script run) ≡ true)
-EndsAs (Cut node) script run = IsCutAt node script run
-EndsAs other script run = ⊥
+-- the same, each move drawn with the numbers of this seed
+pub record JournalsDrawn (seed moves : ℕ) (ending : Status) (left : Option (List ℕ)) (run : List Logged) (text : List ℕ) : Type 0 where
+  pub journals : Journals moves ending left run text
+  pub drawn : AreDrawn seed journals.script run
 
--- the node at which the run was cut
-abbrev pub cut_of : Status → Option ℕ
-cut_of (Cut node) = Some node
-cut_of other = None
+-- the script that is made from the seed, and no run
+abbrev pub Prints : ℕ → ℕ → ℕ → ℕ → Status → List Logged → List ℕ → Type 0
+Prints nodes clients commands seed ending run text =
+    (ending ≡ Done) × (run ≡ []) × (text ≡ print_of (script_of nodes clients commands seed))
 
--- the script is one that this version can run, and this a run of it by all rules, each move of which is the first enabled
--- one; it ended so, at any time there was one token of each set, and no two clients held conflicting modes
-pub record RanTo (ending : Status) (script : ScriptData) (run : List Logged) : Type 0 where
-  pub built : can_run script ≡ true
-  pub is_run : IsRun script run
-  pub in_order : run ≡ first_run script (length run)
-  pub ends : EndsAs ending script run
-  pub one_token : (k s : ℕ) → token_count script (world_after script (take k run)) s ≡ 1
-  pub clear : ClientsAgree script run
+-- where the bytes are told, their lines before the journal denote this script
+abbrev pub DenotesBefore : Option (List ℕ) → ScriptData → Type 0
+DenotesBefore None script = Unit {0}
+DenotesBefore (Some bytes) script = read_of (take (parts_of bytes).script bytes) ≡ Ok script
 
--- the run of the script that ended so, and its whole journal appended
-pub record TellsAll (ending : Status) (script : ScriptData) (run : List Logged) (old new : Option (List ℕ)) : Type 0 where
-  pub ran : RanTo ending script run
-  pub journal : Appends old new (text_of script run (cut_of ending))
+-- where the bytes are told, this is the first fault of the lines before the journal
+abbrev pub HasFaultBefore : Option (List ℕ) → ScriptFault → Type 0
+HasFaultBefore None fault = Unit {0}
+HasFaultBefore (Some bytes) fault = read_of (take (parts_of bytes).script bytes) ≡ Err fault
 
--- a run of the script, and a first part of its journal appended
-abbrev pub TellsPart : ScriptData → List Logged → Option (List ℕ) → Option (List ℕ) → Type 0
-TellsPart script run old new =
-    (ending : Status) × RanTo ending script run × AppendsPart old new (text_of script run (cut_of ending))
+-- where the bytes are told, the journal in them is that of this run of the script
+abbrev pub IsJournalOf : Option (List ℕ) → ScriptData → List Logged → Type 0
+IsJournalOf None script run = Unit {0}
+IsJournalOf (Some bytes) script run = checked_input script (lines bytes) ≡ Ok run
 
--- no move was made, and nothing was written
+-- where the bytes are told, this is the first line in them that is bad
+abbrev pub IsBadLine : Option (List ℕ) → ScriptData → ℕ → Type 0
+IsBadLine None script line = Unit {0}
+IsBadLine (Some bytes) script line = checked_input script (lines bytes) ≡ Err line
+
+-- `ok` and the number of moves
+abbrev pub ok_text : List Logged → List ℕ
+ok_text run = codes "ok " ++ decimal (length run) ++ codes "\n"
+
+-- the input is a script and the journal of a run of it that ended at rest, which is told, and the number of its moves is written
+pub record Checks (ending : Status) (left : Option (List ℕ)) (run : List Logged) (text : List ℕ) : Type 0 where
+  pub done : ending ≡ Done
+  pub script : ScriptData
+  pub denoted : DenotesBefore left script
+  pub accepted : IsJournalOf left script run
+  pub finished : IsFinished script run
+  pub promised : Promised script run
+  pub counted : text ≡ ok_text run
+
+-- what a command did that ended so: its run, and the text that is to be written
+abbrev pub Does : ℕ → Command → Status → Option (List ℕ) → List Logged → List ℕ → Type 0
+Does moves SimFirst ending left run text = JournalsFirst moves ending left run text
+Does moves (Sim seed) ending left run text = JournalsDrawn seed moves ending left run text
+Does moves (Make nodes clients commands seed) ending left run text = Prints nodes clients commands seed ending run text
+Does moves Check ending left run text = Checks ending left run text
+Does moves Run ending left run text = ⊥
+Does moves (Soak seed) ending left run text = ⊥
+
+-- no run is told, and nothing was written
 abbrev pub TellsNothing : List Logged → Option (List ℕ) → Option (List ℕ) → Type 0
 TellsNothing run old new = (run ≡ []) × (new ≡ old)
 
--- what the status says of the run of this script, and of what the sink held before and after
-abbrev pub TellsOf : Status → ScriptData → List Logged → Option (List ℕ) → Option (List ℕ) → Type 0
-TellsOf Done script run old new = TellsAll Done script run old new
-TellsOf Stuck script run old new = TellsAll Stuck script run old new
-TellsOf (Cut node) script run old new = TellsAll (Cut node) script run old new
-TellsOf WriteFault script run old new = TellsPart script run old new
-TellsOf NoMemory script run old new = TellsNothing run old new
-TellsOf other script run old new = ⊥
+-- it ended so, and its whole text was appended
+abbrev pub TellsAll : ℕ → Command → Status → Option (List ℕ) → List Logged → Option (List ℕ) → Option (List ℕ) → Type 0
+TellsAll moves command ending left run old new = (text : List ℕ) × Does moves command ending left run text × Appends old new text
 
--- the same of some script that the bytes denote
-abbrev pub OfScript : Status → Option (List ℕ) → List Logged → Option (List ℕ) → Option (List ℕ) → Type 0
-OfScript status left run old new = (script : ScriptData) × Denotes left script × TellsOf status script run old new
+-- it ended in some way, and a first part of its text was appended
+abbrev pub TellsPart : ℕ → Command → Option (List ℕ) → List Logged → Option (List ℕ) → Option (List ℕ) → Type 0
+TellsPart moves command left run old new =
+    (ending : Status) × (text : List ℕ) × Does moves command ending left run text × AppendsPart old new text
 
--- what the status says of the run, and of what the sink held before and after; one answer never comes yet
-abbrev pub Tells : Status → Option (List ℕ) → List Logged → Option (List ℕ) → Option (List ℕ) → Type 0
-Tells Done left run old new = OfScript Done left run old new
-Tells Stuck left run old new = OfScript Stuck left run old new
-Tells (Cut node) left run old new = OfScript (Cut node) left run old new
-Tells WriteFault left run old new = OfScript WriteFault left run old new
-Tells Usage left run old new = TellsNothing run old new
-Tells (Refused fault) left run old new = TellsNothing run old new
-Tells TooLong left run old new = TellsNothing run old new
-Tells ReadFault left run old new = TellsNothing run old new
-Tells NoMemory left run old new = TellsNothing run old new
-Tells NotBuilt left run old new = TellsNothing run old new
-Tells (BadJournal line) left run old new = ⊥
+-- what the status says of a command: of the run, and of what the sink held before and after
+abbrev pub TellsOf : ℕ → Command → Status → Option (List ℕ) → List Logged → Option (List ℕ) → Option (List ℕ) → Type 0
+TellsOf moves command Done left run old new = TellsAll moves command Done left run old new
+TellsOf moves command Stuck left run old new = TellsAll moves command Stuck left run old new
+TellsOf moves command (Cut node) left run old new = TellsAll moves command (Cut node) left run old new
+TellsOf moves command WriteFault left run old new = TellsPart moves command left run old new
+TellsOf moves command Usage left run old new = TellsNothing run old new
+TellsOf moves command (Refused fault) left run old new = TellsNothing run old new
+TellsOf moves command TooLong left run old new = TellsNothing run old new
+TellsOf moves command ReadFault left run old new = TellsNothing run old new
+TellsOf moves command NoMemory left run old new = TellsNothing run old new
+TellsOf moves command (BadJournal line) left run old new = TellsNothing run old new
+TellsOf moves command NotBuilt left run old new = TellsNothing run old new
+
+-- the same where the words are this command, or none
+abbrev pub Tells : ℕ → Option Command → Status → Option (List ℕ) → List Logged → Option (List ℕ) → Option (List ℕ) → Type 0
+Tells moves None status left run old new = TellsNothing run old new
+Tells moves (Some command) status left run old new = TellsOf moves command status left run old new

@@ -2,22 +2,23 @@
 #![tactic(auto)]
 
 mod arguments;
-mod command;
-mod first;
 mod gate;
 mod laws;
 mod limits;
+mod made;
+mod making;
+mod order;
 mod reading;
-mod scripts;
 mod serving;
+mod simulated;
+mod simulation;
 mod status;
 #[cfg(test)]
 mod tests;
 
 pub use arguments::program;
-pub use command::Command;
 pub use gate::Gate;
 pub use laws::law_literals;
-pub use limits::MAX_INPUT;
-pub use serving::{Served, serve};
+pub use limits::{MAX_CAPACITY, MAX_INPUT, MAX_JOURNAL};
+pub use serving::{Served, Setup, USUAL, serve, serve_with};
 pub use status::Status;

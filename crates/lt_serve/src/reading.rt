@@ -1,15 +1,13 @@
-ghost use Rattle.std.specs.Prelude.{◌≡◌, ◌≤◌, ◌+◌, IsTrue, IfOk, OnOk, IfErr};
-ghost use Rattle.lt_io.specs.FaultCounts.{Counts};
-ghost use Rattle.lt_script.specs.declared.fault.ScriptFault.{ScriptFault as AnyFault};
+ghost use Rattle.std.specs.Prelude.{◌≡◌, ◌≤◌, Ok, length, IfOk, OnOk, IfErr};
 ghost use Rattle.lt_script.specs.Script.{IsScript};
-ghost use Rattle.lt_serve.specs.Scripts.{can_run};
-ghost use Rattle.lt_serve.specs.declared.limits.TheConstants.{MAX_INPUT};
-ghost use Rattle.lt_serve.specs.declared.status.Status.TheVariants as status;
-ghost use Rattle.lt_serve.specs.Causes.{TellsSource, IsReadAnswer, status_of};
-ghost use Rattle.lt_serve.specs.TopCall.{Denotes, HasFault, DenotesOther};
+ghost use Rattle.lt_script.specs.Reading.{read_of};
+ghost use Rattle.lt_serve.specs.declared.limits.TheConstants.{MAX_INPUT, MAX_JOURNAL};
+ghost use Rattle.lt_words.specs.declared.command.Command.TheVariants as command;
+ghost use Rattle.lt_serve.specs.Causes.{TellsSource, IsReadWhole, IsRefusal, status_of};
+ghost use Rattle.lt_serve.specs.Input.{Left, IsReadFailure, IsFaultOf};
+ghost use Rattle.lt_serve.specs.TopCall.{Denotes};
 
 use crate::limits::MAX_INPUT;
-use crate::scripts::can_run;
 use crate::status::Status;
 use lt_io::{ReadFailure, Source, read_all};
 use lt_script::{ReadError, Script, read};
@@ -18,12 +16,16 @@ use std::alloc::Global;
 /// Reads the source to its end, and the script that its bytes denote.
 pub(crate) fn read_script<S: Source>(alloc: Global, source: &mut S) -> Result<Script, Status>
     ensures script { IfOk result (Denotes (S.left source.old)) }
-    ensures built { IfOk result (λ script. IsTrue (can_run script)) }
     ensures kept { IfOk result IsScript }
-    ensures whole { OnOk result (Counts 1 (S.ends source.old) (S.ends source.new)) }
-    ensures few { OnOk result (S.given source.new ≤ S.given source.old + MAX_INPUT) }
-    ensures without_fault { OnOk result (S.faults source.new ≡ S.faults source.old) }
-    ensures answer { IfErr result IsReadAnswer }
+    ensures whole { OnOk result (IsReadWhole MAX_INPUT (record {
+      given = S.given source.old;
+      faults = S.faults source.old;
+      ends = S.ends source.old;
+    }) (record {
+      given = S.given source.new;
+      faults = S.faults source.new;
+      ends = S.ends source.new;
+    })) }
     ensures reading { IfErr result (λ answer. TellsSource MAX_INPUT answer (record {
       given = S.given source.old;
       faults = S.faults source.old;
@@ -33,16 +35,55 @@ pub(crate) fn read_script<S: Source>(alloc: Global, source: &mut S) -> Result<Sc
       faults = S.faults source.new;
       ends = S.ends source.new;
     })) }
-    ensures refused { IfErr result (λ answer. (fault : AnyFault) → answer ≡ status.Refused fault → HasFault (S.left source.old) fault) }
-    ensures not_built { IfErr result (λ answer. answer ≡ status.NotBuilt → DenotesOther (S.left source.old)) }
+    ensures refused { IfErr result (IsRefusal command.SimFirst (S.left source.old)) }
 {
-    let bytes = match read_all(alloc, source, MAX_INPUT) {
-        Ok(bytes) => bytes,
-        Err(failure) => return Err(status_of(failure)),
-    };
-    match read(alloc, &bytes) {
-        Ok(script) if can_run(&script) => Ok(script),
-        Ok(_) => Err(Status::NotBuilt),
+    let bytes = read_bytes(alloc, source, MAX_INPUT)?;
+    script_of(alloc, &bytes)
+}
+
+/// Reads the source to its end, where it has no more bytes than the limit.
+pub(crate) fn read_bytes<S: Source>(
+    alloc: Global,
+    source: &mut S,
+    limit: usize,
+) -> Result<Vec<u8>, Status>
+    ensures bytes { IfOk result (λ bytes. Left (S.left source.old) bytes.items) }
+    ensures few { IfOk result (λ bytes. length bytes.items ≤ limit) }
+    ensures whole { OnOk result (IsReadWhole limit (record {
+      given = S.given source.old;
+      faults = S.faults source.old;
+      ends = S.ends source.old;
+    }) (record {
+      given = S.given source.new;
+      faults = S.faults source.new;
+      ends = S.ends source.new;
+    })) }
+    ensures reading { IfErr result (λ answer. TellsSource limit answer (record {
+      given = S.given source.old;
+      faults = S.faults source.old;
+      ends = S.ends source.old;
+    }) (record {
+      given = S.given source.new;
+      faults = S.faults source.new;
+      ends = S.ends source.new;
+    })) }
+    ensures refused { IfErr result IsReadFailure }
+{
+    match read_all(alloc, source, limit) {
+        Ok(bytes) => Ok(bytes),
+        Err(failure) => Err(status_of(failure)),
+    }
+}
+
+/// The script that the bytes denote.
+pub(crate) fn script_of(alloc: Global, bytes: &[u8]) -> Result<Script, Status>
+    requires few { length bytes.now ≤ MAX_JOURNAL }
+    ensures script { IfOk result (λ script. read_of bytes.now ≡ Ok script) }
+    ensures kept { IfOk result IsScript }
+    ensures refused { IfErr result (IsFaultOf bytes.now) }
+{
+    match read(alloc, bytes) {
+        Ok(script) => Ok(script),
         Err(ReadError::Fault(fault)) => Err(Status::Refused(fault)),
         Err(ReadError::Memory) => Err(Status::NoMemory),
     }

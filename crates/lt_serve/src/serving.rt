@@ -1,23 +1,40 @@
-ghost use Rattle.std.specs.Prelude.{◌≡◌, map, [], IsTrue};
+ghost use Rattle.std.specs.Prelude.{◌≡◌, ◌<◌, ◌≤◌, true, false, map, [], Some, IfOk, IfErr, OnOk};
 ghost use Rattle.std.specs.String.{string_bytes};
-ghost use Rattle.lt_script.specs.Script.{IsScript};
-ghost use Rattle.lt_serve.specs.Scripts.{can_run};
-ghost use Rattle.lt_serve.specs.Words.{IsSimFirst};
-ghost use Rattle.lt_serve.specs.declared.limits.TheConstants.{MAX_INPUT};
-ghost use Rattle.lt_serve.specs.Causes.{HasCause, TellsSource, TellsSink, WritesNothing};
-ghost use Rattle.lt_serve.specs.TopCall.{Tells, TellsOf};
+ghost use Rattle.lt_limits.specs.declared.moves.TheConstants.{MAX_MOVES};
+ghost use Rattle.lt_serve.specs.declared.limits.TheConstants.{MAX_CAPACITY};
+ghost use Rattle.lt_words.specs.Words.{command_of};
+ghost use Rattle.lt_serve.specs.Causes.{HasCause, TellsSource, TellsSink, WritesNothing, IsReadWhole, IsEnding, IsRefusal, CanBeMade, reads, is_unbuilt, limit_of};
+ghost use Rattle.lt_serve.specs.TopCall.{Tells, Does};
 
-use crate::command::Command;
-use crate::first::first_run;
 use crate::gate::Gate;
-use crate::reading::read_script;
+use crate::made::{Made, write_made};
+use crate::making::printed;
+use crate::simulated::{simulated_drawn, simulated_first};
 use crate::status::Status;
-use lt_io::{Sink, Source, write_all};
-use lt_journal::write;
+use lt_io::{Sink, Source};
+use lt_limits::MAX_MOVES;
 use lt_merge::Run;
-use lt_script::Script;
+use lt_words::Command;
 use std::alloc::Global;
 use std::thread::Threads;
+
+/// How much a run may take.
+#[derive(Clone, Copy, Debug, PartialEq, Eq)]
+pub struct Setup {
+    /// How many moves a node may make.
+    pub moves: u32,
+    /// How many letters a ring between two nodes holds.
+    pub capacity: u32,
+    /// How often a node looks for a move in vain before it ends its turn.
+    pub patience: u32,
+}
+
+/// What `serve` takes.
+pub const USUAL: Setup = Setup {
+    moves: MAX_MOVES,
+    capacity: 64,
+    patience: 256,
+};
 
 /// What a command came to: its status, and the run that it made.
 #[derive(Drop)]
@@ -26,22 +43,17 @@ pub struct Served {
     pub run: Run,
 }
 
-/// Does what the words say, which don't have the program's name: reads the source, makes the run and writes its
-/// journal to the sink. The text is made whole before the first write.
-///
-/// So far the one command that is built is `sim first`, which makes all moves on the caller's thread; neither the
-/// runtime nor the gate has a part in it. The others leave the source as it was.
+/// `serve_with` with the usual setup.
 pub fn serve<R: Threads + Sync, S: Source, K: Sink, G: Gate>(
-    _rt: &R,
+    rt: &R,
     alloc: Global,
     words: &[String],
     source: &mut S,
     sink: &mut K,
-    _gate: &G,
+    gate: &G,
 ) -> Served
-    // Each answer but want of memory has its cause.
-    ensures causes { HasCause (map string_bytes words.now) (S.left source.old) result.status }
-    ensures reading { TellsSource MAX_INPUT result.status (record {
+    ensures causes { HasCause (command_of (map string_bytes words.now)) (S.left source.old) result.status }
+    ensures reading { reads (command_of (map string_bytes words.now)) ≡ true → TellsSource (limit_of (command_of (map string_bytes words.now))) result.status (record {
       given = S.given source.old;
       faults = S.faults source.old;
       ends = S.ends source.old;
@@ -50,20 +62,55 @@ pub fn serve<R: Threads + Sync, S: Source, K: Sink, G: Gate>(
       faults = S.faults source.new;
       ends = S.ends source.new;
     }) }
+    ensures unread { reads (command_of (map string_bytes words.now)) ≡ false → source.new ≡ source.old }
     ensures writing { TellsSink result.status (K.faults sink.old) (K.faults sink.new) }
-    ensures unread { ¬ (IsSimFirst (map string_bytes words.now)) → source.new ≡ source.old }
+    ensures unwritten { WritesNothing result.status → sink.new ≡ sink.old }
+    ensures tells { Tells MAX_MOVES (command_of (map string_bytes words.now)) result.status (S.left source.old) result.run.entries (K.held sink.old) (K.held sink.new) }
+{
+    serve_with(rt, alloc, USUAL, words, source, sink, gate)
+}
+
+/// Does what the words say, which don't have the program's name: reads the source, makes the run and writes its
+/// journal to the sink, or what else the command is for. The text is made whole before the first write.
+///
+/// The words `make` and `soak` leave the source as it was, and so do words that are no command or one that isn't built.
+pub fn serve_with<R: Threads + Sync, S: Source, K: Sink, G: Gate>(
+    _rt: &R,
+    alloc: Global,
+    setup: Setup,
+    words: &[String],
+    source: &mut S,
+    sink: &mut K,
+    _gate: &G,
+) -> Served
+    requires moves { (0 < setup.moves) × (setup.moves ≤ MAX_MOVES) }
+    requires capacity { (0 < setup.capacity) × (setup.capacity ≤ MAX_CAPACITY) }
+
+    // Why the answer came, and what it says of the source and the sink.
+    ensures causes { HasCause (command_of (map string_bytes words.now)) (S.left source.old) result.status }
+    ensures reading { reads (command_of (map string_bytes words.now)) ≡ true → TellsSource (limit_of (command_of (map string_bytes words.now))) result.status (record {
+      given = S.given source.old;
+      faults = S.faults source.old;
+      ends = S.ends source.old;
+    }) (record {
+      given = S.given source.new;
+      faults = S.faults source.new;
+      ends = S.ends source.new;
+    }) }
+    ensures unread { reads (command_of (map string_bytes words.now)) ≡ false → source.new ≡ source.old }
+    ensures writing { TellsSink result.status (K.faults sink.old) (K.faults sink.new) }
     ensures unwritten { WritesNothing result.status → sink.new ≡ sink.old }
 
     // What the run is, how it ended, and what was written.
-    ensures tells { Tells result.status (S.left source.old) result.run.entries (K.held sink.old) (K.held sink.new) }
+    ensures tells { Tells setup.moves (command_of (map string_bytes words.now)) result.status (S.left source.old) result.run.entries (K.held sink.old) (K.held sink.new) }
 {
-    match Command::from_words(words) {
-        Some(Command::SimFirst) => {}
-        Some(_) => return Served::without_run(alloc, Status::NotBuilt),
-        None => return Served::without_run(alloc, Status::Usage),
-    }
-    match read_script(alloc, source) {
-        Ok(script) => run_script(alloc, &script, sink),
+    let command = match Command::from_words(alloc, words) {
+        Ok(Some(command)) => command,
+        Ok(None) => return Served::without_run(alloc, Status::Usage),
+        Err(_) => return Served::without_run(alloc, Status::NoMemory),
+    };
+    match make(alloc, setup.moves, command, source) {
+        Ok(made) => write_made(sink, made),
         Err(status) => Served::without_run(alloc, status),
     }
 }
@@ -81,25 +128,51 @@ impl Served {
     }
 }
 
-// Makes the run and writes its journal.
-fn run_script<K: Sink>(alloc: Global, script: &Script, sink: &mut K) -> Served
-    requires built { IsTrue (can_run script.now) }
-    requires kept { IsScript script.now }
-    ensures tells { TellsOf result.status script.now result.run.entries (K.held sink.old) (K.held sink.new) }
-    ensures writing { TellsSink result.status (K.faults sink.old) (K.faults sink.new) }
-    ensures unwritten { WritesNothing result.status → sink.new ≡ sink.old }
+// Does what a command is for, up to the writing of its text.
+fn make<S: Source>(
+    alloc: Global,
+    moves: u32,
+    command: Command,
+    source: &mut S,
+) -> Result<Made, Status>
+    requires moves { (0 < moves) × (moves ≤ MAX_MOVES) }
+    requires possible { CanBeMade command }
+    ensures ended { IfOk result (λ made. IsEnding made.ending) }
+    ensures does { IfOk result (λ made. Does moves command made.ending (S.left source.old) made.run.entries made.text.items) }
+    ensures built { OnOk result (is_unbuilt command ≡ false) }
+    ensures whole { OnOk result (reads (Some command) ≡ true → IsReadWhole (limit_of (Some command)) (record {
+      given = S.given source.old;
+      faults = S.faults source.old;
+      ends = S.ends source.old;
+    }) (record {
+      given = S.given source.new;
+      faults = S.faults source.new;
+      ends = S.ends source.new;
+    })) }
+    ensures reading { IfErr result (λ answer. reads (Some command) ≡ true → TellsSource (limit_of (Some command)) answer (record {
+      given = S.given source.old;
+      faults = S.faults source.old;
+      ends = S.ends source.old;
+    }) (record {
+      given = S.given source.new;
+      faults = S.faults source.new;
+      ends = S.ends source.new;
+    })) }
+    ensures refused { IfErr result (IsRefusal command (S.left source.old)) }
+    ensures unread { reads (Some command) ≡ false → source.new ≡ source.old }
 {
-    let Ok((status, run)) = first_run(alloc, script) else {
-        return Served::without_run(alloc, Status::NoMemory);
-    };
-    let Ok(text) = write(alloc, script, &run, status.cut()) else {
-        return Served::without_run(alloc, Status::NoMemory);
-    };
-    match write_all(sink, &text) {
-        Ok(()) => Served { status, run },
-        Err(_) => Served {
-            status: Status::WriteFault,
-            run,
+    match command {
+        Command::SimFirst => simulated_first(alloc, moves, source),
+        Command::Sim { seed } => simulated_drawn(alloc, moves, seed, source),
+        Command::Make {
+            nodes,
+            clients,
+            commands,
+            seed,
+        } => match printed(alloc, nodes, clients, commands, seed) {
+            Ok(made) => Ok(made),
+            Err(_) => Err(Status::NoMemory),
         },
+        Command::Run | Command::Check | Command::Soak { .. } => Err(Status::NotBuilt),
     }
 }

@@ -29,7 +29,7 @@ pub enum Status {
 }
 
 impl Status {
-    ghost use Rattle.lt_serve.specs.TopCall.{cut_of};
+    ghost use Rattle.lt_serve.specs.Endings.{cut_of};
 
     /// The exit status of the program.
     pub fn code(&self) -> u8

@@ -1,0 +1,148 @@
+-- What follows of an answer that comes once the writing has begun, and of words that are a command.
+use Rattle.std.proofs.Common.{◌≡◌, ℕ, Bool, true, false, List, [], ◌∷◌, Option, Some, None, refl, sym, subst, inl, inr, ◌∙◌, ap}
+use Rattle.std.specs.Prelude.{◌⊎◌, option_map, if◌then◌else◌, codes}
+use Rattle.std.specs.Str.{bytes_eq}
+use Rattle.lt_text.specs.Number.{number}
+use Rattle.lt_words.specs.declared.command.Command.{Command}
+use Rattle.lt_words.specs.declared.command.Command.TheVariants.{Run, SimFirst, Sim, Check, Make, Soak}
+use Rattle.lt_serve.specs.declared.status.Status.{Status}
+use Rattle.lt_serve.specs.declared.status.Status.TheVariants.{Done, Stuck, Usage, Refused, TooLong, ReadFault, WriteFault, NoMemory, Cut, BadJournal, NotBuilt}
+use Rattle.lt_words.specs.Words.{seed_of, can_make, make_of, command_of}
+use Rattle.lt_serve.specs.Causes.{HasCause, SourceCounts, TellsSource, IsReadWhole, WritesNothing, IsEnding, CanBeMade, IsRefusal, reads, is_unbuilt, IsUnbuilt}
+
+-- the writing has begun
+abbrev pub HasWritten : Status → Type 0
+HasWritten status = IsEnding status ⊎ (status ≡ WriteFault)
+
+never_written : (status : Status) → HasWritten status → WritesNothing status → ⊥
+never_written Done (inl h) n = n
+never_written Done (inr e) n = n
+never_written Stuck (inl h) n = n
+never_written Stuck (inr e) n = n
+never_written (Cut node) (inl h) n = n
+never_written (Cut node) (inr e) n = n
+never_written WriteFault h n = n
+never_written Usage (inl h) n = h
+never_written Usage (inr e) n = cc
+never_written (Refused fault) (inl h) n = h
+never_written (Refused fault) (inr e) n = cc
+never_written TooLong (inl h) n = h
+never_written TooLong (inr e) n = cc
+never_written ReadFault (inl h) n = h
+never_written ReadFault (inr e) n = cc
+never_written NoMemory (inl h) n = h
+never_written NoMemory (inr e) n = cc
+never_written (BadJournal line) (inl h) n = h
+never_written (BadJournal line) (inr e) n = cc
+never_written NotBuilt (inl h) n = h
+never_written NotBuilt (inr e) n = cc
+
+-- so the answer is none that comes before
+is_other : (status other : Status) → HasWritten status → WritesNothing other → status ≡ other → ⊥
+is_other status other h n e = never_written status h (subst WritesNothing (sym e) n)
+
+pub written_causes : (asked : Option Command) (command : Command) (left : Option (List ℕ)) (status : Status) → asked ≡ Some command
+    → is_unbuilt command ≡ false → HasWritten status → HasCause asked left status
+written_causes asked command left status is built h = record {
+  usage = λ e. absurd (is_other status Usage h tt e);
+  no_command = λ none. absurd (not_none (sym none ∙ is));
+  not_built = λ e. absurd (is_other status NotBuilt h tt e);
+  unbuilt = λ now. absurd (is_built (subst IsUnbuilt is now));
+  refused = λ fault e. absurd (is_other status (Refused fault) h tt e);
+  bad_journal = λ line e. absurd (is_other status (BadJournal line) h tt e);
+  read_fault = λ e. absurd (is_other status ReadFault h tt e);
+  too_long = λ e. absurd (is_other status TooLong h tt e);
+}
+  where
+    not_none : None ≡ Some command → ⊥
+    not_none e = cc
+
+    is_built : is_unbuilt command ≡ true → ⊥
+    is_built e = cc
+
+-- a command that reads is built
+reads_is_built : (command : Command) → reads (Some command) ≡ true → is_unbuilt command ≡ true → ⊥
+reads_is_built Run r u = cc
+reads_is_built SimFirst r u = cc
+reads_is_built (Sim seed) r u = cc
+reads_is_built Check r u = cc
+reads_is_built (Make nodes clients commands seed) r u = cc
+reads_is_built (Soak seed) r u = cc
+
+-- a command that isn't built has one answer but for want of memory
+unbuilt_answer : (command : Command) (left : Option (List ℕ)) (status : Status) → IsRefusal command left status → is_unbuilt command ≡ true
+    → (status ≡ NotBuilt) ⊎ (status ≡ NoMemory)
+unbuilt_answer command left Done h u = absurd h
+unbuilt_answer command left Stuck h u = absurd h
+unbuilt_answer command left (Cut node) h u = absurd h
+unbuilt_answer command left WriteFault h u = absurd h
+unbuilt_answer command left Usage h u = absurd h
+unbuilt_answer command left (Refused fault) h u = absurd (reads_is_built command h.0 u)
+unbuilt_answer command left TooLong h u = absurd (reads_is_built command h u)
+unbuilt_answer command left ReadFault h u = absurd (reads_is_built command h u)
+unbuilt_answer command left (BadJournal line) h u = absurd (reads_is_built command h.0 u)
+unbuilt_answer command left NoMemory h u = inr refl
+unbuilt_answer command left NotBuilt h u = inl refl
+
+pub refused_causes : (asked : Option Command) (command : Command) (left : Option (List ℕ)) (status : Status) → asked ≡ Some command
+    → IsRefusal command left status → HasCause asked left status
+refused_causes asked command left status is h = subst (λ (a : Option Command). HasCause a left status) (sym is) (record {
+  usage = λ e. absurd (subst (λ (s : Status). IsRefusal command left s) e h);
+  no_command = λ none. absurd (not_none none);
+  not_built = λ e. subst (λ (s : Status). IsRefusal command left s) e h;
+  unbuilt = unbuilt_answer command left status h;
+  refused = λ fault e. (subst (λ (s : Status). IsRefusal command left s) e h).1;
+  bad_journal = λ line e. let k = subst (λ (s : Status). IsRefusal command left s) e h in (ap Some k.1, k.2);
+  read_fault = λ e. subst (λ (s : Status). IsRefusal command left s) e h;
+  too_long = λ e. subst (λ (s : Status). IsRefusal command left s) e h;
+})
+  where
+    not_none : Some command ≡ None → ⊥
+    not_none e = cc
+
+pub written_reading : (limit : ℕ) (status : Status) (before after : SourceCounts) → IsReadWhole limit before after → HasWritten status
+    → TellsSource limit status before after
+written_reading limit status before after whole h = record {
+  too_long = λ e. absurd (is_other status TooLong h tt e);
+  not_too_long = λ other. whole.few;
+  read_fault = λ e. absurd (is_other status ReadFault h tt e);
+  no_read_fault = λ other. whole.without_fault;
+  whole = λ read. whole.ended;
+}
+
+-- a command as an answer to words, if it is one of a script to make
+abbrev pub MayBeMade : Option Command → Type 0
+MayBeMade None = Unit {0}
+MayBeMade (Some command) = CanBeMade command
+
+seed_may : (make : ℕ → Command) → ((seed : ℕ) → CanBeMade (make seed)) → (seed : Option ℕ) → MayBeMade (option_map make seed)
+seed_may make may None = tt
+seed_may make may (Some seed) = may seed
+
+if_may : (test : Bool) (this that : Option Command) → MayBeMade this → MayBeMade that → MayBeMade (if test then this else that)
+if_may true this that h k = h
+if_may false this that h k = k
+
+make_may : (nodes clients commands seed : Option ℕ) → MayBeMade (make_of nodes clients commands seed)
+make_may (Some nodes) (Some clients) (Some commands) (Some seed) = by_test (can_make nodes clients commands) refl
+  where
+    by_test : (test : Bool) → can_make nodes clients commands ≡ test → MayBeMade (if test then Some (Make nodes clients commands seed) else None)
+    by_test true e = e
+    by_test false e = tt
+make_may (Some nodes) (Some clients) (Some commands) None = tt
+make_may (Some nodes) (Some clients) None seed = tt
+make_may (Some nodes) None commands seed = tt
+make_may None clients commands seed = tt
+
+-- the numbers of a command are such that its script can be made
+pub may_be_made : (words : List (List ℕ)) → MayBeMade (command_of words)
+may_be_made [] = tt
+may_be_made (word ∷ []) = if_may (bytes_eq word (codes "run")) _ _ tt (if_may (bytes_eq word (codes "check")) _ _ tt tt)
+may_be_made (word ∷ seed ∷ []) =
+    if_may (bytes_eq word (codes "sim")) _ _ (if_may (bytes_eq seed (codes "first")) _ _ tt (seed_may Sim (λ k. tt) (seed_of seed)))
+    (if_may (bytes_eq word (codes "soak")) _ _ (seed_may Soak (λ k. tt) (seed_of seed)) tt)
+may_be_made (word ∷ a ∷ b ∷ []) = tt
+may_be_made (word ∷ a ∷ b ∷ c ∷ []) = tt
+may_be_made (word ∷ nodes ∷ clients ∷ commands ∷ seed ∷ []) =
+    if_may (bytes_eq word (codes "make")) _ _ (make_may (number nodes) (number clients) (number commands) (seed_of seed)) tt
+may_be_made (word ∷ a ∷ b ∷ c ∷ d ∷ e ∷ rest) = tt

@@ -1,0 +1,30 @@
+-- How a run ended, and what is known of a run that was made.
+use Rattle.std.specs.Prelude.{◌≡◌, true, false, ℕ, List, Option, Some, None}
+use Rattle.lt_modes.specs.Script.{ScriptData}
+use Rattle.lt_runs.specs.Log.{Logged}
+use Rattle.lt_runs.specs.World.{world_after, IsRun, is_at_rest, anyone_waits}
+use Rattle.lt_promises.specs.Promised.{Promised}
+use Rattle.lt_world.specs.Fields.{full_node}
+use Rattle.lt_serve.specs.declared.status.Status.{Status}
+use Rattle.lt_serve.specs.declared.status.Status.TheVariants.{Done, Stuck, Cut}
+
+-- the run ended as this status says: at rest with nobody waiting, at rest with somebody waiting, or where this node, the least
+-- such one, has made as many moves as it may and has a further one
+abbrev pub EndsAs : ℕ → Status → ScriptData → List Logged → Type 0
+EndsAs moves Done script run =
+    (is_at_rest script (world_after script run) ≡ true) × (anyone_waits script (world_after script run) ≡ false)
+EndsAs moves Stuck script run =
+    (is_at_rest script (world_after script run) ≡ true) × (anyone_waits script (world_after script run) ≡ true)
+EndsAs moves (Cut node) script run = full_node script moves run ≡ Some node
+EndsAs moves other script run = ⊥
+
+-- the node at which the run was cut
+abbrev pub cut_of : Status → Option ℕ
+cut_of (Cut node) = Some node
+cut_of other = None
+
+-- a run of the script by all rules, in which a node makes up to so many moves; it ended so, and keeps all that is promised
+pub record RanTo (moves : ℕ) (ending : Status) (script : ScriptData) (run : List Logged) : Type 0 where
+  pub is_run : IsRun script run
+  pub ends : EndsAs moves ending script run
+  pub promised : Promised script run

@@ -1,0 +1,30 @@
+-- What was read of an input, and why it is refused.
+use Rattle.std.specs.Prelude.{◌≡◌, ℕ, List, Option, Some, None, Err}
+use Rattle.lt_script.specs.Reading.{read_of}
+use Rattle.lt_serve.specs.declared.status.Status.{Status}
+use Rattle.lt_serve.specs.declared.status.Status.TheVariants.{Refused, TooLong, ReadFault, NoMemory, BadJournal}
+
+-- where the bytes that were left are told, they are these
+abbrev pub Left : Option (List ℕ) → List ℕ → Type 0
+Left None bytes = Unit {0}
+Left (Some left) bytes = left ≡ bytes
+
+-- the answers of reading bytes
+abbrev pub IsReadFailure : Status → Type 0
+IsReadFailure TooLong = Unit {0}
+IsReadFailure ReadFault = Unit {0}
+IsReadFailure NoMemory = Unit {0}
+IsReadFailure other = ⊥
+
+-- the bytes have this fault, or memory was wanting
+abbrev pub IsFaultOf : List ℕ → Status → Type 0
+IsFaultOf bytes (Refused fault) = read_of bytes ≡ Err fault
+IsFaultOf bytes NoMemory = Unit {0}
+IsFaultOf bytes other = ⊥
+
+-- the answers to bytes that were read
+abbrev pub IsAnswerOfBytes : Status → Type 0
+IsAnswerOfBytes (Refused fault) = Unit {0}
+IsAnswerOfBytes (BadJournal line) = Unit {0}
+IsAnswerOfBytes NoMemory = Unit {0}
+IsAnswerOfBytes other = ⊥

@@ -1,0 +1,111 @@
+use super::{Open, served, sink_of, source_of, words_of};
+use crate::{Status, USUAL, program, serve};
+use lt_io::SureSource;
+use std::io::{self, ErrorKind};
+use std::test::Fail;
+
+// Words, an input, and what they come to.
+const ANSWERS: [(&str, &str, Status, &str); 7] = [
+    (
+        "sim 7",
+        "nodes 1\n\
+         set s\n\
+         client a at 0\n\
+         a lock s write\n\
+         a unlock s write\n",
+        Status::Done,
+        "move 1 0 act a\n\
+         grant a s write\n\
+         move 2 0 act a\n\
+         unlock a s write\n\
+         owner s 0 0\n\
+         end 2\n",
+    ),
+    ("check", "nodes 1\n", Status::NotBuilt, ""),
+    (
+        "make 1 1 1 5",
+        "",
+        Status::Done,
+        "nodes 1\n\
+         set s0\n\
+         set s1\n\
+         set s2\n\
+         set s3\n\
+         client c0 at 0\n\
+         c0 unlock s0 read\n",
+    ),
+    ("sim first", "nodes 1", Status::Done, "end 0\n"),
+    ("run", "nodes 1", Status::NotBuilt, ""),
+    ("soak 7", "", Status::NotBuilt, ""),
+    ("sim", "nodes 1", Status::Usage, ""),
+];
+
+#[test]
+fn answers(rt: HostRuntime) -> Result<(), Fail> {
+    for (words, input, status, written) in &ANSWERS {
+        let (found, text) = served(&rt, rt.alloc(), USUAL, words, input)?;
+        assert_eq!(rt; found, *status, "{words}");
+        assert_eq!(rt; text.as_slice(), written.as_bytes());
+    }
+    Ok(())
+}
+
+#[test]
+fn faults(rt: HostRuntime) -> Result<(), Fail> {
+    let alloc = rt.alloc();
+    let words = words_of(alloc, "sim first")?;
+    let script = "nodes 1\nset s\nclient a at 0\na lock s write\na unlock s write\n";
+
+    let mut source = source_of(alloc, script, &[])?;
+    let mut sink = sink_of(alloc, 10, &[3])?;
+    let served = serve(&rt, alloc, words.as_slice(), &mut source, &mut sink, &Open);
+    assert_eq!(rt; served.status, Status::WriteFault);
+    assert_eq!(rt; sink.bytes.as_slice(), b"move 1 0 act a\ngrant".as_slice());
+
+    let mut source = source_of(alloc, script, &[1])?;
+    let mut sink = sink_of(alloc, 10, &[])?;
+    let served = serve(&rt, alloc, words.as_slice(), &mut source, &mut sink, &Open);
+    assert_eq!(rt; served.status, Status::ReadFault);
+    assert!(rt; sink.bytes.is_empty());
+    Ok(())
+}
+
+// Words that can't be had for want of memory, and words that aren't text.
+#[test]
+fn no_words(rt: HostRuntime) -> Result<(), Fail> {
+    let alloc = rt.alloc();
+    for (kind, status) in [
+        (ErrorKind::OutOfMemory, Status::NoMemory),
+        (ErrorKind::InvalidData, Status::Usage),
+    ] {
+        let words = Err(io::Error::from(kind));
+        let mut source = source_of(alloc, "nodes 1", &[])?;
+        let mut sink = sink_of(alloc, 1_000, &[])?;
+        let served = program(&rt, alloc, &words, &mut source, &mut sink, &Open);
+        assert_eq!(rt; served.status, status);
+    }
+    Ok(())
+}
+
+#[test]
+fn the_longest_input(rt: HostRuntime) -> Result<(), Fail> {
+    let alloc = rt.alloc();
+    let words = words_of(alloc, "sim first")?;
+    for (size, status) in [(1_048_576, Status::Done), (1_048_577, Status::TooLong)] {
+        // A line `nodes 1`, and a comment to the end.
+        let mut bytes = vec![in alloc; b'#'; size]?;
+        for (byte, letter) in bytes.iter_mut().zip(b"nodes 1\n".iter()) {
+            *byte = *letter;
+        }
+        let mut source = SureSource {
+            bytes,
+            at: 0,
+            given: 0,
+            ends: 0,
+        };
+        let mut sink = sink_of(alloc, 1_000, &[])?;
+        let served = serve(&rt, alloc, words.as_slice(), &mut source, &mut sink, &Open);
+        assert_eq!(rt; served.status, status);
+    }
+    Ok(())
+}
