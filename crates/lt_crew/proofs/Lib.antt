@@ -5,3 +5,5 @@ pub mod Joined
 pub mod SameRun
 pub mod Shown
 pub mod Enabling
+pub mod Pushing
+pub mod Starts

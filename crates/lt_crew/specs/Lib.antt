@@ -1,3 +1,6 @@
 pub mod Together
 pub mod Meeting
 pub mod Enabled
+pub mod Rounds
+pub mod Pushes
+pub mod Starting

@@ -3,6 +3,10 @@
 
 mod enabled;
 mod fetching;
+mod rounds;
 mod settling;
+mod starting;
 
 pub use enabled::any_enabled;
+pub use rounds::{Ended, run_rounds};
+pub use starting::start_crew;
