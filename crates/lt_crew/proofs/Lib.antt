@@ -5,3 +5,4 @@ pub mod Joined
 pub mod SameRun
 pub mod Shown
 pub mod Enabling
+pub mod Logs

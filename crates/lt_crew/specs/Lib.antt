@@ -1,3 +1,4 @@
 pub mod Together
 pub mod Meeting
 pub mod Enabled
+pub mod Finished

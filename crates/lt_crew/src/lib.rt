@@ -3,6 +3,8 @@
 
 mod enabled;
 mod fetching;
+mod finishing;
 mod settling;
 
 pub use enabled::any_enabled;
+pub use finishing::finish;
