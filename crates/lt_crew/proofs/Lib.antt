@@ -7,3 +7,4 @@ pub mod Shown
 pub mod Enabling
 pub mod Pushing
 pub mod Starts
+pub mod Logs

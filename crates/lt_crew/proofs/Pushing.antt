@@ -82,8 +82,14 @@ each_longer (x ∷ xs) [] h = absurd (h 0)
 each_longer (x ∷ xs) (y ∷ ys) h =
     let first : Grew x y = h 0 in
     let rest = each_longer xs ys (λ k. h (suc k)) in
-    omega (arith, sum_by-cons (λ (p : Parts). p.limit - length p.log.entries) x xs, sum_by-cons (λ (p : Parts). p.limit - length p.log.entries) y ys, rest,
-      longer x y first, first.same.limit)
+    omega (
+      arith,
+      sum_by-cons (λ (p : Parts). p.limit - length p.log.entries) x xs,
+      sum_by-cons (λ (p : Parts). p.limit - length p.log.entries) y ys,
+      rest,
+      longer x y first,
+      first.same.limit,
+    )
 
 each_less : (xs ys : List Parts) → EachIs Grew xs ys → (k : ℕ) (a b : Parts) → slice_get xs k ≡ Some a → slice_get ys k ≡ Some b
     → length a.log.entries < length b.log.entries → length b.log.entries ≤ b.limit → room_of ys < room_of xs
@@ -94,13 +100,29 @@ each_less (x ∷ xs) (y ∷ ys) h zero a b e f more within =
     let rest = each_longer xs ys (λ j. h (suc j)) in
     let was = some_equal x a e in
     let is = some_equal y b f in
-    omega (arith, sum_by-cons (λ (p : Parts). p.limit - length p.log.entries) x xs, sum_by-cons (λ (p : Parts). p.limit - length p.log.entries) y ys, rest,
-      ap (λ (p : Parts). length p.log.entries) was, ap (λ (p : Parts). length p.log.entries) is, ap (λ (p : Parts). p.limit) is, more, within, first.same.limit)
+    omega (
+      arith,
+      sum_by-cons (λ (p : Parts). p.limit - length p.log.entries) x xs,
+      sum_by-cons (λ (p : Parts). p.limit - length p.log.entries) y ys,
+      rest,
+      ap (λ (p : Parts). length p.log.entries) was,
+      ap (λ (p : Parts). length p.log.entries) is,
+      ap (λ (p : Parts). p.limit) is,
+      more,
+      within,
+      first.same.limit,
+    )
 each_less (x ∷ xs) (y ∷ ys) h (suc k) a b e f more within =
     let first : Grew x y = h 0 in
     let rest = each_less xs ys (λ j. h (suc j)) k a b e f more within in
-    omega (arith, sum_by-cons (λ (p : Parts). p.limit - length p.log.entries) x xs, sum_by-cons (λ (p : Parts). p.limit - length p.log.entries) y ys, rest,
-      longer x y first, first.same.limit)
+    omega (
+      arith,
+      sum_by-cons (λ (p : Parts). p.limit - length p.log.entries) x xs,
+      sum_by-cons (λ (p : Parts). p.limit - length p.log.entries) y ys,
+      rest,
+      longer x y first,
+      first.same.limit,
+    )
 
 -- one runner's turn, among all
 

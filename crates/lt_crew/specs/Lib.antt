@@ -4,3 +4,4 @@ pub mod Enabled
 pub mod Rounds
 pub mod Pushes
 pub mod Starting
+pub mod Finished

@@ -1,0 +1,22 @@
+-- The logs of a crew.
+use Rattle.std.specs.Prelude.{◌≡◌, ◌<◌, ◌^◌, List, length}
+use Rattle.lt_modes.specs.Script.{ScriptData}
+use Rattle.lt_runs.specs.Log.{Logged}
+use Rattle.lt_runs.specs.World.{IsRun}
+use Rattle.lt_merge.specs.Run.{RunData}
+use Rattle.lt_merge.specs.Merging.{all_entries, AreLogs, Merges}
+use Rattle.lt_runner.specs.declared.parts.Parts.{Parts}
+use Rattle.lt_crew.specs.Together.{crew_run}
+
+abbrev pub entries_of : RunData → List Logged
+entries_of log = log.entries
+
+abbrev pub log_of : Parts → List Logged
+log_of p = p.log.entries
+
+-- they can be merged, and what is merged of them is a run of the script: the one that the runners have made
+pub record AreCrewLogs (script : ScriptData) (rs : List Parts) (logs : List RunData) : Type 0 where
+  pub are_logs : AreLogs logs
+  pub few : length (all_entries logs) < 2 ^ 32
+  pub is_run : (run : List Logged) → Merges logs run → IsRun script run
+  pub is_crew_run : (run : List Logged) → Merges logs run → run ≡ crew_run script rs
