@@ -1,6 +1,6 @@
 -- Turns that the caller makes, and rounds.
-use Rattle.std.proofs.Common.{◌≡◌, ◌≢◌, ℕ, zero, suc, ◌+◌, ◌-◌, ◌<◌, ◌≤◌, inl, inr, List, [], ◌∷◌, ◌++◌, length, Option, Some, None, Bool, true, false, refl, sym, ap, subst, arith, ◌∙◌, take, drop}
-use Rattle.std.specs.Prelude.{◌⊎◌, nat_lt, slice_get, slice_set, slice_index_or, sum_by}
+use Rattle.std.proofs.Common.{◌≡◌, ◌≢◌, ℕ, zero, suc, ◌-◌, ◌<◌, ◌≤◌, inl, inr, List, [], ◌∷◌, ◌++◌, length, Option, Some, None, true, false, refl, sym, ap, subst, arith, ◌∙◌, take, drop}
+use Rattle.std.specs.Prelude.{nat_lt, slice_get, slice_set, slice_index_or}
 use Rattle.std.proofs.lemmas.Bool.{cases_eq, lt-ltb, false≢true, true≢false}
 use Rattle.std.proofs.lemmas.List.{append-nil, append_assoc, length-append, length_push, take_at}
 use Rattle.std.proofs.lemmas.List.Sums.{sum_by-cons}
@@ -20,10 +20,10 @@ use Rattle.lt_crew.specs.declared.rounds.Ended.{Ended}
 use Rattle.lt_crew.specs.declared.rounds.Ended.TheVariants as ended
 use Rattle.lt_crew.specs.declared.rounds.Pushed.{Pushed}
 use Rattle.lt_crew.specs.declared.rounds.Pushed.TheVariants.{Moved, Still, Full, NoMemory}
-use Rattle.lt_crew.specs.Together.{EachIs, IsCrew, crew_run, crew_world}
+use Rattle.lt_crew.specs.Together.{EachIs, IsCrew, crew_world}
 use Rattle.lt_crew.specs.Enabled.{IsLeastEnabled, IsFirstMove}
-use Rattle.lt_crew.specs.Rounds.{IsCut, RoundsEnd, room_of}
-use Rattle.lt_crew.specs.Pushes.{PushedEnds, OnePushed, PushedAt, TriedEnds, Tried, CanPush, PushedOn, PushEnds, is_end, first_end, other_end}
+use Rattle.lt_crew.specs.Rounds.{IsCut, room_of}
+use Rattle.lt_crew.specs.Pushes.{OnePushed, PushedAt, Tried, CanPush, PushedOn, PushEnds, is_end, first_end, other_end}
 use Rattle.lt_runner.proofs.KeptLemmas.{same_join, seen_join}
 use Rattle.lt_crew.proofs.Each.{same_self, seen_self, each_self, each_join, each_weaker, each_before}
 use Rattle.lt_crew.proofs.Pairs.{links_last}

@@ -1,9 +1,7 @@
 -- Runners at the start.
-use Rattle.std.proofs.Common.{◌≡◌, ◌≢◌, ℕ, zero, suc, ◌+◌, ◌<◌, ◌≤◌, inl, inr, List, [], ◌∷◌, ◌++◌, length, Option, Some, None, refl, sym, ap, subst, arith, ◌∙◌, drop}
+use Rattle.std.proofs.Common.{◌≡◌, ℕ, zero, suc, ◌+◌, ◌<◌, ◌≤◌, inl, inr, List, [], ◌∷◌, ◌++◌, length, Some, None, refl, sym, ap, subst, arith, ◌∙◌, drop}
 use Rattle.std.specs.Prelude.{◌⊎◌, slice_get, slice_index_or, remove}
-use Rattle.std.proofs.lemmas.Bool.{cases_eq}
 use Rattle.std.proofs.lemmas.List.{length-append, length-drop}
-use Rattle.std.proofs.lemmas.Option.{slice_get_within}
 use Rattle.lt_modes.specs.Script.{ScriptData}
 use Rattle.lt_script.specs.Script.{IsScript}
 use Rattle.lt_lists.proofs.Members.{some_equal}
@@ -12,7 +10,6 @@ use Rattle.lt_mail.specs.Words.{out_at, in_at, IsOpenLink, Both}
 use Rattle.lt_mail.specs.Opening.{Opened, IsFresh}
 use Rattle.lt_runner.specs.declared.parts.Parts.{Parts}
 use Rattle.lt_runner.specs.Starts.{StartsWith}
-use Rattle.lt_crew.specs.Together.{IsCrew}
 use Rattle.lt_crew.specs.Starting.{IsFirst, Starting, IsFirstCrew}
 
 -- before the first runner

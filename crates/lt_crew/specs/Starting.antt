@@ -1,5 +1,5 @@
 -- Runners at the start of a script.
-use Rattle.std.specs.Prelude.{◌≡◌, ◌+◌, ℕ, List, [], Some, length, drop, slice_get}
+use Rattle.std.specs.Prelude.{◌≡◌, ℕ, List, [], Some, length, drop, slice_get}
 use Rattle.lt_modes.specs.Script.{ScriptData}
 use Rattle.lt_mail.specs.declared.mail.Mail.{Mail}
 use Rattle.lt_mail.specs.Opening.{Opened}
