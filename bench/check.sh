@@ -2,8 +2,8 @@
 # Prints how many bytes a second `check` reads and how many kilobytes of memory it takes at most: for the journal of a
 # drawn script of 16 nodes, 64 clients and 4,096 commands, and for inputs of 1 MiB and of 48 MiB that go on after its end
 # with the same lines over and over. Those have a bad line and are read to their end all the same, so what they take more
-# than the first is what the reading takes, and should be nothing. A program may be named as one word, in place of the one
-# that ./build makes.
+# than the first is what the reading takes, and should be nothing. Less than Python itself takes is not seen. A program may
+# be named as one word, in place of the one that ./build makes.
 top=$(CDPATH='' cd -- "$(dirname -- "$0")/.." && pwd) || exit 1
 program=${1:-$top/crates/lockrun/out/lockrun}
 command -v "$program" >/dev/null || { echo "bench: run ./build first" >&2; exit 1; }

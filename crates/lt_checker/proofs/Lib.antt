@@ -2,3 +2,4 @@ mod Keeping
 mod Moving
 mod ClosingLines
 mod DueLines
+mod LeftLines

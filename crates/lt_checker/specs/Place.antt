@@ -33,7 +33,7 @@ abbrev pub place_of : Bool → List Logged → List Line → Option Place
 place_of true run due = None
 place_of false run due = Some (record { run = run; due = due })
 
--- where no line was bad, the fields are those of a place; and the number of the next line is one
+-- where no line was bad, the fields are those of a place
 abbrev pub KeepsPlace : Bool → ScriptData → WorldData → List ℕ → List Line → Type 0
 KeepsPlace true script world counts due = Unit {0}
 KeepsPlace false script world counts due = IsPlace script world counts due

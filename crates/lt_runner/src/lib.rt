@@ -1,6 +1,7 @@
 //! What runs a node on a thread: its state, its mail and its log, and its moves one after the other.
 #![tactic(auto)]
 
+mod at_once;
 mod choice;
 mod choosing;
 mod gate;
@@ -15,6 +16,7 @@ mod turned;
 mod turning;
 mod working;
 
+pub use at_once::all_at_once;
 pub use gate::Gate;
 pub use parts::Parts;
 pub use runner::Runner;

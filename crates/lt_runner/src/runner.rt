@@ -20,7 +20,7 @@ use std::marker::Model;
 /// What runs a node: its state, its mail and its log.
 #[derive(Drop)]
 pub struct Runner<'a> {
-    parts: Parts<'a>,
+    pub(crate) parts: Parts<'a>,
 }
 
 impl<'a> Model for Runner<'a> {

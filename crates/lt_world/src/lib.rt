@@ -8,6 +8,8 @@ mod inbox;
 mod network;
 mod recording;
 mod takes;
+#[cfg(test)]
+mod tests;
 mod wire;
 mod world;
 

@@ -1,4 +1,4 @@
-ghost use Rattle.std.specs.Prelude.{◌≡◌, ◌<◌, ◌+◌, ◌≤◌, [], ◌∷◌, ◌++◌, length, not, OnOk};
+ghost use Rattle.std.specs.Prelude.{◌≡◌, ◌<◌, ◌+◌, ◌≤◌, [], ◌∷◌, ◌++◌, length, OnOk, MatchOption, IfSome};
 ghost use Rattle.lt_letter.specs.Seen.{letter_seen};
 ghost use Rattle.lt_world.specs.Mail.{has_letters};
 
@@ -63,9 +63,23 @@ impl Wire {
         ensures room { self.new.room ≡ self.old.room }
         ensures place { length self.new.letters < self.new.room }
     {
-        match self.letters.pop_front() {
+        match self.pop_any() {
             Some(letter) => letter,
             None => unreachable!(),
+        }
+    }
+
+    // Takes the front letter, where there is one. The last one is taken from the back, which leaves the place where the
+    // next one goes: so a list that is short at all times takes little memory.
+    fn pop_any(&mut self) -> Option<Letter>
+        ensures front { MatchOption result ((self.old.letters ≡ []) × (self.new ≡ self.old)) (λ letter. self.old.letters ≡ letter_seen letter ∷ self.new.letters) }
+        ensures rest { self.new ≡ record self.old { letters = self.new.letters } }
+        ensures place { IfSome result (λ letter. length self.new.letters < self.new.room) }
+    {
+        if self.letters.len() == 1 {
+            self.letters.pop_back()
+        } else {
+            self.letters.pop_front()
         }
     }
 

@@ -102,12 +102,14 @@ impl<'a> World<'a> {
         ensures first { result ≡ first_with self.now.script (world_of self.now) earlier first client }
         ensures runnable { IfSome result (IsRunnable self.now) }
     {
-        if !self.is_runnable(client) || !self.comes_after(earlier, client) {
-            return first;
-        }
         match first {
-            Some(first) if !self.acts_before(client, first) => Some(first),
-            _ => Some(client),
+            Some(first) if !self.acts_before(client, first) => return Some(first),
+            _ => {}
+        }
+        if self.comes_after(earlier, client) && self.is_runnable(client) {
+            Some(client)
+        } else {
+            first
         }
     }
 

@@ -1,9 +1,10 @@
-use Rattle.std.proofs.Common.{◌≡◌, map, take}
-use Rattle.lt_checking.specs.Checking.{written, reader_after}
+use Rattle.std.proofs.Common.{◌≡◌, map, fold, drop}
+use Rattle.lt_checking.specs.Checking.{written, read_on, reader_after}
 use Rattle.lt_checker.proofs.replaying.read_all.Given as goal
 
+-- what the lines that are left make of the reader is what all lines make
 abbrev pub invariant-loop-k : goal.invariant-loop-k
 invariant-loop-k l = record {
   script : l.reader.script ≡ l.script;
-  reader : l.reader.reader ≡ reader_after l.script (map (written l.script) (take l.k l.journal));
+  reader : fold (read_on l.script) l.reader.reader (map (written l.script) (drop l.k l.journal)) ≡ reader_after l.script (map (written l.script) l.journal);
 }

@@ -1,0 +1,29 @@
+use Rattle.std.proofs.Common.{◌≡◌, ◌++◌, ◌∙◌, [], List, ap, arith, subst, sym}
+use Rattle.lt_journal.specs.declared.line.Line.{Line}
+use Rattle.lt_limits.specs.declared.moves.TheConstants.{MAX_MOVES}
+use Rattle.lt_world.specs.Fields.{WorldData}
+use Rattle.lt_checking.specs.Checking.{Place, first_place, closing_at_rest}
+use Rattle.lt_checking.specs.Journals.{HasCome}
+use Rattle.lt_checking.proofs.Places.{first_begins}
+use Rattle.lt_checker.specs.Place.{AreCounts}
+use Rattle.lt_checker.proofs.reader.Reader.new.Goals as goal
+
+pub invariant_of-result : goal.invariant_of-result
+invariant_of-result c =
+    let script = c.args.script.now in
+    let world = c.in_ok-world.world in
+    let due = c.push_closing.new.due.items in
+    let world_is : world ≡ record { script = script; limit = MAX_MOVES; run = [] } = c.in_ok-world.ensures in
+    let run_is = ap (λ (w : WorldData). w.run) world_is in
+    let due_is : due ≡ closing_at_rest script [] = c.in_ok-push_closing.ensures ∙ (ap (λ (t : List Line). t ++ closing_at_rest script world.run) c.new-due.ensures.items ∙ ap (closing_at_rest script) run_is) in
+    let at : first_place script ≡ record { run = world.run; due = due } = λ i. record { run = sym run_is i; due = sym due_is i } in (
+      c.in_ok-counts.ensures.is_script,
+      omega arith,
+      record {
+        is_script = c.in_ok-counts.ensures.is_script;
+        script_is = ap (λ (w : WorldData). w.script) world_is;
+        limit = ap (λ (w : WorldData). w.limit) world_is;
+        counts_are = subst (AreCounts script c.in_ok-counts.counts) (sym run_is) c.in_ok-counts.ensures.counts;
+        come = subst (λ (p : Place). HasCome script p) at ([], first_begins script);
+      },
+    )
