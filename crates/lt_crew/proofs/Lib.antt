@@ -8,3 +8,4 @@ pub mod Enabling
 pub mod Pushing
 pub mod Starts
 pub mod Logs
+pub mod Waiters

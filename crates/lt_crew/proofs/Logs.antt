@@ -1,5 +1,5 @@
 -- The logs of a crew are those of its parts.
-use Rattle.std.proofs.Common.{◌≡◌, ◌<◌, ◌≤◌, ◌*◌, ℕ, suc, List, [], ◌∷◌, ◌++◌, map, get_or, Some, length, refl, sym, ap, arith, ◌∙◌}
+use Rattle.std.proofs.Common.{◌≡◌, ◌<◌, ◌≤◌, ◌*◌, ℕ, suc, List, [], ◌∷◌, ◌++◌, map, get_or, Some, length, refl, sym, ap, arith, ◌∙◌, Option, None, subst}
 use Rattle.std.specs.Prelude.{slice_get}
 use Rattle.std.specs.List.{remove}
 use Rattle.std.proofs.lemmas.List.{length-append, append_assoc, map-append}
@@ -7,10 +7,12 @@ use Rattle.lt_modes.specs.Script.{ScriptData}
 use Rattle.lt_runs.specs.Log.{Logged}
 use Rattle.lt_merge.specs.Run.{RunData}
 use Rattle.lt_merge.specs.Merging.{all_entries}
-use Rattle.lt_plays.specs.Parts.{Part, logs_of}
+use Rattle.lt_plays.specs.Parts.{Part, logs_of, part_at}
 use Rattle.lt_plays.specs.Merged.{merged}
 use Rattle.lt_plays.proofs.MergedLogs.{merged_is_one}
-use Rattle.lt_joined.proofs.Joining.{joined_merges}
+use Rattle.lt_joined.proofs.Joining.{joined_merges, part_is}
+use Rattle.lt_mail.specs.Words.{Alike}
+use Rattle.lt_crew.proofs.Shown.{part_here}
 use Rattle.lt_joined.proofs.PartLogs.{logs_of_parts}
 use Rattle.lt_runner.specs.declared.parts.Parts.{Parts}
 use Rattle.lt_runner.specs.Kept.{SameRunner, AsSeen}
@@ -54,8 +56,18 @@ crew_logs script old rs logs was seen met kept same =
           merged_is_one (logs_of script (map part_of rs)).log run (merged script.nodes (logs_of script (map part_of rs)).log)
           (of_parts.runs run merges).is_merged (joined_merges script (map part_of rs) plays).is_merged
           ∙ same_run script old rs (each_weaker AsSeen SameLog (λ a b s. s.log) old rs seen);
+      moves = λ run merges k p e. (of_parts.runs run merges).is_merged.parts k ∙ own k p e;
     }
   where
+    own : (k : ℕ) (p : Parts) → slice_get old k ≡ Some p → (part_at script (map part_of rs) k).log ≡ p.log.entries
+    own k p e = by_place (slice_get rs k) refl (subst (λ (o : Option Parts). Alike AsSeen o (slice_get rs k)) e (seen k))
+      where
+        by_place : (o : Option Parts) → slice_get rs k ≡ o → Alike AsSeen (Some p) (slice_get rs k) → (part_at script (map part_of rs) k).log ≡ p.log.entries
+        by_place None f a = absurd (subst (λ (o : Option Parts). Alike AsSeen (Some p) o) f a)
+        by_place (Some q) f a =
+            let seen_too : AsSeen p q = subst (λ (o : Option Parts). Alike AsSeen (Some p) o) f a in
+            ap (λ (part : Part). part.log) (part_is script (map part_of rs) k (part_of q) (part_here rs k q f)) ∙ seen_too.log
+
     short : IsCrew script rs → (k : ℕ) (p : Parts) → slice_get rs k ≡ Some p → length p.log.entries ≤ 1048576
     short crew k p e = let bound = (kept k p e).bounded in let limit = (crew.each k p e).limit in omega (arith, bound, limit)
 

@@ -169,7 +169,7 @@ pub crew_grew : (script : ScriptData) (old new : List Parts) → EachIs Grew old
 crew_grew script old new h crew = crew_lasts script old new (grew_same old new h) crew
 
 -- the world stays where no runner moved
-same_world : (script : ScriptData) (old new : List Parts) → EachIs AsSeen old new → crew_world script new ≡ crew_world script old
+pub same_world : (script : ScriptData) (old new : List Parts) → EachIs AsSeen old new → crew_world script new ≡ crew_world script old
 same_world script old new h = ap (world_after script) (same_run script old new (each_weaker AsSeen SameLog (λ a b seen. seen.log) old new h))
 
 pub cut_lasts : (k : ℕ) (script : ScriptData) (old new : List Parts) → EachIs AsSeen old new → IsCut k script old → IsCut k script new
@@ -309,7 +309,7 @@ after_seen e script old mid new seen h = record {
 abbrev pub AllGrew : List Parts → List Parts → Type 0
 AllGrew old new = (k : ℕ) (other : Parts) → k < length old → Grew (slice_index_or old k other) (slice_index_or new k other)
 
-get_is : (xs : List Parts) (k : ℕ) (d : Parts) → k < length xs → slice_get xs k ≡ Some (slice_index_or xs k d)
+pub get_is : (xs : List Parts) (k : ℕ) (d : Parts) → k < length xs → slice_get xs k ≡ Some (slice_index_or xs k d)
 get_is [] k d within = absurd (omega (arith, within))
 get_is (x ∷ xs) zero d within = refl
 get_is (x ∷ xs) (suc k) d within = get_is xs k d (omega (arith, within))

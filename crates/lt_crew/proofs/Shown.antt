@@ -78,7 +78,7 @@ runner_at [] k h = absurd (omega (arith, h))
 runner_at (p ∷ rest) zero h = (p, refl)
 runner_at (p ∷ rest) (suc k) h = runner_at rest k (omega (arith, h))
 
-part_here : (rs : List Parts) (k : ℕ) (p : Parts) → slice_get rs k ≡ Some p → slice_get (map part_of rs) k ≡ Some (part_of p)
+pub part_here : (rs : List Parts) (k : ℕ) (p : Parts) → slice_get rs k ≡ Some p → slice_get (map part_of rs) k ≡ Some (part_of p)
 part_here rs k p e = slice_get-map part_of rs k ∙ ap (option_map part_of) e
 
 -- what is known of the runner of node k

@@ -1,8 +1,8 @@
 -- The logs of a crew.
-use Rattle.std.specs.Prelude.{◌≡◌, ◌<◌, ◌^◌, List, length}
+use Rattle.std.specs.Prelude.{◌≡◌, ◌<◌, ◌^◌, ℕ, List, length, Some, filter, slice_get}
 use Rattle.lt_modes.specs.Script.{ScriptData}
 use Rattle.lt_runs.specs.Log.{Logged}
-use Rattle.lt_runs.specs.World.{IsRun}
+use Rattle.lt_runs.specs.World.{is_of_node, IsRun}
 use Rattle.lt_merge.specs.Run.{RunData}
 use Rattle.lt_merge.specs.Merging.{all_entries, AreLogs, Merges}
 use Rattle.lt_runner.specs.declared.parts.Parts.{Parts}
@@ -20,3 +20,5 @@ pub record AreCrewLogs (script : ScriptData) (rs : List Parts) (logs : List RunD
   pub few : length (all_entries logs) < 2 ^ 32
   pub is_run : (run : List Logged) → Merges logs run → IsRun script run
   pub is_crew_run : (run : List Logged) → Merges logs run → run ≡ crew_run script rs
+  -- in it each node's moves are those of its runner
+  pub moves : (run : List Logged) → Merges logs run → (k : ℕ) (p : Parts) → slice_get rs k ≡ Some p → filter (is_of_node k) run ≡ p.log.entries

@@ -7,8 +7,10 @@ mod finishing;
 mod rounds;
 mod settling;
 mod starting;
+mod waiting;
 
 pub use enabled::any_enabled;
 pub use finishing::finish;
 pub use rounds::{Ended, run_rounds};
 pub use starting::start_crew;
+pub use waiting::anyone_waits;

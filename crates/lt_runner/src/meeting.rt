@@ -5,6 +5,8 @@ ghost use Rattle.lt_mail.specs.Words.{ins_count};
 ghost use Rattle.lt_runner.specs.Choices.{choice_of};
 ghost use Rattle.lt_runner.specs.Kept.{AsSeen};
 ghost use Rattle.lt_runner.specs.Looking.{AreBeside, IsMet, LooksTo, LooksFrom, HasFetched, Fetches, Knows, is_move};
+ghost use Rattle.lt_runs.specs.NodeMove.{node_waits};
+ghost use Rattle.lt_node.specs.NodeData.{state_of};
 
 use crate::choice::Choice;
 use crate::choosing::choose;
@@ -44,6 +46,13 @@ impl<'a> Runner<'a> {
         ensures { result ≡ is_move (choice_of self.now) }
     {
         !matches!(choose(&self.parts), Choice::Nothing)
+    }
+
+    /// Whether the client waits at this runner's node.
+    pub fn waits(&self, client: u16) -> bool
+        ensures { result ≡ node_waits self.now.node.script (state_of self.now.node) client }
+    {
+        self.parts.node.waits(client)
     }
 
     /// The moves that its node has made.

@@ -1,0 +1,119 @@
+-- The run of a crew, and how it ended.
+use Rattle.std.proofs.Common.{◌≡◌, ℕ, zero, suc, ◌+◌, ◌<◌, List, [], ◌∷◌, length, Some, Bool, true, false, refl, sym, ap, subst, arith, ◌∙◌}
+use Rattle.std.specs.Prelude.{◌==◌, ◌||◌, ◌&&◌, if◌then◌else◌, filter, slice_get}
+use Rattle.std.proofs.lemmas.Bool.{eq-eqb, and_from}
+use Rattle.std.proofs.lemmas.List.Sums.{sum_by-cons}
+use Rattle.lt_modes.specs.declared.moves.Step.TheVariants.{Act}
+use Rattle.lt_modes.specs.Script.{ScriptData}
+use Rattle.lt_lists.specs.Below.{any_below}
+use Rattle.lt_lists.proofs.Searches.{any_below_same}
+use Rattle.lt_runs.specs.Log.{Logged}
+use Rattle.lt_runs.specs.World.{World, world_after, is_enabled, has_mail, is_of_node, is_at_rest, anyone_waits}
+use Rattle.lt_plays.specs.Plays.{can_act}
+use Rattle.lt_joined.specs.CanMove as joined
+use Rattle.lt_joined.proofs.Moving.{act_is_seen}
+use Rattle.lt_merge.specs.Run.{RunData}
+use Rattle.lt_merge.specs.Merging.{Merges}
+use Rattle.lt_runner.specs.declared.parts.Parts.{Parts}
+use Rattle.lt_runner.specs.Kept.{SameRunner, AsSeen, Grew}
+use Rattle.lt_world.specs.Fields.{moves_of, can_move, full_node}
+use Rattle.lt_world.proofs.Counts.{least_full}
+use Rattle.lt_crew.specs.Together.{EachIs, IsCrew, crew_run, crew_world}
+use Rattle.lt_crew.specs.Rounds.{IsCut}
+use Rattle.lt_crew.specs.Finished.{AreCrewLogs}
+use Rattle.lt_crew.specs.Starting.{IsFirstCrew}
+use Rattle.lt_crew.proofs.Each.{each_weaker, each_before}
+use Rattle.lt_crew.proofs.Pushing.{same_world}
+use Rattle.lt_threads.specs.declared.threads.Ending.{Ending}
+use Rattle.lt_threads.specs.declared.threads.Ending.TheVariants.{Done, Stuck, Cut}
+use Rattle.lt_threads.specs.Crews.{CrewEnds, HasLimit}
+use Rattle.lt_threads.specs.Threads.{EndsBy, IsThreadRun}
+
+-- limits last
+limit_lasts : (limit : ℕ) (old new : List Parts) → EachIs SameRunner old new → HasLimit limit old → HasLimit limit new
+limit_lasts limit old new same h k p e =
+    let was = each_before SameRunner old new same k p e in
+    let is : SameRunner was.0 p = was.2 in
+    is.limit ∙ h k was.0 was.1
+
+-- as many moves of a node as entries in its log
+counted : (q : ℕ) (run : List Logged) → moves_of q run ≡ length (filter (is_of_node q) run)
+counted q [] = refl
+counted q (entry ∷ run) = sum_by-cons (λ (x : Logged). if is_of_node q x then 1 else 0) entry run ∙ by_test (is_of_node q entry) (counted q run)
+  where
+    by_test : (here : Bool) → moves_of q run ≡ length (filter (is_of_node q) run)
+        → (if here then 1 else 0) + moves_of q run ≡ length (if here then entry ∷ filter (is_of_node q) run else filter (is_of_node q) run)
+    by_test true e = omega (arith, e)
+    by_test false e = omega (arith, e)
+
+-- the two words of whether a node can move
+same_can : (script : ScriptData) (w : World) (q : ℕ) → can_move script w q ≡ joined.can_move script w q
+same_can script w q =
+    let acts = any_below_same (length script.clients) (λ client. is_enabled script w q (Act client)) (can_act script q (w.node q)) (λ k h. act_is_seen script w q k) in
+    ap (λ (b : Bool). any_below script.nodes (λ p. has_mail script w p q) || b) acts
+    ∙ or_swap (any_below script.nodes (λ p. has_mail script w p q)) (any_below (length script.clients) (can_act script q (w.node q)))
+  where
+    or_swap : (a b : Bool) → (a || b) ≡ (b || a)
+    or_swap true true = refl
+    or_swap true false = refl
+    or_swap false true = refl
+    or_swap false false = refl
+
+cut_full : (limit k : ℕ) (script : ScriptData) (rs : List Parts) (logs : List RunData) (run : List Logged) → IsCrew script rs → HasLimit limit rs
+    → AreCrewLogs script rs logs → Merges logs run → IsCut k script rs → full_node script limit run ≡ Some k
+cut_full limit k script rs logs run crew limits finished merges cut =
+    least_full script limit run k cut.below
+    (λ j below.
+    let can = same_can script (world_after script run) j ∙ (ap (λ (moves : List Logged). joined.can_move script (world_after script moves) j) same ∙ cut.least j below) in
+    rw can (no_and (moves_of j run == limit)))
+    (and_from _ _ (eq-eqb (moves_of k run) limit made) (same_can script (world_after script run) k ∙ (ap (λ (moves : List Logged). joined.can_move script (world_after script moves) k) same ∙ cut.moves)))
+  where
+    same : run ≡ crew_run script rs
+    same = finished.is_crew_run run merges
+
+    no_and : (b : Bool) → (b && false) ≡ false
+    no_and true = refl
+    no_and false = refl
+
+    runner : (p : Parts) × (slice_get rs k ≡ Some p)
+    runner = at rs k (omega (arith, cut.below, crew.count))
+      where
+        at : (xs : List Parts) (i : ℕ) → i < length xs → (p : Parts) × (slice_get xs i ≡ Some p)
+        at [] i h = absurd (omega (arith, h))
+        at (x ∷ xs) zero h = (x, refl)
+        at (x ∷ xs) (suc i) h = at xs i (omega (arith, h))
+
+    made : moves_of k run ≡ limit
+    made =
+        let (p, here) = runner in
+        counted k run ∙ (ap (λ (log : List Logged). length log) (finished.moves run merges k p here) ∙ (cut.full p here ∙ limits k p here))
+
+ends_by : (limit : ℕ) (over : Ending) (script : ScriptData) (rs : List Parts) (logs : List RunData) (run : List Logged) → IsCrew script rs → HasLimit limit rs
+    → AreCrewLogs script rs logs → Merges logs run → CrewEnds over script rs → EndsBy limit over script run
+ends_by limit Done script rs logs run crew limits finished merges h =
+    subst (λ (moves : List Logged). (is_at_rest script (world_after script moves) ≡ true) × (anyone_waits script (world_after script moves) ≡ false))
+    (sym (finished.is_crew_run run merges)) h
+ends_by limit Stuck script rs logs run crew limits finished merges h =
+    subst (λ (moves : List Logged). (is_at_rest script (world_after script moves) ≡ true) × (anyone_waits script (world_after script moves) ≡ true))
+    (sym (finished.is_crew_run run merges)) h
+ends_by limit (Cut k) script rs logs run crew limits finished merges h = cut_full limit k script rs logs run crew limits finished merges h
+
+-- from the first crew to the run
+pub thread_run : (limit : ℕ) (over : Ending) (script : ScriptData) (first worked last : List Parts) (logs : List RunData) (run : List Logged)
+    → IsFirstCrew script limit first → EachIs Grew first worked → EachIs AsSeen worked last → IsCrew script last → CrewEnds over script last
+    → AreCrewLogs script last logs → Merges logs run → IsThreadRun limit over script run
+thread_run limit over script first worked last logs run starts grew seen crew ends finished merges = record {
+  is_run = finished.is_run run merges;
+  rising = merges.order.rising;
+  ends = ends_by limit over script last logs run crew limits finished merges ends;
+}
+  where
+    limits : HasLimit limit last
+    limits =
+        limit_lasts limit worked last (each_weaker AsSeen SameRunner (λ a b h. h.same) worked last seen)
+        (limit_lasts limit first worked (each_weaker Grew SameRunner (λ a b h. h.same) first worked grew) starts.limits)
+
+-- rest lasts where no runner moved
+pub rest_lasts : (script : ScriptData) (old new : List Parts) → EachIs AsSeen old new → is_at_rest script (crew_world script old) ≡ true
+    → is_at_rest script (crew_world script new) ≡ true
+rest_lasts script old new seen rest = subst (λ (w : World). is_at_rest script w ≡ true) (sym (same_world script old new seen)) rest

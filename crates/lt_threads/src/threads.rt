@@ -1,0 +1,67 @@
+ghost use Rattle.std.specs.Prelude.{◌≡◌, ◌<◌, ◌≤◌, IfOk};
+ghost use Rattle.lt_crew.specs.Together.{IsCrew, EachIs};
+ghost use Rattle.lt_crew.specs.Rounds.{RoundsEnd};
+ghost use Rattle.lt_runner.specs.Kept.{AsSeen};
+ghost use Rattle.lt_threads.specs.Threads.{IsThreadRun};
+ghost use Rattle.lt_threads.specs.Crews.{HasLimit, CrewEnds};
+
+use lt_crew::{Ended, anyone_waits, finish, run_rounds, start_crew};
+use lt_mail::MAX_CAPACITY;
+use lt_merge::{Run, merge};
+use lt_runner::{Gate, Runner};
+use lt_script::Script;
+use std::alloc::{AllocError, Global};
+use std::thread::Threads;
+
+/// How the run of a script on threads ended.
+#[derive(Clone, Copy, Debug, PartialEq, Eq)]
+pub enum Ending {
+    /// At rest, and no client waits.
+    Done,
+    /// At rest, and a client waits.
+    Stuck,
+    /// This node has made as many moves as it may, and has a further one.
+    Cut(u8),
+}
+
+/// Runs a script, each node by a runner that makes up to `limit` moves, with rings of so many places between them.
+pub fn run_on_threads<R: Threads + Sync, G: Gate>(
+    rt: &R,
+    alloc: Global,
+    script: &Script,
+    capacity: u32,
+    limit: u32,
+    patience: u32,
+    gate: &G,
+) -> Result<(Ending, Run), AllocError>
+    requires capacity { (0 < capacity) × (capacity ≤ MAX_CAPACITY) }
+    requires limit { (0 < limit) × (limit ≤ 1048576) }
+    ensures { IfOk result (λ made. IsThreadRun limit made.0 script.now made.1.entries) }
+{
+    let mut runners = start_crew(alloc, script, capacity, limit)?;
+    let ended = run_rounds(rt, script, &mut runners, patience, gate);
+    let ending = end_of(script, &mut runners, ended)?;
+    let logs = finish(alloc, script, runners)?;
+    let run = merge(alloc, logs)?;
+    Ok((ending, run))
+}
+
+// How rounds that ended so end the run.
+fn end_of<'a>(
+    script: &Script,
+    runners: &mut Vec<Runner<'a>>,
+    ended: Ended,
+) -> Result<Ending, AllocError>
+    requires crew { IsCrew script.now runners.old.items }
+    requires ended { RoundsEnd ended script.now runners.old.items }
+    ensures crew { IsCrew script.now runners.new.items }
+    ensures seen { EachIs AsSeen runners.old.items runners.new.items }
+    ensures ends { IfOk result (λ over. CrewEnds over script.now runners.new.items) }
+{
+    match ended {
+        Ended::NoMemory => Err(AllocError),
+        Ended::Cut(node) => Ok(Ending::Cut(node)),
+        Ended::Rest if anyone_waits(script, runners) => Ok(Ending::Stuck),
+        Ended::Rest => Ok(Ending::Done),
+    }
+}
