@@ -5,4 +5,6 @@ pub mod Joined
 pub mod SameRun
 pub mod Shown
 pub mod Enabling
+pub mod Pushing
+pub mod Starts
 pub mod Logs

@@ -4,7 +4,11 @@
 mod enabled;
 mod fetching;
 mod finishing;
+mod rounds;
 mod settling;
+mod starting;
 
 pub use enabled::any_enabled;
 pub use finishing::finish;
+pub use rounds::{Ended, run_rounds};
+pub use starting::start_crew;

@@ -2,6 +2,10 @@ mod answers;
 mod journals;
 mod refusals;
 
+ghost use Rattle.std.specs.Prelude.{◌<◌, ◌≤◌};
+ghost use Rattle.lt_limits.specs.declared.moves.TheConstants.{MAX_MOVES};
+ghost use Rattle.lt_serve.specs.declared.limits.TheConstants.{MAX_CAPACITY};
+
 use super::{Gate, Setup, Status, USUAL, serve_with};
 use lt_io::{MemorySink, MemorySource};
 use std::alloc::{AllocError, Global};
@@ -54,7 +58,10 @@ fn served<R: Threads + Sync>(
     setup: Setup,
     line: &str,
     input: &str,
-) -> Result<(Status, Vec<u8>), AllocError> {
+) -> Result<(Status, Vec<u8>), AllocError>
+    requires moves { (0 < setup.moves) × (setup.moves ≤ MAX_MOVES) }
+    requires capacity { (0 < setup.capacity) × (setup.capacity ≤ MAX_CAPACITY) }
+{
     let words = words_of(alloc, line)?;
     let mut source = source_of(alloc, input, &[])?;
     let mut sink = sink_of(alloc, 1_000, &[])?;

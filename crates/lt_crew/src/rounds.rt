@@ -1,0 +1,184 @@
+ghost use Rattle.std.specs.Prelude.{◌≡◌, ◌<◌, length};
+ghost use Rattle.lt_runner.specs.Kept.{Grew};
+ghost use Rattle.lt_crew.specs.Together.{EachIs, IsCrew};
+ghost use Rattle.lt_crew.specs.Rounds.{RoundsEnd, IsCut};
+ghost use Rattle.lt_crew.specs.Pushes.{OnePushed, PushedAt, Tried, CanPush, PushEnds, is_end, first_end, other_end};
+
+use crate::enabled::any_enabled;
+use lt_runner::{Gate, Runner, Worked, all_at_once};
+use lt_script::Script;
+use std::thread::Threads;
+
+/// How the rounds of runners ended.
+#[derive(Clone, Copy, Debug, PartialEq, Eq)]
+pub enum Ended {
+    /// No move is enabled.
+    Rest,
+    /// This node has made as many moves as it may, and so has each other one that could make one more.
+    Cut(u8),
+    NoMemory,
+}
+
+// What a turn that the caller makes came to.
+#[derive(Clone, Copy, Debug, PartialEq, Eq)]
+pub(crate) enum Pushed {
+    Moved,
+    Still,
+    Full,
+    NoMemory,
+}
+
+/// Runs the nodes of a script until no move is enabled, or none that a node may make: again and again all work at once,
+/// on threads, and then, where a move is enabled, the caller makes one itself.
+pub fn run_rounds<R: Threads + Sync, G: Gate>(
+    rt: &R,
+    script: &Script,
+    runners: &mut Vec<Runner<'_>>,
+    patience: u32,
+    gate: &G,
+) -> Ended
+    requires crew { IsCrew script.now runners.old.items }
+    ensures crew { IsCrew script.now runners.new.items }
+    ensures grew { EachIs Grew runners.old.items runners.new.items }
+    ensures ends { RoundsEnd result script.now runners.new.items }
+{
+    loop {
+        if let Some(ended) = round(rt, script, runners, patience, gate) {
+            return ended;
+        }
+    }
+}
+
+// All work at once, and then a move is made where one is enabled.
+fn round<R: Threads + Sync, G: Gate>(
+    rt: &R,
+    script: &Script,
+    runners: &mut Vec<Runner<'_>>,
+    patience: u32,
+    gate: &G,
+) -> Option<Ended>
+    requires crew { IsCrew script.now runners.old.items }
+    ensures { PushEnds result script.now runners.old.items runners.new.items }
+{
+    work_at_once(rt, runners, patience, gate);
+    push_on(script, runners, gate)
+}
+
+fn work_at_once<R: Threads + Sync, G: Gate>(
+    rt: &R,
+    runners: &mut Vec<Runner<'_>>,
+    patience: u32,
+    gate: &G,
+)
+    ensures { EachIs Grew runners.old.items runners.new.items }
+{
+    all_at_once(rt, runners.as_mut_slice(), patience, gate);
+}
+
+// Makes a move where one is enabled that a node may make; else tells how the rounds end.
+fn push_on<G: Gate>(script: &Script, runners: &mut Vec<Runner<'_>>, gate: &G) -> Option<Ended>
+    requires crew { IsCrew script.now runners.old.items }
+    ensures { PushEnds result script.now runners.old.items runners.new.items }
+{
+    match any_enabled(script, runners) {
+        Some(node) => push_from(script, runners, node, gate),
+        None => Some(Ended::Rest),
+    }
+}
+
+// Makes a move of the least node that can make one, or where its log is full of the first other node that may.
+fn push_from<G: Gate>(
+    script: &Script,
+    runners: &mut Vec<Runner<'_>>,
+    node: u8,
+    gate: &G,
+) -> Option<Ended>
+    requires crew { IsCrew script.now runners.old.items }
+    requires enabled { CanPush script.now node runners.old.items }
+    ensures { PushEnds result script.now runners.old.items runners.new.items }
+{
+    let pushed = push_at(runners, usize::from(node), gate);
+    match pushed {
+        Pushed::Full => push_another(script, runners, node, gate),
+        other => first_end(other),
+    }
+}
+
+// How a turn of the node that can move ends the rounds.
+fn first_end(pushed: Pushed) -> Option<Ended>
+    ensures { result ≡ first_end pushed }
+{
+    match pushed {
+        Pushed::Moved => None,
+        _ => Some(Ended::NoMemory),
+    }
+}
+
+// Makes a move of the first node that can and may make one; where there is none the run is cut at this one.
+fn push_another<G: Gate>(
+    script: &Script,
+    runners: &mut Vec<Runner<'_>>,
+    node: u8,
+    gate: &G,
+) -> Option<Ended>
+    requires crew { IsCrew script.now runners.old.items }
+    requires cut { IsCut node script.now runners.old.items }
+    ensures { PushEnds result script.now runners.old.items runners.new.items }
+{
+    let tried = try_each(runners, gate);
+    other_end(tried, node)
+}
+
+// How turns of all runners end the rounds, where this node can make a move and may make none.
+fn other_end(tried: Pushed, node: u8) -> Option<Ended>
+    ensures { result ≡ other_end tried node }
+{
+    match tried {
+        Pushed::Moved => None,
+        Pushed::NoMemory => Some(Ended::NoMemory),
+        Pushed::Still | Pushed::Full => Some(Ended::Cut(node)),
+    }
+}
+
+// Lets one runner after the other make a turn, until one makes a move.
+fn try_each<G: Gate>(runners: &mut Vec<Runner<'_>>, gate: &G) -> Pushed
+    ensures { Tried result runners.old.items runners.new.items }
+{
+    for place in 0..runners.len() {
+        let pushed = push_at(runners, place, gate);
+        if is_end(pushed) {
+            return pushed;
+        }
+    }
+    Pushed::Still
+}
+
+// Whether no other runner makes a turn after this one.
+fn is_end(pushed: Pushed) -> bool
+    ensures { result ≡ is_end pushed }
+{
+    matches!(pushed, Pushed::Moved | Pushed::NoMemory)
+}
+
+fn push_at<G: Gate>(runners: &mut Vec<Runner<'_>>, place: usize, gate: &G) -> Pushed
+    requires { place < length runners.old.items }
+    ensures { PushedAt result place runners.old.items runners.new.items }
+{
+    push(&mut runners[place], gate)
+}
+
+// Lets the runner make a turn.
+#[tactic(auto, using(crate::proofs::Pushing::pushed_moved, crate::proofs::Pushing::pushed_still, crate::proofs::Pushing::pushed_full, crate::proofs::Pushing::pushed_over))]
+fn push<G: Gate>(runner: &mut Runner<'_>, gate: &G) -> Pushed
+    ensures { OnePushed result runner.old runner.new }
+{
+    let before = runner.moves();
+    let worked = runner.one(gate);
+    runner.kept();
+    match worked {
+        Worked::NoMemory => Pushed::NoMemory,
+        Worked::Full => Pushed::Full,
+        Worked::Idle if before < runner.moves() => Pushed::Moved,
+        Worked::Idle => Pushed::Still,
+    }
+}
