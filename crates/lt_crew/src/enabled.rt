@@ -1,5 +1,5 @@
 // The node that can make a move.
-ghost use Rattle.std.specs.Prelude.{◌≡◌, ◌<◌, ℕ, Some, true, length, vec_len, slice_get};
+ghost use Rattle.std.specs.Prelude.{◌≡◌, length};
 ghost use Rattle.lt_runner.specs.Kept.{AsSeen};
 ghost use Rattle.lt_crew.specs.Together.{EachIs, IsCrew, crew_world};
 ghost use Rattle.lt_crew.specs.Enabled.{IsLeastEnabled, IsFirstMove};

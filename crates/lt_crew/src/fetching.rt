@@ -1,8 +1,7 @@
 // What each runner does by itself.
 ghost use Rattle.std.specs.Prelude.{vec_len};
-ghost use Rattle.lt_runner.specs.Kept.{AsSeen};
-ghost use Rattle.lt_crew.specs.Together.{EachIs, AreKept};
-ghost use Rattle.lt_crew.specs.Meeting.{AreMet, AnyTwo, HaveFetched, Fetching};
+ghost use Rattle.lt_crew.specs.Together.{AreKept};
+ghost use Rattle.lt_crew.specs.Meeting.{AreMet, AnyTwo, Fetching};
 
 use lt_runner::Runner;
 
