@@ -5,6 +5,7 @@ use Rattle.std.specs.Io.KnownBytes.{Appends}
 use Rattle.lt_io.specs.Sink.{AppendsPart}
 use Rattle.lt_modes.specs.Script.{ScriptData}
 use Rattle.lt_runs.specs.Log.{Logged}
+use Rattle.lt_merge.specs.Merging.{AreRising}
 use Rattle.lt_runs.specs.FixedOrder.{first_run}
 use Rattle.lt_journal.specs.Split.{parts_of}
 use Rattle.lt_journal.specs.Text.{text_of}
@@ -49,6 +50,11 @@ pub record JournalsFirst (moves : ℕ) (ending : Status) (left : Option (List �
 pub record JournalsDrawn (seed moves : ℕ) (ending : Status) (left : Option (List ℕ)) (run : List Logged) (text : List ℕ) : Type 0 where
   pub journals : Journals moves ending left run text
   pub drawn : AreDrawn seed journals.script run
+
+-- the same, its moves in the order of their stamps
+pub record JournalsThreads (moves : ℕ) (ending : Status) (left : Option (List ℕ)) (run : List Logged) (text : List ℕ) : Type 0 where
+  pub journals : Journals moves ending left run text
+  pub rising : AreRising run
 
 -- the script that is made from the seed, and no run
 abbrev pub Prints : ℕ → ℕ → ℕ → ℕ → Status → List Logged → List ℕ → Type 0
@@ -95,7 +101,7 @@ Does moves SimFirst ending left run text = JournalsFirst moves ending left run t
 Does moves (Sim seed) ending left run text = JournalsDrawn seed moves ending left run text
 Does moves (Make nodes clients commands seed) ending left run text = Prints nodes clients commands seed ending run text
 Does moves Check ending left run text = Checks ending left run text
-Does moves Run ending left run text = ⊥
+Does moves Run ending left run text = JournalsThreads moves ending left run text
 Does moves (Soak seed) ending left run text = ⊥
 
 -- no run is told, and nothing was written

@@ -6,7 +6,7 @@ ghost use Rattle.lt_words.specs.Words.{command_of};
 ghost use Rattle.lt_serve.specs.Causes.{HasCause};
 ghost use Rattle.lt_serve.specs.TopCall.{Tells};
 
-use crate::gate::Gate;
+use lt_runner::Gate;
 use crate::serving::{Served, serve};
 use crate::status::Status;
 use lt_io::{Sink, Source};

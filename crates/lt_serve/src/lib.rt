@@ -2,7 +2,6 @@
 #![tactic(auto)]
 
 mod arguments;
-mod gate;
 mod laws;
 mod limits;
 mod made;
@@ -13,12 +12,13 @@ mod serving;
 mod simulated;
 mod simulation;
 mod status;
+mod threaded;
 #[cfg(test)]
 mod tests;
 
 pub use arguments::program;
-pub use gate::Gate;
 pub use laws::law_literals;
 pub use limits::{MAX_CAPACITY, MAX_INPUT, MAX_JOURNAL};
+pub use lt_runner::Gate;
 pub use serving::{Served, Setup, USUAL, serve, serve_with};
 pub use status::Status;

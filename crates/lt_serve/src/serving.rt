@@ -6,11 +6,12 @@ ghost use Rattle.lt_words.specs.Words.{command_of};
 ghost use Rattle.lt_serve.specs.Causes.{HasCause, TellsSource, TellsSink, WritesNothing, IsReadWhole, IsEnding, IsRefusal, CanBeMade, reads, is_unbuilt, limit_of};
 ghost use Rattle.lt_serve.specs.TopCall.{Tells, Does};
 
-use crate::gate::Gate;
+use lt_runner::Gate;
 use crate::made::{Made, write_made};
 use crate::making::printed;
 use crate::simulated::{simulated_drawn, simulated_first};
 use crate::status::Status;
+use crate::threaded::threaded;
 use lt_io::{Sink, Source};
 use lt_limits::MAX_MOVES;
 use lt_merge::Run;
@@ -75,13 +76,13 @@ pub fn serve<R: Threads + Sync, S: Source, K: Sink, G: Gate>(
 ///
 /// The words `make` and `soak` leave the source as it was, and so do words that are no command or one that isn't built.
 pub fn serve_with<R: Threads + Sync, S: Source, K: Sink, G: Gate>(
-    _rt: &R,
+    rt: &R,
     alloc: Global,
     setup: Setup,
     words: &[String],
     source: &mut S,
     sink: &mut K,
-    _gate: &G,
+    gate: &G,
 ) -> Served
     requires moves { (0 < setup.moves) × (setup.moves ≤ MAX_MOVES) }
     requires capacity { (0 < setup.capacity) × (setup.capacity ≤ MAX_CAPACITY) }
@@ -109,7 +110,7 @@ pub fn serve_with<R: Threads + Sync, S: Source, K: Sink, G: Gate>(
         Ok(None) => return Served::without_run(alloc, Status::Usage),
         Err(_) => return Served::without_run(alloc, Status::NoMemory),
     };
-    match make(alloc, setup.moves, command, source) {
+    match make(rt, alloc, setup, command, source, gate) {
         Ok(made) => write_made(sink, made),
         Err(status) => Served::without_run(alloc, status),
     }
@@ -129,16 +130,19 @@ impl Served {
 }
 
 // Does what a command is for, up to the writing of its text.
-fn make<S: Source>(
+fn make<R: Threads + Sync, S: Source, G: Gate>(
+    rt: &R,
     alloc: Global,
-    moves: u32,
+    setup: Setup,
     command: Command,
     source: &mut S,
+    gate: &G,
 ) -> Result<Made, Status>
-    requires moves { (0 < moves) × (moves ≤ MAX_MOVES) }
+    requires moves { (0 < setup.moves) × (setup.moves ≤ MAX_MOVES) }
+    requires capacity { (0 < setup.capacity) × (setup.capacity ≤ MAX_CAPACITY) }
     requires possible { CanBeMade command }
     ensures ended { IfOk result (λ made. IsEnding made.ending) }
-    ensures does { IfOk result (λ made. Does moves command made.ending (S.left source.old) made.run.entries made.text.items) }
+    ensures does { IfOk result (λ made. Does setup.moves command made.ending (S.left source.old) made.run.entries made.text.items) }
     ensures built { OnOk result (is_unbuilt command ≡ false) }
     ensures whole { OnOk result (reads (Some command) ≡ true → IsReadWhole (limit_of (Some command)) (record {
       given = S.given source.old;
@@ -162,8 +166,8 @@ fn make<S: Source>(
     ensures unread { reads (Some command) ≡ false → source.new ≡ source.old }
 {
     match command {
-        Command::SimFirst => simulated_first(alloc, moves, source),
-        Command::Sim { seed } => simulated_drawn(alloc, moves, seed, source),
+        Command::SimFirst => simulated_first(alloc, setup.moves, source),
+        Command::Sim { seed } => simulated_drawn(alloc, setup.moves, seed, source),
         Command::Make {
             nodes,
             clients,
@@ -173,6 +177,7 @@ fn make<S: Source>(
             Ok(made) => Ok(made),
             Err(_) => Err(Status::NoMemory),
         },
-        Command::Run | Command::Check | Command::Soak { .. } => Err(Status::NotBuilt),
+        Command::Run => threaded(rt, alloc, setup, source, gate),
+        Command::Check | Command::Soak { .. } => Err(Status::NotBuilt),
     }
 }

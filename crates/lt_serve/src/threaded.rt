@@ -1,0 +1,99 @@
+ghost use Rattle.std.specs.Prelude.{◌≡◌, ◌<◌, ◌≤◌, length, IfOk, IfErr, OnOk};
+ghost use Rattle.lt_script.specs.Script.{IsScript};
+ghost use Rattle.lt_runs.specs.FixedOrder.{first_run};
+ghost use Rattle.lt_journal.specs.Text.{text_of};
+ghost use Rattle.lt_limits.specs.declared.moves.TheConstants.{MAX_MOVES};
+ghost use Rattle.lt_serve.specs.Orders.{AreDrawn};
+ghost use Rattle.lt_serve.specs.Endings.{RanTo, cut_of};
+ghost use Rattle.lt_serve.specs.declared.limits.TheConstants.{MAX_INPUT};
+ghost use Rattle.lt_words.specs.declared.command.Command.TheVariants as command;
+ghost use Rattle.lt_serve.specs.Causes.{TellsSource, IsReadWhole, IsRefusal};
+ghost use Rattle.lt_serve.specs.TopCall.{Does};
+use crate::made::Made;
+use crate::order::Order;
+use crate::reading::read_script;
+use crate::simulation::simulate;
+use crate::status::Status;
+use lt_gen::Draws;
+use lt_io::Source;
+use lt_journal::write;
+use lt_script::Script;
+use std::alloc::{AllocError, Global};
+
+/// The run of a script on threads, and its journal.
+pub(crate) fn threads_journal<R: Threads + Sync, G: Gate>(
+    rt: &R,
+    alloc: Global,
+    script: &Script,
+    setup: Setup,
+    gate: &G,
+) -> Result<Made, AllocError>
+    requires kept { IsScript script.now }
+    requires moves { (0 < setup.moves) × (setup.moves ≤ MAX_MOVES) }
+    requires capacity { (0 < setup.capacity) × (setup.capacity ≤ MAX_CAPACITY) }
+    ensures ran { IfOk result (λ made. RanTo setup.moves made.ending script.now made.run.entries) }
+    ensures rising { IfOk result (λ made. AreRising made.run.entries) }
+    ensures text { IfOk result (λ made. made.text.items ≡ text_of script.now made.run.entries (cut_of made.ending)) }
+{
+    law_promised();
+    let (ending, run) = run_on_threads(
+        rt,
+        alloc,
+        script,
+        setup.capacity,
+        setup.moves,
+        setup.patience,
+        gate,
+    )?;
+    let ending = status_of(ending);
+    let text = write(alloc, script, &run, ending.cut())?;
+    Ok(Made { ending, run, text })
+}
+
+fn status_of(ending: Ending) -> Status
+    ensures { result ≡ status_of_end ending }
+{
+    match ending {
+        Ending::Done => Status::Done,
+        Ending::Stuck => Status::Stuck,
+        Ending::Cut(node) => Status::Cut { node },
+    }
+}
+
+/// Reads a script, and runs its nodes on threads.
+pub(crate) fn threaded<R: Threads + Sync, S: Source, G: Gate>(
+    rt: &R,
+    alloc: Global,
+    setup: Setup,
+    source: &mut S,
+    gate: &G,
+) -> Result<Made, Status>
+    requires moves { (0 < setup.moves) × (setup.moves ≤ MAX_MOVES) }
+    requires capacity { (0 < setup.capacity) × (setup.capacity ≤ MAX_CAPACITY) }
+    ensures does { IfOk result (λ made. Does setup.moves (command.Run) made.ending (S.left source.old) made.run.entries made.text.items) }
+    ensures whole { OnOk result (IsReadWhole MAX_INPUT (record {
+      given = S.given source.old;
+      faults = S.faults source.old;
+      ends = S.ends source.old;
+    }) (record {
+      given = S.given source.new;
+      faults = S.faults source.new;
+      ends = S.ends source.new;
+    })) }
+    ensures reading { IfErr result (λ answer. TellsSource MAX_INPUT answer (record {
+      given = S.given source.old;
+      faults = S.faults source.old;
+      ends = S.ends source.old;
+    }) (record {
+      given = S.given source.new;
+      faults = S.faults source.new;
+      ends = S.ends source.new;
+    })) }
+    ensures refused { IfErr result (IsRefusal (command.Run) (S.left source.old)) }
+{
+    let script = read_script(alloc, source)?;
+    match threads_journal(rt, alloc, &script, setup, gate) {
+        Ok(made) => Ok(made),
+        Err(_) => Err(Status::NoMemory),
+    }
+}
