@@ -3,7 +3,7 @@ use crate::{Setup, Status, USUAL};
 use std::test::Fail;
 
 // Scripts, with the status and the journal that they come to in the fixed order.
-const JOURNALS: [(&str, Status, &str); 10] = [
+const JOURNALS: [(&str, Status, &str); 8] = [
     (
         "nodes 1\n\
          set s\n\
@@ -34,41 +34,6 @@ const JOURNALS: [(&str, Status, &str); 10] = [
          waiting b s write\n\
          owner s 0 0\n\
          end 2\n",
-    ),
-    (
-        "nodes 1\n\
-         set s\n\
-         client a at 0\n\
-         client b at 0\n\
-         a lock s read\n\
-         a lock s read\n\
-         a lock s intention_write\n\
-         a unlock s read\n\
-         b try s intention_read\n\
-         b unlock s intention_read\n\
-         b try s read\n\
-         b try s intention_write\n",
-        Status::Done,
-        "move 1 0 act a\n\
-         grant a s read\n\
-         move 2 0 act b\n\
-         try b s intention_read true\n\
-         move 3 0 act a\n\
-         grant a s read\n\
-         move 4 0 act b\n\
-         unlock b s intention_read\n\
-         move 5 0 act a\n\
-         grant a s intention_write\n\
-         move 6 0 act b\n\
-         try b s read false\n\
-         move 7 0 act a\n\
-         unlock a s read\n\
-         move 8 0 act b\n\
-         try b s intention_write false\n\
-         held a s read 1\n\
-         held a s intention_write 1\n\
-         owner s 0 0\n\
-         end 8\n",
     ),
     (
         "nodes 3\n\
@@ -122,50 +87,6 @@ const JOURNALS: [(&str, Status, &str); 10] = [
          held b s read 1\n\
          owner s 1 1\n\
          end 5\n",
-    ),
-    (
-        "nodes 2\n\
-         set s\n\
-         client d at 1\n\
-         client a at 0\n\
-         client c at 1\n\
-         client b at 0\n\
-         d try s read\n\
-         d try s read\n\
-         d unlock s read\n\
-         d try s read\n\
-         a lock s read\n\
-         c lock s read\n\
-         b try s write\n\
-         b lock s write\n",
-        Status::Stuck,
-        "move 1 1 act d\n\
-         try d s read false\n\
-         move 1 0 act a\n\
-         grant a s read\n\
-         move 2 1 act c\n\
-         wait c s read\n\
-         move 3 0 take 1\n\
-         copy s 1 c read\n\
-         move 4 1 take 0\n\
-         grant c s read\n\
-         move 4 0 act b\n\
-         try b s write false\n\
-         move 5 1 act d\n\
-         try d s read true\n\
-         move 5 0 act b\n\
-         wait b s write\n\
-         freeze s 1 1 intention_read read upgrade intention_write write\n\
-         move 6 1 take 0\n\
-         move 7 1 act d\n\
-         unlock d s read\n\
-         move 8 1 act d\n\
-         try d s read false\n\
-         held a s read 1\n\
-         held c s read 1\n\
-         waiting b s write\n\
-         owner s 0 0\n\
-         end 11\n",
     ),
     (
         "nodes 2\n\
