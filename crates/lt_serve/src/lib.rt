@@ -2,6 +2,7 @@
 #![tactic(auto)]
 
 mod arguments;
+mod checking;
 mod gate;
 mod laws;
 mod limits;

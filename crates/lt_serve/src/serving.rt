@@ -6,6 +6,7 @@ ghost use Rattle.lt_words.specs.Words.{command_of};
 ghost use Rattle.lt_serve.specs.Causes.{HasCause, TellsSource, TellsSink, WritesNothing, IsReadWhole, IsEnding, IsRefusal, CanBeMade, reads, is_unbuilt, limit_of};
 ghost use Rattle.lt_serve.specs.TopCall.{Tells, Does};
 
+use crate::checking::checked;
 use crate::gate::Gate;
 use crate::made::{Made, write_made};
 use crate::making::printed;
@@ -173,6 +174,7 @@ fn make<S: Source>(
             Ok(made) => Ok(made),
             Err(_) => Err(Status::NoMemory),
         },
-        Command::Run | Command::Check | Command::Soak { .. } => Err(Status::NotBuilt),
+        Command::Check => checked(alloc, source),
+        Command::Run | Command::Soak { .. } => Err(Status::NotBuilt),
     }
 }
