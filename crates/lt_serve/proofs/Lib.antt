@@ -1,4 +1,5 @@
 mod Causing
+mod Journals
 mod Ordered
 mod Rooms
 mod Told

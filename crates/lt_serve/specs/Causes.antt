@@ -15,7 +15,6 @@ use Rattle.lt_serve.specs.declared.status.Status.TheVariants.{Done, Stuck, Usage
 
 -- the command isn't built yet
 abbrev pub is_unbuilt : Command → Bool
-is_unbuilt Check = true
 is_unbuilt (Soak seed) = true
 is_unbuilt other = false
 
@@ -28,6 +27,7 @@ abbrev pub reads : Option Command → Bool
 reads (Some SimFirst) = true
 reads (Some (Sim seed)) = true
 reads (Some Run) = true
+reads (Some Check) = true
 reads other = false
 
 -- so many bytes its input may have

@@ -7,6 +7,8 @@ use Rattle.lt_promises.specs.Promised.{Promised}
 use Rattle.lt_world.specs.Fields.{full_node}
 use Rattle.lt_serve.specs.declared.status.Status.{Status}
 use Rattle.lt_serve.specs.declared.status.Status.TheVariants.{Done, Stuck, Cut}
+use Rattle.lt_threads.specs.declared.threads.Ending.{Ending}
+use Rattle.lt_threads.specs.declared.threads.Ending.TheVariants as ending
 
 -- the run ended as this status says: at rest with nobody waiting, at rest with somebody waiting, or where this node, the least
 -- such one, has made as many moves as it may and has a further one
@@ -22,6 +24,12 @@ EndsAs moves other script run = ⊥
 abbrev pub cut_of : Status → Option ℕ
 cut_of (Cut node) = Some node
 cut_of other = None
+
+-- how a run on threads ended, as a status
+abbrev pub status_of_end : Ending → Status
+status_of_end ending.Done = Done
+status_of_end ending.Stuck = Stuck
+status_of_end (ending.Cut node) = Cut node
 
 -- a run of the script by all rules, in which a node makes up to so many moves; it ended so, and keeps all that is promised
 pub record RanTo (moves : ℕ) (ending : Status) (script : ScriptData) (run : List Logged) : Type 0 where

@@ -6,10 +6,10 @@ ghost use Rattle.lt_words.specs.Words.{command_of};
 ghost use Rattle.lt_serve.specs.Causes.{HasCause};
 ghost use Rattle.lt_serve.specs.TopCall.{Tells};
 
-use lt_runner::Gate;
 use crate::serving::{Served, serve};
 use crate::status::Status;
 use lt_io::{Sink, Source};
+use lt_runner::Gate;
 use std::alloc::Global;
 use std::io::{self, ErrorKind};
 use std::thread::Threads;

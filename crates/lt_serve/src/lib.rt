@@ -2,6 +2,7 @@
 #![tactic(auto)]
 
 mod arguments;
+mod checking;
 mod laws;
 mod limits;
 mod made;
@@ -12,9 +13,9 @@ mod serving;
 mod simulated;
 mod simulation;
 mod status;
-mod threaded;
 #[cfg(test)]
 mod tests;
+mod threaded;
 
 pub use arguments::program;
 pub use laws::law_literals;

@@ -6,7 +6,7 @@ ghost use Rattle.lt_words.specs.Words.{command_of};
 ghost use Rattle.lt_serve.specs.Causes.{HasCause, TellsSource, TellsSink, WritesNothing, IsReadWhole, IsEnding, IsRefusal, CanBeMade, reads, is_unbuilt, limit_of};
 ghost use Rattle.lt_serve.specs.TopCall.{Tells, Does};
 
-use lt_runner::Gate;
+use crate::checking::checked;
 use crate::made::{Made, write_made};
 use crate::making::printed;
 use crate::simulated::{simulated_drawn, simulated_first};
@@ -15,6 +15,7 @@ use crate::threaded::threaded;
 use lt_io::{Sink, Source};
 use lt_limits::MAX_MOVES;
 use lt_merge::Run;
+use lt_runner::Gate;
 use lt_words::Command;
 use std::alloc::Global;
 use std::thread::Threads;
@@ -177,7 +178,8 @@ fn make<R: Threads + Sync, S: Source, G: Gate>(
             Ok(made) => Ok(made),
             Err(_) => Err(Status::NoMemory),
         },
+        Command::Check => checked(alloc, source),
         Command::Run => threaded(rt, alloc, setup, source, gate),
-        Command::Check | Command::Soak { .. } => Err(Status::NotBuilt),
+        Command::Soak { .. } => Err(Status::NotBuilt),
     }
 }

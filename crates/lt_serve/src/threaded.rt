@@ -1,24 +1,27 @@
-ghost use Rattle.std.specs.Prelude.{◌≡◌, ◌<◌, ◌≤◌, length, IfOk, IfErr, OnOk};
+ghost use Rattle.std.specs.Prelude.{◌≡◌, ◌<◌, ◌≤◌, IfOk, IfErr, OnOk};
 ghost use Rattle.lt_script.specs.Script.{IsScript};
-ghost use Rattle.lt_runs.specs.FixedOrder.{first_run};
+ghost use Rattle.lt_merge.specs.Merging.{AreRising};
 ghost use Rattle.lt_journal.specs.Text.{text_of};
 ghost use Rattle.lt_limits.specs.declared.moves.TheConstants.{MAX_MOVES};
-ghost use Rattle.lt_serve.specs.Orders.{AreDrawn};
-ghost use Rattle.lt_serve.specs.Endings.{RanTo, cut_of};
-ghost use Rattle.lt_serve.specs.declared.limits.TheConstants.{MAX_INPUT};
+ghost use Rattle.lt_serve.specs.Endings.{RanTo, cut_of, status_of_end};
+ghost use Rattle.lt_serve.specs.declared.limits.TheConstants.{MAX_INPUT, MAX_CAPACITY};
 ghost use Rattle.lt_words.specs.declared.command.Command.TheVariants as command;
 ghost use Rattle.lt_serve.specs.Causes.{TellsSource, IsReadWhole, IsRefusal};
 ghost use Rattle.lt_serve.specs.TopCall.{Does};
+
 use crate::made::Made;
-use crate::order::Order;
 use crate::reading::read_script;
-use crate::simulation::simulate;
+use crate::serving::Setup;
 use crate::status::Status;
-use lt_gen::Draws;
 use lt_io::Source;
 use lt_journal::write;
+use lt_limits::MAX_MOVES;
+use lt_promises::law_promised;
+use lt_runner::Gate;
 use lt_script::Script;
+use lt_threads::{Ending, run_on_threads};
 use std::alloc::{AllocError, Global};
+use std::thread::Threads;
 
 /// The run of a script on threads, and its journal.
 pub(crate) fn threads_journal<R: Threads + Sync, G: Gate>(

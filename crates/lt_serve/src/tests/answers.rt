@@ -1,11 +1,12 @@
 use super::{Open, served, sink_of, source_of, words_of};
 use crate::{Status, USUAL, program, serve};
 use lt_io::SureSource;
+use lt_script::{Fault, ScriptFault};
 use std::io::{self, ErrorKind};
 use std::test::Fail;
 
 // Words, an input, and what they come to.
-const ANSWERS: [(&str, &str, Status, &str); 7] = [
+const ANSWERS: [(&str, &str, Status, &str); 11] = [
     (
         "sim 7",
         "nodes 1\n\
@@ -21,7 +22,39 @@ const ANSWERS: [(&str, &str, Status, &str); 7] = [
          owner s 0 0\n\
          end 2\n",
     ),
-    ("check", "nodes 1\n", Status::NotBuilt, ""),
+    (
+        "check",
+        "nodes 1\n\
+         set s\n\
+         client a at 0\n\
+         a lock s write\n\
+         a unlock s write\n\
+         journal\n\
+         move 1 0 act a\n\
+         grant a s write\n\
+         move 2 0 act a\n\
+         unlock a s write\n\
+         owner s 0 0\n\
+         end 2\n",
+        Status::Done,
+        "ok 2\n",
+    ),
+    (
+        "check",
+        "nodes 1\njournal\nend 0\nend 0\n",
+        Status::BadJournal { line: 4 },
+        "",
+    ),
+    ("check", "nodes 1\n", Status::BadJournal { line: 2 }, ""),
+    (
+        "check",
+        "nodes 0\njournal\nend 0\n",
+        Status::Refused(ScriptFault {
+            line: 1,
+            fault: Fault::Number,
+        }),
+        "",
+    ),
     (
         "make 1 1 1 5",
         "",
@@ -35,7 +68,22 @@ const ANSWERS: [(&str, &str, Status, &str); 7] = [
          c0 unlock s0 read\n",
     ),
     ("sim first", "nodes 1", Status::Done, "end 0\n"),
-    ("run", "nodes 1", Status::NotBuilt, ""),
+    ("run", "nodes 1", Status::Done, "end 0\n"),
+    (
+        "run",
+        "nodes 1\n\
+         set s\n\
+         client a at 0\n\
+         a lock s write\n\
+         a unlock s write\n",
+        Status::Done,
+        "move 1 0 act a\n\
+         grant a s write\n\
+         move 2 0 act a\n\
+         unlock a s write\n\
+         owner s 0 0\n\
+         end 2\n",
+    ),
     ("soak 7", "", Status::NotBuilt, ""),
     ("sim", "nodes 1", Status::Usage, ""),
 ];

@@ -8,7 +8,7 @@ use Rattle.lt_serve.proofs.Causing.{MayBeMade, may_be_made, written_causes, refu
 use Rattle.lt_serve.proofs.serving.serve_with.Goals as goal
 
 pub make-requires-clause-possible : goal.make-requires-clause-possible
-make-requires-clause-possible g c =
+make-requires-clause-possible g c = λ κs lives.
     let is : command_of (map string_bytes c.args.words.now) ≡ Some c.in-Ok-Some.command = sym c.in-Ok-Some.ensures ∙ c.in-Ok-Some.field-0-is in
     subst MayBeMade is (may_be_made (map string_bytes c.args.words.now))
 
