@@ -1,0 +1,68 @@
+-- What the answers say that come before a run, those of `check` and `make`, and what each says of the source and the sink, in literals.
+use Rattle.std.specs.Prelude.{◌≡◌, ◌⊎◌, ◌≤◌, false, ℕ, List, [], ◌∷◌, ◌++◌, Option, Some, codes}
+use Rattle.lt_runs.specs.Log.{Logged}
+use Rattle.lt_limits.specs.declared.moves.TheConstants.{MAX_MOVES}
+use Rattle.lt_script.specs.declared.fault.ScriptFault.{ScriptFault}
+use Rattle.lt_script.specs.declared.fault.Fault.TheVariants as faults
+use Rattle.lt_words.specs.declared.command.Command.TheVariants.{Run, SimFirst, Check, Make}
+use Rattle.lt_words.specs.Words.{command_of}
+use Rattle.lt_serve.specs.declared.limits.TheConstants.{MAX_INPUT}
+use Rattle.lt_serve.specs.declared.status.Status.{Status}
+use Rattle.lt_serve.specs.declared.status.Status.TheVariants.{Done, Stuck, Usage, Refused, TooLong, ReadFault, WriteFault, NoMemory, Cut, BadJournal}
+use Rattle.lt_serve.specs.Causes.{HasCause, SourceCounts, TellsSource, TellsSink, reads, limit_of}
+use Rattle.lt_answers.specs.Examples.{Says, Writes, IsNever, one_lock, one_lock_journal, the_move}
+
+-- words that are no command, and one that is
+pub record WordsSay : Type 0 where
+  pub wrong : (left : Option (List ℕ)) (answer : Status) → HasCause (command_of (codes "run" ∷ codes "now" ∷ [])) left answer
+      → (answer ≡ Usage) ⊎ (answer ≡ NoMemory)
+  pub right : (left : Option (List ℕ)) → HasCause (command_of (codes "sim" ∷ codes "first" ∷ [])) left Usage → ⊥
+  pub nothing : (run : List Logged) (old new : List ℕ) → Says MAX_MOVES SimFirst Usage one_lock run old new → (run ≡ []) × (new ≡ old)
+
+-- its fourth line has a word that is no mode
+abbrev pub no_mode : List ℕ
+no_mode = codes "nodes 1\nset s\nclient a at 0\na lock s reed\nb lock s read\n"
+
+pub record FaultSays : Type 0 where
+  pub fault : (fault : ScriptFault) → HasCause (Some SimFirst) (Some no_mode) (Refused fault) → fault ≡ record { line = 4; fault = faults.Mode }
+  pub never_done : IsNever MAX_MOVES SimFirst Done no_mode
+  pub never_stuck : IsNever MAX_MOVES SimFirst Stuck no_mode
+  pub never_cut : (node : ℕ) → IsNever MAX_MOVES SimFirst (Cut node) no_mode
+  pub nothing : (fault : ScriptFault) (run : List Logged) (old new : List ℕ) → Says MAX_MOVES SimFirst (Refused fault) no_mode run old new
+      → (run ≡ []) × (new ≡ old)
+  -- a script without a fault isn't refused
+  pub never_refused : (fault : ScriptFault) → HasCause (Some SimFirst) (Some one_lock) (Refused fault) → ⊥
+
+abbrev pub checked_lock : List ℕ
+checked_lock = one_lock ++ codes "journal\n" ++ one_lock_journal
+
+-- the second line of the journal, the seventh of the input, grants another mode
+abbrev pub wrong_mode : List ℕ
+wrong_mode = one_lock ++ codes "journal\nmove 1 0 act a\ngrant a s write\nheld a s read 1\nowner s 0 0\nend 1\n"
+
+pub record CheckSays : Type 0 where
+  pub done : Writes MAX_MOVES Check Done checked_lock (codes "ok 1\n")
+  pub run : (run : List Logged) (old new : List ℕ) → Says MAX_MOVES Check Done checked_lock run old new → run ≡ the_move ∷ []
+  pub never_bad : (line : ℕ) → HasCause (Some Check) (Some checked_lock) (BadJournal line) → ⊥
+  pub bad : (line : ℕ) → HasCause (Some Check) (Some wrong_mode) (BadJournal line) → line ≡ 7
+  pub never_done : IsNever MAX_MOVES Check Done wrong_mode
+
+pub record MakeSays : Type 0 where
+  pub done : Writes MAX_MOVES (Make 1 1 1 7) Done [] (codes "nodes 1\nset s0\nset s1\nset s2\nset s3\nclient c0 at 0\nc0 unlock s0 read\n")
+  pub never_stuck : IsNever MAX_MOVES (Make 1 1 1 7) Stuck []
+  pub reads_nothing : reads (Some (Make 1 1 1 7)) ≡ false
+
+-- counts that were all 0 before
+abbrev pub untouched : SourceCounts
+untouched = record { given = 0; faults = 0; ends = 0 }
+
+pub record CountsSay : Type 0 where
+  pub done : (now : SourceCounts) → TellsSource (limit_of (Some SimFirst)) Done untouched now
+      → (now.given ≤ 1048576) × (now.faults ≡ 0) × (now.ends ≡ 1)
+  pub checked : (now : SourceCounts) → TellsSource (limit_of (Some Check)) Done untouched now → now.given ≤ 67108864
+  pub refused : (fault : ScriptFault) (now : SourceCounts) → TellsSource MAX_INPUT (Refused fault) untouched now
+      → (now.faults ≡ 0) × (now.ends ≡ 1)
+  pub too_long : (now : SourceCounts) → TellsSource (limit_of (Some Run)) TooLong untouched now → (now.given ≡ 1048577) × (now.faults ≡ 0)
+  pub read_fault : (now : SourceCounts) → TellsSource MAX_INPUT ReadFault untouched now → (now.given ≤ 1048576) × (now.faults ≡ 1)
+  pub written : (now : ℕ) → TellsSink Done 0 now → now ≡ 0
+  pub write_fault : (now : ℕ) → TellsSink WriteFault 0 now → now ≡ 1

@@ -1,0 +1,114 @@
+//! The greatest sizes, with ample memory.
+use lt_io::{MemorySink, SureSource};
+use lt_journal::read as read_journal;
+use lt_script::read as read_script;
+use lt_serve::{Gate, Status, serve};
+use std::alloc::{AllocError, Global};
+use std::test::Fail;
+use std::thread::Threads;
+
+#[derive(Drop)]
+struct Open;
+
+impl Gate for Open {
+    fn pass(&self, _node: u8) {}
+}
+
+// What the words of a line come to with this input.
+fn served<R: Threads + Sync>(
+    rt: &R,
+    alloc: Global,
+    line: &str,
+    input: &[u8],
+) -> Result<(Status, Vec<u8>), AllocError> {
+    let mut words = Vec::new(alloc);
+    for word in line.split(' ') {
+        words.push(String::from_str(alloc, word)?)?;
+    }
+    let mut source = SureSource {
+        bytes: Vec::from_slice(alloc, input)?,
+        at: 0,
+        given: 0,
+        ends: 0,
+    };
+    let mut sink = MemorySink {
+        bytes: Vec::new(alloc),
+        per_write: 65_536,
+        calls: 0,
+        fails: Vec::new(alloc),
+        faults: 0,
+    };
+    let served = serve(rt, alloc, words.as_slice(), &mut source, &mut sink, &Open);
+    Ok((served.status, sink.bytes))
+}
+
+// A script, a line `journal` and a journal.
+fn joined(alloc: Global, script: &[u8], journal: &[u8]) -> Result<Vec<u8>, AllocError> {
+    let mut input = Vec::from_slice(alloc, script)?;
+    input.extend_from_slice(b"journal\n")?;
+    input.extend_from_slice(journal)?;
+    Ok(input)
+}
+
+// Words that run a script of 16 nodes, 64 clients and 4,096 commands, with the length of the journal and the answer to it.
+const RUNS: [(&str, usize, &str); 2] = [
+    ("sim first", 347_418, "ok 8900\n"),
+    ("sim 7", 347_595, "ok 9263\n"),
+];
+
+#[test]
+fn runs_the_greatest_script(rt: HostRuntime) -> Result<(), Fail> {
+    let alloc = rt.alloc();
+    let (status, script) = served(&rt, alloc, "make 16 64 4096 7", b"")?;
+    assert_eq!(rt; status, Status::Done);
+    assert_eq!(rt; script.len(), 94_384);
+    for (words, length, answer) in &RUNS {
+        let (status, journal) = served(&rt, alloc, words, &script)?;
+        assert_eq!(rt; status, Status::Done, "{words}");
+        assert_eq!(rt; journal.len(), *length, "{words}");
+        let input = joined(alloc, &script, &journal)?;
+        let (status, text) = served(&rt, alloc, "check", &input)?;
+        assert_eq!(rt; status, Status::Done, "{words}");
+        assert_eq!(rt; text.as_slice(), answer.as_bytes());
+    }
+    Ok(())
+}
+
+#[test]
+fn runs_the_greatest_script_on_threads(rt: HostRuntime) -> Result<(), Fail> {
+    let alloc = rt.alloc();
+    let (_, script) = served(&rt, alloc, "make 16 64 4096 7", b"")?;
+    let (status, journal) = served(&rt, alloc, "run", &script)?;
+    assert_eq!(rt; status, Status::Done);
+    let input = joined(alloc, &script, &journal)?;
+    let (status, _) = served(&rt, alloc, "check", &input)?;
+    assert_eq!(rt; status, Status::Done);
+    Ok(())
+}
+
+// A line has 200 bytes at most.
+#[test]
+fn reads_the_longest_line(rt: HostRuntime) -> Result<(), Fail> {
+    let alloc = rt.alloc();
+    let mut script = vec![in alloc; b' '; 200]?;
+    for (byte, letter) in script.iter_mut().zip(b"nodes 1".iter()) {
+        *byte = *letter;
+    }
+    let (status, journal) = served(&rt, alloc, "sim first", &script)?;
+    assert_eq!(rt; status, Status::Done);
+    assert_eq!(rt; journal.as_slice(), b"end 0\n".as_slice());
+    Ok(())
+}
+
+#[test]
+fn reads_a_long_journal(rt: HostRuntime) -> Result<(), Fail> {
+    let alloc = rt.alloc();
+    let script = read_script(alloc, b"nodes 1\nset s\nclient a at 0\n")?;
+    let mut bytes = Vec::new(alloc);
+    for _ in 0..100_000 {
+        bytes.extend_from_slice(b"move 1 0 act a\n")?;
+    }
+    let journal = read_journal(alloc, &script, &bytes)?;
+    assert_eq!(rt; journal.len(), 100_000);
+    Ok(())
+}
