@@ -1,3 +1,6 @@
+ghost use Rattle.std.specs.Prelude.{◌≡◌, slice_index, slice_set};
+ghost use Rattle.lt_script.specs.Hints.{slot_of};
+
 /// Where names were declared, as guesses.
 ///
 /// A name has one of 256 slots, and a slot keeps the place that was noted in it last. Names may have a slot in
@@ -13,21 +16,26 @@ impl Hints {
     }
 
     /// Notes the place of the name.
-    pub fn note(&mut self, name: &[u8], place: u8) {
+    pub fn note(&mut self, name: &[u8], place: u8)
+        ensures { self.new.places ≡ slice_set self.old.places (slot_of name.now) place }
+    {
         self.places[usize::from(slot(name))] = place;
     }
 
     /// The place that was noted last in the name's slot.
-    pub fn guess(&self, name: &[u8]) -> u8 {
+    pub fn guess(&self, name: &[u8]) -> u8
+        ensures { result ≡ slice_index self.now.places (slot_of name.now) }
+    {
         self.places[usize::from(slot(name))]
     }
 }
 
-// The slot of the name: a hash of its bytes that parts names which differ in a number at their end.
-fn slot(name: &[u8]) -> u8 {
-    let mut slot: u8 = 0;
-    for byte in name {
-        slot = slot.wrapping_mul(33).wrapping_add(*byte);
-    }
-    slot
+// The slot of the name.
+fn slot(name: &[u8]) -> u8
+    ensures { result ≡ slot_of name.now }
+{
+    name.iter().fold(
+        0,
+        |slot: u8, byte| slot.wrapping_mul(33).wrapping_add(*byte),
+    )
 }
