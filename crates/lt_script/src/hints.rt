@@ -1,4 +1,4 @@
-ghost use Rattle.std.specs.Prelude.{◌≡◌, slice_index, slice_set};
+ghost use Rattle.std.specs.Prelude.{◌≡◌, replicate, slice_index, slice_set};
 ghost use Rattle.lt_script.specs.Hints.{slot_of};
 
 /// Where names were declared, as guesses.
@@ -11,7 +11,9 @@ pub struct Hints {
 }
 
 impl Hints {
-    pub fn new() -> Hints {
+    pub fn new() -> Hints
+        ensures { result.places ≡ replicate 256 0 }
+    {
         Hints { places: [0; 256] }
     }
 
