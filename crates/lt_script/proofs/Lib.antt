@@ -6,4 +6,5 @@ pub mod PrintLemmas
 pub mod PrintedLines
 pub mod RoundTrip
 pub mod FaultOrder
+pub mod FirstFault
 pub mod RoundTripSets

@@ -3,13 +3,15 @@ use Rattle.std.proofs.Common.{◌≡◌, ℕ, zero, suc, ◌+◌, ◌<◌, ◌�
 use Rattle.std.proofs.lemmas.Bool.{cases_eq, cases_lt, eq-eqb, ne_eqb}
 use Rattle.std.proofs.lemmas.List.{length_push}
 use Rattle.std.proofs.lemmas.List.Sums.{sum_by-append}
+use Rattle.std.proofs.lemmas.Option.{slice_get_within}
+use Rattle.std.proofs.lemmas.Slice.Eq.{bytes_eq-Decides}
 use Rattle.lt_modes.specs.declared.command.Command.{Command}
 use Rattle.lt_modes.specs.declared.command.Command.TheVariants.{Lock, Try, Unlock, Change, DropAll}
 use Rattle.lt_modes.specs.Script.{ScriptData, SetData, ClientData, family_at, home_at, name_of_set, family_of_set, name_of_client, node_of_client}
 use Rattle.lt_script.specs.declared.limits.TheConstants.{MAX_SETS, MAX_CLIENTS, MAX_CLIENTS_OF_NODE}
 use Rattle.std.specs.Str.{bytes_eq}
 use Rattle.lt_script.specs.Names.{is_name}
-use Rattle.lt_script.specs.Script.{IsScript, IsFamilyOfNext, HasTargets, load_of, is_declared}
+use Rattle.lt_script.specs.Script.{IsScript, IsFamilyOfNext, HasTargets, load_of, set_number, client_number, is_declared}
 use Rattle.lt_script.proofs.NameLemmas.{found_stays, found_last, found_never, is_new, same_name, set_not_client}
 
 get_front : {X : Type 0} → (xs : List X) (y : X) (k : ℕ) → k < length xs → slice_get (xs ++ y ∷ []) k ≡ slice_get xs k
@@ -175,3 +177,17 @@ client_added s x good named undeclared room on_node load =
         more_clients s.sets s.clients x _ _ (good.requests k d inside).0 (good.requests k d inside).1,
       );
     }
+
+-- a set with the name is the one that the name finds
+pub set_named : (s : ScriptData) (set : ℕ) (x : SetData) (name : List ℕ) → IsScript s → slice_get s.sets set ≡ Some x → bytes_eq x.name name ≡ true
+    → (set < length s.sets) × (set_number s name ≡ Some set)
+set_named s set x name good at same =
+    let inside = slice_get_within s.sets set x at in
+    (inside, subst (λ (n : List ℕ). set_number s n ≡ Some set) (ap name_of_set at ∙ (bytes_eq-Decides x.name name).0 same) (good.sets_found set inside))
+
+-- a client with the name is the one that the name finds
+pub client_named : (s : ScriptData) (client : ℕ) (x : ClientData) (name : List ℕ) → IsScript s → slice_get s.clients client ≡ Some x → bytes_eq x.name name ≡ true
+    → (client < length s.clients) × (client_number s name ≡ Some client)
+client_named s client x name good at same =
+    let inside = slice_get_within s.clients client x at in
+    (inside, subst (λ (n : List ℕ). client_number s n ≡ Some client) (ap name_of_client at ∙ (bytes_eq-Decides x.name name).0 same) (good.clients_found client inside))

@@ -1,15 +1,17 @@
 -- The faults of a line, each by a test of its own, and which of them is told; and what the literals are.
-use Rattle.std.specs.Prelude.{◌≡◌, ◌<◌, ◌↔◌, ℕ, Bool, false, not, List, [], ◌∷◌, length, Option, Some, None, is_none, nat_lt, codes, map, IsTrue, IsFalse, Contains}
+use Rattle.std.specs.Prelude.{◌≡◌, ◌<◌, ◌↔◌, ◌⊎◌, ℕ, ◌+◌, Bool, false, not, List, [], ◌∷◌, ◌++◌, length, Option, Some, None, is_none, Ok, Err, nat_lt, codes, map, IsTrue, IsFalse, Contains}
 use Rattle.std.specs.List.{list_all}
 use Rattle.lt_modes.specs.Script.{ScriptData}
-use Rattle.lt_text.specs.Text.{words}
+use Rattle.lt_text.specs.Text.{lines, words}
 use Rattle.lt_script.specs.declared.fault.Fault.{Fault}
 use Rattle.lt_script.specs.declared.fault.Fault.TheVariants as faults
+use Rattle.lt_script.specs.declared.fault.ScriptFault.{ScriptFault}
 use Rattle.lt_script.specs.declared.limits.TheConstants.{MAX_NODES, MAX_SETS, MAX_CLIENTS, MAX_CLIENTS_OF_NODE, MAX_COMMANDS, MAX_NAME, MAX_LINE}
 use Rattle.lt_script.specs.Fault.{number_of}
 use Rattle.lt_script.specs.Names.{is_reserved}
 use Rattle.lt_script.specs.Forms.{FormData, NodesForm, SetForm, SetWithForm, ClientForm, CommandForm, LockOrder, TryOrder, UnlockOrder, ChangeOrder, DropOrder, form_of}
 use Rattle.lt_script.specs.Faults.{declared, is_plain_byte, has_bad_number, has_nodes_misplaced, declares_no_name, declares_again, uses_unknown, exceeds_limit, uses_no_mode, drops_elsewhere, line_fault}
+use Rattle.lt_script.specs.Reading.{is_skipped, line_step, read_of}
 
 -- the line has a form that passes the test
 abbrev pub has_form : (FormData → Bool) → Option FormData → Bool
@@ -77,3 +79,31 @@ pub record FormsAre : Type 0 where
   pub unlock : (s m : List ℕ) → form_of (codes "c" ∷ codes "unlock" ∷ s ∷ m ∷ []) ≡ Some (CommandForm (codes "c") (UnlockOrder s m))
   pub change : (s g m : List ℕ) → form_of (codes "c" ∷ codes "change" ∷ s ∷ g ∷ m ∷ []) ≡ Some (CommandForm (codes "c") (ChangeOrder s g m))
   pub drop : (d s : List ℕ) → form_of (codes "c" ∷ codes "drop" ∷ d ∷ s ∷ []) ≡ Some (CommandForm (codes "c") (DropOrder d s))
+
+-- lines without a fault, each after those before it, with the script before them and the script after them
+abbrev pub AreRead : Option ScriptData → List (List ℕ) → Option ScriptData → Type 0
+AreRead st [] last = st ≡ last
+AreRead st (line ∷ rest) last = (next : Option ScriptData) × (line_step st line ≡ Ok next) × AreRead next rest last
+
+-- among lines, the first of which has this number and comes after this script, the first with a fault is the told one,
+-- and its least fault is told
+pub record IsFirstFault (number : ℕ) (st : Option ScriptData) (all : List (List ℕ)) (told : ScriptFault) : Type 0 where
+  pub before : List (List ℕ)
+  pub line : List ℕ
+  pub after : List (List ℕ)
+  pub so_far : Option ScriptData
+  pub stands : all ≡ before ++ line ∷ after
+  pub counted : told.line ≡ number + length before
+  pub read : AreRead st before so_far
+  pub judged : is_skipped line ≡ false
+  pub least : IsLeastFault (has_fault so_far line) (Some told.fault)
+
+-- no line has a fault, and none is the line `nodes`: told of one more line
+pub record LacksNodes (number : ℕ) (st : Option ScriptData) (all : List (List ℕ)) (told : ScriptFault) : Type 0 where
+  pub read : AreRead st all None
+  pub counted : told.line ≡ number + length all
+  pub fault : told.fault ≡ faults.Nodes
+
+-- what is told of a text is its first line with a fault, and the least fault of that line
+abbrev pub FirstIsTold : Type 0
+FirstIsTold = (bytes : List ℕ) (told : ScriptFault) → read_of bytes ≡ Err told → IsFirstFault 1 None (lines bytes) told ⊎ LacksNodes 1 None (lines bytes) told

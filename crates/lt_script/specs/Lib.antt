@@ -6,3 +6,4 @@ pub mod Faults
 pub mod Reading
 pub mod Printing
 pub mod FaultLaws
+pub mod Hints

@@ -3,16 +3,18 @@ ghost use Rattle.lt_modes.specs.Script.{ScriptData};
 ghost use Rattle.lt_script.specs.Script.{IsScript};
 ghost use Rattle.lt_script.specs.Printing.{print_of};
 ghost use Rattle.lt_script.specs.Reading.{read_of};
-ghost use Rattle.lt_script.specs.FaultLaws.{LeastIsTold, LimitsAre, ReservedAre, NumbersAre, FormsAre};
+ghost use Rattle.lt_script.specs.FaultLaws.{LeastIsTold, FirstIsTold, LimitsAre, ReservedAre, NumbersAre, FormsAre};
 
 /// The text of a script is read as that script.
 pub fn law_print()
     ensures { (s : ScriptData) → IsScript s → read_of (print_of s) ≡ Ok s }
 {}
 
-/// Each fault of a line has a test of its own, and of those that hold the one with the least number is told.
+/// Each fault of a line has a test of its own, and of those that hold the one with the least number is told. What is
+/// told of a text is the first line that has a fault, with that fault; of one without a line `nodes` a line more.
 pub fn law_faults()
-    ensures { LeastIsTold }
+    ensures line { LeastIsTold }
+    ensures text { FirstIsTold }
 {}
 
 /// What the limits, the reserved words, the faults' numbers and the words of the forms are.

@@ -4,6 +4,7 @@
 mod declarations;
 mod fault;
 mod form;
+mod hints;
 mod laws;
 mod limits;
 mod line;

@@ -202,10 +202,15 @@ fn home_of(script: &Script, name: &[u8]) -> u8
     }
 }
 
+// It goes to the end where an early byte is none, so that several bytes are looked at in one step.
 fn has_plain_bytes(line: &[u8]) -> bool
     ensures { result ≡ list_all is_plain_byte line.now }
 {
-    line.iter().all(|byte| is_plain_byte(*byte))
+    let mut is_plain = true;
+    for byte in line {
+        is_plain &= is_plain_byte(*byte);
+    }
+    is_plain
 }
 
 fn is_plain_byte(byte: u8) -> bool

@@ -1,4 +1,4 @@
-ghost use Rattle.std.specs.Prelude.{◌≡◌, ◌<◌, ◌≤◌, ◌++◌, ◌∷◌, [], true, false, length, slice_get, position, IfOk, OnOk, OnErr, IfSome};
+ghost use Rattle.std.specs.Prelude.{◌≡◌, ◌<◌, ◌≤◌, ◌++◌, ◌∷◌, [], true, false, length, slice_get, position, IfOk, OnOk, OnErr, IfSome, IsTrue};
 ghost use Rattle.std.specs.Str.{bytes_eq};
 ghost use Rattle.lt_modes.specs.Script.{SetData, ClientData, set_name, family_at, client_name, home_at};
 ghost use Rattle.lt_script.specs.Names.{is_name};
@@ -6,6 +6,7 @@ ghost use Rattle.lt_script.specs.Script.{IsScript, IsFamilyOfNext, IsRequest, lo
 ghost use Rattle.lt_script.specs.declared.limits.TheConstants.{MAX_NODES, MAX_SETS, MAX_CLIENTS, MAX_CLIENTS_OF_NODE, MAX_COMMANDS};
 
 use crate::declarations::{ClientDecl, SetDecl};
+use crate::hints::Hints;
 use lt_modes::Command;
 use std::alloc::{AllocError, Global};
 use std::marker::Model;
@@ -20,6 +21,8 @@ pub struct Script {
     sets: Vec<SetDecl>,
     clients: Vec<ClientDecl>,
     commands: Vec<(u16, Command)>,
+    set_hints: Hints,
+    client_hints: Hints,
 }
 
 impl Model for Script {
@@ -57,6 +60,8 @@ impl Script {
             sets: Vec::new(alloc),
             clients: Vec::new(alloc),
             commands: Vec::new(alloc),
+            set_hints: Hints::new(),
+            client_hints: Hints::new(),
         })
     }
 
@@ -158,6 +163,10 @@ impl Script {
         ensures number { result ≡ set_number self.now name.now }
         ensures inside { IfSome result (λ set. set < length self.now.sets) }
     {
+        let guess = self.set_hints.guess(name);
+        if self.is_set(guess, name) {
+            return Some(guess);
+        }
         let Some(place) = place_of_set(&self.sets, name) else {
             return None;
         };
@@ -169,10 +178,35 @@ impl Script {
         ensures number { result ≡ client_number self.now name.now }
         ensures inside { IfSome result (λ client. client < length self.now.clients) }
     {
+        let guess = u16::from(self.client_hints.guess(name));
+        if self.is_client(guess, name) {
+            return Some(guess);
+        }
         let Some(place) = place_of_client(&self.clients, name) else {
             return None;
         };
         Some(place as u16)
+    }
+
+    // Whether the set with this number has this name.
+    fn is_set(&self, set: u8, name: &[u8]) -> bool
+        ensures { IsTrue result → (set < length self.now.sets) × (set_number self.now name.now ≡ Some set) }
+    {
+        match self.sets.get(usize::from(set)) {
+            Some(found) => found.is_named(name),
+            None => false,
+        }
+    }
+
+    // Whether the client with this number has this name.
+    fn is_client(&self, client: u16, name: &[u8]) -> bool
+        ensures { IsTrue result →
+            (client < length self.now.clients) × (client_number self.now name.now ≡ Some client) }
+    {
+        match self.clients.get(usize::from(client)) {
+            Some(found) => found.is_named(name),
+            None => false,
+        }
     }
 
     /// Whether a set or a client has this name.
@@ -201,7 +235,9 @@ impl Script {
         ensures unchanged { OnErr result (self.new ≡ self.old) }
     {
         let set = SetDecl::new(*self.sets.allocator(), name, family)?;
+        let place = self.sets.len() as u8;
         self.sets.push(set)?;
+        self.set_hints.note(name, place);
         Ok(())
     }
 
@@ -218,7 +254,9 @@ impl Script {
         ensures unchanged { OnErr result (self.new ≡ self.old) }
     {
         let client = ClientDecl::new(*self.clients.allocator(), name, node)?;
+        let place = self.clients.len() as u8;
         self.clients.push(client)?;
+        self.client_hints.note(name, place);
         Ok(())
     }
 

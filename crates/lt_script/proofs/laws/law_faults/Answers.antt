@@ -1,5 +1,9 @@
 use Rattle.lt_script.proofs.FaultOrder.{least_is_told}
+use Rattle.lt_script.proofs.FirstFault.{first_is_told}
 use Rattle.lt_script.proofs.laws.law_faults.Goals as goal
 
-pub returns : goal.returns
-returns c = least_is_told
+pub returns-clause-line : goal.returns-clause-line
+returns-clause-line c = least_is_told
+
+pub returns-clause-text : goal.returns-clause-text
+returns-clause-text c = first_is_told

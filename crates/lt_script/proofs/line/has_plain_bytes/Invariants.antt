@@ -1,0 +1,8 @@
+use Rattle.std.proofs.Common.{◌≡◌, take}
+use Rattle.std.specs.List.{list_all}
+use Rattle.lt_script.specs.Faults.{is_plain_byte}
+use Rattle.lt_script.proofs.line.has_plain_bytes.Given as goal
+
+-- whether the bytes so far are plain
+abbrev pub invariant-loop-byte : goal.invariant-loop-byte
+invariant-loop-byte l = l.is_plain ≡ list_all is_plain_byte (take l.byte-index l.line)
