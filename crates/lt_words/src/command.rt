@@ -1,9 +1,9 @@
-ghost use Rattle.std.specs.Prelude.{◌≡◌, ◌||◌, map, IfOk};
+ghost use Rattle.std.specs.Prelude.{◌≡◌, ◌||◌, map, is_some, IfOk, IsErr, IsSome};
 ghost use Rattle.std.specs.List.{list_all};
 ghost use Rattle.std.specs.Str.{bytes_eq};
 ghost use Rattle.std.specs.String.{string_bytes};
 ghost use Rattle.clap.specs.Words.{rows_of, found_of, subcommand_rows_of};
-ghost use Rattle.lt_words.specs.Words.{command_of, one_word, sim_of, soak_of, five_words};
+ghost use Rattle.lt_words.specs.Words.{command_of, one_word, two_words, sim_of, soak_of, five_words};
 ghost use Rattle.lt_words.specs.Grammar.{text_at, command_in, is_form, has_verb, is_plain};
 
 use crate::grammar::parse;
@@ -40,8 +40,12 @@ pub enum Command {
 impl Command {
     /// The command that the words are, which don't have the program's name.
     pub fn from_words(alloc: Global, words: &[String]) -> Result<Option<Command>, AllocError>
-        ensures { IfOk result (λ command. command ≡ command_of (map string_bytes words.now)) }
+        ensures command { IfOk result (λ command. command ≡ command_of (map string_bytes words.now)) }
+        ensures refused { IsErr result → IsSome (command_of (map string_bytes words.now)) }
     {
+        if !is_command(words) {
+            return Ok(None);
+        }
         if !is_form(words) {
             return Ok(None);
         }
@@ -68,6 +72,30 @@ impl Command {
             ),
             _ => one_word(name),
         }
+    }
+}
+
+// Whether the words are a command, which takes no memory to see.
+fn is_command(words: &[String]) -> bool
+    ensures { result ≡ is_some (command_of (map string_bytes words.now)) }
+{
+    match words {
+        [word] => one_word(word).is_some(),
+        [verb, word] => are_command(verb, word),
+        [verb, nodes, clients, commands, seed] => {
+            verb.as_str() == "make" && make_of(nodes, clients, commands, seed).is_some()
+        }
+        _ => false,
+    }
+}
+
+fn are_command(verb: &str, word: &str) -> bool
+    ensures { result ≡ is_some (two_words verb.now word.now) }
+{
+    match verb {
+        "sim" => sim(word).is_some(),
+        "soak" => soak(word).is_some(),
+        _ => false,
     }
 }
 

@@ -6,8 +6,8 @@ use Rattle.lt_words.proofs.Forms.{form_found}
 use Rattle.lt_words.proofs.NoForm.{no_form}
 use Rattle.lt_words.proofs.command.Command.from_words.Goals as goal
 
-pub returns-then-not-is_form : goal.returns-then-not-is_form
-returns-then-not-is_form c = sym (no_form (map string_bytes c.args.words.now) (sym c.if-not-is_form.ensures))
+pub returns-then-not-is_form-clause-command : goal.returns-then-not-is_form-clause-command
+returns-then-not-is_form-clause-command c = sym (no_form (map string_bytes c.args.words.now) (sym c.if-not-is_form.ensures))
 
-pub returns-in-Ok : goal.returns-in-Ok
-returns-in-Ok c = c.found.ensures ∙ ap command_in c.in-Ok.ensures.ok ∙ form_found (map string_bytes c.args.words.now) (sym c.is_form.ensures ∙ c.if-not-is_form.false)
+pub returns-in-Ok-clause-command : goal.returns-in-Ok-clause-command
+returns-in-Ok-clause-command c = c.found.ensures ∙ ap command_in c.in-Ok.ensures.ok ∙ form_found (map string_bytes c.args.words.now) (sym c.is_form.ensures ∙ c.if-not-is_form.false)
