@@ -13,8 +13,7 @@ use std::marker::Model;
 
 /// The nodes, lock sets and clients of a run, and the commands that the clients make.
 ///
-/// Sets and clients have numbers from 0, in the order of their declaration. A client's commands are its own
-/// among all of them, in order.
+/// Sets and clients have numbers from 0, as they are declared. A client's commands are its own among all, in order.
 #[derive(Debug, Drop)]
 pub struct Script {
     nodes: u8,
