@@ -45,6 +45,11 @@ impl Wire {
         ensures room { OnOk result (length self.old.letters + letters ≤ self.new.room) }
         ensures room_kept { self.old.room ≤ self.new.room }
     {
+        if self.letters.is_empty() && self.letters.capacity() < letters {
+            // New memory for a list without letters: nothing is copied, and no page of it is touched before its first letter.
+            self.letters = VecDeque::with_capacity(*self.letters.allocator(), letters)?;
+            return Ok(());
+        }
         self.letters.reserve(letters)
     }
 
