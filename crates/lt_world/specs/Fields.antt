@@ -96,6 +96,11 @@ pub record AreCounted (script : ScriptData) (limit : ℕ) (moves : List ℕ) (ru
   pub all : sum_below script.nodes (λ q. moves_of q run) ≡ length run
   pub small : limit ≤ MAX_MOVES
 
-pub record Stands (script : ScriptData) (limit : ℕ) (nodes : List NodeData) (inboxes : List (List WireData)) (moves : List ℕ) (out : OutData) (run : List Logged) : Type 0 where
+-- none of the nodes has made more than so many moves
+abbrev pub AreAtMost : ScriptData → ℕ → List Logged → Type 0
+AreAtMost script most run = (q : ℕ) → q < script.nodes → moves_of q run ≤ most
+
+pub record Stands (script : ScriptData) (limit most : ℕ) (nodes : List NodeData) (inboxes : List (List WireData)) (moves : List ℕ) (out : OutData) (run : List Logged) : Type 0 where
   pub holds : Holds script nodes inboxes out run
   pub counted : AreCounted script limit moves run
+  pub at_most : AreAtMost script most run

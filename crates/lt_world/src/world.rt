@@ -25,6 +25,8 @@ pub struct World<'a> {
     network: Network<'a>,
     // How many moves each node has made.
     moves: Vec<u32>,
+    // No node has made more.
+    most: u32,
 }
 
 impl<'a> Model for World<'a> {
@@ -34,7 +36,7 @@ impl<'a> Model for World<'a> {
 
     ghost view = { λ w. record { script = w.script.now; limit = w.limit; run = w.network.run.entries } };
 
-    ghost invariant = { λ w. Stands w.script.now w.limit w.network.nodes.items w.network.inboxes.items w.moves.items w.network.out w.network.run.entries };
+    ghost invariant = { λ w. Stands w.script.now w.limit w.most w.network.nodes.items w.network.inboxes.items w.moves.items w.network.out w.network.run.entries };
 }
 
 impl<'a> World<'a> {
@@ -50,6 +52,7 @@ impl<'a> World<'a> {
             limit,
             network,
             moves,
+            most: 0,
         })
     }
 
@@ -110,7 +113,9 @@ impl<'a> World<'a> {
         ensures err { OnErr result (self.new ≡ self.old) }
     {
         self.network.make(self.script, choice)?;
-        self.moves[usize::from(choice.node)] += 1;
+        let made = &mut self.moves[usize::from(choice.node)];
+        *made += 1;
+        self.most = self.most.max(*made);
         Ok(())
     }
 
