@@ -2,13 +2,11 @@ ghost use Rattle.std.specs.Prelude.{◌≡◌, ◌+◌, ◌≤◌, ◌<◌, leng
 ghost use Rattle.lt_modes.specs.Held.{add_lock, locks_in};
 ghost use Rattle.lt_modes.specs.Serving.{queue_of, put_queue, next_service, ask_at, answer_event, serve_one, serve_copy, serve, give_up};
 ghost use Rattle.lt_held.specs.HeldData.{most_locks};
-ghost use Rattle.lt_desk.specs.Picks.{picked, IsWithin};
 ghost use Rattle.lt_letter.specs.OutData.{FitsOut};
 ghost use Rattle.lt_core.specs.CoreData.{Does, HasRoom};
 ghost use Rattle.lt_core.specs.Steps.{answer_ask};
 
 use crate::one_set::Core;
-use lt_desk::Pick;
 use lt_held::{Held, law_rows};
 use lt_letter::{Body, Out};
 use lt_modes::{Ask, Event, Mode, Stamp};
@@ -32,20 +30,9 @@ impl Core {
         ensures next { result ≡ next_service self.now.node self.now.state }
         ensures within { IfSome result (λ k. k < length (queue_of self.now.state)) }
     {
-        match self.pick() {
-            Pick::Local(k) | Pick::Copy(k) => Some(k),
-            Pick::Move(_) | Pick::Nothing => None,
-        }
-    }
-
-    // What the desk does next, where it is here.
-    fn pick(&self) -> Pick
-        ensures next { result ≡ picked self.now.node self.now.state }
-        ensures within { IsWithin (length (queue_of self.now.state)) result }
-    {
         match &self.desk {
-            Some(desk) => desk.pick(self.links.me(), &self.held, self.pending.stamps()),
-            None => Pick::Nothing,
+            Some(desk) => desk.next_service(self.links.me(), &self.held, self.pending.stamps()),
+            None => None,
         }
     }
 

@@ -27,7 +27,7 @@ impl Sight<'_> {
 
     // The place of the ask that is served next: granted where its node is the desk's, else sent a copy.
     #[tactic(auto, using(crate::proofs::PlaceLemmas::next_found, crate::proofs::PlaceLemmas::next_later))]
-    fn next_service(&self) -> Option<u32>
+    pub(crate) fn next_service(&self) -> Option<u32>
         ensures place { result ≡ next_service self.now.me (state_of self.now) }
         ensures within { IfSome result (λ k. k < length self.now.queue.now.asks) }
     {
@@ -75,8 +75,7 @@ impl Sight<'_> {
     fn is_free(&self, before: ModeSet, ask: &Ask) -> bool
         ensures { result ≡ is_free self.now.me (state_of self.now) (desk_of self.now) before ask.now }
     {
-        let against = self.others(ask.node).union(before);
-        !against.bars().has(ask.mode)
+        !before.bars().has(ask.mode) && !self.others(ask.node).bars().has(ask.mode)
     }
 
     // Whether the ask is of the desk's node, and neither another client nor a copy on its way conflicts there.

@@ -2,16 +2,14 @@ ghost use Rattle.std.specs.Prelude.{◌≡◌, [], ◌∷◌, ◌++◌, OnOk};
 ghost use Rattle.std.specs.Fmt.{decimal};
 ghost use Rattle.lt_journal.specs.Words.{after_space};
 
+use itoa::Buffer;
 use std::alloc::{AllocError, Global};
-use std::fmt::Write;
 use std::marker::Model;
 
 /// A text that is being written: lines of words with one space between them.
 #[derive(Debug, Drop)]
 pub struct Text {
     bytes: Vec<u8>,
-    // Where the digits of a number are written before they are copied.
-    digits: String,
 }
 
 impl Model for Text {
@@ -28,7 +26,6 @@ impl Text {
     {
         Text {
             bytes: Vec::new(alloc),
-            digits: String::new(alloc),
         }
     }
 
@@ -51,10 +48,8 @@ impl Text {
     pub fn number(&mut self, number: u64) -> Result<(), AllocError>
         ensures { OnOk result (self.new ≡ self.old ++ after_space (decimal number)) }
     {
-        self.digits.clear();
-        write!(self.digits, "{number}")?;
-        self.bytes.push(b' ')?;
-        self.bytes.extend_from_slice(self.digits.as_bytes())
+        let mut digits = Buffer::new();
+        self.word(digits.format(number).as_bytes())
     }
 
     pub fn end_line(&mut self) -> Result<(), AllocError>

@@ -14,7 +14,7 @@ use Rattle.lt_script.specs.Script.{IsScript}
 use Rattle.lt_runs.specs.Log.{Logged}
 use Rattle.lt_runs.specs.World.{World, world_after, is_enabled, is_of_node}
 use Rattle.lt_order.proofs.Order.{takes_where}
-use Rattle.lt_world.specs.Fields.{moves_of, can_move, is_full, full_node, AreCounted}
+use Rattle.lt_world.specs.Fields.{moves_of, can_move, is_full, full_node, AreCounted, AreAtMost}
 use Rattle.lt_world.proofs.Premises.{act_parts, act_inside}
 
 few_below : (n : ℕ) (f : ℕ → ℕ) → ((k : ℕ) → k < n → f k ≤ 1048576) → sum_below n f ≤ n * 1048576
@@ -63,6 +63,14 @@ counted_moved script limit moves run entry q h inside e room = record {
   small = h.small;
 }
 
+-- and none more than the most
+pub at_most_moved : (script : ScriptData) (most new : ℕ) (run : List Logged) (entry : Logged) (q : ℕ) → AreAtMost script most run → entry.made.stamp.node ≡ q
+    → moves_of q run + 1 ≤ new → most ≤ new → AreAtMost script new (run ++ entry ∷ [])
+at_most_moved script most new run entry q h e own more = λ k below. elim (cases_eq k q) [
+  | inl same ↦ subst (λ (x : ℕ). moves_of x (run ++ entry ∷ []) ≤ new) (sym same) (omega (arith, moves_same q run entry e, own))
+  | inr other ↦ omega (arith, moves_other k run entry (λ f. other (sym f ∙ e)), h k below, more)
+]
+
 pub counted_at_start : (script : ScriptData) (limit : ℕ) (moves : List ℕ) → limit ≤ 1048576 → length moves ≡ script.nodes
     → ((q : ℕ) → slice_index_or moves q 0 ≡ 0) → AreCounted script limit moves []
 counted_at_start script limit moves small count none = record {
@@ -108,6 +116,13 @@ none_full script limit run h = go script.nodes h
     go : (n : ℕ) → ((k : ℕ) → k < n → is_full script limit run k ≡ false) → first_below n (is_full script limit run) nat_lt ≡ None
     go zero h = refl
     go (suc n) h = rw (h n (omega arith)) (go n (λ k below. h k (omega (arith, below))))
+
+-- where none has made as many as it may, none is full
+pub none_at_limit : (script : ScriptData) (limit most : ℕ) (run : List Logged) → AreAtMost script most run → most < limit
+    → (k : ℕ) → k < script.nodes → is_full script limit run k ≡ false
+none_at_limit script limit most run h few k below =
+    let other : moves_of k run ≢ limit = λ e. omega (arith, h k below, few, e) in
+    rw (ne_eqb (moves_of k run) limit other) refl
 
 -- an enabled move is one of a node of the script, which can move
 pub moves_inside : (script : ScriptData) (w : World) (q : ℕ) (step : Step) → IsScript script → IsTrue (is_enabled script w q step) → q < script.nodes

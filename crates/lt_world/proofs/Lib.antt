@@ -13,3 +13,4 @@ pub mod ActOrder
 pub mod Counts
 pub mod Rest
 pub mod Picks
+pub mod ReadyLemmas

@@ -1,10 +1,12 @@
 -- A move as the code names it, and the choice between clients.
-use Rattle.std.specs.Prelude.{ℕ, Option, ◌&&◌, if◌then◌else◌}
+use Rattle.std.specs.Prelude.{◌≡◌, ℕ, Option, ◌&&◌, if◌then◌else◌}
 use Rattle.lt_modes.specs.Script.{ScriptData}
 use Rattle.lt_lists.specs.Below.{earlier as earlier_of}
-use Rattle.lt_runs.specs.World.{World, is_runnable}
+use Rattle.lt_runs.specs.World.{World, is_runnable, made_by}
 use Rattle.lt_runs.specs.FixedOrder.{Turn, acts_before, comes_after}
 use Rattle.lt_world.specs.declared.choice.Choice.{Choice}
+use Rattle.lt_world.specs.declared.choice.ActTurn.{ActTurn}
+use Rattle.lt_world.specs.Fields.{WorldData, world_of, IsRunnable}
 
 abbrev pub choice_of : Turn → Choice
 choice_of turn = record { node = turn.node; step = turn.step }
@@ -13,3 +15,10 @@ choice_of turn = record { node = turn.node; step = turn.step }
 abbrev pub first_with : ScriptData → World → Option ℕ → Option ℕ → ℕ → Option ℕ
 first_with script w earlier first client =
     if is_runnable script w client && comes_after script w earlier client then earlier_of (acts_before script w) first client else first
+
+abbrev pub client_of : ActTurn → ℕ
+client_of turn = turn.client
+
+-- the turn of a client that can act now
+abbrev pub IsTurn : WorldData → ActTurn → Type 0
+IsTurn w turn = IsRunnable w turn.client × (turn.made ≡ made_by w.script (world_of w) turn.client)

@@ -6,6 +6,7 @@ mod choice;
 mod delivery;
 mod inbox;
 mod network;
+mod ready;
 mod recording;
 mod takes;
 #[cfg(test)]

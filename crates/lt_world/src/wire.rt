@@ -45,7 +45,16 @@ impl Wire {
         ensures room { OnOk result (length self.old.letters + letters ≤ self.new.room) }
         ensures room_kept { self.old.room ≤ self.new.room }
     {
-        self.letters.reserve(letters)
+        if !self.letters.is_empty() {
+            return self.letters.reserve(letters);
+        }
+        if self.letters.capacity() < letters {
+            // A list without letters gets new memory, so that nothing is copied. Twice the room, of which no more is
+            // touched than letters come, makes this rare.
+            let room = letters.saturating_add(letters);
+            self.letters = VecDeque::with_capacity(*self.letters.allocator(), room)?;
+        }
+        Ok(())
     }
 
     /// Puts a letter behind the others.

@@ -16,6 +16,9 @@ impl<'a> World<'a> {
         ensures full { result ≡ full_node self.now.script self.now.limit self.now.run }
         ensures room { IsNone result → (q : ℕ) (step : Step) → IsTrue (is_enabled self.now.script (world_of self.now) q step) → moves_of q self.now.run < self.now.limit }
     {
+        if self.most < self.limit {
+            return None;
+        }
         for node in 0..self.script.nodes() {
             if self.is_full(node) {
                 return Some(node);

@@ -2,10 +2,10 @@ ghost use Rattle.std.specs.Prelude.{◌≡◌, ◌<◌, ◌^◌, length, IfSome,
 ghost use Rattle.lt_runs.specs.World.{made_by};
 ghost use Rattle.lt_runs.specs.FixedOrder.{pick, takes, count_acts, next_act, act_after, act_turn, acts_before, comes_after};
 ghost use Rattle.lt_world.specs.Fields.{IsRunnable, world_of};
-ghost use Rattle.lt_world.specs.Choice.{choice_of, first_with};
+ghost use Rattle.lt_world.specs.Choice.{choice_of, client_of, first_with, IsTurn};
 
 use super::World;
-use crate::choice::Choice;
+use crate::choice::{ActTurn, Choice};
 use crate::takes;
 use lt_modes::Step;
 
@@ -87,27 +87,38 @@ impl<'a> World<'a> {
         ensures next { result ≡ next_act self.now.script (world_of self.now) earlier }
         ensures runnable { IfSome result (IsRunnable self.now) }
     {
-        let mut first = None;
+        let mut first: Option<ActTurn> = None;
         for client in 0..self.script.clients() {
             first = self.first_with(earlier, first, client);
         }
-        first
+        match first {
+            Some(turn) => Some(turn.client),
+            None => None,
+        }
     }
 
     // The first of `first` and this client, where it is runnable and comes after the earlier one.
-    fn first_with(&self, earlier: Option<u16>, first: Option<u16>, client: u16) -> Option<u16>
+    fn first_with(
+        &self,
+        earlier: Option<u16>,
+        first: Option<ActTurn>,
+        client: u16,
+    ) -> Option<ActTurn>
         requires earlier { IfSome earlier (λ client. client < length self.now.script.clients) }
-        requires first { IfSome first (IsRunnable self.now) }
+        requires first { IfSome first (IsTurn self.now) }
         requires client { client < length self.now.script.clients }
-        ensures first { result ≡ first_with self.now.script (world_of self.now) earlier first client }
-        ensures runnable { IfSome result (IsRunnable self.now) }
+        ensures first { option_map client_of result ≡ first_with self.now.script (world_of self.now) earlier (option_map client_of first) client }
+        ensures turn { IfSome result (IsTurn self.now) }
     {
+        let made = self.made(client);
         match first {
-            Some(first) if !self.acts_before(client, first) => return Some(first),
+            Some(turn) if !(made < turn.made || made == turn.made && client < turn.client) => {
+                return Some(turn);
+            }
             _ => {}
         }
         if self.comes_after(earlier, client) && self.is_runnable(client) {
-            Some(client)
+            Some(ActTurn { client, made })
         } else {
             first
         }

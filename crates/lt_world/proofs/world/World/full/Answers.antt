@@ -1,10 +1,23 @@
-use Rattle.std.proofs.Common.{◌≡◌, ◌<◌, ◌∙◌, ℕ, true, false, arith, sym, ap, subst}
+use Rattle.std.proofs.Common.{◌≡◌, ◌<◌, ◌∙◌, ℕ, None, true, false, arith, sym, ap, subst}
 use Rattle.lt_modes.specs.declared.moves.Step.{Step}
 use Rattle.std.specs.Prelude.{IsTrue}
 use Rattle.lt_runs.specs.World.{is_enabled}
-use Rattle.lt_world.specs.Fields.{WorldData, world_of, moves_of, is_full}
-use Rattle.lt_world.proofs.Counts.{least_full, none_full, room_left}
+use Rattle.lt_world.specs.Fields.{WorldData, world_of, moves_of, is_full, full_node}
+use Rattle.lt_world.proofs.Counts.{least_full, none_full, none_at_limit, room_left}
 use Rattle.lt_world.proofs.world.World.full.Goals as goal
+
+pub returns-then-self-clause-full : goal.returns-then-self-clause-full
+returns-then-self-clause-full c =
+    let s = c.self.inside in
+    let none = none_at_limit s.script.now s.limit s.most s.network.run.entries c.self.invariant.at_most (omega (arith, c.if-self.true)) in
+    sym (subst (λ (w : WorldData). full_node w.script w.limit w.run ≡ None) c.self.view_is (none_full s.script.now s.limit s.network.run.entries none))
+
+pub returns-then-self-clause-room : goal.returns-then-self-clause-room
+returns-then-self-clause-room c = λ none q step e.
+    let s = c.self.inside in
+    let none' = none_at_limit s.script.now s.limit s.most s.network.run.entries c.self.invariant.at_most (omega (arith, c.if-self.true)) in
+    subst (λ (w : WorldData). (q : ℕ) (step : Step) → IsTrue (is_enabled w.script (world_of w) q step) → moves_of q w.run < w.limit)
+    c.self.view_is (room_left s.script.now s.limit s.moves.items s.network.run.entries c.self.invariant.holds.is_script c.self.invariant.counted none') q step e
 
 pub returns-then-is_full-clause-full : goal.returns-then-is_full-clause-full
 returns-then-is_full-clause-full c =

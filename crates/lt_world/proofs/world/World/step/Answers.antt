@@ -2,10 +2,11 @@ use Rattle.std.proofs.Common.{◌≡◌, ◌+◌, ◌<◌, ◌∙◌, ℕ, List,
 use Rattle.std.specs.Prelude.{IsTrue}
 use Rattle.std.proofs.lemmas.List.{get_or_default}
 use Rattle.lt_runs.specs.Log.{Logged}
-use Rattle.lt_runs.specs.World.{is_enabled, logged}
-use Rattle.lt_world.specs.Fields.{WorldData, world_of, moves_of, AreCounted}
+use Rattle.lt_runs.specs.World.{is_enabled, logged, world_after}
+use Rattle.lt_world.specs.Fields.{WorldData, world_of, moves_of, AreCounted, AreAtMost, AreReady}
 use Rattle.lt_world.proofs.Runs.{stamp_node}
-use Rattle.lt_world.proofs.Counts.{few_moves, counted_moved, moves_inside}
+use Rattle.lt_world.proofs.Counts.{few_moves, counted_moved, at_most_moved, moves_inside}
+use Rattle.lt_world.proofs.ReadyLemmas.{ready_moved}
 use Rattle.lt_world.proofs.world.World.step.Goals as goal
 
 -- what the counter of this node was
@@ -18,8 +19,8 @@ make-requires-clause-few c =
     let s = c.self.inside in
     few_moves s.script.now s.limit s.moves.items s.network.run.entries c.self.invariant.holds.is_script c.self.invariant.counted
 
-pub overflow_add-index_mut : goal.overflow_add-index_mut
-overflow_add-index_mut c =
+pub overflow_add-made : goal.overflow_add-made
+overflow_add-made c =
     let s = c.self.inside in
     let q = c.args.choice.node in
     let step = c.args.choice.step in
@@ -27,8 +28,19 @@ overflow_add-index_mut c =
     let enabled = subst (λ (w : WorldData). IsTrue (is_enabled w.script (world_of w) q step)) (sym c.self.view_is) c.requires.enabled in
     let room = subst (λ (w : WorldData). moves_of q w.run < w.limit) (sym c.self.view_is) c.requires.room in
     let inside = moves_inside s.script.now (world_of (record { script = s.script.now; limit = s.limit; run = s.network.run.entries })) q step c.self.invariant.holds.is_script enabled in
-    let was = counter s.moves.items c.from.result q c.index_mut.result.now c.from.ensures (omega (arith, inside, counted.count)) c.index_mut.ensures.value in
+    let was = counter s.moves.items c.from.result q c.index_mut-made.result.now c.from.ensures (omega (arith, inside, counted.count)) c.index_mut-made.ensures.value in
     omega (arith, was, counted.moves_are q inside, room, counted.small)
+
+pub invariant_of-self : goal.invariant_of-self
+invariant_of-self c =
+    let s = c.self.inside in
+    let same = sym c.in_err-make.ensures.err in
+    record {
+      holds = c.make.ensures.holds;
+      counted = subst (AreCounted s.script.now s.limit s.moves.items) same c.self.invariant.counted;
+      at_most = subst (AreAtMost s.script.now s.most) same c.self.invariant.at_most;
+      acts = subst (λ (r : List Logged). AreReady s.script.now s.ready.items (world_after s.script.now r)) same c.self.invariant.acts;
+    }
 
 pub invariant_of-self-2 : goal.invariant_of-self-2
 invariant_of-self-2 c =
@@ -40,12 +52,17 @@ invariant_of-self-2 c =
     let enabled = subst (λ (w : WorldData). IsTrue (is_enabled w.script (world_of w) q step)) (sym c.self.view_is) c.requires.enabled in
     let room = subst (λ (w : WorldData). moves_of q w.run < w.limit) (sym c.self.view_is) c.requires.room in
     let inside = moves_inside s.script.now (world_of seen) q step c.self.invariant.holds.is_script enabled in
-    let was = counter s.moves.items c.from.result q c.index_mut.result.now c.from.ensures (omega (arith, inside, counted.count)) c.index_mut.ensures.value in
+    let was = counter s.moves.items c.from.result q c.index_mut-made.result.now c.from.ensures (omega (arith, inside, counted.count)) c.index_mut-made.ensures.value in
     let moved = counted_moved s.script.now s.limit s.moves.items s.network.run.entries (logged s.script.now (world_of seen) q step) q counted inside (stamp_node (world_of seen) q step) room in
-    let moves : slice_set s.moves.items c.from.result (c.index_mut.result.now + 1) ≡ slice_set s.moves.items q (slice_index_or s.moves.items q 0 + 1) =
-    ap (λ (k : ℕ). slice_set s.moves.items k (c.index_mut.result.now + 1)) c.from.ensures ∙ ap (λ (n : ℕ). slice_set s.moves.items q (n + 1)) was in
+    let moves : slice_set s.moves.items c.from.result (c.index_mut-made.result.now + 1) ≡ slice_set s.moves.items q (slice_index_or s.moves.items q 0 + 1) =
+    ap (λ (k : ℕ). slice_set s.moves.items k (c.index_mut-made.result.now + 1)) c.from.ensures ∙ ap (λ (n : ℕ). slice_set s.moves.items q (n + 1)) was in
     record {
       holds = c.make.ensures.holds;
+      acts = ready_moved s.script.now s.network.run.entries c.make.new.self.run.entries q step s.ready.items c.mark_ready.new.ready.items c.self.invariant.acts c.in_ok-make.ensures.ok
+          c.mark_ready.ensures.count c.mark_ready.ensures.own c.mark_ready.ensures.others;
+      at_most = subst (λ (r : List Logged). AreAtMost s.script.now c.max-self-inside.result r) (sym c.in_ok-make.ensures.ok)
+          (at_most_moved s.script.now s.most c.max-self-inside.result s.network.run.entries (logged s.script.now (world_of seen) q step) q c.self.invariant.at_most (stamp_node (world_of seen) q step)
+          (omega (arith, was, counted.moves_are q inside, c.max-self-inside.ensures)) (omega (arith, c.max-self-inside.ensures)));
       counted = subst (λ (ms : List ℕ). AreCounted s.script.now s.limit ms c.make.new.self.run.entries) (sym moves)
           (subst (λ (r : List Logged). AreCounted s.script.now s.limit (slice_set s.moves.items q (slice_index_or s.moves.items q 0 + 1)) r) (sym c.in_ok-make.ensures.ok) moved);
     }
