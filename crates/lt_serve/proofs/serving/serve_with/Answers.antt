@@ -4,7 +4,9 @@ use Rattle.lt_words.specs.declared.command.Command.{Command}
 use Rattle.lt_words.specs.Words.{command_of}
 use Rattle.lt_serve.specs.declared.status.Status.{Status}
 use Rattle.lt_serve.specs.Causes.{HasCause, reads, limit_of}
+use Rattle.lt_serve.specs.Complete.{IsComplete}
 use Rattle.lt_serve.proofs.Causing.{MayBeMade, may_be_made, written_causes, refused_causes, written_reading}
+use Rattle.lt_serve.proofs.Completing.{without_memory, refused_complete, written_complete}
 use Rattle.lt_serve.proofs.serving.serve_with.Goals as goal
 
 pub make-requires-clause-possible : goal.make-requires-clause-possible
@@ -14,7 +16,7 @@ make-requires-clause-possible g c = λ κs lives.
 
 pub returns-in-Ok-clause-causes : goal.returns-in-Ok-clause-causes
 returns-in-Ok-clause-causes g c =
-    written_causes _ c.in-Ok-Some.command _ c.write_made.result.status (sym c.in-Ok-Some.ensures ∙ c.in-Ok-Some.field-0-is) c.in-Ok.ensures.built c.write_made.ensures.written
+    written_causes _ c.in-Ok-Some.command _ c.write_made.result.status (sym c.in-Ok-Some.ensures ∙ c.in-Ok-Some.field-0-is) c.write_made.ensures.written
 
 pub returns-in-Ok-clause-reading : goal.returns-in-Ok-clause-reading
 returns-in-Ok-clause-reading g c = λ read.
