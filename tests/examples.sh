@@ -1,6 +1,7 @@
 #!/bin/sh
 # Tests of all examples: both tools run on each; the pictures of docs/ are those that the tool draws; and where the
-# program is built, it makes each journal, with the right status, and accepts it. Runs that need a program where none is built are counted.
+# program is built, it makes each journal, with the right status, and accepts it. Where none is built, the runs left out
+# are counted.
 cd "$(dirname "$0")/.." || exit 1
 program=crates/lockrun/out/lockrun
 room=$(mktemp -d) || exit 1

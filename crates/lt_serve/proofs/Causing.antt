@@ -14,7 +14,7 @@ use Rattle.lt_serve.specs.Causes.{HasCause, SourceCounts, TellsSource, IsReadWho
 abbrev pub HasWritten : Status → Type 0
 HasWritten status = IsEnding status ⊎ (status ≡ WriteFault)
 
-pub never_written : (status : Status) → HasWritten status → WritesNothing status → ⊥
+never_written : (status : Status) → HasWritten status → WritesNothing status → ⊥
 never_written Done (inl h) n = n
 never_written Done (inr e) n = n
 never_written Stuck (inl h) n = n
