@@ -27,11 +27,7 @@ impl Model for Lock {
 }
 
 /// The locks that are held after a run.
-pub(crate) fn locks_held(
-    alloc: Global,
-    script: &Script,
-    run: &Run,
-) -> Result<Vec<Lock>, AllocError>
+pub(crate) fn locks_held(alloc: Global, script: &Script, run: &Run) -> Result<Vec<Lock>, AllocError>
     ensures { IfOk result (λ locks. locks.items ≡ holdings script.now (lines_of run.now.entries)) }
 {
     let mut held = Vec::new(alloc);

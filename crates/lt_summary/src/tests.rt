@@ -41,6 +41,9 @@ fn counts_locks_and_waiting_clients(rt: HostRuntime) -> Result<(), Fail> {
     }
     let summary = Summary::new(alloc, &script, &run)?;
     let text = format!(in alloc; "{summary}")?;
-    assert_eq!(rt; text.as_str(), "nodes 1\nsets 1\nclients 2\ncommands 0\nheld 2\nwaiting 1\n");
+    assert_eq!(rt;
+        text.as_str(),
+        "nodes 1\nsets 1\nclients 2\ncommands 0\nheld 2\nwaiting 1\n"
+    );
     Ok(())
 }

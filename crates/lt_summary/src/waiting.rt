@@ -53,10 +53,7 @@ fn wanted_after(client: u16, waits_for: Option<Lock>, event: Event) -> Option<Lo
             mode,
         } if other == client => Some(Lock { client, set, mode }),
         Event::Grant { client: other, .. } | Event::Change { client: other, .. }
-            if other == client =>
-        {
-            None
-        }
+            if other == client => { None }
         _ => waits_for,
     }
 }
