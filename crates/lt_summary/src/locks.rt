@@ -1,6 +1,6 @@
-ghost use Rattle.std.specs.Prelude.{◌≡◌, ◌<◌, not, fold, filter, length, position, IfOk, OnOk, IfSome};
+ghost use Rattle.std.specs.Prelude.{◌≡◌, ◌<◌, ◌++◌, ◌∷◌, [], not, fold, filter, length, position, IfOk, OnOk, IfSome};
 ghost use Rattle.lt_runs.specs.Families.{family};
-ghost use Rattle.lt_runs.specs.Holdings.{Holding, after_line, without_one, same_holding, is_dropped, holdings, lines_of};
+ghost use Rattle.lt_runs.specs.Holdings.{Holding, holding, after_line, without_one, same_holding, is_dropped, holdings, lines_of};
 
 use lt_merge::Run;
 use lt_modes::{Event, Mode};
@@ -69,17 +69,7 @@ fn apply(held: &mut Vec<Lock>, script: &Script, event: Event) -> Result<(), Allo
             set,
             gives_up,
             mode,
-        } => {
-            give_up(
-                held,
-                Lock {
-                    client,
-                    set,
-                    mode: gives_up,
-                },
-            );
-            held.push(Lock { client, set, mode })?;
-        }
+        } => change(held, client, set, gives_up, mode)?,
         Event::DropAll { other, set, .. } => drop_all(held, script, other, set),
         Event::Wait { .. }
         | Event::NotHeld { .. }
@@ -88,6 +78,26 @@ fn apply(held: &mut Vec<Lock>, script: &Script, event: Event) -> Result<(), Allo
         | Event::Freeze { .. }
         | Event::Token { .. } => {}
     }
+    Ok(())
+}
+
+// One lock less of the first mode, and one more of the second.
+fn change(
+    held: &mut Vec<Lock>,
+    client: u16,
+    set: u8,
+    gives_up: Mode,
+    mode: Mode,
+) -> Result<(), AllocError>
+    ensures { OnOk result (held.new.items ≡ without_one held.old.items (holding client set gives_up) ++ holding client set mode ∷ []) }
+{
+    let old = Lock {
+        client,
+        set,
+        mode: gives_up,
+    };
+    give_up(held, old);
+    held.push(Lock { client, set, mode })?;
     Ok(())
 }
 

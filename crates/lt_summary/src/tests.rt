@@ -4,25 +4,15 @@ use lt_modes::{Event, Mode, Move, Stamp, Step};
 use lt_script::Script;
 use std::test::Fail;
 
-// A client has two locks of a set, and another waits for a third.
-const EVENTS: [Event; 3] = [
+fn grant(mode: Mode) -> Event {
     Event::Grant {
         client: 0,
         set: 0,
-        mode: Mode::Read,
-    },
-    Event::Wait {
-        client: 1,
-        set: 0,
-        mode: Mode::Write,
-    },
-    Event::Grant {
-        client: 0,
-        set: 0,
-        mode: Mode::Write,
-    },
-];
+        mode,
+    }
+}
 
+// A client has two locks of a set, and another waits for a third.
 #[test]
 fn counts_locks_and_waiting_clients(rt: HostRuntime) -> Result<(), Fail> {
     let alloc = rt.alloc();
@@ -31,14 +21,18 @@ fn counts_locks_and_waiting_clients(rt: HostRuntime) -> Result<(), Fail> {
     script.add_client(b"c", 0)?;
     script.add_client(b"d", 0)?;
     let mut run = Run::new(alloc);
-    for (clock, event) in (1..).zip(EVENTS.iter()) {
-        run.reserve(1)?;
-        run.push(Move {
-            stamp: Stamp { clock, node: 0 },
-            step: Step::Act(0),
-        });
-        run.add_event(*event);
-    }
+    run.reserve(3)?;
+    run.push(Move {
+        stamp: Stamp { clock: 1, node: 0 },
+        step: Step::Act(0),
+    });
+    run.add_event(grant(Mode::Read));
+    run.add_event(Event::Wait {
+        client: 1,
+        set: 0,
+        mode: Mode::Write,
+    });
+    run.add_event(grant(Mode::Write));
     let summary = Summary::new(alloc, &script, &run)?;
     let text = format!(in alloc; "{summary}")?;
     assert_eq!(rt;
