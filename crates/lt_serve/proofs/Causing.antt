@@ -4,11 +4,11 @@ use Rattle.std.specs.Prelude.{◌⊎◌, option_map, if◌then◌else◌, codes}
 use Rattle.std.specs.Str.{bytes_eq}
 use Rattle.lt_text.specs.Number.{number}
 use Rattle.lt_words.specs.declared.command.Command.{Command}
-use Rattle.lt_words.specs.declared.command.Command.TheVariants.{Run, SimFirst, Sim, Check, Make, Soak}
+use Rattle.lt_words.specs.declared.command.Command.TheVariants.{Sim, Make, Soak}
 use Rattle.lt_serve.specs.declared.status.Status.{Status}
-use Rattle.lt_serve.specs.declared.status.Status.TheVariants.{Done, Stuck, Usage, Refused, TooLong, ReadFault, WriteFault, NoMemory, Cut, BadJournal, NotBuilt}
+use Rattle.lt_serve.specs.declared.status.Status.TheVariants.{Done, Stuck, Usage, Refused, TooLong, ReadFault, WriteFault, NoMemory, Cut, BadJournal}
 use Rattle.lt_words.specs.Words.{seed_of, can_make, make_of, command_of}
-use Rattle.lt_serve.specs.Causes.{HasCause, SourceCounts, TellsSource, IsReadWhole, WritesNothing, IsEnding, CanBeMade, IsRefusal, reads, is_unbuilt, IsUnbuilt}
+use Rattle.lt_serve.specs.Causes.{HasCause, SourceCounts, TellsSource, IsReadWhole, WritesNothing, IsEnding, CanBeMade, IsRefusal}
 
 -- the writing has begun
 abbrev pub HasWritten : Status → Type 0
@@ -34,20 +34,16 @@ never_written NoMemory (inl h) n = h
 never_written NoMemory (inr e) n = cc
 never_written (BadJournal line) (inl h) n = h
 never_written (BadJournal line) (inr e) n = cc
-never_written NotBuilt (inl h) n = h
-never_written NotBuilt (inr e) n = cc
 
 -- so the answer is none that comes before
 is_other : (status other : Status) → HasWritten status → WritesNothing other → status ≡ other → ⊥
 is_other status other h n e = never_written status h (subst WritesNothing (sym e) n)
 
 pub written_causes : (asked : Option Command) (command : Command) (left : Option (List ℕ)) (status : Status) → asked ≡ Some command
-    → is_unbuilt command ≡ false → HasWritten status → HasCause asked left status
-written_causes asked command left status is built h = record {
+    → HasWritten status → HasCause asked left status
+written_causes asked command left status is h = record {
   usage = λ e. absurd (is_other status Usage h tt e);
   no_command = λ none. absurd (not_none (sym none ∙ is));
-  not_built = λ e. absurd (is_other status NotBuilt h tt e);
-  unbuilt = λ now. absurd (is_built (subst IsUnbuilt is now));
   refused = λ fault e. absurd (is_other status (Refused fault) h tt e);
   bad_journal = λ line e. absurd (is_other status (BadJournal line) h tt e);
   read_fault = λ e. absurd (is_other status ReadFault h tt e);
@@ -57,40 +53,11 @@ written_causes asked command left status is built h = record {
     not_none : None ≡ Some command → ⊥
     not_none e = cc
 
-    is_built : is_unbuilt command ≡ true → ⊥
-    is_built e = cc
-
--- a command that reads is built
-reads_is_built : (command : Command) → reads (Some command) ≡ true → is_unbuilt command ≡ true → ⊥
-reads_is_built Run r u = cc
-reads_is_built SimFirst r u = cc
-reads_is_built (Sim seed) r u = cc
-reads_is_built Check r u = cc
-reads_is_built (Make nodes clients commands seed) r u = cc
-reads_is_built (Soak seed) r u = cc
-
--- a command that isn't built has one answer but for want of memory
-unbuilt_answer : (command : Command) (left : Option (List ℕ)) (status : Status) → IsRefusal command left status → is_unbuilt command ≡ true
-    → (status ≡ NotBuilt) ⊎ (status ≡ NoMemory)
-unbuilt_answer command left Done h u = absurd h
-unbuilt_answer command left Stuck h u = absurd h
-unbuilt_answer command left (Cut node) h u = absurd h
-unbuilt_answer command left WriteFault h u = absurd h
-unbuilt_answer command left Usage h u = absurd h
-unbuilt_answer command left (Refused fault) h u = absurd (reads_is_built command h.0 u)
-unbuilt_answer command left TooLong h u = absurd (reads_is_built command h u)
-unbuilt_answer command left ReadFault h u = absurd (reads_is_built command h u)
-unbuilt_answer command left (BadJournal line) h u = absurd (reads_is_built command h.0 u)
-unbuilt_answer command left NoMemory h u = inr refl
-unbuilt_answer command left NotBuilt h u = inl refl
-
 pub refused_causes : (asked : Option Command) (command : Command) (left : Option (List ℕ)) (status : Status) → asked ≡ Some command
     → IsRefusal command left status → HasCause asked left status
 refused_causes asked command left status is h = subst (λ (a : Option Command). HasCause a left status) (sym is) (record {
   usage = λ e. absurd (subst (λ (s : Status). IsRefusal command left s) e h);
   no_command = λ none. absurd (not_none none);
-  not_built = λ e. subst (λ (s : Status). IsRefusal command left s) e h;
-  unbuilt = unbuilt_answer command left status h;
   refused = λ fault e. (subst (λ (s : Status). IsRefusal command left s) e h).1;
   bad_journal = λ line e. let k = subst (λ (s : Status). IsRefusal command left s) e h in (ap Some k.1, k.2);
   read_fault = λ e. subst (λ (s : Status). IsRefusal command left s) e h;

@@ -1,4 +1,5 @@
 mod Causing
+mod Completing
 mod Journals
 mod Ordered
 mod Rooms

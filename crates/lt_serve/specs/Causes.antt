@@ -5,22 +5,13 @@ use Rattle.lt_io.specs.declared.whole.ReadFailure.{ReadFailure}
 use Rattle.lt_io.specs.declared.whole.ReadFailure.TheVariants.{Memory, Failed, TooLong as Long}
 use Rattle.lt_script.specs.declared.fault.ScriptFault.{ScriptFault}
 use Rattle.lt_words.specs.declared.command.Command.{Command}
-use Rattle.lt_words.specs.declared.command.Command.TheVariants.{Run, SimFirst, Sim, Check, Make, Soak}
+use Rattle.lt_words.specs.declared.command.Command.TheVariants.{Run, SimFirst, Sim, Check, Make}
 use Rattle.lt_modes.specs.Script.{ScriptData}
 use Rattle.lt_serve.specs.declared.limits.TheConstants.{MAX_INPUT, MAX_JOURNAL}
 use Rattle.lt_serve.specs.TopCall.{HasFault, HasFaultBefore, DenotesBefore, IsBadLine}
 use Rattle.lt_words.specs.Words.{can_make}
 use Rattle.lt_serve.specs.declared.status.Status.{Status}
-use Rattle.lt_serve.specs.declared.status.Status.TheVariants.{Done, Stuck, Usage, Refused, TooLong, ReadFault, WriteFault, NoMemory, Cut, BadJournal, NotBuilt}
-
--- the command isn't built yet
-abbrev pub is_unbuilt : Command → Bool
-is_unbuilt (Soak seed) = true
-is_unbuilt other = false
-
-abbrev pub IsUnbuilt : Option Command → Type 0
-IsUnbuilt None = ⊥
-IsUnbuilt (Some command) = is_unbuilt command ≡ true
+use Rattle.lt_serve.specs.declared.status.Status.TheVariants.{Done, Stuck, Usage, Refused, TooLong, ReadFault, WriteFault, NoMemory, Cut, BadJournal}
 
 -- the command reads the source
 abbrev pub reads : Option Command → Bool
@@ -49,8 +40,6 @@ IsBad left line = (script : ScriptData) × DenotesBefore left script × IsBadLin
 pub record HasCause (asked : Option Command) (left : Option (List ℕ)) (answer : Status) : Type 0 where
   pub usage : answer ≡ Usage → asked ≡ None
   pub no_command : asked ≡ None → (answer ≡ Usage) ⊎ (answer ≡ NoMemory)
-  pub not_built : answer ≡ NotBuilt → IsUnbuilt asked
-  pub unbuilt : IsUnbuilt asked → (answer ≡ NotBuilt) ⊎ (answer ≡ NoMemory)
   pub refused : (fault : ScriptFault) → answer ≡ Refused fault → IsRefused asked left fault
   pub bad_journal : (line : ℕ) → answer ≡ BadJournal line → (asked ≡ Some Check) × IsBad left line
   -- these come of reading alone
@@ -115,9 +104,8 @@ abbrev pub IsRefusal : Command → Option (List ℕ) → Status → Type 0
 IsRefusal command left (Refused fault) = (reads (Some command) ≡ true) × IsRefused (Some command) left fault
 IsRefusal command left TooLong = reads (Some command) ≡ true
 IsRefusal command left ReadFault = reads (Some command) ≡ true
-IsRefusal command left NoMemory = is_unbuilt command ≡ false
+IsRefusal command left NoMemory = Unit {0}
 IsRefusal command left (BadJournal line) = (reads (Some command) ≡ true) × (command ≡ Check) × IsBad left line
-IsRefusal command left NotBuilt = is_unbuilt command ≡ true
 IsRefusal command left other = ⊥
 
 -- of a script that is to be made, the numbers are such that it can be

@@ -3,5 +3,6 @@ pub mod Endings
 pub mod Status
 pub mod TopCall
 pub mod Causes
+pub mod Complete
 pub mod Literals
 pub mod Input

@@ -4,7 +4,7 @@ use Rattle.lt_script.specs.declared.fault.Fault.TheVariants as faults
 use Rattle.lt_limits.specs.declared.moves.TheConstants.{MAX_MOVES}
 use Rattle.lt_serve.specs.declared.limits.TheConstants.{MAX_INPUT, MAX_JOURNAL, MAX_CAPACITY}
 use Rattle.lt_serve.specs.declared.status.Status.{Status}
-use Rattle.lt_serve.specs.declared.status.Status.TheVariants.{Done, Stuck, Usage, Refused, TooLong, ReadFault, WriteFault, NoMemory, Cut, BadJournal, NotBuilt}
+use Rattle.lt_serve.specs.declared.status.Status.TheVariants.{Done, Stuck, Usage, Refused, TooLong, ReadFault, WriteFault, NoMemory, Cut, BadJournal}
 use Rattle.lt_serve.specs.Status.{code_of, text_of}
 
 -- the fault that a script of nothing has
@@ -22,7 +22,6 @@ pub record CodesAre : Type 0 where
   pub no_memory : code_of NoMemory ≡ 6
   pub cut : code_of (Cut 7) ≡ 7
   pub bad_journal : code_of (BadJournal 4) ≡ 8
-  pub not_built : code_of NotBuilt ≡ 9
 
 pub record TextsAre : Type 0 where
   pub done : text_of Done ≡ []
@@ -35,7 +34,6 @@ pub record TextsAre : Type 0 where
   pub no_memory : text_of NoMemory ≡ codes "lockrun: no memory"
   pub cut : text_of (Cut 7) ≡ codes "lockrun: cut at node 7"
   pub bad_journal : text_of (BadJournal 4) ≡ codes "lockrun: line 4: journal"
-  pub not_built : text_of NotBuilt ≡ codes "lockrun: not built yet"
 
 pub record LimitsAre : Type 0 where
   pub input : MAX_INPUT ≡ 1048576

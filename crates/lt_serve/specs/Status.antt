@@ -3,7 +3,7 @@ use Rattle.std.specs.Prelude.{ℕ, List, [], ◌++◌, codes}
 use Rattle.std.specs.Fmt.{decimal}
 use Rattle.lt_script.specs.Fault.{text_of_fault}
 use Rattle.lt_serve.specs.declared.status.Status.{Status}
-use Rattle.lt_serve.specs.declared.status.Status.TheVariants.{Done, Stuck, Usage, Refused, TooLong, ReadFault, WriteFault, NoMemory, Cut, BadJournal, NotBuilt}
+use Rattle.lt_serve.specs.declared.status.Status.TheVariants.{Done, Stuck, Usage, Refused, TooLong, ReadFault, WriteFault, NoMemory, Cut, BadJournal}
 
 abbrev pub code_of : Status → ℕ
 code_of Done = 0
@@ -16,7 +16,6 @@ code_of WriteFault = 5
 code_of NoMemory = 6
 code_of (Cut node) = 7
 code_of (BadJournal line) = 8
-code_of NotBuilt = 9
 
 abbrev pub text_of : Status → List ℕ
 text_of Done = []
@@ -29,4 +28,3 @@ text_of WriteFault = codes "lockrun: write fault"
 text_of NoMemory = codes "lockrun: no memory"
 text_of (Cut node) = codes "lockrun: cut at node " ++ decimal node
 text_of (BadJournal line) = codes "lockrun: line " ++ decimal line ++ codes ": journal"
-text_of NotBuilt = codes "lockrun: not built yet"

@@ -1,5 +1,5 @@
 -- What each answer of the top call means.
-use Rattle.std.specs.Prelude.{◌≡◌, ℕ, List, [], ◌++◌, Option, Some, None, Ok, Err, length, take, codes}
+use Rattle.std.specs.Prelude.{◌≡◌, ℕ, List, [], ◌∷◌, ◌++◌, Option, Some, None, Ok, Err, length, take, codes}
 use Rattle.std.specs.Fmt.{decimal}
 use Rattle.std.specs.Io.KnownBytes.{Appends}
 use Rattle.lt_io.specs.Sink.{AppendsPart}
@@ -8,19 +8,21 @@ use Rattle.lt_runs.specs.Log.{Logged}
 use Rattle.lt_merge.specs.Merging.{AreRising}
 use Rattle.lt_runs.specs.FixedOrder.{first_run}
 use Rattle.lt_journal.specs.Split.{parts_of}
-use Rattle.lt_journal.specs.Text.{text_of}
+use Rattle.lt_journal.specs.Text.{text_of, lines_text}
+use Rattle.lt_journal.specs.declared.line.Line.TheVariants.{Cut as CutLine}
 use Rattle.lt_text.specs.Text.{lines}
 use Rattle.lt_checking.specs.Input.{checked_input}
 use Rattle.lt_checking.specs.Journals.{IsFinished}
 use Rattle.lt_promises.specs.Promised.{Promised}
 use Rattle.lt_gen.specs.Generator.{script_of}
+use Rattle.lt_summary.specs.Summary.{summary_of, summary_text}
 use Rattle.lt_script.specs.declared.fault.ScriptFault.{ScriptFault}
 use Rattle.lt_script.specs.Printing.{print_of}
 use Rattle.lt_script.specs.Reading.{read_of}
 use Rattle.lt_words.specs.declared.command.Command.{Command}
 use Rattle.lt_words.specs.declared.command.Command.TheVariants.{Run, SimFirst, Sim, Check, Make, Soak}
 use Rattle.lt_serve.specs.declared.status.Status.{Status}
-use Rattle.lt_serve.specs.declared.status.Status.TheVariants.{Done, Stuck, Usage, Refused, TooLong, ReadFault, WriteFault, NoMemory, Cut, BadJournal, NotBuilt}
+use Rattle.lt_serve.specs.declared.status.Status.TheVariants.{Done, Stuck, Usage, Refused, TooLong, ReadFault, WriteFault, NoMemory, Cut, BadJournal}
 use Rattle.lt_serve.specs.Endings.{RanTo, cut_of}
 use Rattle.lt_serve.specs.Orders.{AreDrawn}
 
@@ -55,6 +57,21 @@ pub record JournalsDrawn (seed moves : ℕ) (ending : Status) (left : Option (Li
 pub record JournalsThreads (moves : ℕ) (ending : Status) (left : Option (List ℕ)) (run : List Logged) (text : List ℕ) : Type 0 where
   pub journals : Journals moves ending left run text
   pub rising : AreRising run
+
+-- the greatest script, made from the seed: 16 nodes, 64 clients and 4,096 commands
+abbrev pub greatest_script : ℕ → ScriptData
+greatest_script seed = script_of 16 64 4096 seed
+
+-- the line `cut NODE` where the run was cut, or else the six lines of what it came to
+abbrev pub soak_text : ScriptData → List Logged → Option ℕ → List ℕ
+soak_text script run (Some node) = lines_text script (CutLine node ∷ [])
+soak_text script run None = summary_text (summary_of script run)
+
+-- a run of the greatest script, which ended so, its moves in the order of their stamps, and what it came to
+pub record Soaks (seed moves : ℕ) (ending : Status) (run : List Logged) (text : List ℕ) : Type 0 where
+  pub ran : RanTo moves ending (greatest_script seed) run
+  pub rising : AreRising run
+  pub told : text ≡ soak_text (greatest_script seed) run (cut_of ending)
 
 -- the script that is made from the seed, and no run
 abbrev pub Prints : ℕ → ℕ → ℕ → ℕ → Status → List Logged → List ℕ → Type 0
@@ -102,7 +119,7 @@ Does moves (Sim seed) ending left run text = JournalsDrawn seed moves ending lef
 Does moves (Make nodes clients commands seed) ending left run text = Prints nodes clients commands seed ending run text
 Does moves Check ending left run text = Checks ending left run text
 Does moves Run ending left run text = JournalsThreads moves ending left run text
-Does moves (Soak seed) ending left run text = ⊥
+Does moves (Soak seed) ending left run text = Soaks seed moves ending run text
 
 -- no run is told, and nothing was written
 abbrev pub TellsNothing : List Logged → Option (List ℕ) → Option (List ℕ) → Type 0
@@ -129,7 +146,6 @@ TellsOf moves command TooLong left run old new = TellsNothing run old new
 TellsOf moves command ReadFault left run old new = TellsNothing run old new
 TellsOf moves command NoMemory left run old new = TellsNothing run old new
 TellsOf moves command (BadJournal line) left run old new = TellsNothing run old new
-TellsOf moves command NotBuilt left run old new = TellsNothing run old new
 
 -- the same where the words are this command, or none
 abbrev pub Tells : ℕ → Option Command → Status → Option (List ℕ) → List Logged → Option (List ℕ) → Option (List ℕ) → Type 0

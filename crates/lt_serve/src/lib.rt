@@ -12,6 +12,7 @@ mod reading;
 mod serving;
 mod simulated;
 mod simulation;
+mod soaking;
 mod status;
 #[cfg(test)]
 mod tests;

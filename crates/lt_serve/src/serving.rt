@@ -3,13 +3,15 @@ ghost use Rattle.std.specs.String.{string_bytes};
 ghost use Rattle.lt_limits.specs.declared.moves.TheConstants.{MAX_MOVES};
 ghost use Rattle.lt_serve.specs.declared.limits.TheConstants.{MAX_CAPACITY};
 ghost use Rattle.lt_words.specs.Words.{command_of};
-ghost use Rattle.lt_serve.specs.Causes.{HasCause, TellsSource, TellsSink, WritesNothing, IsReadWhole, IsEnding, IsRefusal, CanBeMade, reads, is_unbuilt, limit_of};
+ghost use Rattle.lt_serve.specs.Causes.{HasCause, TellsSource, TellsSink, WritesNothing, IsReadWhole, IsEnding, IsRefusal, CanBeMade, reads, limit_of};
+ghost use Rattle.lt_serve.specs.Complete.{IsComplete};
 ghost use Rattle.lt_serve.specs.TopCall.{Tells, Does};
 
 use crate::checking::checked;
 use crate::made::{Made, write_made};
 use crate::making::printed;
 use crate::simulated::{simulated_drawn, simulated_first};
+use crate::soaking::soaked;
 use crate::status::Status;
 use crate::threaded::threaded;
 use lt_io::{Sink, Source};
@@ -67,6 +69,15 @@ pub fn serve<R: Threads + Sync, S: Source, K: Sink, G: Gate>(
     ensures unread { reads (command_of (map string_bytes words.now)) ≡ false → source.new ≡ source.old }
     ensures writing { TellsSink result.status (K.faults sink.old) (K.faults sink.new) }
     ensures unwritten { WritesNothing result.status → sink.new ≡ sink.old }
+    ensures complete { IsComplete (command_of (map string_bytes words.now)) (S.left source.old) result.status (record {
+      given = S.given source.old;
+      faults = S.faults source.old;
+      ends = S.ends source.old;
+    }) (record {
+      given = S.given source.new;
+      faults = S.faults source.new;
+      ends = S.ends source.new;
+    }) (K.faults sink.old) (K.faults sink.new) }
     ensures tells { Tells MAX_MOVES (command_of (map string_bytes words.now)) result.status (S.left source.old) result.run.entries (K.held sink.old) (K.held sink.new) }
 {
     serve_with(rt, alloc, USUAL, words, source, sink, gate)
@@ -75,7 +86,7 @@ pub fn serve<R: Threads + Sync, S: Source, K: Sink, G: Gate>(
 /// Does what the words say, which don't have the program's name: reads the source, makes the run and writes its
 /// journal to the sink, or what else the command is for. The text is made whole before the first write.
 ///
-/// The words `make` and `soak` leave the source as it was, and so do words that are no command or one that isn't built.
+/// The words `make` and `soak` leave the source as it was, and so do words that are no command.
 pub fn serve_with<R: Threads + Sync, S: Source, K: Sink, G: Gate>(
     rt: &R,
     alloc: Global,
@@ -102,6 +113,17 @@ pub fn serve_with<R: Threads + Sync, S: Source, K: Sink, G: Gate>(
     ensures unread { reads (command_of (map string_bytes words.now)) ≡ false → source.new ≡ source.old }
     ensures writing { TellsSink result.status (K.faults sink.old) (K.faults sink.new) }
     ensures unwritten { WritesNothing result.status → sink.new ≡ sink.old }
+
+    // What it is where nothing goes wrong.
+    ensures complete { IsComplete (command_of (map string_bytes words.now)) (S.left source.old) result.status (record {
+      given = S.given source.old;
+      faults = S.faults source.old;
+      ends = S.ends source.old;
+    }) (record {
+      given = S.given source.new;
+      faults = S.faults source.new;
+      ends = S.ends source.new;
+    }) (K.faults sink.old) (K.faults sink.new) }
 
     // What the run is, how it ended, and what was written.
     ensures tells { Tells setup.moves (command_of (map string_bytes words.now)) result.status (S.left source.old) result.run.entries (K.held sink.old) (K.held sink.new) }
@@ -144,7 +166,6 @@ fn make<R: Threads + Sync, S: Source, G: Gate>(
     requires possible { CanBeMade command }
     ensures ended { IfOk result (λ made. IsEnding made.ending) }
     ensures does { IfOk result (λ made. Does setup.moves command made.ending (S.left source.old) made.run.entries made.text.items) }
-    ensures built { OnOk result (is_unbuilt command ≡ false) }
     ensures whole { OnOk result (reads (Some command) ≡ true → IsReadWhole (limit_of (Some command)) (record {
       given = S.given source.old;
       faults = S.faults source.old;
@@ -180,6 +201,9 @@ fn make<R: Threads + Sync, S: Source, G: Gate>(
         },
         Command::Check => checked(alloc, source),
         Command::Run => threaded(rt, alloc, setup, source, gate),
-        Command::Soak { .. } => Err(Status::NotBuilt),
+        Command::Soak { seed } => match soaked(rt, alloc, setup, seed, gate) {
+            Ok(made) => Ok(made),
+            Err(_) => Err(Status::NoMemory),
+        },
     }
 }

@@ -24,8 +24,6 @@ pub enum Status {
     Cut { node: u8 },
     /// The journal doesn't match its script from this line of the input on.
     BadJournal { line: u32 },
-    /// The command or the script needs what isn't built yet.
-    NotBuilt,
 }
 
 impl Status {
@@ -45,7 +43,6 @@ impl Status {
             Status::NoMemory => 6,
             Status::Cut { .. } => 7,
             Status::BadJournal { .. } => 8,
-            Status::NotBuilt => 9,
         }
     }
 
@@ -85,7 +82,6 @@ impl fmt::Display for Status {
             Status::NoMemory => f.write_str("lockrun: no memory"),
             Status::Cut { node } => write!(f, "lockrun: cut at node {node}"),
             Status::BadJournal { line } => write!(f, "lockrun: line {line}: journal"),
-            Status::NotBuilt => f.write_str("lockrun: not built yet"),
         }
     }
 }

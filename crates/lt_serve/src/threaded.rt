@@ -16,12 +16,50 @@ use crate::status::Status;
 use lt_io::Source;
 use lt_journal::write;
 use lt_limits::MAX_MOVES;
+use lt_merge::Run;
 use lt_promises::law_promised;
 use lt_runner::Gate;
 use lt_script::Script;
 use lt_threads::{Ending, run_on_threads};
 use std::alloc::{AllocError, Global};
 use std::thread::Threads;
+
+/// The run of a script on threads, and how it ended.
+pub(crate) fn run_nodes<R: Threads + Sync, G: Gate>(
+    rt: &R,
+    alloc: Global,
+    script: &Script,
+    setup: Setup,
+    gate: &G,
+) -> Result<(Status, Run), AllocError>
+    requires kept { IsScript script.now }
+    requires moves { (0 < setup.moves) × (setup.moves ≤ MAX_MOVES) }
+    requires capacity { (0 < setup.capacity) × (setup.capacity ≤ MAX_CAPACITY) }
+    ensures ran { IfOk result (λ made. RanTo setup.moves made.0 script.now made.1.entries) }
+    ensures rising { IfOk result (λ made. AreRising made.1.entries) }
+{
+    law_promised();
+    let (ending, run) = run_on_threads(
+        rt,
+        alloc,
+        script,
+        setup.capacity,
+        setup.moves,
+        setup.patience,
+        gate,
+    )?;
+    Ok((status_of(ending), run))
+}
+
+fn status_of(ending: Ending) -> Status
+    ensures { result ≡ status_of_end ending }
+{
+    match ending {
+        Ending::Done => Status::Done,
+        Ending::Stuck => Status::Stuck,
+        Ending::Cut(node) => Status::Cut { node },
+    }
+}
 
 /// The run of a script on threads, and its journal.
 pub(crate) fn threads_journal<R: Threads + Sync, G: Gate>(
@@ -38,29 +76,9 @@ pub(crate) fn threads_journal<R: Threads + Sync, G: Gate>(
     ensures rising { IfOk result (λ made. AreRising made.run.entries) }
     ensures text { IfOk result (λ made. made.text.items ≡ text_of script.now made.run.entries (cut_of made.ending)) }
 {
-    law_promised();
-    let (ending, run) = run_on_threads(
-        rt,
-        alloc,
-        script,
-        setup.capacity,
-        setup.moves,
-        setup.patience,
-        gate,
-    )?;
-    let ending = status_of(ending);
+    let (ending, run) = run_nodes(rt, alloc, script, setup, gate)?;
     let text = write(alloc, script, &run, ending.cut())?;
     Ok(Made { ending, run, text })
-}
-
-fn status_of(ending: Ending) -> Status
-    ensures { result ≡ status_of_end ending }
-{
-    match ending {
-        Ending::Done => Status::Done,
-        Ending::Stuck => Status::Stuck,
-        Ending::Cut(node) => Status::Cut { node },
-    }
 }
 
 /// Reads a script, and runs its nodes on threads.

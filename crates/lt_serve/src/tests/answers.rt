@@ -84,7 +84,17 @@ const ANSWERS: [(&str, &str, Status, &str); 11] = [
          owner s 0 0\n\
          end 2\n",
     ),
-    ("soak 7", "", Status::NotBuilt, ""),
+    (
+        "soak 7",
+        "",
+        Status::Done,
+        "nodes 16\n\
+         sets 4\n\
+         clients 64\n\
+         commands 4096\n\
+         held 0\n\
+         waiting 0\n",
+    ),
     ("sim", "nodes 1", Status::Usage, ""),
 ];
 

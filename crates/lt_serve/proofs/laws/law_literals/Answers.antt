@@ -28,5 +28,4 @@ returns-clause-texts c = record {
   no_memory = refl;
   cut = ap (λ (node : List ℕ). codes "lockrun: cut at node " ++ node) seven_text;
   bad_journal = ap (λ (line : List ℕ). codes "lockrun: line " ++ line ++ codes ": journal") four_text;
-  not_built = refl;
 }

@@ -1,0 +1,42 @@
+-- A command that came to no end has something against it.
+use Rattle.std.proofs.Common.{◌≡◌, ◌≤◌, ℕ, List, Option, Some, refl, sym, subst, arith, true}
+use Rattle.lt_io.specs.FaultCounts.{Counts, RoseBy, count_after}
+use Rattle.lt_words.specs.declared.command.Command.{Command}
+use Rattle.lt_serve.specs.declared.status.Status.{Status}
+use Rattle.lt_serve.specs.declared.status.Status.TheVariants.{Done, Stuck, Usage, Refused, TooLong, ReadFault, WriteFault, NoMemory, Cut, BadJournal}
+use Rattle.lt_serve.specs.Causes.{SourceCounts, TellsSource, IsRefusal, reads, limit_of}
+use Rattle.lt_serve.specs.Complete.{IsComplete}
+
+at_least : (a b : ℕ) → b ≡ a → a ≤ b
+at_least a b e = omega (arith, e)
+
+rose : (n before now : ℕ) → Counts n before now → RoseBy n before now
+rose n before now h = at_least (count_after before n) now h.count
+
+refusal_complete : (command : Command) (left : Option (List ℕ)) (status : Status) (before after : SourceCounts) (w v : ℕ)
+    → IsRefusal command left status
+    → (reads (Some command) ≡ true → TellsSource (limit_of (Some command)) status before after)
+    → IsComplete (Some command) left status before after w v
+refusal_complete command left (Refused fault) before after w v h tells = λ good writes memory. absurd ((good h.0).no_fault fault h.1)
+refusal_complete command left TooLong before after w v h tells = λ good writes memory.
+    absurd ((good h).not_too_long (rose _ before.given after.given ((tells h).too_long refl)))
+refusal_complete command left ReadFault before after w v h tells = λ good writes memory.
+    absurd ((good h).no_read_fault (rose 1 before.faults after.faults ((tells h).read_fault refl)))
+refusal_complete command left NoMemory before after w v h tells = λ good writes memory. absurd (memory refl)
+refusal_complete command left (BadJournal line) before after w v h tells = λ good writes memory.
+    absurd ((good h.0).no_bad_line h.1 line h.2)
+refusal_complete command left Usage before after w v h tells = absurd h
+refusal_complete command left Done before after w v h tells = absurd h
+refusal_complete command left Stuck before after w v h tells = absurd h
+refusal_complete command left (Cut node) before after w v h tells = absurd h
+refusal_complete command left WriteFault before after w v h tells = absurd h
+
+-- the same of the answer that tells it, and of the words
+pub refused_complete : (asked : Option Command) (command : Command) (left : Option (List ℕ)) (answer status : Status) (before after : SourceCounts)
+    (w v : ℕ) → asked ≡ Some command → answer ≡ status → IsRefusal command left status
+    → (reads (Some command) ≡ true → TellsSource (limit_of (Some command)) status before after)
+    → IsComplete asked left answer before after w v
+refused_complete asked command left answer status before after w v is same h tells =
+    subst (λ (a : Option Command). IsComplete a left answer before after w v) (sym is)
+    (subst (λ (s : Status). IsComplete (Some command) left s before after w v) (sym same)
+    (refusal_complete command left status before after w v h tells))

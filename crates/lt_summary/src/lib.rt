@@ -1,0 +1,10 @@
+//! What a run came to: how many locks are held at its end, and how many clients wait.
+#![tactic(auto)]
+
+mod locks;
+mod summary;
+#[cfg(test)]
+mod tests;
+mod waiting;
+
+pub use summary::Summary;
