@@ -1,9 +1,10 @@
 -- Pieces that are read one after the other.
-use Rattle.std.proofs.Common.{◌≡◌, ℕ, ◌+◌, ◌<◌, List, [], ◌++◌, Option, Some, None, length, refl, ap, arith, ◌∙◌, length-append}
+use Rattle.std.proofs.Common.{◌≡◌, ℕ, ◌+◌, ◌≤◌, ◌<◌, List, [], ◌++◌, Option, Some, None, length, refl, ap, arith, ◌∙◌, length-append}
 use Rattle.std.specs.Prelude.{IfSome}
 use Rattle.std.specs.Io.KnownBytes.{Consumes}
 use Rattle.std.proofs.KnownBytes.{Consumes-nil, Consumes-trans}
 use Rattle.lt_io.specs.declared.whole.ReadFailure.{ReadFailure}
+use Rattle.lt_io.specs.declared.whole.ReadFailure.TheVariants.{Memory}
 use Rattle.lt_io.specs.Reading.{SourceState, ReadsOn, ReadsOut, FailsBy}
 
 -- before the first read
@@ -68,4 +69,17 @@ fails_later why a room limit x y z within first last = record {
   none_uncounted = omega (arith, first.none_uncounted, last.none_uncounted);
   part_taken = (a ++ last.part_taken.0, Consumes-trans x.left y.left z.left a last.part_taken.0 first.consumed last.part_taken.1);
   no_end = last.no_end ∙ first.no_end;
+}
+
+-- some bytes were read, and then memory was wanting
+pub gives_up : (a : List ℕ) (limit : ℕ) (x y : SourceState) → length a ≤ limit → ReadsOn a x y → FailsBy Memory limit x y
+gives_up a limit x y within first = record {
+  failed = λ e. absurd (cc);
+  no_other_fault = λ other. first.no_fault;
+  too_long = λ e. absurd (cc);
+  too_many_left = λ e. absurd (cc);
+  no_more = λ other. omega (arith, within, first.none_made_up);
+  none_uncounted = first.none_uncounted;
+  part_taken = (a, first.consumed);
+  no_end = first.no_end;
 }

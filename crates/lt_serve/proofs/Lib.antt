@@ -1,5 +1,8 @@
+mod Answering
 mod Causing
+mod Feeding
 mod Journals
+mod LastLines
 mod Ordered
 mod Rooms
 mod Told

@@ -5,3 +5,4 @@ pub mod TopCall
 pub mod Causes
 pub mod Literals
 pub mod Input
+pub mod Heads
