@@ -1,6 +1,7 @@
 #!/bin/sh
 # Tests of all examples: both tools run on each; the pictures of docs/ are those that the tool draws; and where the
-# program is built, it makes each journal, with the right status, and accepts it. What isn't built yet is counted.
+# program is built, it makes each journal, with the right status, accepts it, and refuses it at each line that is
+# exchanged for another. What isn't built yet is counted.
 cd "$(dirname "$0")/.." || exit 1
 program=crates/lockrun/out/lockrun
 room=$(mktemp -d) || exit 1
@@ -25,6 +26,16 @@ program_says() {
   fi
 }
 
+# Sees that the program refuses the input with another line in place of line $2, and names this line.
+refuses_at() {
+  [ -x $program ] || { not_built=$((not_built + 1)); return; }
+  status=0
+  sed "$2s/.*/end of line/" "$room/input" | $program check >"$room/printed" 2>"$room/said" || status=$?
+  if [ $status -ne 8 ] || [ -s "$room/printed" ] || [ "$(cat "$room/said")" != "lockrun: line $2: journal" ]; then
+    fail "$1: lockrun check says something else of line $2 exchanged"
+  fi
+}
+
 for script in examples/*.script; do
   name=$(basename "$script" .script)
   journal=examples/$name.journal
@@ -41,6 +52,12 @@ for script in examples/*.script; do
   { cat "$script"; echo journal; cat "$journal"; } >"$room/input"
   sed -n 's/^end /ok /p' "$journal" >"$room/wanted"
   program_says "$name" check 0 "$room/wanted"
+  lines=$(wc -l <"$room/input")
+  k=$(($(wc -l <"$script") + 2))
+  while [ $k -le "$lines" ]; do
+    refuses_at "$name" $k
+    k=$((k + 1))
+  done
 done
 
 if [ -x $program ]; then why="isn't built yet"; else why='needs a program that is built'; fi

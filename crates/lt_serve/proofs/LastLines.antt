@@ -1,5 +1,5 @@
 -- Where the last line of some bytes begins, and when the line `journal` has come.
-use Rattle.std.proofs.Common.{◌≡◌, ◌∙◌, ℕ, ◌+◌, ◌-◌, ◌<◌, ◌≤◌, List, [], ◌∷◌, ◌++◌, get_or, length, take, drop, Option, Some, None, refl, sym, ap, subst, inr, arith, take-add, take-append-drop, length-drop, position}
+use Rattle.std.proofs.Common.{◌≡◌, ◌∙◌, ℕ, ◌+◌, ◌-◌, ◌<◌, ◌≤◌, List, [], ◌∷◌, ◌++◌, get_or, length, take, drop, sym, ap, subst, arith, take-add, take-append-drop, length-drop}
 use Rattle.std.proofs.lemmas.List.{take_more, take-append-le, get_or-drop}
 use Rattle.lt_checking.specs.Input.{IsWhole, EndsLine}
 
@@ -14,7 +14,7 @@ line_whole bytes at k before inside e =
     let place : at + (k - at) ≡ k = omega (arith, before) in
     subst (λ (n : ℕ). IsWhole (take n (drop at bytes))) count
     (whole_to (drop at bytes) (k - at) (omega (arith, length-drop at bytes, inside, before))
-      (get_or-drop at bytes (k - at) 0 ∙ (ap (λ (n : ℕ). get_or bytes n 0) place ∙ e)))
+    (get_or-drop at bytes (k - at) 0 ∙ (ap (λ (n : ℕ). get_or bytes n 0) place ∙ e)))
 
 -- the bytes are those before the line, the line, and the rest
 pub in_three : (bytes : List ℕ) (at k : ℕ) → at ≤ k → (take at bytes ++ take (k + 1 - at) (drop at bytes)) ++ drop (k + 1) bytes ≡ bytes

@@ -1,4 +1,3 @@
-mod Answering
 mod Causing
 mod Feeding
 mod Journals
@@ -6,3 +5,4 @@ mod LastLines
 mod Ordered
 mod Rooms
 mod Told
+mod TwoParts

@@ -147,11 +147,7 @@ fn checked_journal<S: Source>(
 }
 
 // The answer to an input with so many lines before its journal, of which a checker told this.
-fn answered(
-    alloc: Global,
-    before: u32,
-    told: Result<Run, ReplayError>,
-) -> Result<Made, Status>
+fn answered(alloc: Global, before: u32, told: Result<Run, ReplayError>) -> Result<Made, Status>
     ensures { (script : ScriptData) → (bytes : List ℕ) → IsScript script → read_of (take (parts_of bytes).script bytes) ≡ Ok script
         → before ≡ (parts_of bytes).lines → Answers (checked script (lines (drop (parts_of bytes).journal bytes))) told → IsAnswer bytes result }
 {

@@ -6,10 +6,7 @@ use lt_checker::Checker;
 use lt_io::{MAX_PIECE, ReadFailure, Source, read_piece, skip_all};
 
 /// Reads what is left of an input after its first bytes, and keeps nothing.
-pub(crate) fn skip_rest<S: Source>(
-    source: &mut S,
-    room: Option<usize>,
-) -> Result<(), ReadFailure>
+pub(crate) fn skip_rest<S: Source>(source: &mut S, room: Option<usize>) -> Result<(), ReadFailure>
     ensures rest { OnOk result ((rest : List ℕ) × IsRest room rest (record {
       left = S.left source.old;
       given = S.given source.old;

@@ -1,10 +1,5 @@
-use Rattle.std.proofs.Common.{◌≡◌, ◌∙◌, ℕ, List, Ok, drop, take, ap, sym, subst}
-use Rattle.std.proofs.lemmas.Result.{IfOk-weaker}
-use Rattle.lt_modes.specs.Script.{ScriptData}
-use Rattle.lt_runs.specs.Log.{Logged}
+use Rattle.std.proofs.Common.{◌≡◌, Ok, drop, subst}
 use Rattle.lt_text.specs.Text.{lines}
-use Rattle.lt_script.specs.Script.{IsScript}
-use Rattle.lt_script.specs.Reading.{read_of}
 use Rattle.lt_journal.specs.Split.{parts_of}
 use Rattle.lt_checking.specs.Checking.{checked}
 use Rattle.lt_checking.specs.Input.{checked_input}

@@ -1,9 +1,8 @@
-use Rattle.std.proofs.Common.{rules, ◌≡◌, ◌∙◌, ◌++◌, ap, subst, []}
+use Rattle.std.proofs.Common.{◌≡◌, ◌∙◌, ◌++◌, ap, subst, []}
 use Rattle.lt_modes.specs.Script.{ScriptData}
 use Rattle.lt_text.specs.Text.{lines}
 use Rattle.lt_checking.specs.Checking.{checked}
 use Rattle.lt_checker.specs.Checker.{Answers, CheckerData}
-use Rattle.lt_serve.proofs.Answering.{no_memory}
 use Rattle.lt_serve.proofs.checking.checked_journal.Goals as goal
 
 pub returns-clause-told : goal.returns-clause-told
