@@ -1,5 +1,5 @@
 -- What is told of the journal in an input is told of the input.
-use Rattle.std.proofs.Common.{◌≡◌, ◌∙◌, ℕ, List, Some, Result, Ok, Err, take, drop, refl, ap, sym, subst}
+use Rattle.std.proofs.Common.{◌≡◌, ◌∙◌, ℕ, List, Some, Result, Ok, Err, take, drop, ap, sym, subst, rules}
 use Rattle.std.specs.Prelude.{IfOk, IfErr}
 use Rattle.lt_modes.specs.Script.{ScriptData}
 use Rattle.lt_runs.specs.Log.{Logged}
@@ -43,4 +43,4 @@ counted_answer script bytes run (Ok made) read accepted finished promised h refu
   counted = h.2 ∙ ap (λ (r : List Logged). ok_text r) (sym h.1);
 }
 counted_answer script bytes run (Err why) read accepted finished promised h refused =
-    subst (λ (w : Status). IsAnswerOfBytes w × IsRefusal Check (Some bytes) w) (sym refused) (tt, refl)
+    subst (λ (w : Status). IsAnswerOfBytes w × IsRefusal Check (Some bytes) w) (sym refused) (tt, search rules)
