@@ -1,7 +1,7 @@
 #!/bin/sh
 # Tests of all examples: both tools run on each; the pictures of docs/ are those that the tool draws; and where the
-# program is built, it makes each journal, with the right status, and accepts it. Where none is built, the runs left out
-# are counted.
+# program is built, it makes each journal, with the right status, accepts it, and refuses it at each line that is
+# exchanged for another. Where none is built, the runs left out are counted.
 cd "$(dirname "$0")/.." || exit 1
 program=crates/lockrun/out/lockrun
 room=$(mktemp -d) || exit 1
@@ -24,6 +24,16 @@ program_says() {
   fi
 }
 
+# Sees that the program refuses the input with another line in place of line $2, and names this line.
+refuses_at() {
+  [ -x $program ] || { left_out=$((left_out + 1)); return; }
+  status=0
+  sed "$2s/.*/end of line/" "$room/input" | $program check >"$room/printed" 2>"$room/said" || status=$?
+  if [ $status -ne 8 ] || [ -s "$room/printed" ] || [ "$(cat "$room/said")" != "lockrun: line $2: journal" ]; then
+    fail "$1: lockrun check says something else of line $2 exchanged"
+  fi
+}
+
 for script in examples/*.script; do
   name=$(basename "$script" .script)
   journal=examples/$name.journal
@@ -40,6 +50,12 @@ for script in examples/*.script; do
   { cat "$script"; echo journal; cat "$journal"; } >"$room/input"
   sed -n 's/^end /ok /p' "$journal" >"$room/wanted"
   program_says "$name" check 0 "$room/wanted"
+  lines=$(wc -l <"$room/input")
+  k=$(($(wc -l <"$script") + 2))
+  while [ $k -le "$lines" ]; do
+    refuses_at "$name" $k
+    k=$((k + 1))
+  done
 done
 
 echo "tests/examples.sh: $examples examples, $failed failures, $left_out runs of the program left out (no program is built)"

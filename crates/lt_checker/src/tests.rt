@@ -1,143 +1,15 @@
+mod journals;
+
 use crate::{Checker, ReplayError, replay};
+use journals::{
+    EMPTY_SCRIPT, LATE_COPY, LATE_COPY_SCRIPT, TELLS, TELLS_SCRIPT, TWO_NODES, TWO_NODES_SCRIPT,
+};
 use lt_journal::read;
 use lt_merge::Run;
+use lt_script::Script;
 use lt_text::next_line;
 use std::alloc::{AllocError, Global};
 use std::test::Fail;
-
-// A copy that comes after the token.
-const LATE_COPY_SCRIPT: &str = "nodes 3\n\
-set s\n\
-client a at 0\n\
-client b at 1\n\
-client c at 2\n\
-client d at 2\n\
-a lock s read\n\
-a unlock s read\n\
-b lock s upgrade\n\
-b unlock s upgrade\n\
-c lock s read\n\
-c unlock s read\n\
-d lock s write\n";
-
-const LATE_COPY: &str = "move 1 0 act a\n\
-grant a s read\n\
-move 1 2 act c\n\
-wait c s read\n\
-move 2 0 take 2\n\
-copy s 2 c read\n\
-move 1 1 act b\n\
-wait b s upgrade\n\
-move 3 0 take 1\n\
-freeze s 2 1 upgrade intention_write write\n\
-token s 1 1\n\
-move 4 1 take 0\n\
-grant b s upgrade\n\
-freeze s 0 2 none\n\
-freeze s 2 2 none\n\
-move 4 0 act a\n\
-unlock a s read\n\
-move 5 1 take 0\n\
-move 6 1 act b\n\
-unlock b s upgrade\n\
-move 2 2 act d\n\
-wait d s write\n\
-move 5 0 take 2\n\
-move 7 1 take 0\n\
-freeze s 2 3 intention_read read upgrade intention_write write\n\
-token s 2 2\n\
-move 5 2 take 1\n\
-move 8 2 take 1\n\
-move 9 2 take 1\n\
-move 10 2 take 0\n\
-grant c s read\n\
-move 11 2 take 0\n\
-move 6 0 take 1\n\
-move 12 2 act c\n\
-unlock c s read\n\
-grant d s write\n\
-held d s write 1\n\
-owner s 2 2\n\
-end 19\n";
-
-// Two tells of one node, of which the later comes first.
-const TELLS_SCRIPT: &str = "nodes 3\n\
-set s\n\
-client a at 0\n\
-client b at 1\n\
-client c at 2\n\
-a lock s read\n\
-a unlock s read\n\
-b lock s upgrade\n\
-b change s upgrade write\n\
-c lock s read\n\
-c lock s intention_read\n\
-c unlock s read\n\
-c unlock s intention_read\n";
-
-const TELLS: &str = "move 1 0 act a\n\
-grant a s read\n\
-move 1 2 act c\n\
-wait c s read\n\
-move 2 0 take 2\n\
-copy s 2 c read\n\
-move 3 2 take 0\n\
-grant c s read\n\
-move 4 2 act c\n\
-grant c s intention_read\n\
-move 1 1 act b\n\
-wait b s upgrade\n\
-move 3 0 take 1\n\
-freeze s 2 1 upgrade intention_write write\n\
-token s 1 1\n\
-move 5 2 act c\n\
-unlock c s read\n\
-move 4 1 take 0\n\
-grant b s upgrade\n\
-freeze s 0 2 none\n\
-freeze s 2 2 none\n\
-move 6 2 take 1\n\
-move 7 2 act c\n\
-unlock c s intention_read\n\
-move 8 1 take 2\n\
-move 6 0 take 2\n\
-move 9 1 take 0\n\
-move 7 0 act a\n\
-unlock a s read\n\
-move 10 1 take 0\n\
-move 11 1 act b\n\
-change b s upgrade write\n\
-move 8 2 take 0\n\
-move 8 0 take 1\n\
-held b s write 1\n\
-owner s 1 1\n\
-end 19\n";
-
-// A token that moves once.
-const TWO_NODES_SCRIPT: &str = "nodes 2\n\
-set s\n\
-client a at 0\n\
-client b at 1\n\
-a lock s intention_read\n\
-b lock s read\n";
-
-const TWO_NODES: &str = "move 1 0 act a\n\
-grant a s intention_read\n\
-move 1 1 act b\n\
-wait b s read\n\
-move 2 0 take 1\n\
-token s 1 1\n\
-move 3 1 take 0\n\
-grant b s read\n\
-freeze s 0 1 none\n\
-move 4 0 take 1\n\
-held a s intention_read 1\n\
-held b s read 1\n\
-owner s 1 1\n\
-end 5\n";
-
-// The script of no commands, whose journal is one line.
-const EMPTY_SCRIPT: &str = "nodes 1\n";
 
 // Feeds the bytes in pieces of this size.
 fn feed_in(checker: &mut Checker, bytes: &[u8], size: usize) -> Result<(), AllocError> {
@@ -156,22 +28,69 @@ fn told(answer: Result<Run, ReplayError>) -> (bool, u32) {
     }
 }
 
+// What a checker tells of the journal in pieces of this size.
+fn told_in_pieces(
+    alloc: Global,
+    script: &Script,
+    journal: &[u8],
+    size: usize,
+) -> Result<(bool, u32), AllocError> {
+    let mut checker = Checker::new(alloc, script)?;
+    feed_in(&mut checker, journal, size)?;
+    Ok(told(checker.end()))
+}
+
+// What a checker tells of the journal in two pieces, cut at this place.
+fn told_in_two(
+    alloc: Global,
+    script: &Script,
+    journal: &[u8],
+    at: usize,
+) -> Result<(bool, u32), AllocError> {
+    let (first, second) = journal.split_at(at.min(journal.len()));
+    let mut checker = Checker::new(alloc, script)?;
+    checker.feed(first)?;
+    checker.feed(second)?;
+    Ok(told(checker.end()))
+}
+
 // Whether the journal of the script is told so: once it was read, and in pieces of 1, 2, 3 and 7 bytes.
 fn is_told(alloc: Global, script: &str, journal: &[u8], want: (bool, u32)) -> Result<bool, Fail> {
-    if script.len() > 10000 || journal.len() > 10000 {
+    let script = script_of(alloc, script)?;
+    if journal.len() > 10000 {
         return Err(Fail::from("a long input"));
     }
-    let Ok(script) = lt_script::read(alloc, script.as_bytes()) else {
-        return Err(Fail::from("no script"));
-    };
     let lines = read(alloc, &script, journal)?;
     let mut same = told(replay(alloc, &script, &lines)) == want;
     for size in [1, 2, 3, 7] {
-        let mut checker = Checker::new(alloc, &script)?;
-        feed_in(&mut checker, journal, size)?;
-        same = same && told(checker.end()) == want;
+        same = same && told_in_pieces(alloc, &script, journal, size)? == want;
     }
     Ok(same)
+}
+
+// Whether it is told so wherever it is cut in two.
+fn is_told_cut(
+    alloc: Global,
+    script: &str,
+    journal: &[u8],
+    want: (bool, u32),
+) -> Result<bool, Fail> {
+    let script = script_of(alloc, script)?;
+    let mut same = true;
+    for at in 0..journal.len() {
+        same = same && told_in_two(alloc, &script, journal, at)? == want;
+    }
+    Ok(same)
+}
+
+fn script_of(alloc: Global, text: &str) -> Result<Script, Fail> {
+    if text.len() > 10000 {
+        return Err(Fail::from("a long input"));
+    }
+    match lt_script::read(alloc, text.as_bytes()) {
+        Ok(script) => Ok(script),
+        Err(_) => Err(Fail::from("no script")),
+    }
 }
 
 // The journal with this text in place of line `k`, counted from 1.
@@ -204,9 +123,14 @@ fn accepts_the_examples(rt: HostRuntime) -> Result<(), Fail> {
         (EMPTY_SCRIPT, "end 0", 0),
     ];
     for (script, journal, moves) in cases {
+        let journal = journal.as_bytes();
         assert!(rt;
-            is_told(rt.alloc(), script, journal.as_bytes(), (true, moves))?,
-            "{journal}"
+            is_told(rt.alloc(), script, journal, (true, moves))?,
+            "{moves}"
+        );
+        assert!(rt;
+            is_told_cut(rt.alloc(), script, journal, (true, moves))?,
+            "{moves}"
         );
     }
     Ok(())
@@ -227,18 +151,50 @@ fn names_the_first_bad_line(rt: HostRuntime) -> Result<(), Fail> {
     ];
     for (k, text, bad) in cases {
         let journal = with_line(rt.alloc(), TWO_NODES, k, text)?;
+        let want = (false, bad);
         assert!(rt;
-            is_told(rt.alloc(), TWO_NODES_SCRIPT, &journal, (false, bad))?,
+            is_told(rt.alloc(), TWO_NODES_SCRIPT, &journal, want)?,
+            "{k} {text}"
+        );
+        assert!(rt;
+            is_told_cut(rt.alloc(), TWO_NODES_SCRIPT, &journal, want)?,
             "{k} {text}"
         );
     }
-    let early = with_line(
-        rt.alloc(),
-        LATE_COPY,
-        29,
-        "move 9 2 take 1\ngrant d s write\n",
-    )?;
-    assert!(rt; is_told(rt.alloc(), LATE_COPY_SCRIPT, &early, (false, 30))?);
+    Ok(())
+}
+
+// A line put in and the last line left out, in a long journal.
+#[test]
+fn names_the_first_bad_line_of_a_long_journal(rt: HostRuntime) -> Result<(), Fail> {
+    let cases = [(29, "move 9 2 take 1\ngrant d s write\n", 30), (39, "", 39)];
+    for (k, text, bad) in cases {
+        let journal = with_line(rt.alloc(), LATE_COPY, k, text)?;
+        let want = (false, bad);
+        assert!(rt;
+            is_told(rt.alloc(), LATE_COPY_SCRIPT, &journal, want)?,
+            "{k}"
+        );
+        assert!(rt;
+            is_told_cut(rt.alloc(), LATE_COPY_SCRIPT, &journal, want)?,
+            "{k}"
+        );
+    }
+    Ok(())
+}
+
+// Without its last bytes the last line is bad; without the line end alone it is whole.
+#[test]
+fn ends_early(rt: HostRuntime) -> Result<(), Fail> {
+    let journal = LATE_COPY.as_bytes();
+    for k in 1..8 {
+        let (front, _) = journal.split_at(journal.len().saturating_sub(k));
+        let want = if k == 1 { (true, 19) } else { (false, 39) };
+        assert!(rt; is_told(rt.alloc(), LATE_COPY_SCRIPT, front, want)?, "{k}");
+    }
+    let first: &[u8] = b"move 1 0 act a\ngrant a s intention_read\nmove 1 1 act b\nwait b s read\n\
+        move 2 0 take 1\ntoken s 1 1\n";
+    assert!(rt; is_told(rt.alloc(), TWO_NODES_SCRIPT, first, (false, 7))?);
     Ok(())
 }
 
@@ -253,13 +209,19 @@ fn names_lines_that_are_missing_or_cut(rt: HostRuntime) -> Result<(), Fail> {
         ("cut 0\n", 1),
     ];
     for (journal, bad) in cases {
+        let bytes = journal.as_bytes();
         assert!(rt;
-            is_told(rt.alloc(), EMPTY_SCRIPT, journal.as_bytes(), (false, bad))?,
+            is_told(rt.alloc(), EMPTY_SCRIPT, bytes, (false, bad))?,
+            "{journal}"
+        );
+        assert!(rt;
+            is_told_cut(rt.alloc(), EMPTY_SCRIPT, bytes, (false, bad))?,
             "{journal}"
         );
     }
     let long = vec![in rt.alloc(); b'e'; 300]?;
     assert!(rt; is_told(rt.alloc(), EMPTY_SCRIPT, &long, (false, 1))?);
+    assert!(rt; is_told_cut(rt.alloc(), EMPTY_SCRIPT, &long, (false, 1))?);
     Ok(())
 }
 

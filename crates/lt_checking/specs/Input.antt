@@ -1,8 +1,9 @@
 -- Where the journal of an input is, and by which number its first bad line is named.
-use Rattle.std.specs.Prelude.{ℕ, ◌+◌, List, [], take, drop, length, position, Option, Some, None, Result, Ok, Err}
+use Rattle.std.specs.Prelude.{◌≡◌, ◌⊎◌, ℕ, ◌+◌, List, [], ◌∷◌, ◌++◌, take, drop, length, position, Option, Some, None, Result, Ok, Err}
 use Rattle.lt_modes.specs.Script.{ScriptData}
 use Rattle.lt_runs.specs.Log.{Logged}
-use Rattle.lt_journal.specs.Split.{is_journal_line}
+use Rattle.lt_text.specs.Text.{lines}
+use Rattle.lt_journal.specs.Split.{is_journal_line, parts_of}
 use Rattle.lt_checking.specs.Checking.{checked}
 
 abbrev pub before_place : List (List ℕ) → Option ℕ → List (List ℕ)
@@ -37,3 +38,19 @@ counted_from before (Err k) = Err (before + k)
 -- the run that the journal in an input of these lines tells, or the number of the first bad line in the whole input
 abbrev pub checked_input : ScriptData → List (List ℕ) → Result (List Logged) ℕ
 checked_input script all = counted_from (lines_before all) (checked script (journal_in all))
+
+-- a line feed is the last byte
+abbrev pub IsWhole : List ℕ → Type 0
+IsWhole bytes = (front : List ℕ) × (bytes ≡ front ++ 10 ∷ [])
+
+-- a new line begins after these bytes
+abbrev pub EndsLine : List ℕ → Type 0
+EndsLine bytes = (bytes ≡ []) ⊎ IsWhole bytes
+
+-- one of the lines is `journal`
+abbrev pub HasJournal : List ℕ → Type 0
+HasJournal bytes = (k : ℕ) × (position is_journal_line (lines bytes) ≡ Some k)
+
+-- an input that begins with these bytes is cut where they are, whatever comes after them
+abbrev pub IsSettled : List ℕ → Type 0
+IsSettled bytes = (more : List ℕ) → parts_of (bytes ++ more) ≡ parts_of bytes

@@ -1,4 +1,4 @@
-ghost use Rattle.std.specs.Prelude.{◌≡◌, ◌≤◌, ℕ, List, Some, Ok, Err, fold, map, take, drop, length, Decides};
+ghost use Rattle.std.specs.Prelude.{◌≡◌, ◌≤◌, ◌++◌, ℕ, List, Some, Ok, Err, fold, map, take, drop, length, Decides};
 ghost use Rattle.std.specs.List.{flat_map, AllByRecursion};
 ghost use Rattle.std.specs.Str.{bytes_eq};
 ghost use Rattle.lt_journal.specs.declared.line.Line.{Line as AnyLine};
@@ -11,7 +11,7 @@ ghost use Rattle.lt_checking.specs.Checking.{Place, written, reader_after, check
 ghost use Rattle.lt_checking.specs.Feeding.{Feed, new_feed, fed_piece, ended};
 ghost use Rattle.lt_checking.specs.Rows.{EmptyRows, ShortRows};
 ghost use Rattle.lt_checking.specs.Said.{checked_said};
-ghost use Rattle.lt_checking.specs.Input.{script_in, journal_in, lines_before, counted_from, checked_input};
+ghost use Rattle.lt_checking.specs.Input.{script_in, journal_in, lines_before, counted_from, checked_input, IsWhole, EndsLine, HasJournal, IsSettled};
 ghost use Rattle.lt_journal.specs.Grammar.{read_line};
 ghost use Rattle.lt_journal.specs.Split.{parts_of};
 ghost use Rattle.lt_checking.specs.Journals.{IsFinished, Begins, IsBeginning, IsFirstBad, IsContinued, journal_lines};
@@ -79,6 +79,12 @@ pub fn law_input()
     ensures answer { (script : ScriptData) → (bytes : List ℕ) → IsScript script
         → counted_from (parts_of bytes).lines (ended script (fed_piece script (new_feed script) (drop (parts_of bytes).journal bytes)))
         ≡ checked_input script (lines bytes) }
+{}
+
+/// Once the line `journal` has come with its line end, an input is cut where it is, whatever comes after.
+pub fn law_settled()
+    ensures { (before : List ℕ) → (line : List ℕ) → (rest : List ℕ) → EndsLine before → IsWhole line
+        → HasJournal line → IsSettled ((before ++ line) ++ rest) }
 {}
 
 /// Two finished runs of a script with the same journal are one run.

@@ -3,3 +3,4 @@ pub mod Sink
 pub mod Memory
 pub mod FaultCounts
 pub mod Texts
+pub mod Reading

@@ -3,6 +3,7 @@
 
 mod adapters;
 mod memory;
+mod piece;
 mod sink;
 mod source;
 mod sure;
@@ -12,6 +13,7 @@ mod whole;
 
 pub use adapters::{ReaderSource, WriterSink};
 pub use memory::{MemorySink, MemorySource};
+pub use piece::{MAX_PIECE, read_piece, skip_all};
 pub use sink::Sink;
 pub use source::{Failed, Source};
 pub use sure::{SureSink, SureSource};

@@ -5,14 +5,12 @@ ghost use Rattle.lt_io.specs.FaultCounts.{Counts, HasCause};
 ghost use Rattle.lt_io.specs.Source.{LosesPart};
 ghost use Rattle.lt_io.specs.Sink.{AppendsPart, WritesByFewest};
 
+use crate::piece::{MAX_PIECE, read_piece};
 use crate::sink::Sink;
 use crate::source::{Failed, Source};
 use std::alloc::{AllocError, Global};
 use std::error::Error;
 use std::fmt;
-
-// How many bytes one read may give.
-const ROOM: usize = 4096;
 
 /// Why a source was not read whole.
 #[derive(Clone, Copy, Debug, PartialEq, Eq)]
@@ -91,15 +89,11 @@ pub fn read_all<S: Source>(
         S.given source.new ≤ S.given source.old + limit) }
 {
     let mut bytes = Vec::new(alloc);
-    let mut buf = [0; ROOM];
+    let mut buf = [0; MAX_PIECE];
     loop {
-        let room = (limit - bytes.len()).saturating_add(1).min(ROOM);
-        let count = source.read(&mut buf[..room])?;
+        let count = read_piece(source, &mut buf, limit - bytes.len())?;
         if count == 0 {
             return Ok(bytes);
-        }
-        if count > limit - bytes.len() {
-            return Err(ReadFailure::TooLong);
         }
         bytes.extend_from_slice(&buf[..count])?;
     }

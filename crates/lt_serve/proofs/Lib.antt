@@ -1,6 +1,9 @@
 mod Causing
 mod Completing
+mod Feeding
 mod Journals
+mod LastLines
 mod Ordered
 mod Rooms
 mod Told
+mod TwoParts

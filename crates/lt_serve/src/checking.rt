@@ -1,26 +1,31 @@
-ghost use Rattle.std.specs.Prelude.{◌≡◌, ◌≤◌, ◌++◌, Some, length, codes, IfOk, OnOk, IfErr};
+ghost use Rattle.std.specs.Prelude.{◌≡◌, ◌≤◌, ◌++◌, ℕ, List, Ok, take, drop, length, codes, IfOk, OnOk, IfErr};
 ghost use Rattle.std.specs.Fmt.{decimal};
 ghost use Rattle.std.specs.String.{string_bytes};
 ghost use Rattle.lt_text.specs.Text.{lines};
+ghost use Rattle.lt_modes.specs.Script.{ScriptData};
+ghost use Rattle.lt_script.specs.Script.{IsScript};
+ghost use Rattle.lt_script.specs.Reading.{read_of};
+ghost use Rattle.lt_journal.specs.Split.{parts_of};
 ghost use Rattle.lt_checking.specs.Checking.{checked};
 ghost use Rattle.lt_checker.specs.Checker.{Answers};
 ghost use Rattle.lt_serve.specs.declared.limits.TheConstants.{MAX_JOURNAL};
 ghost use Rattle.lt_words.specs.declared.command.Command.TheVariants as command;
 ghost use Rattle.lt_serve.specs.Causes.{TellsSource, IsReadWhole, IsRefusal};
-ghost use Rattle.lt_serve.specs.Input.{IsAnswerOfBytes};
+ghost use Rattle.lt_serve.specs.Heads.{IsCut, IsRest, FailsRest, IsAnswer};
 ghost use Rattle.lt_serve.specs.TopCall.{Checks, ok_text};
 
-use crate::limits::MAX_JOURNAL;
+use crate::head::read_head;
 use crate::made::Made;
-use crate::reading::{read_bytes, script_of};
+use crate::reading::status_of;
+use crate::rest::{feed_rest, skip_rest};
 use crate::status::Status;
 use lt_checker::{Checker, ReplayError};
 use lt_checking::{law_input, law_means};
-use lt_io::Source;
+use lt_io::{ReadFailure, Source};
 use lt_journal::split;
 use lt_merge::Run;
 use lt_promises::law_promised;
-use lt_script::Script;
+use lt_script::{ReadError, Script, read};
 use std::alloc::{AllocError, Global};
 use std::fmt::Write;
 
@@ -47,44 +52,120 @@ pub(crate) fn checked<S: Source>(alloc: Global, source: &mut S) -> Result<Made, 
     })) }
     ensures refused { IfErr result (IsRefusal command.Check (S.left source.old)) }
 {
-    let bytes = read_bytes(alloc, source, MAX_JOURNAL)?;
-    checked_bytes(alloc, &bytes)
+    let head = match read_head(alloc, source) {
+        Ok(head) => head,
+        Err(failure) => return Err(status_of(failure)),
+    };
+    match judged(alloc, source, &head.bytes, head.room) {
+        Ok(answer) => answer,
+        Err(failure) => Err(status_of(failure)),
+    }
 }
 
-// Whether the journal in the bytes is that of a run of the script before it.
-fn checked_bytes(alloc: Global, bytes: &[u8]) -> Result<Made, Status>
+// Reads what comes after the first bytes of an input, and answers the whole input. A script with a fault is told
+// once all was read.
+fn judged<S: Source>(
+    alloc: Global,
+    source: &mut S,
+    bytes: &[u8],
+    room: Option<usize>,
+) -> Result<Result<Made, Status>, ReadFailure>
     requires few { length bytes.now ≤ MAX_JOURNAL }
-    ensures does { IfOk result (λ made. Checks made.ending (Some bytes.now) made.run.entries made.text.items) }
-    ensures refused { IfErr result (IsRefusal command.Check (Some bytes.now)) }
-    ensures answer { IfErr result IsAnswerOfBytes }
+    requires cut { IsCut bytes.now room }
+    ensures answer { IfOk result (λ answer. (rest : List ℕ) × IsAnswer (bytes.now ++ rest) answer × IsRest room rest (record {
+      left = S.left source.old;
+      given = S.given source.old;
+      faults = S.faults source.old;
+      ends = S.ends source.old;
+    }) (record {
+      left = S.left source.new;
+      given = S.given source.new;
+      faults = S.faults source.new;
+      ends = S.ends source.new;
+    })) }
+    ensures err { IfErr result (λ why. FailsRest room why (record {
+      left = S.left source.old;
+      given = S.given source.old;
+      faults = S.faults source.old;
+      ends = S.ends source.old;
+    }) (record {
+      left = S.left source.new;
+      given = S.given source.new;
+      faults = S.faults source.new;
+      ends = S.ends source.new;
+    })) }
+{
+    let parts = split(bytes);
+    let script = match read(alloc, &bytes[..parts.script as usize]) {
+        Ok(script) => script,
+        Err(ReadError::Memory) => return Err(ReadFailure::Memory),
+        Err(ReadError::Fault(fault)) => {
+            skip_rest(source, room)?;
+            return Ok(Err(Status::Refused(fault)));
+        }
+    };
+    let (_, journal) = bytes.split_at(parts.journal as usize);
+    let told = checked_journal(alloc, source, &script, journal, room)?;
+    Ok(answered(alloc, parts.lines, told))
+}
+
+// What a checker tells of the journal that begins with these bytes and goes on with what is left of the input.
+fn checked_journal<S: Source>(
+    alloc: Global,
+    source: &mut S,
+    script: &Script,
+    first: &[u8],
+    room: Option<usize>,
+) -> Result<Result<Run, ReplayError>, ReadFailure>
+    ensures told { IfOk result (λ told. (rest : List ℕ) × Answers (checked script.now (lines (first.now ++ rest))) told × IsRest room rest (record {
+      left = S.left source.old;
+      given = S.given source.old;
+      faults = S.faults source.old;
+      ends = S.ends source.old;
+    }) (record {
+      left = S.left source.new;
+      given = S.given source.new;
+      faults = S.faults source.new;
+      ends = S.ends source.new;
+    })) }
+    ensures err { IfErr result (λ why. FailsRest room why (record {
+      left = S.left source.old;
+      given = S.given source.old;
+      faults = S.faults source.old;
+      ends = S.ends source.old;
+    }) (record {
+      left = S.left source.new;
+      given = S.given source.new;
+      faults = S.faults source.new;
+      ends = S.ends source.new;
+    })) }
+{
+    let mut checker = Checker::new(alloc, script)?;
+    checker.feed(first)?;
+    feed_rest(source, room, &mut checker)?;
+    Ok(checker.end())
+}
+
+// The answer to an input with so many lines before its journal, of which a checker told this.
+fn answered(alloc: Global, before: u32, told: Result<Run, ReplayError>) -> Result<Made, Status>
+    ensures { (script : ScriptData) → (bytes : List ℕ) → IsScript script → read_of (take (parts_of bytes).script bytes) ≡ Ok script
+        → before ≡ (parts_of bytes).lines → Answers (checked script (lines (drop (parts_of bytes).journal bytes))) told → IsAnswer bytes result }
 {
     law_promised();
     law_means();
     law_input();
-    let parts = split(bytes);
-    let script = script_of(alloc, &bytes[..parts.script as usize])?;
-    let (_, journal) = bytes.split_at(parts.journal as usize);
-    match checked_journal(alloc, &script, journal) {
-        Ok(run) => told(alloc, run),
+    match told {
+        Ok(run) => with_count(alloc, run),
         Err(ReplayError::Memory) => Err(Status::NoMemory),
-        Err(ReplayError::Bad { line }) => match parts.lines.checked_add(line) {
+        Err(ReplayError::Bad { line }) => match before.checked_add(line) {
             Some(line) => Err(Status::BadJournal { line }),
             None => Err(Status::NoMemory),
         },
     }
 }
 
-// The run whose journal these bytes are.
-fn checked_journal(alloc: Global, script: &Script, journal: &[u8]) -> Result<Run, ReplayError>
-    ensures answers { Answers (checked script.now (lines journal.now)) result }
-{
-    let mut checker = Checker::new(alloc, script)?;
-    checker.feed(journal)?;
-    checker.end()
-}
-
 // The run, with the line that tells the number of its moves.
-fn told(alloc: Global, run: Run) -> Result<Made, Status>
+fn with_count(alloc: Global, run: Run) -> Result<Made, Status>
     ensures made { IfOk result (λ made. (made.ending ≡ Status.Done) × (made.run.entries ≡ run.entries) × (made.text.items ≡ ok_text run.entries)) }
     ensures refused { IfErr result (λ answer. answer ≡ Status.NoMemory) }
 {

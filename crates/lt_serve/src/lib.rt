@@ -3,12 +3,14 @@
 
 mod arguments;
 mod checking;
+mod head;
 mod laws;
 mod limits;
 mod made;
 mod making;
 mod order;
 mod reading;
+mod rest;
 mod serving;
 mod simulated;
 mod simulation;

@@ -89,7 +89,8 @@ pub(crate) fn script_of(alloc: Global, bytes: &[u8]) -> Result<Script, Status>
     }
 }
 
-fn status_of(failure: ReadFailure) -> Status
+/// Why a source could not be read, as a status.
+pub(crate) fn status_of(failure: ReadFailure) -> Status
     ensures { result ≡ status_of failure }
 {
     match failure {

@@ -1,5 +1,6 @@
 mod answers;
 mod journals;
+mod pieces;
 mod refusals;
 
 ghost use Rattle.std.specs.Prelude.{◌<◌, ◌≤◌};

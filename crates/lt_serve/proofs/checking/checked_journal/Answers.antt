@@ -1,15 +1,18 @@
-use Rattle.std.proofs.Common.{◌≡◌, ◌∙◌, ap, subst, []}
+use Rattle.std.proofs.Common.{◌≡◌, ◌∙◌, ◌++◌, ap, subst, []}
 use Rattle.lt_modes.specs.Script.{ScriptData}
 use Rattle.lt_text.specs.Text.{lines}
 use Rattle.lt_checking.specs.Checking.{checked}
 use Rattle.lt_checker.specs.Checker.{Answers, CheckerData}
 use Rattle.lt_serve.proofs.checking.checked_journal.Goals as goal
 
-pub returns : goal.returns
-returns c =
-    let journal = c.args.journal.now in
-    let script : c.feed.new.self.script ≡ c.args.script.now = ap (λ (d : CheckerData). d.script) c.in_ok-feed.ensures.ok ∙ ap (λ (d : CheckerData). d.script) c.in_ok-checker.ensures.checker in
-    record {
-      answers = subst (λ (s : ScriptData). Answers (checked s (lines journal)) c.end.result) script
-          (c.end.ensures.answers journal (c.in_ok-feed.ensures.stands [] c.in_ok-checker.ensures.stands));
-    }
+pub returns-clause-told : goal.returns-clause-told
+returns-clause-told g c =
+    let first = c.args.first.now in
+    let fed = c.in_ok-feed_rest.ensures.rest in
+    let script : c.feed_rest.new.checker.script ≡ c.args.script.now =
+    fed.1.script ∙ (ap (λ (d : CheckerData). d.script) c.in_ok-feed.ensures.ok ∙ ap (λ (d : CheckerData). d.script) c.in_ok-checker.ensures.checker) in (
+      fed.0,
+      subst (λ (s : ScriptData). Answers (checked s (lines (first ++ fed.0))) c.end.result) script
+          (c.end.ensures.answers (first ++ fed.0) (fed.1.stands first (c.in_ok-feed.ensures.stands [] c.in_ok-checker.ensures.stands))),
+      fed.2,
+    )

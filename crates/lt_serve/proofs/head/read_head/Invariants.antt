@@ -1,0 +1,27 @@
+-- What was read so far is what the source gave, and the last line in it begins at its place.
+use Rattle.std.proofs.Common.{◌≤◌, ◌-◌, take, vec_len}
+use Rattle.lt_io.specs.Reading.{ReadsOn}
+use Rattle.lt_checking.specs.Input.{EndsLine}
+use Rattle.lt_serve.specs.declared.limits.TheConstants.{MAX_JOURNAL}
+use Rattle.lt_serve.proofs.head.read_head.Given as goal
+
+abbrev pub invariant-loop-bytes : goal.invariant-loop-bytes
+invariant-loop-bytes g l = record {
+  read : ReadsOn l.bytes.items (record {
+    left = g.S.Source.left l.initial.source;
+    given = g.S.Source.given l.initial.source;
+    faults = g.S.Source.faults l.initial.source;
+    ends = g.S.Source.ends l.initial.source;
+  }) (record {
+    left = g.S.Source.left l.source;
+    given = g.S.Source.given l.source;
+    faults = g.S.Source.faults l.source;
+    ends = g.S.Source.ends l.source;
+  });
+  no_longer : vec_len l.bytes ≤ MAX_JOURNAL;
+  place : l.line ≤ vec_len l.bytes;
+  line : EndsLine (take l.line l.bytes.items);
+}
+
+abbrev pub decreases-loop-bytes : goal.decreases-loop-bytes
+decreases-loop-bytes g l = MAX_JOURNAL - vec_len l.bytes

@@ -1,0 +1,44 @@
+-- What is read of an input first, what comes after it, and how all of it is answered.
+use Rattle.std.specs.Prelude.{◌≡◌, ℕ, ◌+◌, ◌≤◌, List, [], ◌++◌, Option, Some, None, Result, Ok, Err, length}
+use Rattle.lt_io.specs.Reading.{SourceState, ReadsOn, ReadsOut, FailsBy}
+use Rattle.lt_io.specs.declared.whole.ReadFailure.{ReadFailure}
+use Rattle.lt_io.specs.declared.whole.ReadFailure.TheVariants.{Memory}
+use Rattle.lt_checking.specs.Input.{IsSettled}
+use Rattle.lt_checker.specs.Checker.{CheckerData, StandsFor}
+use Rattle.lt_words.specs.declared.command.Command.TheVariants.{Check}
+use Rattle.lt_serve.specs.declared.limits.TheConstants.{MAX_JOURNAL}
+use Rattle.lt_serve.specs.declared.made.Made.{Made}
+use Rattle.lt_serve.specs.declared.status.Status.{Status}
+use Rattle.lt_serve.specs.Causes.{IsRefusal}
+use Rattle.lt_serve.specs.Input.{IsAnswerOfBytes}
+use Rattle.lt_serve.specs.TopCall.{Checks}
+
+-- these bytes tell where the input is cut: there are no others, or whatever comes after them, it is cut where they are
+abbrev pub IsCut : List ℕ → Option ℕ → Type 0
+IsCut bytes None = Unit {0}
+IsCut bytes (Some room) = IsSettled bytes
+
+-- an input was read as far as these bytes: to its end, or so that so many more may come
+abbrev pub IsHead : List ℕ → Option ℕ → SourceState → SourceState → Type 0
+IsHead bytes None before after = ReadsOut bytes before after
+IsHead bytes (Some room) before after = (length bytes + room ≡ MAX_JOURNAL) × ReadsOn bytes before after
+
+-- these bytes are all that came after the first ones: none, where the source was found at its end before
+abbrev pub IsRest : Option ℕ → List ℕ → SourceState → SourceState → Type 0
+IsRest None rest before after = (rest ≡ []) × (after ≡ before)
+IsRest (Some room) rest before after = (length rest ≤ room) × ReadsOut rest before after
+
+-- what came after the first ones was not read whole, for this reason
+abbrev pub FailsRest : Option ℕ → ReadFailure → SourceState → SourceState → Type 0
+FailsRest None why before after = (why ≡ Memory) × (after ≡ before)
+FailsRest (Some room) why before after = FailsBy why room before after
+
+-- the checker was fed these bytes too
+pub record IsFed (rest : List ℕ) (old new : CheckerData) : Type 0 where
+  pub script : new.script ≡ old.script
+  pub stands : (bytes : List ℕ) → StandsFor old bytes → StandsFor new (bytes ++ rest)
+
+-- an input of these bytes is answered so
+abbrev pub IsAnswer : List ℕ → Result Made Status → Type 0
+IsAnswer bytes (Ok made) = Checks made.ending (Some bytes) made.run.entries made.text.items
+IsAnswer bytes (Err answer) = IsAnswerOfBytes answer × IsRefusal Check (Some bytes) answer
