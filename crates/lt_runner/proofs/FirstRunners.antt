@@ -9,7 +9,7 @@ use Rattle.lt_mail.specs.Words.{out_at, in_at, Alike, Both, SameOut, IsOpenLink}
 use Rattle.lt_mail.specs.Opening.{IsFresh, Opened}
 use Rattle.lt_mail.proofs.FirstMails.{both_linked}
 use Rattle.lt_runner.specs.declared.parts.Parts.{Parts}
-use Rattle.lt_runner.specs.Kept.{Kept, SameRunner, Grew}
+use Rattle.lt_runner.specs.Kept.{Grew}
 use Rattle.lt_runner.specs.Looking.{AreBeside}
 use Rattle.lt_runner.specs.Starts.{StartsWith}
 

@@ -76,7 +76,7 @@ fn first_runner<'a>(alloc: Global, script: &'a Script, limit: u32) -> Result<Run
 }
 
 // The runners of nodes 0 and 1.
-#[tactic(auto, using(lt_mail::proofs::FirstMails::first_fresh, lt_mail::proofs::FirstMails::second_fresh, crate::proofs::FirstRunners::two_beside))]
+#[tactic(auto, using(lt_mail::proofs::FirstMails::first_fresh))]
 fn two_runners<'a>(alloc: Global, script: &'a Script) -> Result<(Runner<'a>, Runner<'a>), Fail>
     requires { 1 < script.now.nodes }
     ensures { IfOk result (λ runners. AreBeside runners.1 runners.0) }
