@@ -7,6 +7,8 @@ mod finishing;
 mod rounds;
 mod settling;
 mod starting;
+#[cfg(test)]
+mod tests;
 mod waiting;
 
 pub use enabled::any_enabled;

@@ -1,3 +1,4 @@
 pub mod WordLemmas
 pub mod MailLemmas
 pub mod OpeningLemmas
+pub mod FirstMails

@@ -1,12 +1,16 @@
 -- Mails one after the other: the same ends, the same letters, more room.
-use Rattle.std.proofs.Common.{◌≡◌, refl, ℕ, ◌+◌, ◌<◌, ◌≤◌, inl, inr, Option, Some, None, sym, subst, arith, ◌∙◌}
+use Rattle.std.proofs.Common.{◌≡◌, refl, ap, ℕ, [], ◌+◌, ◌<◌, ◌≤◌, inl, inr, Option, Some, None, sym, subst, arith, ◌∙◌}
+use Rattle.std.specs.Prelude.{◌⊎◌}
 use Rattle.std.proofs.lemmas.Bool.{cases_eq}
 use Rattle.std.proofs.lemmas.Option.{slice_get_cases}
 use Rattle.lt_mail.specs.declared.lane.OutLane.{OutLane}
 use Rattle.lt_mail.specs.declared.lane.InLane.{InLane}
 use Rattle.lt_mail.specs.declared.mail.Mail.{Mail}
-use Rattle.lt_mail.specs.Words.{Both, IsOpenLink, AreLinked, out_at, in_at, outs_count, given_to, HasRoomAt, HasRoom, Alike, SameOut, SameIn, SameEnds}
-use Rattle.lt_mail.specs.Changes.{OutChanges, Stays, KeepsSent, Reserved}
+use Rattle.rtrb.specs.Ring.{known_free}
+use Rattle.lt_mail.specs.Lanes.{waiting}
+use Rattle.lt_mail.specs.Words.{Both, IsOpenLink, AreLinked, out_at, in_at, on_out, outs_count, given_to, waiting_to, IsFullTo, HasRoomAt, HasRoom, Alike, SameOut, SameIn, SameEnds}
+use Rattle.lt_mail.specs.Changes.{OutChanges, Stays, Flushes, KeepsSent, Reserved, Flushed}
+use Rattle.lt_mail.proofs.WordLemmas.{flushes_stop}
 
 alike_out : (a b c : Option OutLane) → Alike SameOut a b → Alike SameOut b c → Alike SameOut a c
 alike_out None None None h k = tt
@@ -56,6 +60,25 @@ pub all_reserved : (letters : ℕ) (a b : Mail) → Reserved letters (outs_count
 all_reserved letters a b h node = elim (slice_get_cases b.outs.items node).1 [
   | inl there ↦ h.room node there.1
   | inr past ↦ subst (λ (o : Option OutLane). HasRoomAt letters o) (sym past.1) tt
+]
+
+-- an empty outbox, or a ring that is known to be full
+abbrev Stopped : Option OutLane → Type 0
+Stopped o = (on_out waiting o ≡ []) ⊎ ((lane : OutLane) × (o ≡ Some lane) × (known_free lane.ring ≡ 0))
+
+pub one_more_flushed : (first : ℕ) (a b c : Mail) → Flushed first a b → OutChanges Flushes b c first → KeepsSent b c → Flushed (first + 1) a c
+one_more_flushed first a b c h lane kept = record {
+  kept = kept_join a b c h.kept kept;
+  stops = λ node below. elim (cases_eq node first) [
+    | inl e ↦ subst (λ (n : ℕ). Stopped (out_at c n)) (sym e) (flushes_stop b c first lane)
+    | inr apart ↦ subst (λ (o : Option OutLane). Stopped o) (sym (lane.others node apart)) (h.stops node (omega (arith, below, apart)))
+  ];
+}
+
+pub all_flushed : (a b : Mail) → Flushed (outs_count b) a b → (node : ℕ) → (waiting_to b node ≡ []) ⊎ IsFullTo b node
+all_flushed a b h node = elim (slice_get_cases b.outs.items node).1 [
+  | inl there ↦ h.stops node there.1
+  | inr past ↦ inl (ap (λ (o : Option OutLane). on_out waiting o) past.1)
 ]
 
 -- ends that are linked stay so

@@ -8,7 +8,7 @@ use Rattle.lt_mail.specs.declared.lane.OutLane.{OutLane}
 use Rattle.lt_mail.specs.declared.lane.InLane.{InLane}
 use Rattle.lt_mail.specs.declared.mail.Mail.{Mail}
 use Rattle.lt_mail.specs.Lanes.{given, waiting, sent_by, taken, known}
-use Rattle.lt_mail.specs.Words.{sent_to, given_to, HasRoomAt, SameEnds, out_at, in_at, outs_count, ins_count, Both, SameOut, SameIn}
+use Rattle.lt_mail.specs.Words.{sent_to, given_to, waiting_to, IsFullTo, HasRoomAt, SameEnds, out_at, in_at, outs_count, ins_count, Both, SameOut, SameIn}
 
 -- one lane that sends went from the one to the other in this way
 pub record OutChanges (R : OutLane → OutLane → Type 0) (a b : Mail) (to : ℕ) : Type 0 where
@@ -83,3 +83,8 @@ pub record Reserved (letters first : ℕ) (a b : Mail) : Type 0 where
   pub kept : KeepsSent a b
   pub given : (node : ℕ) → given_to b node ≡ given_to a node
   pub room : (node : ℕ) → node < first → HasRoomAt letters (out_at b node)
+
+-- the outboxes to the first nodes were flushed
+pub record Flushed (first : ℕ) (a b : Mail) : Type 0 where
+  pub kept : KeepsSent a b
+  pub stops : (node : ℕ) → node < first → (waiting_to b node ≡ []) ⊎ IsFullTo b node

@@ -1,6 +1,6 @@
 // What all lanes of a mail do.
-ghost use Rattle.std.specs.Prelude.{◌≡◌, ℕ, OnOk};
-ghost use Rattle.lt_mail.specs.Words.{in_at, sent_to, given_to, HasRoom, SameEnds};
+ghost use Rattle.std.specs.Prelude.{◌≡◌, ◌⊎◌, ℕ, [], OnOk};
+ghost use Rattle.lt_mail.specs.Words.{in_at, sent_to, given_to, waiting_to, IsFullTo, HasRoom, SameEnds};
 
 use crate::mail::Mail;
 use std::alloc::AllocError;
@@ -22,9 +22,10 @@ impl Mail {
     }
 
     /// Flushes the outbox to each node.
-    #[tactic(auto, using(crate::proofs::MailLemmas::kept_join))]
+    #[tactic(auto, using(crate::proofs::MailLemmas::all_flushed))]
     pub fn flush_all(&mut self)
         ensures sent { (node : ℕ) → sent_to self.new node ≡ sent_to self.old node }
+        ensures stops { (node : ℕ) → (waiting_to self.new node ≡ []) ⊎ IsFullTo self.new node }
         ensures ins { (node : ℕ) → in_at self.new node ≡ in_at self.old node }
         ensures ends { SameEnds self.old self.new }
     {

@@ -9,6 +9,8 @@ mod lanes;
 mod mail;
 mod one_lane;
 mod opening;
+#[cfg(test)]
+mod tests;
 
 pub use both_ends::beside;
 pub use mail::Mail;

@@ -7,3 +7,4 @@ pub mod MoveLemmas
 pub mod TurnLemmas
 pub mod StartLemmas
 pub mod Fetched
+pub mod FirstRunners

@@ -13,6 +13,8 @@ mod polling;
 mod posting;
 mod readying;
 mod runner;
+#[cfg(test)]
+mod tests;
 mod turned;
 mod turning;
 mod working;
