@@ -13,4 +13,3 @@ pub mod ActOrder
 pub mod Counts
 pub mod Rest
 pub mod Picks
-pub mod ReadyLemmas

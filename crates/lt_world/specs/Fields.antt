@@ -1,5 +1,5 @@
 -- What the fields of a world hold, for the moves that were made.
-use Rattle.std.specs.Prelude.{◌≡◌, ◌<◌, ◌≤◌, ◌&&◌, ◌||◌, ◌==◌, nat_lt, Bool, false, ℕ, List, [], length, count_by, slice_index_or, slice_set, IsTrue, Option}
+use Rattle.std.specs.Prelude.{◌≡◌, ◌<◌, ◌≤◌, ◌&&◌, ◌||◌, ◌==◌, nat_lt, Bool, ℕ, List, [], length, count_by, slice_index_or, slice_set, IsTrue, Option}
 use Rattle.lt_modes.specs.declared.moves.Step.TheVariants.{Act, Take}
 use Rattle.lt_modes.specs.Script.{ScriptData}
 use Rattle.lt_lists.specs.Below.{any_below, first_below, sum_below}
@@ -100,13 +100,7 @@ pub record AreCounted (script : ScriptData) (limit : ℕ) (moves : List ℕ) (ru
 abbrev pub AreAtMost : ScriptData → ℕ → List Logged → Type 0
 AreAtMost script most run = (q : ℕ) → q < script.nodes → moves_of q run ≤ most
 
--- which clients can act now
-pub record AreReady (script : ScriptData) (ready : List Bool) (w : World) : Type 0 where
-  pub count : length ready ≡ length script.clients
-  pub ready_are : (c : ℕ) → c < length script.clients → slice_index_or ready c false ≡ is_runnable script w c
-
-pub record Stands (script : ScriptData) (limit most : ℕ) (nodes : List NodeData) (inboxes : List (List WireData)) (moves : List ℕ) (ready : List Bool) (out : OutData) (run : List Logged) : Type 0 where
+pub record Stands (script : ScriptData) (limit most : ℕ) (nodes : List NodeData) (inboxes : List (List WireData)) (moves : List ℕ) (out : OutData) (run : List Logged) : Type 0 where
   pub holds : Holds script nodes inboxes out run
   pub counted : AreCounted script limit moves run
   pub at_most : AreAtMost script most run
-  pub acts : AreReady script ready (world_after script run)

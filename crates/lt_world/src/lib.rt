@@ -6,7 +6,6 @@ mod choice;
 mod delivery;
 mod inbox;
 mod network;
-mod ready;
 mod recording;
 mod takes;
 #[cfg(test)]

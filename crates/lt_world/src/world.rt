@@ -10,7 +10,6 @@ ghost use Rattle.lt_world.specs.Fields.{moves_of, world_of};
 
 use crate::choice::Choice;
 use crate::network::Network;
-use crate::ready::{mark_ready, ready_clients};
 use lt_limits::MAX_MOVES;
 use lt_merge::Run;
 use lt_modes::Step;
@@ -28,8 +27,6 @@ pub struct World<'a> {
     moves: Vec<u32>,
     // No node has made more.
     most: u32,
-    // Which clients can act.
-    ready: Vec<bool>,
 }
 
 impl<'a> Model for World<'a> {
@@ -39,7 +36,7 @@ impl<'a> Model for World<'a> {
 
     ghost view = { λ w. record { script = w.script.now; limit = w.limit; run = w.network.run.entries } };
 
-    ghost invariant = { λ w. Stands w.script.now w.limit w.most w.network.nodes.items w.network.inboxes.items w.moves.items w.ready.items w.network.out w.network.run.entries };
+    ghost invariant = { λ w. Stands w.script.now w.limit w.most w.network.nodes.items w.network.inboxes.items w.moves.items w.network.out w.network.run.entries };
 }
 
 impl<'a> World<'a> {
@@ -50,14 +47,12 @@ impl<'a> World<'a> {
     {
         let network = Network::new(alloc, script)?;
         let moves = no_moves(alloc, script.nodes())?;
-        let ready = ready_clients(alloc, script, &network)?;
         Ok(World {
             script,
             limit,
             network,
             moves,
             most: 0,
-            ready,
         })
     }
 
@@ -117,12 +112,10 @@ impl<'a> World<'a> {
         ensures ok { OnOk result (self.new ≡ record self.old { run = self.old.run ++ logged self.old.script (world_of self.old) choice.node choice.step ∷ [] }) }
         ensures err { OnErr result (self.new ≡ self.old) }
     {
-        let script = self.script;
-        self.network.make(script, choice)?;
+        self.network.make(self.script, choice)?;
         let made = &mut self.moves[usize::from(choice.node)];
         *made += 1;
         self.most = self.most.max(*made);
-        mark_ready(&mut self.ready, script, &self.network, choice.node);
         Ok(())
     }
 
@@ -146,7 +139,8 @@ impl<'a> World<'a> {
         requires { client < length self.now.script.clients }
         ensures { result ≡ is_runnable self.now.script (world_of self.now) client }
     {
-        self.ready[usize::from(client)]
+        let home = usize::from(self.script.home(client));
+        self.network.nodes[home].runnable(client)
     }
 
     // Whether an ask of the client is unanswered.

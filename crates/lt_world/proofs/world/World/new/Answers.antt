@@ -9,5 +9,4 @@ invariant_of-result c = record {
   counted = subst (AreCounted c.args.script.now c.args.limit c.in_ok-moves.moves.items) (sym c.in_ok-network.ensures.start)
       (counted_at_start c.args.script.now c.args.limit c.in_ok-moves.moves.items c.requires.1 (c.in_ok-moves.ensures.count ∙ c.nodes.ensures.nodes) c.in_ok-moves.ensures.none);
   at_most = subst (AreAtMost c.args.script.now 0) (sym c.in_ok-network.ensures.start) (λ q below. omega arith);
-  acts = c.in_ok-ready.ensures;
 }
