@@ -1,4 +1,4 @@
-ghost use Rattle.std.specs.Prelude.{◌≡◌, [], ◌∷◌, ◌++◌, ℕ, List, take, Some, None, IsNone, IsErr, IfOk, OnOk, OnErr};
+ghost use Rattle.std.specs.Prelude.{◌≡◌, [], ◌∷◌, ◌++◌, ℕ, List, take, Some, None, Err, IsNone, IsErr, IfOk, OnOk, OnErr};
 ghost use Rattle.lt_text.specs.Text.{lines, without_return};
 ghost use Rattle.lt_checking.specs.Checking.{checked, read_on};
 ghost use Rattle.lt_checking.specs.Feeding.{Feed, new_feed, fed_piece, last_ended, ended};
@@ -66,7 +66,7 @@ impl<'a> Checker<'a> {
     pub fn end(self) -> Result<Run, ReplayError>
         ensures answers { (bytes : List ℕ) → StandsFor self.entry bytes → Answers (checked self.entry.script (lines bytes)) result }
         ensures ended { (feed : Feed) → self.entry.feed ≡ Some feed → Answers (ended self.entry.script feed) result }
-        ensures refused { IsNone self.entry.feed → IsErr result }
+        ensures refused { IsNone self.entry.feed → result ≡ Err ReplayError.Memory }
     {
         let Checker {
             reader,

@@ -60,7 +60,7 @@ held d s write 1\n\
 owner s 2 2\n\
 end 19\n";
 
-// IsTallied of one node that overtake each other.
+// Tells of one node that overtake each other.
 const TELLS: &str = "nodes 3\n\
 set s\n\
 client a at 0\n\
