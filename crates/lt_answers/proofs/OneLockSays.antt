@@ -9,7 +9,7 @@ use Rattle.lt_limits.specs.declared.moves.TheConstants.{MAX_MOVES}
 use Rattle.lt_words.specs.declared.command.Command.{Command}
 use Rattle.lt_journal.specs.Text.{text_of}
 use Rattle.lt_serve.specs.declared.status.Status.{Status}
-use Rattle.lt_serve.specs.declared.status.Status.TheVariants.{Done, Stuck, Usage, Refused, TooLong, ReadFault, WriteFault, NoMemory, Cut, BadJournal, NotBuilt}
+use Rattle.lt_serve.specs.declared.status.Status.TheVariants.{Done, Stuck, Usage, Refused, TooLong, ReadFault, WriteFault, NoMemory, Cut, BadJournal}
 use Rattle.lt_serve.specs.Endings.{EndsAs, RanTo, cut_of}
 use Rattle.lt_serve.specs.TopCall.{Journals, Does}
 use Rattle.lt_answers.proofs.Results.{same_script}
@@ -29,7 +29,6 @@ at_start ReadFault e = e
 at_start WriteFault e = e
 at_start NoMemory e = e
 at_start (BadJournal line) e = e
-at_start NotBuilt e = e
 
 at_end : (ending : Status) → EndsAs MAX_MOVES ending one_lock_script (the_move ∷ []) → ending ≡ Done
 at_end Done e = refl
@@ -42,7 +41,6 @@ at_end ReadFault e = absurd e
 at_end WriteFault e = absurd e
 at_end NoMemory e = absurd e
 at_end (BadJournal line) e = absurd e
-at_end NotBuilt e = absurd e
 
 -- the run ended at rest with nobody waiting, and its text is this
 ran_so : (ending : Status) (run : List Logged) → EndsAs MAX_MOVES ending one_lock_script run → (run ≡ []) ⊎ (run ≡ the_move ∷ [])
