@@ -1,5 +1,5 @@
 -- Why an answer comes, and what it says of the source and the sink.
-use Rattle.std.specs.Prelude.{◌≡◌, ◌≢◌, ◌⊎◌, Bool, true, false, ℕ, ◌+◌, ◌≤◌, Option, Some, None, List}
+use Rattle.std.specs.Prelude.{◌≡◌, ◌≢◌, Bool, true, false, ℕ, ◌+◌, ◌≤◌, Option, Some, None, List}
 use Rattle.lt_io.specs.FaultCounts.{Counts}
 use Rattle.lt_io.specs.declared.whole.ReadFailure.{ReadFailure}
 use Rattle.lt_io.specs.declared.whole.ReadFailure.TheVariants.{Memory, Failed, TooLong as Long}
@@ -39,7 +39,7 @@ IsBad left line = (script : ScriptData) × DenotesBefore left script × IsBadLin
 -- for the ends of a run, of which `Tells` speaks
 pub record HasCause (asked : Option Command) (left : Option (List ℕ)) (answer : Status) : Type 0 where
   pub usage : answer ≡ Usage → asked ≡ None
-  pub no_command : asked ≡ None → (answer ≡ Usage) ⊎ (answer ≡ NoMemory)
+  pub no_command : asked ≡ None → answer ≡ Usage
   pub refused : (fault : ScriptFault) → answer ≡ Refused fault → IsRefused asked left fault
   pub bad_journal : (line : ℕ) → answer ≡ BadJournal line → (asked ≡ Some Check) × IsBad left line
   -- these come of reading alone

@@ -3,6 +3,7 @@ use Rattle.std.specs.Prelude.{◌≡◌, [], codes}
 use Rattle.lt_script.specs.declared.fault.Fault.TheVariants as faults
 use Rattle.lt_limits.specs.declared.moves.TheConstants.{MAX_MOVES}
 use Rattle.lt_serve.specs.declared.limits.TheConstants.{MAX_INPUT, MAX_JOURNAL, MAX_CAPACITY}
+use Rattle.lt_serve.specs.declared.serving.TheConstants.{USUAL}
 use Rattle.lt_serve.specs.declared.status.Status.{Status}
 use Rattle.lt_serve.specs.declared.status.Status.TheVariants.{Done, Stuck, Usage, Refused, TooLong, ReadFault, WriteFault, NoMemory, Cut, BadJournal}
 use Rattle.lt_serve.specs.Status.{code_of, text_of}
@@ -40,3 +41,4 @@ pub record LimitsAre : Type 0 where
   pub journal : MAX_JOURNAL ≡ 67108864
   pub capacity : MAX_CAPACITY ≡ 1024
   pub moves : MAX_MOVES ≡ 1048576
+  pub usual : USUAL ≡ record { moves = 1048576; capacity = 64; patience = 256 }

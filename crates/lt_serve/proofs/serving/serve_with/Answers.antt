@@ -10,16 +10,16 @@ use Rattle.lt_serve.proofs.serving.serve_with.Goals as goal
 
 pub make-requires-clause-possible : goal.make-requires-clause-possible
 make-requires-clause-possible g c = λ κs lives.
-    let is : command_of (map string_bytes c.args.words.now) ≡ Some c.in-Ok-Some.command = sym c.in-Ok-Some.ensures ∙ c.in-Ok-Some.field-0-is in
+    let is : command_of (map string_bytes c.args.words.now) ≡ Some c.in-Ok-Some.command = sym c.in-Ok-Some.ensures.command ∙ c.in-Ok-Some.field-0-is in
     subst MayBeMade is (may_be_made (map string_bytes c.args.words.now))
 
 pub returns-in-Ok-clause-causes : goal.returns-in-Ok-clause-causes
 returns-in-Ok-clause-causes g c =
-    written_causes _ c.in-Ok-Some.command _ c.write_made.result.status (sym c.in-Ok-Some.ensures ∙ c.in-Ok-Some.field-0-is) c.write_made.ensures.written
+    written_causes _ c.in-Ok-Some.command _ c.write_made.result.status (sym c.in-Ok-Some.ensures.command ∙ c.in-Ok-Some.field-0-is) c.write_made.ensures.written
 
 pub returns-in-Ok-clause-reading : goal.returns-in-Ok-clause-reading
 returns-in-Ok-clause-reading g c = λ read.
-    let is : command_of (map string_bytes c.args.words.now) ≡ Some c.in-Ok-Some.command = sym c.in-Ok-Some.ensures ∙ c.in-Ok-Some.field-0-is in
+    let is : command_of (map string_bytes c.args.words.now) ≡ Some c.in-Ok-Some.command = sym c.in-Ok-Some.ensures.command ∙ c.in-Ok-Some.field-0-is in
     let limit : limit_of (command_of (map string_bytes c.args.words.now)) ≡ limit_of (Some c.in-Ok-Some.command) = ap (λ (asked : Option Command). limit_of asked) is in
     let whole = c.in-Ok.ensures.whole (sym (ap (λ (asked : Option Command). reads asked) is) ∙ read) in
     rw limit (written_reading (limit_of (Some c.in-Ok-Some.command)) c.write_made.result.status _ _ whole c.write_made.ensures.written)
@@ -28,7 +28,7 @@ pub returns-in-Err-make-clause-causes : goal.returns-in-Err-make-clause-causes
 returns-in-Err-make-clause-causes g c =
     subst (λ (answer : Status). HasCause (command_of (map string_bytes c.args.words.now)) (g.S.Source.left c.args.source.now) answer)
     (sym c.without_run-in-Err-make.ensures.status)
-    (refused_causes _ c.in-Ok-Some.command _ c.in-Err-make.status (sym c.in-Ok-Some.ensures ∙ c.in-Ok-Some.field-0-is) c.in-Err-make.ensures.refused)
+    (refused_causes _ c.in-Ok-Some.command _ c.in-Err-make.status (sym c.in-Ok-Some.ensures.command ∙ c.in-Ok-Some.field-0-is) c.in-Err-make.ensures.refused)
 
 pub returns-in-Err-make-clause-complete : goal.returns-in-Err-make-clause-complete
 returns-in-Err-make-clause-complete g c =
@@ -44,5 +44,5 @@ returns-in-Err-make-clause-complete g c =
     } in
     let faults = g.K.Sink.faults c.args.sink.now in
     refused_complete (command_of (map string_bytes c.args.words.now)) c.in-Ok-Some.command (g.S.Source.left c.args.source.now)
-    c.without_run-in-Err-make.result.status c.in-Err-make.status before after faults faults (sym c.in-Ok-Some.ensures ∙ c.in-Ok-Some.field-0-is)
+    c.without_run-in-Err-make.result.status c.in-Err-make.status before after faults faults (sym c.in-Ok-Some.ensures.command ∙ c.in-Ok-Some.field-0-is)
     c.without_run-in-Err-make.ensures.status c.in-Err-make.ensures.refused c.in-Err-make.ensures.reading
