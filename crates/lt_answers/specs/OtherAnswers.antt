@@ -1,5 +1,5 @@
 -- What the answers say that come before a run, those of `check` and `make`, and what each says of the source and the sink, in literals.
-use Rattle.std.specs.Prelude.{◌≡◌, ◌⊎◌, ◌≤◌, false, ℕ, List, [], ◌∷◌, ◌++◌, Option, Some, codes}
+use Rattle.std.specs.Prelude.{◌≡◌, ◌≤◌, false, ℕ, List, [], ◌∷◌, ◌++◌, Option, Some, codes}
 use Rattle.lt_runs.specs.Log.{Logged}
 use Rattle.lt_limits.specs.declared.moves.TheConstants.{MAX_MOVES}
 use Rattle.lt_script.specs.declared.fault.ScriptFault.{ScriptFault}
@@ -8,14 +8,13 @@ use Rattle.lt_words.specs.declared.command.Command.TheVariants.{Run, SimFirst, C
 use Rattle.lt_words.specs.Words.{command_of}
 use Rattle.lt_serve.specs.declared.limits.TheConstants.{MAX_INPUT}
 use Rattle.lt_serve.specs.declared.status.Status.{Status}
-use Rattle.lt_serve.specs.declared.status.Status.TheVariants.{Done, Stuck, Usage, Refused, TooLong, ReadFault, WriteFault, NoMemory, Cut, BadJournal}
+use Rattle.lt_serve.specs.declared.status.Status.TheVariants.{Done, Stuck, Usage, Refused, TooLong, ReadFault, WriteFault, Cut, BadJournal}
 use Rattle.lt_serve.specs.Causes.{HasCause, SourceCounts, TellsSource, TellsSink, reads, limit_of}
 use Rattle.lt_answers.specs.Examples.{Says, Writes, IsNever, one_lock, one_lock_journal, the_move}
 
 -- words that are no command, and one that is
 pub record WordsSay : Type 0 where
-  pub wrong : (left : Option (List ℕ)) (answer : Status) → HasCause (command_of (codes "run" ∷ codes "now" ∷ [])) left answer
-      → (answer ≡ Usage) ⊎ (answer ≡ NoMemory)
+  pub wrong : (left : Option (List ℕ)) (answer : Status) → HasCause (command_of (codes "run" ∷ codes "now" ∷ [])) left answer → answer ≡ Usage
   pub right : (left : Option (List ℕ)) → HasCause (command_of (codes "sim" ∷ codes "first" ∷ [])) left Usage → ⊥
   pub nothing : (run : List Logged) (old new : List ℕ) → Says MAX_MOVES SimFirst Usage one_lock run old new → (run ≡ []) × (new ≡ old)
 
