@@ -1,4 +1,4 @@
-use crate::{Ended, any_enabled, anyone_waits, run_rounds, start_crew};
+use crate::{Ended, any_enabled, anyone_waits, finish, run_rounds, start_crew};
 use lt_runner::Gate;
 use lt_script::{Script, read};
 use std::alloc::Global;
@@ -11,6 +11,9 @@ client a at 1\n\
 client b at 0\n\
 a lock s write\n\
 b lock s write\n";
+
+// How many moves a node may make, how the rounds end, and how many moves the nodes have made. The caller makes all moves.
+const ROUNDS: [(u32, Ended, u32, u32); 2] = [(1_000, Ended::Rest, 2, 1), (1, Ended::Cut(0), 1, 1)];
 
 #[derive(Drop)]
 struct Open;
@@ -27,6 +30,28 @@ fn script_of(alloc: Global, text: &str) -> Result<Script, Fail> {
         Ok(script) => Ok(script),
         Err(_) => Err(Fail::from("no script")),
     }
+}
+
+#[test]
+fn rounds_end(rt: HostRuntime) -> Result<(), Fail> {
+    let script = script_of(rt.alloc(), TWO_WRITERS)?;
+    for (limit, ended, first, second) in ROUNDS {
+        assert!(rt; 0 < limit && limit <= 1_048_576);
+        let mut runners = start_crew(rt.alloc(), &script, 1, limit)?;
+        assert_eq!(rt; any_enabled(&script, &mut runners), Some(0));
+        assert!(rt; !anyone_waits(&script, &mut runners));
+        assert_eq!(rt; run_rounds(&rt, &script, &mut runners, 0, &Open), ended);
+        assert!(rt; anyone_waits(&script, &mut runners));
+        assert_eq!(rt;
+            any_enabled(&script, &mut runners).is_none(),
+            ended == Ended::Rest
+        );
+        let logs = finish(rt.alloc(), &script, runners)?;
+        assert_eq!(rt; logs.len(), 2);
+        assert_eq!(rt; logs[0].len(), first);
+        assert_eq!(rt; logs[1].len(), second);
+    }
+    Ok(())
 }
 
 #[test]

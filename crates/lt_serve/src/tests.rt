@@ -2,6 +2,7 @@ mod answers;
 mod journals;
 mod pieces;
 mod refusals;
+mod threads;
 
 ghost use Rattle.std.specs.Prelude.{◌<◌, ◌≤◌};
 ghost use Rattle.lt_limits.specs.declared.moves.TheConstants.{MAX_MOVES};
