@@ -108,6 +108,7 @@ fn reads_a_long_journal(rt: HostRuntime) -> Result<(), Fail> {
     for _ in 0..100_000 {
         bytes.extend_from_slice(b"move 1 0 act a\n")?;
     }
+    assert_eq!(rt; bytes.len(), 1_500_000);
     let journal = read_journal(alloc, &script, &bytes)?;
     assert_eq!(rt; journal.len(), 100_000);
     Ok(())
