@@ -1,5 +1,6 @@
 mod answers;
 mod journals;
+mod meeting;
 mod pieces;
 mod refusals;
 mod threads;
