@@ -1,7 +1,7 @@
 ghost use Rattle.std.specs.Prelude.{◌≡◌, ◌<◌, ◌≤◌, true, false, map, [], Some, IfOk, IfErr, OnOk};
 ghost use Rattle.std.specs.String.{string_bytes};
 ghost use Rattle.lt_limits.specs.declared.moves.TheConstants.{MAX_MOVES};
-ghost use Rattle.lt_serve.specs.declared.limits.TheConstants.{MAX_CAPACITY};
+ghost use Rattle.lt_mail.specs.declared.opening.TheConstants.{MAX_CAPACITY};
 ghost use Rattle.lt_words.specs.Words.{command_of};
 ghost use Rattle.lt_serve.specs.Causes.{TellsSource, IsReadWhole, IsEnding, IsRefusal, CanBeMade, reads, limit_of};
 ghost use Rattle.lt_serve.specs.Serves.{Serves};
