@@ -10,10 +10,10 @@ use Rattle.lt_serve.specs.Complete.{IsComplete}
 at_least : (a b : ℕ) → b ≡ a → a ≤ b
 at_least a b e = omega (arith, e)
 
-rose : (n before now : ℕ) → Counts n before now → RoseBy n before now
+pub rose : (n before now : ℕ) → Counts n before now → RoseBy n before now
 rose n before now h = at_least (count_after before n) now h.count
 
-refusal_complete : (command : Command) (left : Option (List ℕ)) (status : Status) (before after : SourceCounts) (w v : ℕ)
+pub refusal_complete : (command : Command) (left : Option (List ℕ)) (status : Status) (before after : SourceCounts) (w v : ℕ)
     → IsRefusal command left status
     → (reads (Some command) ≡ true → TellsSource (limit_of (Some command)) status before after)
     → IsComplete (Some command) left status before after w v
@@ -30,13 +30,3 @@ refusal_complete command left Done before after w v h tells = absurd h
 refusal_complete command left Stuck before after w v h tells = absurd h
 refusal_complete command left (Cut node) before after w v h tells = absurd h
 refusal_complete command left WriteFault before after w v h tells = absurd h
-
--- the same of the answer that tells it, and of the words
-pub refused_complete : (asked : Option Command) (command : Command) (left : Option (List ℕ)) (answer status : Status) (before after : SourceCounts)
-    (w v : ℕ) → asked ≡ Some command → answer ≡ status → IsRefusal command left status
-    → (reads (Some command) ≡ true → TellsSource (limit_of (Some command)) status before after)
-    → IsComplete asked left answer before after w v
-refused_complete asked command left answer status before after w v is same h tells =
-    subst (λ (a : Option Command). IsComplete a left answer before after w v) (sym is)
-    (subst (λ (s : Status). IsComplete (Some command) left s before after w v) (sym same)
-    (refusal_complete command left status before after w v h tells))

@@ -5,5 +5,6 @@ mod Journals
 mod LastLines
 mod Ordered
 mod Rooms
+mod Serving
 mod Told
 mod TwoParts

@@ -1,7 +1,8 @@
 -- How many moves are left to the nodes of a simulation.
-use Rattle.std.proofs.Common.{◌≡◌, ◌≢◌, ◌∙◌, ℕ, zero, suc, Option, ap₂, ◌+◌, ◌-◌, ◌<◌, ◌≤◌, Bool, true, false, List, [], ◌∷◌, ◌++◌, Some, None, length, refl, sym, ap, arith, subst, inl, inr}
+use Rattle.std.proofs.Common.{◌≡◌, ◌≢◌, ◌∙◌, ℕ, zero, suc, Option, ap₂, ◌+◌, ◌-◌, ◌<◌, ◌≤◌, Bool, true, false, List, [], ◌∷◌, ◌++◌, Some, None, length, take, refl, sym, ap, arith, subst, inl, inr}
 use Rattle.std.specs.Prelude.{◌==◌, ◌&&◌, nat_lt, IsTrue, if◌then◌else◌, cond}
 use Rattle.std.proofs.lemmas.Bool.{cases_eq, eq-eqb, ne_eqb, eqb-true, ltb-true, and_parts, or_left, or_right, false≢true}
+use Rattle.std.proofs.lemmas.List.{take-append-le, take_all, length_push}
 use Rattle.lt_modes.specs.declared.moves.Step.{Step}
 use Rattle.lt_modes.specs.declared.moves.Step.TheVariants.{Act, Take}
 use Rattle.lt_modes.specs.Script.{ScriptData}
@@ -13,6 +14,7 @@ use Rattle.lt_runs.specs.Log.{Logged}
 use Rattle.lt_runs.specs.World.{World, world_after, logged, is_enabled}
 use Rattle.lt_checking.proofs.Places.{stamp_node, count_push}
 use Rattle.lt_world.specs.Fields.{moves_of, can_move, is_full, full_node}
+use Rattle.lt_serve.specs.Endings.{StopsInTime}
 
 -- the moves that the nodes may still make
 abbrev pub room_left : ScriptData → ℕ → List Logged → ℕ
@@ -90,6 +92,16 @@ stays_within script limit run w q step within room k = elim (cases_eq k q) [
   | inl same ↦ subst (λ (i : ℕ). moves_of i (run ++ logged script w q step ∷ []) ≤ limit) (sym same) (omega (arith, moved_one w script run q step, room))
   | inr other ↦ omega (arith, moved_none w script run q k step other, within k)
 ]
+
+-- a move that is made where no node is full
+pub stays_in_time : (script : ScriptData) (limit : ℕ) (run : List Logged) (entry : Logged) → StopsInTime limit script run
+    → full_node script limit run ≡ None → StopsInTime limit script (run ++ entry ∷ [])
+stays_in_time script limit run entry before none k inside =
+    let within : k ≤ length run = omega (arith, inside, length_push run entry) in
+    ap (full_node script limit) (take-append-le k run (entry ∷ []) within) ∙ elim (cases_eq k (length run)) [
+      | inl same ↦ ap (λ (n : ℕ). full_node script limit (take n run)) same ∙ (ap (full_node script limit) (take_all (length run) run (omega arith)) ∙ none)
+      | inr other ↦ before k (omega (arith, within, other))
+    ]
 
 pub less_room : (script : ScriptData) (limit : ℕ) (run : List Logged) (w : World) (q : ℕ) (step : Step) → q < script.nodes
     → moves_of q run < limit → room_left script limit (run ++ logged script w q step ∷ []) < room_left script limit run

@@ -1,5 +1,5 @@
 -- How a run ended, and what is known of a run that was made.
-use Rattle.std.specs.Prelude.{◌≡◌, true, false, ℕ, List, Option, Some, None}
+use Rattle.std.specs.Prelude.{◌≡◌, ◌<◌, true, false, ℕ, List, Option, Some, None, length, take}
 use Rattle.lt_modes.specs.Script.{ScriptData}
 use Rattle.lt_runs.specs.Log.{Logged}
 use Rattle.lt_runs.specs.World.{world_after, IsRun, is_at_rest, anyone_waits}
@@ -19,6 +19,11 @@ EndsAs moves Stuck script run =
     (is_at_rest script (world_after script run) ≡ true) × (anyone_waits script (world_after script run) ≡ true)
 EndsAs moves (Cut node) script run = full_node script moves run ≡ Some node
 EndsAs moves other script run = ⊥
+
+-- before each move of the run no node had made as many moves as it may and had a further one: so the run stops at the first
+-- moment at which a node is so
+abbrev pub StopsInTime : ℕ → ScriptData → List Logged → Type 0
+StopsInTime moves script run = (k : ℕ) → k < length run → full_node script moves (take k run) ≡ None
 
 -- the node at which the run was cut
 abbrev pub cut_of : Status → Option ℕ

@@ -7,3 +7,4 @@ pub mod Complete
 pub mod Literals
 pub mod Input
 pub mod Heads
+pub mod Serves

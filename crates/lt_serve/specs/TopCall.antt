@@ -23,7 +23,7 @@ use Rattle.lt_words.specs.declared.command.Command.{Command}
 use Rattle.lt_words.specs.declared.command.Command.TheVariants.{Run, SimFirst, Sim, Check, Make, Soak}
 use Rattle.lt_serve.specs.declared.status.Status.{Status}
 use Rattle.lt_serve.specs.declared.status.Status.TheVariants.{Done, Stuck, Usage, Refused, TooLong, ReadFault, WriteFault, NoMemory, Cut, BadJournal}
-use Rattle.lt_serve.specs.Endings.{RanTo, cut_of}
+use Rattle.lt_serve.specs.Endings.{RanTo, StopsInTime, cut_of}
 use Rattle.lt_serve.specs.Orders.{AreDrawn}
 
 -- where the bytes are told, they denote this script
@@ -47,11 +47,13 @@ pub record Journals (moves : ℕ) (ending : Status) (left : Option (List ℕ)) (
 pub record JournalsFirst (moves : ℕ) (ending : Status) (left : Option (List ℕ)) (run : List Logged) (text : List ℕ) : Type 0 where
   pub journals : Journals moves ending left run text
   pub in_order : run ≡ first_run journals.script (length run)
+  pub in_time : StopsInTime moves journals.script run
 
 -- the same, each move drawn with the numbers of this seed
 pub record JournalsDrawn (seed moves : ℕ) (ending : Status) (left : Option (List ℕ)) (run : List Logged) (text : List ℕ) : Type 0 where
   pub journals : Journals moves ending left run text
   pub drawn : AreDrawn seed journals.script run
+  pub in_time : StopsInTime moves journals.script run
 
 -- the same, its moves in the order of their stamps
 pub record JournalsThreads (moves : ℕ) (ending : Status) (left : Option (List ℕ)) (run : List Logged) (text : List ℕ) : Type 0 where

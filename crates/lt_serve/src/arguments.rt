@@ -3,8 +3,7 @@ ghost use Rattle.std.specs.IoError.{error_kind};
 ghost use Rattle.std.specs.String.{string_bytes};
 ghost use Rattle.lt_limits.specs.declared.moves.TheConstants.{MAX_MOVES};
 ghost use Rattle.lt_words.specs.Words.{command_of};
-ghost use Rattle.lt_serve.specs.Causes.{HasCause};
-ghost use Rattle.lt_serve.specs.TopCall.{Tells};
+ghost use Rattle.lt_serve.specs.Serves.{Serves};
 
 use crate::serving::{Served, serve};
 use crate::status::Status;
@@ -23,8 +22,7 @@ pub fn program<R: Threads + Sync, S: Source, K: Sink, G: Gate>(
     sink: &mut K,
     gate: &G,
 ) -> Served
-    ensures causes { IfOk words.now (λ texts. HasCause (command_of (map string_bytes texts.items)) (S.left source.old) result.status) }
-    ensures tells { IfOk words.now (λ texts. Tells MAX_MOVES (command_of (map string_bytes texts.items)) result.status (S.left source.old) result.run.entries (K.held sink.old) (K.held sink.new)) }
+    ensures served { IfOk words.now (λ texts. Serves S.left S.given S.faults S.ends K.held K.faults MAX_MOVES (command_of (map string_bytes texts.items)) result source.old source.new sink.old sink.new) }
     ensures no_memory { IfErr words.now (λ error. error_kind error ≡ ErrorKind.OutOfMemory → result.status ≡ Status.NoMemory) }
     ensures no_text { IfErr words.now (λ error. error_kind error ≢ ErrorKind.OutOfMemory → result.status ≡ Status.Usage) }
     ensures unread { IfErr words.now (λ error. source.new ≡ source.old) }

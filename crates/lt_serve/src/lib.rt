@@ -22,7 +22,8 @@ mod threaded;
 
 pub use arguments::program;
 pub use laws::law_literals;
-pub use limits::{MAX_CAPACITY, MAX_INPUT, MAX_JOURNAL};
+pub use limits::{MAX_INPUT, MAX_JOURNAL};
+pub use lt_mail::MAX_CAPACITY;
 pub use lt_runner::Gate;
 pub use serving::{Served, Setup, USUAL, serve, serve_with};
 pub use status::Status;

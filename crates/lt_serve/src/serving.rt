@@ -1,11 +1,11 @@
 ghost use Rattle.std.specs.Prelude.{◌≡◌, ◌<◌, ◌≤◌, true, false, map, [], Some, IfOk, IfErr, OnOk};
 ghost use Rattle.std.specs.String.{string_bytes};
 ghost use Rattle.lt_limits.specs.declared.moves.TheConstants.{MAX_MOVES};
-ghost use Rattle.lt_serve.specs.declared.limits.TheConstants.{MAX_CAPACITY};
+ghost use Rattle.lt_mail.specs.declared.opening.TheConstants.{MAX_CAPACITY};
 ghost use Rattle.lt_words.specs.Words.{command_of};
-ghost use Rattle.lt_serve.specs.Causes.{HasCause, TellsSource, TellsSink, WritesNothing, IsReadWhole, IsEnding, IsRefusal, CanBeMade, reads, limit_of};
-ghost use Rattle.lt_serve.specs.Complete.{IsComplete};
-ghost use Rattle.lt_serve.specs.TopCall.{Tells, Does};
+ghost use Rattle.lt_serve.specs.Causes.{TellsSource, IsReadWhole, IsEnding, IsRefusal, CanBeMade, reads, limit_of};
+ghost use Rattle.lt_serve.specs.Serves.{Serves};
+ghost use Rattle.lt_serve.specs.TopCall.{Does};
 
 use crate::checking::checked;
 use crate::made::{Made, write_made};
@@ -56,29 +56,7 @@ pub fn serve<R: Threads + Sync, S: Source, K: Sink, G: Gate>(
     sink: &mut K,
     gate: &G,
 ) -> Served
-    ensures causes { HasCause (command_of (map string_bytes words.now)) (S.left source.old) result.status }
-    ensures reading { reads (command_of (map string_bytes words.now)) ≡ true → TellsSource (limit_of (command_of (map string_bytes words.now))) result.status (record {
-      given = S.given source.old;
-      faults = S.faults source.old;
-      ends = S.ends source.old;
-    }) (record {
-      given = S.given source.new;
-      faults = S.faults source.new;
-      ends = S.ends source.new;
-    }) }
-    ensures unread { reads (command_of (map string_bytes words.now)) ≡ false → source.new ≡ source.old }
-    ensures writing { TellsSink result.status (K.faults sink.old) (K.faults sink.new) }
-    ensures unwritten { WritesNothing result.status → sink.new ≡ sink.old }
-    ensures complete { IsComplete (command_of (map string_bytes words.now)) (S.left source.old) result.status (record {
-      given = S.given source.old;
-      faults = S.faults source.old;
-      ends = S.ends source.old;
-    }) (record {
-      given = S.given source.new;
-      faults = S.faults source.new;
-      ends = S.ends source.new;
-    }) (K.faults sink.old) (K.faults sink.new) }
-    ensures tells { Tells MAX_MOVES (command_of (map string_bytes words.now)) result.status (S.left source.old) result.run.entries (K.held sink.old) (K.held sink.new) }
+    ensures { Serves S.left S.given S.faults S.ends K.held K.faults MAX_MOVES (command_of (map string_bytes words.now)) result source.old source.new sink.old sink.new }
 {
     serve_with(rt, alloc, USUAL, words, source, sink, gate)
 }
@@ -98,35 +76,7 @@ pub fn serve_with<R: Threads + Sync, S: Source, K: Sink, G: Gate>(
 ) -> Served
     requires moves { (0 < setup.moves) × (setup.moves ≤ MAX_MOVES) }
     requires capacity { (0 < setup.capacity) × (setup.capacity ≤ MAX_CAPACITY) }
-
-    // Why the answer came, and what it says of the source and the sink.
-    ensures causes { HasCause (command_of (map string_bytes words.now)) (S.left source.old) result.status }
-    ensures reading { reads (command_of (map string_bytes words.now)) ≡ true → TellsSource (limit_of (command_of (map string_bytes words.now))) result.status (record {
-      given = S.given source.old;
-      faults = S.faults source.old;
-      ends = S.ends source.old;
-    }) (record {
-      given = S.given source.new;
-      faults = S.faults source.new;
-      ends = S.ends source.new;
-    }) }
-    ensures unread { reads (command_of (map string_bytes words.now)) ≡ false → source.new ≡ source.old }
-    ensures writing { TellsSink result.status (K.faults sink.old) (K.faults sink.new) }
-    ensures unwritten { WritesNothing result.status → sink.new ≡ sink.old }
-
-    // What it is where nothing goes wrong.
-    ensures complete { IsComplete (command_of (map string_bytes words.now)) (S.left source.old) result.status (record {
-      given = S.given source.old;
-      faults = S.faults source.old;
-      ends = S.ends source.old;
-    }) (record {
-      given = S.given source.new;
-      faults = S.faults source.new;
-      ends = S.ends source.new;
-    }) (K.faults sink.old) (K.faults sink.new) }
-
-    // What the run is, how it ended, and what was written.
-    ensures tells { Tells setup.moves (command_of (map string_bytes words.now)) result.status (S.left source.old) result.run.entries (K.held sink.old) (K.held sink.new) }
+    ensures { Serves S.left S.given S.faults S.ends K.held K.faults setup.moves (command_of (map string_bytes words.now)) result source.old source.new sink.old sink.new }
 {
     let command = match Command::from_words(alloc, words) {
         Ok(Some(command)) => command,

@@ -4,7 +4,7 @@ ghost use Rattle.lt_runs.specs.FixedOrder.{first_run};
 ghost use Rattle.lt_journal.specs.Text.{text_of};
 ghost use Rattle.lt_limits.specs.declared.moves.TheConstants.{MAX_MOVES};
 ghost use Rattle.lt_serve.specs.Orders.{AreDrawn};
-ghost use Rattle.lt_serve.specs.Endings.{RanTo, cut_of};
+ghost use Rattle.lt_serve.specs.Endings.{RanTo, StopsInTime, cut_of};
 ghost use Rattle.lt_serve.specs.declared.limits.TheConstants.{MAX_INPUT};
 ghost use Rattle.lt_words.specs.declared.command.Command.TheVariants as command;
 ghost use Rattle.lt_serve.specs.Causes.{TellsSource, IsReadWhole, IsRefusal};
@@ -27,6 +27,7 @@ pub(crate) fn first_journal(alloc: Global, script: &Script, moves: u32) -> Resul
     requires moves { (0 < moves) × (moves ≤ MAX_MOVES) }
     ensures ran { IfOk result (λ made. RanTo moves made.ending script.now made.run.entries) }
     ensures first { IfOk result (λ made. made.run.entries ≡ first_run script.now (length made.run.entries)) }
+    ensures in_time { IfOk result (λ made. StopsInTime moves script.now made.run.entries) }
     ensures text { IfOk result (λ made. made.text.items ≡ text_of script.now made.run.entries (cut_of made.ending)) }
 {
     let (ending, run) = simulate(alloc, script, moves, Order::First)?;
@@ -45,6 +46,7 @@ pub(crate) fn drawn_journal(
     requires moves { (0 < moves) × (moves ≤ MAX_MOVES) }
     ensures ran { IfOk result (λ made. RanTo moves made.ending script.now made.run.entries) }
     ensures drawn { IfOk result (λ made. AreDrawn seed script.now made.run.entries) }
+    ensures in_time { IfOk result (λ made. StopsInTime moves script.now made.run.entries) }
     ensures text { IfOk result (λ made. made.text.items ≡ text_of script.now made.run.entries (cut_of made.ending)) }
 {
     let (ending, run) = simulate(alloc, script, moves, Order::Drawn(Draws::new(seed)))?;

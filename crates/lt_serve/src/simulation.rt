@@ -4,7 +4,7 @@ ghost use Rattle.lt_runs.specs.World.{is_at_rest};
 ghost use Rattle.lt_limits.specs.declared.moves.TheConstants.{MAX_MOVES};
 ghost use Rattle.lt_world.specs.Fields.{world_of, full_node};
 ghost use Rattle.lt_serve.specs.Orders.{AreInOrder};
-ghost use Rattle.lt_serve.specs.Endings.{EndsAs, RanTo};
+ghost use Rattle.lt_serve.specs.Endings.{EndsAs, RanTo, StopsInTime};
 
 use crate::order::Order;
 use crate::status::Status;
@@ -26,6 +26,7 @@ pub(crate) fn simulate(
     requires moves { (0 < moves) × (moves ≤ MAX_MOVES) }
     ensures ran { IfOk result (λ made. RanTo moves made.0 script.now made.1.entries) }
     ensures in_order { IfOk result (λ made. AreInOrder order script.now made.1.entries) }
+    ensures in_time { IfOk result (λ made. StopsInTime moves script.now made.1.entries) }
 {
     law_promised();
     let mut world = World::new(alloc, script, moves)?;
@@ -40,6 +41,7 @@ fn make_moves(world: &mut World<'_>, order: Order) -> Result<(), AllocError>
     requires limit { 0 < world.old.limit }
     ensures script { (world.new.script ≡ world.old.script) × (world.new.limit ≡ world.old.limit) }
     ensures in_order { OnOk result (AreInOrder order world.new.script world.new.run) }
+    ensures in_time { OnOk result (StopsInTime world.new.limit world.new.script world.new.run) }
     ensures over { OnOk result (full_node world.new.script world.new.limit world.new.run ≡ None
         → IsTrue (is_at_rest world.new.script (world_of world.new))) }
 {

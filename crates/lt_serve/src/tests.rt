@@ -1,12 +1,13 @@
 mod answers;
 mod journals;
+mod meeting;
 mod pieces;
 mod refusals;
 mod threads;
 
 ghost use Rattle.std.specs.Prelude.{◌<◌, ◌≤◌};
 ghost use Rattle.lt_limits.specs.declared.moves.TheConstants.{MAX_MOVES};
-ghost use Rattle.lt_serve.specs.declared.limits.TheConstants.{MAX_CAPACITY};
+ghost use Rattle.lt_mail.specs.declared.opening.TheConstants.{MAX_CAPACITY};
 
 use super::{Gate, Setup, Status, USUAL, serve_with};
 use lt_io::{MemorySink, MemorySource};

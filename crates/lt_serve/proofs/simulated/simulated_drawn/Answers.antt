@@ -9,4 +9,5 @@ returns-in-Ok-clause-does g c = record {
     journal = c.in-Ok.ensures.text;
   };
   drawn = c.in-Ok.ensures.drawn;
+  in_time = c.in-Ok.ensures.in_time;
 }

@@ -9,4 +9,5 @@ returns-in-Ok-clause-does g c = record {
     journal = c.in-Ok.ensures.text;
   };
   in_order = c.in-Ok.ensures.first;
+  in_time = c.in-Ok.ensures.in_time;
 }

@@ -5,9 +5,10 @@ use Rattle.lt_runs.specs.World.{start, logged, is_enabled}
 use Rattle.lt_runs.specs.FixedOrder.{count_turns}
 use Rattle.lt_world.specs.Fields.{WorldData, full_node, world_of}
 use Rattle.lt_serve.specs.declared.order.Order.{Order}
+use Rattle.lt_serve.specs.Endings.{StopsInTime}
 use Rattle.lt_serve.specs.Orders.{IsAt, place_of, AreInOrder}
 use Rattle.lt_serve.proofs.Ordered.{order_after, one_more, order_more, picked}
-use Rattle.lt_serve.proofs.Rooms.{IsWithin, room_left, may_move, stays_within, less_room, mover_within}
+use Rattle.lt_serve.proofs.Rooms.{IsWithin, room_left, may_move, stays_within, stays_in_time, less_room, mover_within}
 use Rattle.lt_serve.proofs.simulation.make_moves.Goals as goal
 
 pub step-requires-clause-room : goal.step-requires-clause-room
@@ -54,6 +55,7 @@ loop-order-preserved c =
       script = ap (λ (v : WorldData). v.script) stepped ∙ c.loop-order.invariant.script;
       limit = ap (λ (v : WorldData). v.limit) stepped ∙ c.loop-order.invariant.limit;
       within = subst (λ (v : WorldData). IsWithin v.limit v.run) (sym stepped) (stays_within w.script w.limit w.run (world_of w) choice.node choice.step c.loop-order.invariant.within may);
+      in_time = subst (λ (v : WorldData). StopsInTime v.limit v.script v.run) (sym stepped) (stays_in_time w.script w.limit w.run entry c.loop-order.invariant.in_time none);
       in_order = subst (λ (v : WorldData). AreInOrder c.args.order v.script v.run) (sym stepped) in_order;
       order = subst (λ (v : WorldData). c.choose.new.self ≡ order_after v.script (start v.script) c.args.order v.run) (sym stepped) order;
     }

@@ -1,5 +1,6 @@
 use Rattle.std.proofs.Common.{◌≡◌}
 use Rattle.lt_runs.specs.World.{start}
+use Rattle.lt_serve.specs.Endings.{StopsInTime}
 use Rattle.lt_serve.specs.Orders.{AreInOrder}
 use Rattle.lt_serve.proofs.Ordered.{order_after}
 use Rattle.lt_serve.proofs.Rooms.{IsWithin, room_left}
@@ -10,6 +11,7 @@ invariant-loop-order l = record {
   script : l.world.script ≡ l.initial.world.script;
   limit : l.world.limit ≡ l.initial.world.limit;
   within : IsWithin l.world.limit l.world.run;
+  in_time : StopsInTime l.world.limit l.world.script l.world.run;
   in_order : AreInOrder l.initial.order l.world.script l.world.run;
   order : l.order ≡ order_after l.world.script (start l.world.script) l.initial.order l.world.run;
 }
