@@ -1,6 +1,8 @@
 -- What the exit statuses, their texts and the limits are.
 use Rattle.std.specs.Prelude.{◌≡◌, [], codes}
 use Rattle.lt_script.specs.declared.fault.Fault.TheVariants as faults
+use Rattle.lt_io.specs.declared.piece.TheConstants.{MAX_PIECE}
+use Rattle.lt_held.specs.HeldData.{most_locks}
 use Rattle.lt_limits.specs.declared.moves.TheConstants.{MAX_MOVES}
 use Rattle.lt_mail.specs.declared.opening.TheConstants.{MAX_CAPACITY}
 use Rattle.lt_serve.specs.declared.limits.TheConstants.{MAX_INPUT, MAX_JOURNAL}
@@ -42,4 +44,8 @@ pub record LimitsAre : Type 0 where
   pub journal : MAX_JOURNAL ≡ 67108864
   pub capacity : MAX_CAPACITY ≡ 1024
   pub moves : MAX_MOVES ≡ 1048576
+  -- a piece of an input, in bytes
+  pub piece : MAX_PIECE ≡ 4096
+  -- locks of one mode that a client holds in a set
+  pub locks : most_locks ≡ 65536
   pub usual : USUAL ≡ record { moves = 1048576; capacity = 64; patience = 256 }
