@@ -1,5 +1,5 @@
 -- A command that came to no end has something against it.
-use Rattle.std.proofs.Common.{◌≡◌, ◌≤◌, ℕ, List, Option, Some, refl, sym, subst, arith, true}
+use Rattle.std.proofs.Common.{◌≡◌, ◌≤◌, ℕ, List, Option, Some, refl, arith, true}
 use Rattle.lt_io.specs.FaultCounts.{Counts, RoseBy, count_after}
 use Rattle.lt_words.specs.declared.command.Command.{Command}
 use Rattle.lt_serve.specs.declared.status.Status.{Status}

@@ -1,3 +1,4 @@
+mod Answering
 mod Causing
 mod Completing
 mod Feeding
@@ -5,6 +6,5 @@ mod Journals
 mod LastLines
 mod Ordered
 mod Rooms
-mod Serving
 mod Told
 mod TwoParts

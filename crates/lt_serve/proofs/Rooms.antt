@@ -98,10 +98,11 @@ pub stays_in_time : (script : ScriptData) (limit : ℕ) (run : List Logged) (ent
     → full_node script limit run ≡ None → StopsInTime limit script (run ++ entry ∷ [])
 stays_in_time script limit run entry before none k inside =
     let within : k ≤ length run = omega (arith, inside, length_push run entry) in
-    ap (full_node script limit) (take-append-le k run (entry ∷ []) within) ∙ elim (cases_eq k (length run)) [
+    let here : full_node script limit (take k run) ≡ None = elim (cases_eq k (length run)) [
       | inl same ↦ ap (λ (n : ℕ). full_node script limit (take n run)) same ∙ (ap (full_node script limit) (take_all (length run) run (omega arith)) ∙ none)
       | inr other ↦ before k (omega (arith, within, other))
-    ]
+    ] in
+    ap (full_node script limit) (take-append-le k run (entry ∷ []) within) ∙ here
 
 pub less_room : (script : ScriptData) (limit : ℕ) (run : List Logged) (w : World) (q : ℕ) (step : Step) → q < script.nodes
     → moves_of q run < limit → room_left script limit (run ++ logged script w q step ∷ []) < room_left script limit run

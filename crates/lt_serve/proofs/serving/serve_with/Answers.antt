@@ -2,7 +2,7 @@ use Rattle.std.proofs.Common.{◌≡◌, ◌∙◌, Some, map, sym, subst}
 use Rattle.std.specs.String.{string_bytes}
 use Rattle.lt_words.specs.Words.{command_of}
 use Rattle.lt_serve.proofs.Causing.{MayBeMade, may_be_made}
-use Rattle.lt_serve.proofs.Serving.{refusal_serves, written_serves}
+use Rattle.lt_serve.proofs.Answering.{refusal_serves, written_serves}
 use Rattle.lt_serve.proofs.serving.serve_with.Goals as goal
 
 pub make-requires-clause-possible : goal.make-requires-clause-possible

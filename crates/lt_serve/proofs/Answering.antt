@@ -1,6 +1,5 @@
 -- What an answer says of a command: once its text is written, and where it came to no end.
-use Rattle.std.proofs.Common.{◌≡◌, ◌∙◌, true, false, ℕ, List, [], Option, Some, refl, sym, subst, inl, inr}
-use Rattle.std.specs.Prelude.{◌≢◌}
+use Rattle.std.proofs.Common.{◌≡◌, true, false, ℕ, List, [], Option, Some, refl, sym, subst, inl, inr}
 use Rattle.lt_io.specs.FaultCounts.{Counts}
 use Rattle.lt_runs.specs.Log.{Logged}
 use Rattle.lt_words.specs.declared.command.Command.{Command}
