@@ -44,6 +44,7 @@ mod laws;
 mod line;
 mod line_words;
 mod lock;
+mod meaning;
 mod names;
 mod reading;
 #[cfg(test)]

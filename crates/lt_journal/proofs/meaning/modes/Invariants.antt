@@ -4,7 +4,7 @@ use Rattle.lt_journal.specs.Words.{all_modes}
 use Rattle.lt_text.specs.Text.{fields}
 use Rattle.lt_journal.specs.Grammar.{with_words, words_left}
 use Rattle.lt_journal.specs.declared.closing.TheConstants.{MODES}
-use Rattle.lt_journal.proofs.grammar.modes.Given as goal
+use Rattle.lt_journal.proofs.meaning.modes.Given as goal
 
 -- the modes and words that are left add to the modes found what all of them add to none
 abbrev pub invariant-loop-mode : goal.invariant-loop-mode
