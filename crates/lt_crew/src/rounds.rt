@@ -14,7 +14,7 @@ use std::thread::Threads;
 pub enum Ended {
     /// No move is enabled.
     Rest,
-    /// This node has made as many moves as it may, and so has each other one that could make one more.
+    /// This node, the least that could make a move, has made as many as it may.
     Cut(u8),
     NoMemory,
 }
