@@ -127,3 +127,58 @@ fn two_nodes_make_their_moves(rt: HostRuntime) -> Result<(), Fail> {
     assert_eq!(rt; out.next_event(), None);
     Ok(())
 }
+
+// Four nodes with a writer each; the last is at the node that has the token at the start.
+fn writers(alloc: Global) -> Result<Script, AllocError> {
+    let lock = Command::Lock {
+        set: 0,
+        mode: Mode::Write,
+    };
+    let mut script = Script::new(alloc, 4)?;
+    script.add_set("s".as_bytes(), 0)?;
+    script.add_client("b".as_bytes(), 1)?;
+    script.add_client("c".as_bytes(), 2)?;
+    script.add_client("d".as_bytes(), 3)?;
+    script.add_client("a".as_bytes(), 0)?;
+    script.add_command(0, lock)?;
+    script.add_command(1, lock)?;
+    script.add_command(2, lock)?;
+    script.add_command(3, lock)?;
+    Ok(script)
+}
+
+// Takes the letter that was sent last, where it is for the node and fits.
+fn take_sent(node: &mut Node<'_>, out: &mut Out) -> Result<bool, AllocError>
+    ensures { node.new.script ≡ node.old.script }
+{
+    match out.next_letter() {
+        Some(post) if post.to == node.me() => take(node, post.letter, out),
+        _ => Ok(false),
+    }
+}
+
+#[test]
+fn asks_park_behind_asks(rt: HostRuntime) -> Result<(), Fail> {
+    let script = writers(rt.alloc())?;
+    let mut out = Out::new(rt.alloc());
+    assert_eq!(rt; script.nodes(), 4);
+    let mut a = Node::new(rt.alloc(), &script, 0)?;
+    let mut b = Node::new(rt.alloc(), &script, 1)?;
+    let mut c = Node::new(rt.alloc(), &script, 2)?;
+    let mut d = Node::new(rt.alloc(), &script, 3)?;
+    assert_eq!(rt; act(&mut b, &script, 0, &mut out)?, Some(Answer::Waits));
+    assert!(rt; take_sent(&mut a, &mut out)?);
+    assert!(rt; take_sent(&mut b, &mut out)?);
+    assert_eq!(rt; act(&mut c, &script, 1, &mut out)?, Some(Answer::Waits));
+    assert!(rt; take_sent(&mut a, &mut out)?);
+    assert!(rt; take_sent(&mut b, &mut out)?);
+    assert_eq!(rt; act(&mut d, &script, 2, &mut out)?, Some(Answer::Waits));
+    assert!(rt; take_sent(&mut a, &mut out)?);
+    assert!(rt; take_sent(&mut c, &mut out)?);
+    assert_eq!(rt; act(&mut a, &script, 3, &mut out)?, Some(Answer::Waits));
+    assert!(rt; take_sent(&mut d, &mut out)?);
+    assert!(rt; b.cores.first().is_some_and(|core| core.queues(1)));
+    assert!(rt; c.cores.first().is_some_and(|core| core.parks(2)));
+    assert!(rt; d.cores.first().is_some_and(|core| core.parks(3)));
+    Ok(())
+}
