@@ -75,9 +75,21 @@ fn is_told_cut(
     journal: &[u8],
     want: (bool, u32),
 ) -> Result<bool, Fail> {
+    is_told_cut_at(alloc, script, journal, want, (0, journal.len()))
+}
+
+// Whether it is told so where it is cut in two at each place from the first of these to the one before the second.
+fn is_told_cut_at(
+    alloc: Global,
+    script: &str,
+    journal: &[u8],
+    want: (bool, u32),
+    places: (usize, usize),
+) -> Result<bool, Fail> {
     let script = script_of(alloc, script)?;
+    let (first, end) = places;
     let mut same = true;
-    for at in 0..journal.len() {
+    for at in first..end {
         same = same && told_in_two(alloc, &script, journal, at)? == want;
     }
     Ok(same)
@@ -143,6 +155,7 @@ fn names_the_first_bad_line(rt: HostRuntime) -> Result<(), Fail> {
         (6, "", 6),
         (6, "token s 1 1\nmove 3 0 take 1\n", 7),
         (6, "token s 1 1\ntoken s 1 1\n", 7),
+        (8, "freeze s 0 1 none\ngrant b s read\n", 8),
         (5, "move 3 0 take 1\n", 5),
         (5, "move 2 0 take 0\n", 5),
         (5, "move 02 0 take 1\n", 5),
@@ -183,7 +196,8 @@ fn names_the_first_bad_line_of_a_long_journal(rt: HostRuntime) -> Result<(), Fai
     Ok(())
 }
 
-// Without its last bytes the last line is bad; without the line end alone it is whole.
+// Without its last bytes the last line is bad; without the line end alone it is whole. A journal that ends after a whole
+// line lacks the next one. Each of these is fed in small pieces, and cut in two at each place.
 #[test]
 fn ends_early(rt: HostRuntime) -> Result<(), Fail> {
     let journal = LATE_COPY.as_bytes();
@@ -191,10 +205,15 @@ fn ends_early(rt: HostRuntime) -> Result<(), Fail> {
         let (front, _) = journal.split_at(journal.len().saturating_sub(k));
         let want = if k == 1 { (true, 19) } else { (false, 39) };
         assert!(rt; is_told(rt.alloc(), LATE_COPY_SCRIPT, front, want)?, "{k}");
+        assert!(rt;
+            is_told_cut(rt.alloc(), LATE_COPY_SCRIPT, front, want)?,
+            "{k}"
+        );
     }
     let first: &[u8] = b"move 1 0 act a\ngrant a s intention_read\nmove 1 1 act b\nwait b s read\n\
         move 2 0 take 1\ntoken s 1 1\n";
     assert!(rt; is_told(rt.alloc(), TWO_NODES_SCRIPT, first, (false, 7))?);
+    assert!(rt; is_told_cut(rt.alloc(), TWO_NODES_SCRIPT, first, (false, 7))?);
     Ok(())
 }
 
@@ -225,14 +244,47 @@ fn names_lines_that_are_missing_or_cut(rt: HostRuntime) -> Result<(), Fail> {
     Ok(())
 }
 
-// With any one of its lines exchanged, a journal is refused at that line.
+// No line of a journal: it has a blank behind its number.
+const EXCHANGED: &str = "end 19 \n";
+
+// Whether the journal, with any one of its first lines exchanged, is refused at that line: once it was read, in small
+// pieces, and cut in two at each place of that line.
+fn is_refused_at_each(
+    alloc: Global,
+    script: &str,
+    journal: &str,
+    lines: u32,
+) -> Result<bool, Fail> {
+    let mut refused = true;
+    for k in 1..=lines {
+        let changed = with_line(alloc, journal, k, EXCHANGED)?;
+        let places = places_of(&changed, EXCHANGED.as_bytes());
+        let want = (false, k);
+        refused = refused
+            && places.0 < places.1
+            && is_told(alloc, script, &changed, want)?
+            && is_told_cut_at(alloc, script, &changed, want, places)?;
+    }
+    Ok(refused)
+}
+
+// From where the line begins to the place after its end; none where it isn't there.
+fn places_of(journal: &[u8], line: &[u8]) -> (usize, usize) {
+    let size = line.len();
+    match journal.windows(size.max(1)).position(|part| part == line) {
+        Some(first) => (first, first.saturating_add(size).saturating_add(1)),
+        None => (0, 0),
+    }
+}
+
+// All lines of both long journals. Cut at each place of the whole text are the journals of the tests above.
 #[test]
 fn refuses_each_line_that_is_exchanged(rt: HostRuntime) -> Result<(), Fail> {
-    for k in 1..40 {
-        let journal = with_line(rt.alloc(), LATE_COPY, k, "end 19 \n")?;
+    let cases = [(LATE_COPY_SCRIPT, LATE_COPY, 39), (TELLS_SCRIPT, TELLS, 37)];
+    for (script, journal, lines) in cases {
         assert!(rt;
-            is_told(rt.alloc(), LATE_COPY_SCRIPT, &journal, (false, k))?,
-            "{k}"
+            is_refused_at_each(rt.alloc(), script, journal, lines)?,
+            "{lines}"
         );
     }
     Ok(())

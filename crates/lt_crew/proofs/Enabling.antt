@@ -7,13 +7,14 @@ use Rattle.lt_modes.specs.Script.{ScriptData}
 use Rattle.lt_joined.specs.CanMove.{can_move, RestIsNoMove}
 use Rattle.lt_runner.specs.declared.parts.Parts.{Parts}
 use Rattle.lt_runner.specs.Crew.{InCrew}
-use Rattle.lt_runner.specs.Kept.{SameRunner}
+use Rattle.lt_runner.specs.Kept.{SameRunner, AsSeen}
 use Rattle.lt_runner.specs.Choices.{choice_of}
 use Rattle.lt_runner.specs.Looking.{is_move}
+use Rattle.lt_runner.proofs.KeptLemmas.{seen_join}
 use Rattle.lt_crew.specs.Together.{EachIs, AreKept, IsCrew, crew_world}
 use Rattle.lt_crew.specs.Meeting.{AreLinked, AreMet, AnyTwo, HaveFetched}
-use Rattle.lt_crew.specs.Enabled.{IsLeastEnabled, IsFirstMove, NoneShows}
-use Rattle.lt_crew.proofs.Each.{each_before}
+use Rattle.lt_crew.specs.Enabled.{IsLeastEnabled, EachShows, IsFirstMove, NoneShows}
+use Rattle.lt_crew.proofs.Each.{each_before, each_join, each_weaker}
 use Rattle.lt_crew.proofs.Pairs.{links_last, each_len}
 use Rattle.lt_crew.proofs.Shown.{shows_is}
 
@@ -38,6 +39,11 @@ crew_last script old new same crew = record {
           limit = subst (λ (n : ℕ). n ≤ 1048576) (sym is.limit) before.limit;
         }
 
+-- a crew whose runners looked twice is that crew
+pub crew_seen : (script : ScriptData) (old mid new : List Parts) → EachIs AsSeen old mid → EachIs AsSeen mid new → IsCrew script old → IsCrew script new
+crew_seen script old mid new first second crew =
+    crew_last script old new (each_weaker AsSeen SameRunner (λ a b seen. seen.same) old new (each_join AsSeen seen_join old mid new first second)) crew
+
 same : {a b : Parts} → Some a ≡ Some b → a ≡ b
 same e = cc
 
@@ -53,25 +59,29 @@ first_shows n rs d inside before here = (record { p = get_or rs n d; here = slic
 pub none_shows : (n : ℕ) (rs : List Parts) → length rs ≤ n → NoneShows n rs → IsFirstMove rs None
 none_shows n rs long before k p e = let inside = slice_get_within rs k p e in before k p (omega (arith, inside, long)) e
 
-pub least_is : RestIsNoMove → (script : ScriptData) (rs : List Parts) (n : ℕ) (first : Option ℕ) → IsCrew script rs → AreKept rs → AreMet AnyTwo rs
-    → HaveFetched n rs → length rs ≤ n → IsFirstMove rs first → IsLeastEnabled script (crew_world script rs) first
-least_is rest script rs n None crew kept met fetched long none = (rest script (crew_world script rs) crew.is_script).1 (λ q below. still q below)
+-- with a letter known to come fetched, each shows whether its node can move
+pub all_show : (script : ScriptData) (rs : List Parts) (n : ℕ) → IsCrew script rs → AreKept rs → AreMet AnyTwo rs → HaveFetched n rs → length rs ≤ n → EachShows script rs
+all_show script rs n crew kept met fetched long k p here =
+    shows_is script rs crew kept met k p here (fetched k p (omega (arith, slice_get_within rs k p here, long)) here)
+
+pub least_is : RestIsNoMove → (script : ScriptData) (rs : List Parts) (first : Option ℕ) → IsCrew script rs → EachShows script rs → IsFirstMove rs first
+    → IsLeastEnabled script (crew_world script rs) first
+least_is rest script rs None crew all none = (rest script (crew_world script rs) crew.is_script).1 (λ q below. still q below)
   where
     still : (q : ℕ) → q < script.nodes → can_move script (crew_world script rs) q ≡ false
     still q below = elim (slice_get_cases rs q).1 [
-      | inl there ↦ sym (shows_is script rs crew kept met q there.0 there.2 (fetched q there.0 (omega (arith, there.1, long)) there.2)) ∙ none q there.0 there.2
+      | inl there ↦ sym (all q there.0 there.2) ∙ none q there.0 there.2
       | inr past ↦ absurd (omega (arith, past.0, crew.count, below))
     ]
-least_is rest script rs n (Some k) crew kept met fetched long first =
-    let p = first.0.p in
-    let inside = slice_get_within rs k p first.0.here in (
+least_is rest script rs (Some k) crew all first =
+    let inside = slice_get_within rs k first.0.p first.0.here in (
       omega (arith, inside, crew.count),
-      sym (shows_is script rs crew kept met k p first.0.here (fetched k p (omega (arith, inside, long)) first.0.here)) ∙ first.0.shows,
+      sym (all k first.0.p first.0.here) ∙ first.0.shows,
       λ j below. still j below,
     )
   where
     still : (j : ℕ) → j < k → can_move script (crew_world script rs) j ≡ false
     still j below = elim (slice_get_cases rs j).1 [
-      | inl there ↦ sym (shows_is script rs crew kept met j there.0 there.2 (fetched j there.0 (omega (arith, there.1, long)) there.2)) ∙ first.1 j there.0 below there.2
+      | inl there ↦ sym (all j there.0 there.2) ∙ first.1 j there.0 below there.2
       | inr past ↦ let inside = slice_get_within rs k first.0.p first.0.here in absurd (omega (arith, past.0, inside, below))
     ]

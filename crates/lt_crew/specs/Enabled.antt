@@ -6,12 +6,17 @@ use Rattle.lt_joined.specs.CanMove.{can_move}
 use Rattle.lt_runner.specs.declared.parts.Parts.{Parts}
 use Rattle.lt_runner.specs.Choices.{choice_of}
 use Rattle.lt_runner.specs.Looking.{is_move}
+use Rattle.lt_crew.specs.Together.{crew_world}
 
 -- the least node that can make a move in this world, or none, at rest
 abbrev pub IsLeastEnabled : ScriptData → World → Option ℕ → Type 0
 IsLeastEnabled script w None = is_at_rest script w ≡ true
 IsLeastEnabled script w (Some k) =
     (k < script.nodes) × (can_move script w k ≡ true) × ((j : ℕ) → j < k → can_move script w j ≡ false)
+
+-- each runner shows a move exactly where its node can make one in the world of the crew
+abbrev pub EachShows : ScriptData → List Parts → Type 0
+EachShows script rs = (k : ℕ) (p : Parts) → slice_get rs k ≡ Some p → is_move (choice_of p) ≡ can_move script (crew_world script rs) k
 
 -- none of the first n runners shows a move
 abbrev pub NoneShows : ℕ → List Parts → Type 0

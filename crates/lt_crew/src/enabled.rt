@@ -2,7 +2,7 @@
 ghost use Rattle.std.specs.Prelude.{◌≡◌, length};
 ghost use Rattle.lt_runner.specs.Kept.{AsSeen};
 ghost use Rattle.lt_crew.specs.Together.{EachIs, IsCrew, crew_world};
-ghost use Rattle.lt_crew.specs.Enabled.{IsLeastEnabled, IsFirstMove};
+ghost use Rattle.lt_crew.specs.Enabled.{IsLeastEnabled, EachShows, IsFirstMove};
 
 use crate::fetching::{all_kept, fetch_all};
 use crate::settling::settle;
@@ -19,6 +19,7 @@ pub fn any_enabled<'a>(script: &Script, runners: &mut Vec<Runner<'a>>) -> Option
     ensures crew { IsCrew script.now runners.new.items }
     ensures seen { EachIs AsSeen runners.old.items runners.new.items }
     ensures least { IsLeastEnabled script.now (crew_world script.now runners.new.items) result }
+    ensures all { EachShows script.now runners.new.items }
     ensures shows { IsFirstMove runners.new.items result }
 {
     law_can_move();

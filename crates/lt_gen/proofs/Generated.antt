@@ -14,10 +14,10 @@ use Rattle.lt_gen.specs.declared.group.Group.{Group}
 use Rattle.lt_gen.specs.declared.group.Group.TheVariants.{Last, Lock, Try, Upgrade, Change}
 use Rattle.lt_gen.specs.Draws.{draw_of, seeded}
 use Rattle.lt_gen.specs.Groups.{group_of, group_by, set_of, commands_of, requests_of}
-use Rattle.lt_gen.specs.Generator.{four_sets, client_at, clients_of, requests_in, CanMake, script_of}
+use Rattle.lt_gen.specs.Generator.{four_sets, client_at, clients_of, requests_in, CanMake, HasSizes, script_of}
 use Rattle.lt_gen.proofs.ClientNames.{name_made, name_is_new}
 use Rattle.lt_gen.proofs.Loads.{clients_counted, load_fits}
-use Rattle.lt_gen.proofs.Turns.{requests_counted}
+use Rattle.lt_gen.proofs.Turns.{some_commands, requests_counted}
 
 -- the nodes, these sets and these clients, and no commands
 without_commands : ℕ → List SetData → List ClientData → ScriptData
@@ -113,17 +113,30 @@ all_requests clients (suc n) count left turn g some counted = elim (cases_Bool (
       (all_requests clients n count (left - length (commands_of group)) (turn + 1) (group_of left g).1 some counted))
 ]
 
-few_requests : (n count left turn : ℕ) (g : Lcg) → length (requests_in n count left turn g) ≤ left
+-- as many turns as commands are left make exactly these
+exact_requests : (n count left turn : ℕ) (g : Lcg) → left ≤ n → length (requests_in n count left turn g) ≡ left
 unfolding requests_in
-few_requests zero count left turn g = omega arith
-few_requests (suc n) count left turn g = elim (cases_eq left 0) [
-  | inl none ↦ rw (eq-eqb left 0 none) (omega arith)
+exact_requests zero count left turn g enough = omega (arith, enough)
+exact_requests (suc n) count left turn g enough = elim (cases_eq left 0) [
+  | inl none ↦ rw (eq-eqb left 0 none) (sym none)
   | inr more ↦
       rw (ne_eqb left 0 more)
       (let group = (group_of left g).0 in
       let later = requests_in n count (left - length (commands_of group)) (turn + 1) (group_of left g).1 in
-      omega (arith, length-append (requests_of (turn % count) group) later, requests_counted (turn % count) group, few_drawn left g more, few_requests n count (left - length (commands_of group)) (turn + 1) (group_of left g).1))
+      let rest : length later ≡ left - length (commands_of group) = exact_requests n count (left - length (commands_of group)) (turn + 1) (group_of left g).1 (omega (arith, enough, some_commands group)) in
+      omega (arith, length-append (requests_of (turn % count) group) later, requests_counted (turn % count) group, few_drawn left g more, rest))
 ]
+
+all_of_them : (clients commands seed : ℕ) → length (requests_in commands clients commands 0 (seeded seed)) ≡ commands
+all_of_them clients commands seed = exact_requests commands clients commands 0 (seeded seed) (omega arith)
+
+pub has_sizes : (nodes clients commands seed : ℕ) → HasSizes nodes 4 clients commands (script_of nodes clients commands seed)
+has_sizes nodes clients commands seed = record {
+  nodes_are = refl;
+  sets_are = refl;
+  clients_are = clients_counted nodes clients;
+  commands_are = all_of_them clients commands seed;
+}
 
 pub is_script : (nodes clients commands seed : ℕ) → CanMake nodes clients commands → IsScript (script_of nodes clients commands seed)
 unfolding without_commands
@@ -143,6 +156,6 @@ is_script nodes clients commands seed can =
       clients_no_sets = base.clients_no_sets;
       homes = base.homes;
       loads = base.loads;
-      few_commands = omega (arith, few_requests commands clients commands 0 (seeded seed), can.few_commands);
+      few_commands = omega (arith, all_of_them clients commands seed, can.few_commands);
       requests = All-from_recursion (IsRequest four_sets (clients_of nodes clients)) _ (all_requests (clients_of nodes clients) commands clients commands 0 (seeded seed) can.some_client (sym (clients_counted nodes clients)));
     }

@@ -10,7 +10,7 @@ use Rattle.lt_gen.specs.Groups.{group_of, commands_of, requests_of}
 use Rattle.lt_gen.specs.Generator.{requests_in}
 use Rattle.lt_gen.specs.Making.{Making}
 
-some_commands : (group : Group) → 0 < length (commands_of group)
+pub some_commands : (group : Group) → 0 < length (commands_of group)
 some_commands Last = omega arith
 some_commands (Lock set mode) = omega arith
 some_commands (Try set mode) = omega arith

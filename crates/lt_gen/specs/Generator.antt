@@ -1,5 +1,5 @@
 -- The script that is made from a number.
-use Rattle.std.specs.Prelude.{ℕ, zero, suc, ◌+◌, ◌-◌, ◌*◌, ◌%◌, ◌<◌, ◌≤◌, ◌==◌, if◌then◌else◌, List, [], ◌∷◌, ◌++◌, length, codes}
+use Rattle.std.specs.Prelude.{◌≡◌, ℕ, zero, suc, ◌+◌, ◌-◌, ◌*◌, ◌%◌, ◌<◌, ◌≤◌, ◌==◌, if◌then◌else◌, List, [], ◌∷◌, ◌++◌, length, codes}
 use Rattle.std.specs.Fmt.{decimal}
 use Rattle.rand_pcg.specs.Lcg.{Lcg}
 use Rattle.lt_modes.specs.declared.command.Command.{Command}
@@ -49,6 +49,13 @@ script_of nodes clients commands seed = record {
   clients = clients_of nodes clients;
   commands = requests_in commands clients commands 0 (seeded seed);
 }
+
+-- the script has exactly so many nodes, sets, clients and commands
+pub record HasSizes (nodes sets clients commands : ℕ) (script : ScriptData) : Type 0 where
+  pub nodes_are : script.nodes ≡ nodes
+  pub sets_are : length script.sets ≡ sets
+  pub clients_are : length script.clients ≡ clients
+  pub commands_are : length script.commands ≡ commands
 
 -- a script can have so many nodes, clients and commands
 pub record CanMake (nodes clients commands : ℕ) : Type 0 where

@@ -2,14 +2,17 @@ ghost use Rattle.std.specs.Prelude.{◌≡◌, ◌<◌, ◌≤◌, ◌*◌, ℕ,
 ghost use Rattle.lt_script.specs.Script.{IsScript};
 ghost use Rattle.lt_script.specs.Printing.{print_of};
 ghost use Rattle.lt_script.specs.Reading.{read_of};
-ghost use Rattle.lt_gen.specs.Generator.{CanMake, script_of};
+ghost use Rattle.lt_gen.specs.Generator.{CanMake, HasSizes, script_of};
 
 use lt_script::law_print;
 
-/// What the generator makes is a script: it keeps all limits, and its text has no fault and is read as it.
+/// What the generator makes is a script of the sizes that were asked: it keeps all limits, and its text has no fault and
+/// is read as it.
 pub fn law_generated()
     ensures script { (nodes clients commands seed : ℕ) → CanMake nodes clients commands
         → IsScript (script_of nodes clients commands seed) }
+    ensures sizes { (nodes clients commands seed : ℕ)
+        → HasSizes nodes 4 clients commands (script_of nodes clients commands seed) }
     ensures read_back { (nodes clients commands seed : ℕ) → CanMake nodes clients commands
         → read_of (print_of (script_of nodes clients commands seed)) ≡ Ok (script_of nodes clients commands seed) }
 {

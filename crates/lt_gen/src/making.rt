@@ -1,7 +1,7 @@
 ghost use Rattle.std.specs.Prelude.{◌≡◌, ◌<◌, ◌≤◌, ◌*◌, ◌++◌, ◌∷◌, [], length, IfOk, OnOk};
 ghost use Rattle.lt_script.specs.Script.{IsScript};
 ghost use Rattle.lt_script.specs.declared.limits.TheConstants.{MAX_NODES, MAX_CLIENTS, MAX_CLIENTS_OF_NODE, MAX_COMMANDS};
-ghost use Rattle.lt_gen.specs.Generator.{four_sets, client_name, clients_of, requests_in, script_of};
+ghost use Rattle.lt_gen.specs.Generator.{four_sets, client_name, clients_of, requests_in, script_of, HasSizes};
 
 use crate::draws::Draws;
 use crate::group::Group;
@@ -25,6 +25,7 @@ pub fn script(
     requires on_nodes { clients ≤ nodes * MAX_CLIENTS_OF_NODE }
     requires commands { commands ≤ MAX_COMMANDS }
     ensures made { IfOk result (λ s. s ≡ script_of nodes clients commands seed) }
+    ensures sizes { IfOk result (HasSizes nodes 4 clients commands) }
     ensures kept { IfOk result IsScript }
 {
     let mut script = Script::new(alloc, nodes)?;

@@ -136,6 +136,10 @@ abbrev pub copy_line : Option ℕ → Option ℕ → Option ℕ → Option Mode 
 copy_line (Some set) (Some to) (Some client) (Some mode) = EventLine (Copy set to client mode)
 copy_line _ _ _ _ = Bad
 
+-- a line `copy` with these words for the set, the node, the client and the mode
+abbrev pub line_of_copy : ScriptData → List ℕ → List ℕ → List ℕ → List ℕ → Line
+line_of_copy script a b c d = copy_line (set_number script a) (node_of script b) (client_number script c) (mode_of d)
+
 -- `try CLIENT SET MODE true` or `false`
 abbrev pub try_line : Lock → Option Bool → Line
 try_line lock (Some got) = EventLine (Try lock.client lock.set lock.mode got)
@@ -165,7 +169,7 @@ abbrev pub line_of_five : ScriptData → List ℕ → List ℕ → List ℕ → 
 line_of_five script word a b c d =
     if bytes_eq word (codes "move") then move_line (exact_number a) (node_of script b) (step_of script c d)
     else if bytes_eq word (codes "drop") then drop_line (client_number script a) (client_number script b) (set_number script c) (exact_number d)
-    else if bytes_eq word (codes "copy") then copy_line (set_number script a) (node_of script b) (client_number script c) (mode_of d)
+    else if bytes_eq word (codes "copy") then line_of_copy script a b c d
     else lock_and_line word (lock_of script a b c) d
 
 -- `freeze SET TO NUMBER MODES`

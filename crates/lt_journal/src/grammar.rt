@@ -1,6 +1,6 @@
 ghost use Rattle.std.specs.Prelude.{◌≡◌};
 ghost use Rattle.lt_text.specs.Text.{fields};
-ghost use Rattle.lt_journal.specs.Grammar.{read_line, line_of_two, line_of_four, line_of_five, line_of_freeze, lock_line, lock_and_line};
+ghost use Rattle.lt_journal.specs.Grammar.{read_line, line_of_two, line_of_four, line_of_five, line_of_copy, line_of_freeze, lock_line, lock_and_line};
 
 use crate::line::Line;
 use crate::lock::Lock;
@@ -145,22 +145,29 @@ fn line_of_five(script: &Script, word: &[u8], a: &[u8], b: &[u8], c: &[u8], d: &
             _ => Line::Bad,
         }
     } else if is(word, "copy") {
-        match (
-            script.set_number(a),
-            node(script, b),
-            script.client_number(c),
-            Mode::from_word(d),
-        ) {
-            (Some(set), Some(to), Some(client), Some(mode)) => Line::Event(Event::Copy {
-                set,
-                to,
-                client,
-                mode,
-            }),
-            _ => Line::Bad,
-        }
+        copy(script, a, b, c, d)
     } else {
         lock_and_line(word, lock(script, a, b, c), d)
+    }
+}
+
+// A line `copy SET TO CLIENT MODE`.
+fn copy(script: &Script, a: &[u8], b: &[u8], c: &[u8], d: &[u8]) -> Line
+    ensures { result ≡ line_of_copy script.now a.now b.now c.now d.now }
+{
+    match (
+        script.set_number(a),
+        node(script, b),
+        script.client_number(c),
+        Mode::from_word(d),
+    ) {
+        (Some(set), Some(to), Some(client), Some(mode)) => Line::Event(Event::Copy {
+            set,
+            to,
+            client,
+            mode,
+        }),
+        _ => Line::Bad,
     }
 }
 

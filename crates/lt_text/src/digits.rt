@@ -1,4 +1,4 @@
-ghost use Rattle.std.specs.Prelude.{◌≡◌, ◌≤◌, ◌<◌, ◌^◌, ◌++◌, ℕ, true, length, slice_index, OnOk, IfSome, IfNone};
+ghost use Rattle.std.specs.Prelude.{◌≡◌, ◌≤◌, ◌<◌, ◌^◌, ◌++◌, ℕ, true, length, slice_index, OnOk, OnErr, IfSome, IfNone};
 ghost use Rattle.std.specs.Fmt.{decimal};
 ghost use Rattle.std.specs.Str.Parse.{digits_value};
 ghost use Rattle.lt_text.specs.Number.{are_digits, has_leading_zero, number, exact_number};
@@ -32,7 +32,8 @@ pub fn exact_number(word: &[u8]) -> Option<u32>
 
 /// Writes the number in decimal digits without leading zeros.
 pub fn push_number(out: &mut Vec<u8>, number: u32) -> Result<(), AllocError>
-    ensures { OnOk result (out.new.items ≡ out.old.items ++ decimal number) }
+    ensures written { OnOk result (out.new.items ≡ out.old.items ++ decimal number) }
+    ensures unchanged { OnErr result (out.new.items ≡ out.old.items) }
 {
     let digits = number.to_string(*out.allocator())?;
     out.extend_from_slice(digits.as_bytes())

@@ -1,13 +1,13 @@
--- The crew as it was, and the first runner that shows a move.
+-- The crew as it was, what each runner shows, and the first that shows a move.
 use Rattle.std.proofs.Common.{List, length, ap, subst, arith}
 use Rattle.lt_runner.specs.declared.parts.Parts.{Parts}
-use Rattle.lt_runner.specs.Kept.{SameRunner, AsSeen}
-use Rattle.lt_crew.specs.Together.{EachIs, AreKept}
+use Rattle.lt_runner.specs.Kept.{AsSeen}
+use Rattle.lt_crew.specs.Together.{AreKept}
 use Rattle.lt_crew.specs.Enabled.{IsFirstMove}
 use Rattle.lt_runner.proofs.KeptLemmas.{seen_join}
-use Rattle.lt_crew.proofs.Each.{each_join, each_weaker}
+use Rattle.lt_crew.proofs.Each.{each_join}
 use Rattle.lt_crew.proofs.Pairs.{each_len}
-use Rattle.lt_crew.proofs.Enabling.{crew_linked, crew_last, least_is}
+use Rattle.lt_crew.proofs.Enabling.{crew_linked, crew_seen, all_show, least_is}
 use Rattle.lt_crew.proofs.enabled.any_enabled.Goals as goal
 
 pub settle-requires : goal.settle-requires
@@ -25,17 +25,18 @@ returns-clause-seen c =
 
 pub returns-clause-crew : goal.returns-clause-crew
 returns-clause-crew c =
-    let seen : EachIs AsSeen c.args.runners.now.items c.fetch_all.new.runners.items =
-    each_join AsSeen seen_join c.args.runners.now.items c.settle.new.runners.items c.fetch_all.new.runners.items c.settle.ensures.seen c.fetch_all.ensures.seen in
-    crew_last c.args.script.now c.args.runners.now.items c.fetch_all.new.runners.items
-    (each_weaker AsSeen SameRunner (λ a b seen. seen.same) c.args.runners.now.items c.fetch_all.new.runners.items seen) c.requires
+    crew_seen c.args.script.now c.args.runners.now.items c.settle.new.runners.items c.fetch_all.new.runners.items c.settle.ensures.seen c.fetch_all.ensures.seen c.requires
+
+pub returns-clause-all : goal.returns-clause-all
+returns-clause-all c =
+    let crew = crew_seen c.args.script.now c.args.runners.now.items c.settle.new.runners.items c.fetch_all.new.runners.items c.settle.ensures.seen c.fetch_all.ensures.seen c.requires in
+    all_show c.args.script.now c.fetch_all.new.runners.items _ crew (subst (λ (rs : List Parts). AreKept rs) c.deref.ensures.value c.all_kept.ensures)
+    c.fetch_all.ensures.met c.fetch_all.ensures.fetched (omega (arith, c.fetch_all.new.runners.ok.0))
 
 pub returns-clause-least : goal.returns-clause-least
 returns-clause-least c =
-    let seen : EachIs AsSeen c.args.runners.now.items c.fetch_all.new.runners.items =
-    each_join AsSeen seen_join c.args.runners.now.items c.settle.new.runners.items c.fetch_all.new.runners.items c.settle.ensures.seen c.fetch_all.ensures.seen in
-    let crew = crew_last c.args.script.now c.args.runners.now.items c.fetch_all.new.runners.items
-    (each_weaker AsSeen SameRunner (λ a b seen. seen.same) c.args.runners.now.items c.fetch_all.new.runners.items seen) c.requires in
-    least_is c.law_can_move.ensures.rest c.args.script.now c.fetch_all.new.runners.items _ c.first_to_move.result crew
-    (subst (λ (rs : List Parts). AreKept rs) c.deref.ensures.value c.all_kept.ensures) c.fetch_all.ensures.met c.fetch_all.ensures.fetched
-    (omega (arith, c.fetch_all.new.runners.ok.0)) (subst (λ (rs : List Parts). IsFirstMove rs c.first_to_move.result) c.deref-2.ensures.value c.first_to_move.ensures)
+    let crew = crew_seen c.args.script.now c.args.runners.now.items c.settle.new.runners.items c.fetch_all.new.runners.items c.settle.ensures.seen c.fetch_all.ensures.seen c.requires in
+    least_is c.law_can_move.ensures.rest c.args.script.now c.fetch_all.new.runners.items c.first_to_move.result crew
+    (all_show c.args.script.now c.fetch_all.new.runners.items _ crew (subst (λ (rs : List Parts). AreKept rs) c.deref.ensures.value c.all_kept.ensures)
+    c.fetch_all.ensures.met c.fetch_all.ensures.fetched (omega (arith, c.fetch_all.new.runners.ok.0)))
+    (subst (λ (rs : List Parts). IsFirstMove rs c.first_to_move.result) c.deref-2.ensures.value c.first_to_move.ensures)

@@ -1,5 +1,14 @@
+use Rattle.std.proofs.Common.{◌≡◌, rules, subst, sym}
+use Rattle.lt_modes.specs.Script.{ScriptData}
+use Rattle.lt_gen.specs.Generator.{script_of, HasSizes}
+use Rattle.lt_gen.proofs.Generated.{has_sizes}
 use Rattle.lt_gen.proofs.Loads.{clients_counted}
 use Rattle.lt_gen.proofs.making.script.Goals as goal
 
 pub add_commands-requires-clause-clients : goal.add_commands-requires-clause-clients
 add_commands-requires-clause-clients c = rw c.in_ok-add_clients.ensures (clients_counted _ c.args.clients)
+
+pub returns-clause-sizes : goal.returns-clause-sizes
+returns-clause-sizes c =
+    let made : c.add_commands.new.script ≡ script_of c.args.nodes c.args.clients c.args.commands c.args.seed = search rules in
+    subst (λ (s : ScriptData). HasSizes c.args.nodes 4 c.args.clients c.args.commands s) (sym made) (has_sizes c.args.nodes c.args.clients c.args.commands c.args.seed)
