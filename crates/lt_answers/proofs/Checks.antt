@@ -5,6 +5,7 @@ use Rattle.lt_modes.specs.Script.{ScriptData}
 use Rattle.lt_runs.specs.Log.{Logged}
 use Rattle.lt_text.specs.Text as text
 use Rattle.lt_text.specs.Text.{lines}
+use Rattle.lt_script.specs.declared.fault.ScriptFault.{ScriptFault}
 use Rattle.lt_script.specs.Reading.{read_of}
 use Rattle.lt_journal.specs.Split as split
 use Rattle.lt_journal.specs.Split.{parts_of}
@@ -12,8 +13,9 @@ use Rattle.lt_checking.specs.Checking.{checked}
 use Rattle.lt_checking.specs.Input.{checked_input, counted_from, journal_in, lines_before}
 use Rattle.lt_checking.proofs.RowAnswers.{short_rows}
 use Rattle.lt_serve.specs.declared.status.Status.TheVariants.{Done}
-use Rattle.lt_serve.specs.TopCall.{Checks, ok_text}
-use Rattle.lt_answers.proofs.Results.{same_script, same_run, same_line, run_or_line}
+use Rattle.lt_serve.specs.Causes.{IsBad}
+use Rattle.lt_serve.specs.TopCall.{Checks, HasFaultBefore, ok_text}
+use Rattle.lt_answers.proofs.Results.{same_script, same_run, same_line, run_or_line, script_or_fault}
 use Rattle.lt_answers.specs.Examples.{one_lock, one_lock_script, the_move}
 use Rattle.lt_answers.specs.OtherAnswers.{CheckSays, checked_lock, wrong_mode}
 use Rattle.lt_answers.proofs.Runs.{one_lock_read}
@@ -73,6 +75,15 @@ right_run run text k =
     same_run run (the_move ∷ []) (checked_input one_lock_script (lines checked_lock))
     (answered checked_lock k.script (Ok run) right_before k.denoted k.accepted) right_answer
 
+pub never_bad : (line : ℕ) → IsBad (Some checked_lock) line → ⊥
+never_bad line is =
+    run_or_line (the_move ∷ []) line (checked_input one_lock_script (lines checked_lock)) right_answer
+    (answered checked_lock is.0 (Err line) right_before is.1 is.2)
+
+pub without_fault : (fault : ScriptFault) → HasFaultBefore (Some checked_lock) fault → ⊥
+without_fault fault h =
+    script_or_fault one_lock_script fault (read_of one_lock) one_lock_read (subst (λ (bytes : List ℕ). read_of bytes ≡ Err fault) right_before h)
+
 ok_one : ok_text (the_move ∷ []) ≡ codes "ok 1\n"
 ok_one = ap (λ (number : List ℕ). codes "ok " ++ number ++ codes "\n") one_text
 
@@ -80,10 +91,7 @@ pub check_says : CheckSays
 check_says = record {
   done = λ run old new t. t.2 ∙ ap (λ (text : List ℕ). old ++ text) (t.1.counted ∙ (ap ok_text (right_run run t.0 t.1) ∙ ok_one));
   run = λ run old new t. right_run run t.0 t.1;
-  never_bad = λ line h.
-      let is = (h.bad_journal line refl).1 in
-      run_or_line (the_move ∷ []) line (checked_input one_lock_script (lines checked_lock)) right_answer
-      (answered checked_lock is.0 (Err line) right_before is.1 is.2);
+  never_bad = λ line h. never_bad line (h.bad_journal line refl).1;
   bad = λ line h.
       let is = (h.bad_journal line refl).1 in
       same_line line 7 (checked_input one_lock_script (lines wrong_mode)) (answered wrong_mode is.0 (Err line) wrong_before is.1 is.2) wrong_answer;

@@ -6,3 +6,5 @@ pub mod TwoWritersSay
 pub mod Refusals
 pub mod Checks
 pub mod Makes
+pub mod Failing
+pub mod Orderings

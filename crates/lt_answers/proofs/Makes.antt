@@ -31,6 +31,7 @@ printed = rw zero_text (rw one_text refl)
 pub make_says : MakeSays
 make_says = record {
   done = λ run old new t. t.2 ∙ ap (λ (text : List ℕ). old ++ text) (t.1.2 ∙ (ap print_of made ∙ printed));
+  no_run = λ run old new t. t.1.1;
   never_stuck = λ run old new t. not_done t.1.0;
   reads_nothing = refl;
 }

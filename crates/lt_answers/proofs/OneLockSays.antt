@@ -7,13 +7,14 @@ use Rattle.lt_runs.specs.Log.{Logged}
 use Rattle.lt_script.specs.Reading.{read_of}
 use Rattle.lt_limits.specs.declared.moves.TheConstants.{MAX_MOVES}
 use Rattle.lt_words.specs.declared.command.Command.{Command}
+use Rattle.lt_words.specs.declared.command.Command.TheVariants.{Run, SimFirst, Sim}
 use Rattle.lt_journal.specs.Text.{text_of}
 use Rattle.lt_serve.specs.declared.status.Status.{Status}
 use Rattle.lt_serve.specs.declared.status.Status.TheVariants.{Done, Stuck, Usage, Refused, TooLong, ReadFault, WriteFault, NoMemory, Cut, BadJournal}
 use Rattle.lt_serve.specs.Endings.{EndsAs, RanTo, cut_of}
 use Rattle.lt_serve.specs.TopCall.{Journals, Does}
 use Rattle.lt_answers.proofs.Results.{same_script}
-use Rattle.lt_answers.specs.Examples.{one_lock, one_lock_script, one_lock_journal, the_move, OnlyJournal}
+use Rattle.lt_answers.specs.Examples.{one_lock, one_lock_script, one_lock_journal, the_move, OnlyJournal, OneLock}
 use Rattle.lt_answers.proofs.Runs.{one_lock_read, only_runs}
 use Rattle.lt_answers.proofs.Texts.{one_lock_text}
 
@@ -59,7 +60,7 @@ journals_so ending run text j =
     (so.0, j.journal ∙ (ap (λ (s : ScriptData). text_of s run (cut_of ending)) same ∙ so.1))
 
 -- so a command that journals a run of the script can only be done, with this journal
-pub only_journal : (command : Command)
+only_journal : (command : Command)
     → ((ending : Status) (run : List Logged) (text : List ℕ) → Does MAX_MOVES command ending (Some one_lock) run text
     → Journals MAX_MOVES ending (Some one_lock) run text)
     → OnlyJournal command one_lock one_lock_journal
@@ -77,3 +78,10 @@ only_journal command journals = record {
 
     cut_is_done : (node : ℕ) → Cut node ≡ Done → ⊥
     cut_is_done node e = cc
+
+pub one_lock_says : OneLock
+one_lock_says = record {
+  first = only_journal SimFirst (λ ending run text d. d.journals);
+  drawn = λ seed. only_journal (Sim seed) (λ ending run text d. d.journals);
+  threads = only_journal Run (λ ending run text d. d.journals);
+}

@@ -1,23 +1,21 @@
 -- The answers that come before a run, and the counts of source and sink.
-use Rattle.std.proofs.Common.{◌≡◌, ℕ, List, Err, Some, None, refl}
+use Rattle.std.proofs.Common.{◌≡◌, Err, Some, None, refl}
 use Rattle.lt_script.specs.declared.fault.Fault.TheVariants as faults
 use Rattle.lt_script.specs.Reading.{read_of}
 use Rattle.lt_script.specs.Reading as reading
 use Rattle.lt_text.specs.Text as text
 use Rattle.lt_words.specs.declared.command.Command.TheVariants.{SimFirst}
-use Rattle.lt_answers.proofs.Results.{same_fault, script_or_fault}
+use Rattle.lt_answers.proofs.Results.{same_bytes, same_fault, script_or_fault}
 use Rattle.lt_answers.specs.Examples.{one_lock}
 use Rattle.lt_answers.specs.OtherAnswers.{WordsSay, FaultSays, CountsSay, no_mode}
 use Rattle.lt_answers.proofs.Runs.{one_lock_read}
-
-same_bytes : (a b : List ℕ) → Some a ≡ Some b → a ≡ b
-same_bytes a b e = cc
 
 pub words_say : WordsSay
 words_say = record {
   wrong = λ left answer h. h.no_command refl;
   right = λ left h. not_none (h.usage refl);
   nothing = λ run old new t. (t.0, same_bytes new old t.1);
+  no_command = λ answer run old new t. (t.0, same_bytes new old t.1);
 }
   where
     not_none : Some SimFirst ≡ None → ⊥

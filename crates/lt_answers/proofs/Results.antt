@@ -1,9 +1,12 @@
 -- A result says one thing.
-use Rattle.std.proofs.Common.{◌≡◌, ℕ, List, Ok, Err}
+use Rattle.std.proofs.Common.{◌≡◌, ℕ, List, Ok, Err, Some}
 use Rattle.std.specs.Prelude.{Result}
 use Rattle.lt_modes.specs.Script.{ScriptData}
 use Rattle.lt_runs.specs.Log.{Logged}
 use Rattle.lt_script.specs.declared.fault.ScriptFault.{ScriptFault}
+
+pub same_bytes : (a b : List ℕ) → Some a ≡ Some b → a ≡ b
+same_bytes a b e = cc
 
 pub same_script : (a b : ScriptData) (read : Result ScriptData ScriptFault) → read ≡ Ok a → read ≡ Ok b → a ≡ b
 same_script a b read e f = cc

@@ -1,2 +1,4 @@
 pub mod Examples
 pub mod OtherAnswers
+pub mod Failures
+pub mod TwoOrders

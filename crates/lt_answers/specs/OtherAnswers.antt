@@ -1,5 +1,5 @@
 -- What the answers say that come before a run, those of `check` and `make`, and what each says of the source and the sink, in literals.
-use Rattle.std.specs.Prelude.{◌≡◌, ◌≤◌, false, ℕ, List, [], ◌∷◌, ◌++◌, Option, Some, codes}
+use Rattle.std.specs.Prelude.{◌≡◌, ◌≤◌, false, ℕ, List, [], ◌∷◌, ◌++◌, Option, Some, None, codes}
 use Rattle.lt_runs.specs.Log.{Logged}
 use Rattle.lt_limits.specs.declared.moves.TheConstants.{MAX_MOVES}
 use Rattle.lt_script.specs.declared.fault.ScriptFault.{ScriptFault}
@@ -10,13 +10,16 @@ use Rattle.lt_serve.specs.declared.limits.TheConstants.{MAX_INPUT}
 use Rattle.lt_serve.specs.declared.status.Status.{Status}
 use Rattle.lt_serve.specs.declared.status.Status.TheVariants.{Done, Stuck, Usage, Refused, TooLong, ReadFault, WriteFault, Cut, BadJournal}
 use Rattle.lt_serve.specs.Causes.{HasCause, SourceCounts, TellsSource, TellsSink, reads, limit_of}
-use Rattle.lt_answers.specs.Examples.{Says, Writes, IsNever, one_lock, one_lock_journal, the_move}
+use Rattle.lt_serve.specs.TopCall.{Tells}
+use Rattle.lt_answers.specs.Examples.{Says, SaysNothing, Writes, IsNever, one_lock, one_lock_journal, the_move}
 
 -- words that are no command, and one that is
 pub record WordsSay : Type 0 where
   pub wrong : (left : Option (List ℕ)) (answer : Status) → HasCause (command_of (codes "run" ∷ codes "now" ∷ [])) left answer → answer ≡ Usage
   pub right : (left : Option (List ℕ)) → HasCause (command_of (codes "sim" ∷ codes "first" ∷ [])) left Usage → ⊥
-  pub nothing : (run : List Logged) (old new : List ℕ) → Says MAX_MOVES SimFirst Usage one_lock run old new → (run ≡ []) × (new ≡ old)
+  pub nothing : SaysNothing SimFirst Usage one_lock
+  pub no_command : (answer : Status) (run : List Logged) (old new : List ℕ) → Tells MAX_MOVES None answer (Some one_lock) run (Some old) (Some new)
+      → (run ≡ []) × (new ≡ old)
 
 -- its fourth line has a word that is no mode
 abbrev pub no_mode : List ℕ
@@ -27,8 +30,7 @@ pub record FaultSays : Type 0 where
   pub never_done : IsNever MAX_MOVES SimFirst Done no_mode
   pub never_stuck : IsNever MAX_MOVES SimFirst Stuck no_mode
   pub never_cut : (node : ℕ) → IsNever MAX_MOVES SimFirst (Cut node) no_mode
-  pub nothing : (fault : ScriptFault) (run : List Logged) (old new : List ℕ) → Says MAX_MOVES SimFirst (Refused fault) no_mode run old new
-      → (run ≡ []) × (new ≡ old)
+  pub nothing : (fault : ScriptFault) → SaysNothing SimFirst (Refused fault) no_mode
   -- a script without a fault isn't refused
   pub never_refused : (fault : ScriptFault) → HasCause (Some SimFirst) (Some one_lock) (Refused fault) → ⊥
 
@@ -48,6 +50,7 @@ pub record CheckSays : Type 0 where
 
 pub record MakeSays : Type 0 where
   pub done : Writes MAX_MOVES (Make 1 1 1 7) Done [] (codes "nodes 1\nset s0\nset s1\nset s2\nset s3\nclient c0 at 0\nc0 unlock s0 read\n")
+  pub no_run : (run : List Logged) (old new : List ℕ) → Says MAX_MOVES (Make 1 1 1 7) Done [] run old new → run ≡ []
   pub never_stuck : IsNever MAX_MOVES (Make 1 1 1 7) Stuck []
   pub reads_nothing : reads (Some (Make 1 1 1 7)) ≡ false
 

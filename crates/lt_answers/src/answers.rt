@@ -1,5 +1,7 @@
 ghost use Rattle.lt_answers.specs.Examples.{OneLock, TwoWriters, CutShort};
 ghost use Rattle.lt_answers.specs.OtherAnswers.{WordsSay, FaultSays, CheckSays, MakeSays, CountsSay};
+ghost use Rattle.lt_answers.specs.Failures.{FailuresSay, UnwrittenSays, CompleteSays};
+ghost use Rattle.lt_answers.specs.TwoOrders.{OrdersSay};
 
 /// What the answers to these inputs say.
 pub fn law_answers()
@@ -11,4 +13,8 @@ pub fn law_answers()
     ensures check { CheckSays }
     ensures make { MakeSays }
     ensures counts { CountsSay }
+    ensures failures { FailuresSay }
+    ensures unwritten { UnwrittenSays }
+    ensures complete { CompleteSays }
+    ensures orders { OrdersSay }
 {}

@@ -1,4 +1,6 @@
 //! The greatest sizes, with ample memory.
+mod wide;
+
 use lt_io::{MemorySink, SureSource};
 use lt_journal::read as read_journal;
 use lt_script::read as read_script;
