@@ -45,18 +45,6 @@ kept_join a b c h k = record {
   ends = ends_join a b c h.ends k.ends;
 }
 
--- where an outbox loses no place it has room for all that it had room for
-stays_room : (further : ℕ) (x y : Option OutLane) → Both Stays x y → HasRoomAt further x → HasRoomAt further y
-stays_room further None y h room = absurd h
-stays_room further (Some x) None h room = absurd h
-stays_room further (Some x) (Some y) h room = omega (arith, room, h.len, h.room)
-
-pub room_stays : (to : ℕ) (a b : Mail) → OutChanges Stays a b to → (further : ℕ) → HasRoom a further → HasRoom b further
-room_stays to a b h further room node = elim (cases_eq node to) [
-  | inl e ↦ subst (λ (n : ℕ). HasRoomAt further (out_at b n)) (sym e) (stays_room further (out_at a to) (out_at b to) h.lane (room to))
-  | inr apart ↦ subst (λ (o : Option OutLane). HasRoomAt further o) (sym (h.others node apart)) (room node)
-]
-
 pub one_more_reserved : (letters first : ℕ) (a b c : Mail) → Reserved letters first a b → OutChanges Stays b c first → KeepsSent b c
     → ((node : ℕ) → given_to c node ≡ given_to b node) → HasRoomAt letters (out_at c first) → Reserved letters (first + 1) a c
 one_more_reserved letters first a b c h lane kept given room = record {
@@ -66,7 +54,6 @@ one_more_reserved letters first a b c h lane kept given room = record {
     | inl e ↦ subst (λ (n : ℕ). HasRoomAt letters (out_at c n)) (sym e) room
     | inr apart ↦ subst (λ (o : Option OutLane). HasRoomAt letters o) (sym (lane.others node apart)) (h.room node (omega (arith, below, apart)))
   ];
-  room_kept = λ further room. room_stays first b c lane further (h.room_kept further room);
 }
 
 pub all_reserved : (letters : ℕ) (a b : Mail) → Reserved letters (outs_count b) a b → HasRoom b letters

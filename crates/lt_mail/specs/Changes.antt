@@ -1,5 +1,5 @@
 -- What one lane of a mail did, and that no other did anything.
-use Rattle.std.specs.Prelude.{◌≡◌, ◌≢◌, ◌+◌, ◌≤◌, ◌<◌, ◌⊎◌, ℕ, [], ◌∷◌, ◌++◌, length}
+use Rattle.std.specs.Prelude.{◌≡◌, ◌≢◌, ◌+◌, ◌<◌, ◌⊎◌, ℕ, [], ◌∷◌, ◌++◌, length}
 use Rattle.std.specs.VecDeque.{deque_len, deque_capacity}
 use mathlib.Core.List.{IsPrefix}
 use Rattle.rtrb.specs.Ring.{producer_capacity, known_free}
@@ -8,7 +8,7 @@ use Rattle.lt_mail.specs.declared.lane.OutLane.{OutLane}
 use Rattle.lt_mail.specs.declared.lane.InLane.{InLane}
 use Rattle.lt_mail.specs.declared.mail.Mail.{Mail}
 use Rattle.lt_mail.specs.Lanes.{given, waiting, sent_by, taken, known}
-use Rattle.lt_mail.specs.Words.{sent_to, given_to, waiting_to, IsFullTo, HasRoomAt, HasRoom, SameEnds, out_at, in_at, outs_count, ins_count, Both, SameOut, SameIn}
+use Rattle.lt_mail.specs.Words.{sent_to, given_to, waiting_to, IsFullTo, HasRoomAt, SameEnds, out_at, in_at, outs_count, ins_count, Both, SameOut, SameIn}
 
 -- one lane that sends went from the one to the other in this way
 pub record OutChanges (R : OutLane → OutLane → Type 0) (a b : Mail) (to : ℕ) : Type 0 where
@@ -42,13 +42,11 @@ pub record Flushes (x y : OutLane) : Type 0 where
   pub first : length (given y) < producer_capacity y.ring → waiting y ≡ []
   pub stops : (waiting y ≡ []) ⊎ (known_free y.ring ≡ 0)
 
--- no letter went anywhere, and no place in the outbox was lost
+-- no letter went anywhere
 pub record Stays (x y : OutLane) : Type 0 where
   pub ring : SameOut x y
   pub sent : sent_by y ≡ sent_by x
   pub given : given y ≡ given x
-  pub len : deque_len y.outbox ≡ deque_len x.outbox
-  pub room : deque_capacity x.outbox ≤ deque_capacity y.outbox
 
 -- the letter was taken
 pub record Takes (letter : Letter) (x y : InLane) : Type 0 where
@@ -85,7 +83,6 @@ pub record Reserved (letters first : ℕ) (a b : Mail) : Type 0 where
   pub kept : KeepsSent a b
   pub given : (node : ℕ) → given_to b node ≡ given_to a node
   pub room : (node : ℕ) → node < first → HasRoomAt letters (out_at b node)
-  pub room_kept : (further : ℕ) → HasRoom a further → HasRoom b further
 
 -- the outboxes to the first nodes were flushed
 pub record Flushed (first : ℕ) (a b : Mail) : Type 0 where

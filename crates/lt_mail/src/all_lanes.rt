@@ -12,7 +12,6 @@ impl Mail {
         ensures sent { (node : ℕ) → sent_to self.new node ≡ sent_to self.old node }
         ensures given { (node : ℕ) → given_to self.new node ≡ given_to self.old node }
         ensures room { OnOk result (HasRoom self.new letters) }
-        ensures kept { (further : ℕ) → HasRoom self.old further → HasRoom self.new further }
         ensures ins { (node : ℕ) → in_at self.new node ≡ in_at self.old node }
         ensures ends { SameEnds self.old self.new }
     {
