@@ -1,4 +1,5 @@
-ghost use Rattle.std.specs.Prelude.{◌≡◌, ◌<◌, ◌≤◌, ℕ, List, [], length, take, IfOk, IfErr, OnOk};
+ghost use Rattle.std.specs.Prelude.{◌≡◌, ◌≢◌, ◌<◌, ◌≤◌, ℕ, List, [], length, take, IfOk, IfErr, OnOk};
+ghost use Rattle.lt_io.specs.declared.whole.ReadFailure.TheVariants as failure;
 ghost use Rattle.lt_io.specs.Reading.{ReadsOn, ReadsOut, FailsBy};
 
 use crate::source::Source;
@@ -49,6 +50,7 @@ pub fn read_piece<S: Source>(
       faults = S.faults source.new;
       ends = S.ends source.new;
     })) }
+    ensures no_memory { IfErr result (λ why. why ≢ failure.Memory) }
 {
     let room = limit.saturating_add(1).min(buf.len());
     let count = source.read(&mut buf[..room])?;
@@ -58,7 +60,7 @@ pub fn read_piece<S: Source>(
     Ok(count)
 }
 
-/// Reads a source to its end and keeps nothing, where no more bytes come than the limit.
+/// Reads a source to its end and keeps nothing, where no more bytes come than the limit. No memory is taken.
 pub fn skip_all<S: Source>(source: &mut S, limit: usize) -> Result<(), ReadFailure>
     ensures out { OnOk result ((bytes : List ℕ) × (length bytes ≤ limit) × ReadsOut bytes (record {
       left = S.left source.old;
@@ -82,6 +84,7 @@ pub fn skip_all<S: Source>(source: &mut S, limit: usize) -> Result<(), ReadFailu
       faults = S.faults source.new;
       ends = S.ends source.new;
     })) }
+    ensures no_memory { IfErr result (λ why. why ≢ failure.Memory) }
 {
     let mut buf = [0; MAX_PIECE];
     let mut room = limit;

@@ -57,30 +57,6 @@ abbrev pub word_of_bool : Bool → List ℕ
 word_of_bool true = codes "true"
 word_of_bool false = codes "false"
 
--- the words of an event's line that say what happened, and of what
-abbrev pub first_words : ScriptData → Event → List (List ℕ)
-first_words script (Grant client set mode) = lock_words script (codes "grant") client set mode
-first_words script (Wait client set mode) = lock_words script (codes "wait") client set mode
-first_words script (Try client set mode got) = lock_words script (codes "try") client set mode
-first_words script (Unlock client set mode) = lock_words script (codes "unlock") client set mode
-first_words script (NotHeld client set mode) = lock_words script (codes "not_held") client set mode
-first_words script (Change client set gives_up mode) = lock_words script (codes "change") client set gives_up
-first_words script (DropAll client other set count) = drop_words script (codes "drop") client other set
-first_words script (Busy client other set) = drop_words script (codes "busy") client other set
-first_words script (Copy set to client mode) = letter_words script (codes "copy") set to
-first_words script (Freeze set to number modes) = letter_words script (codes "freeze") set to
-first_words script (Token set to epoch) = letter_words script (codes "token") set to
-
--- the words after these, which some events have
-abbrev pub last_words : ScriptData → Event → List (List ℕ)
-last_words script (Try client set mode got) = word_of_bool got ∷ []
-last_words script (Change client set gives_up mode) = word_of mode ∷ []
-last_words script (DropAll client other set count) = decimal count ∷ []
-last_words script (Copy set to client mode) = client_name script client ∷ word_of mode ∷ []
-last_words script (Freeze set to number modes) = decimal number ∷ words_of_modes modes
-last_words script (Token set to epoch) = decimal epoch ∷ []
-last_words script _ = []
-
 -- the words of an event's line
 abbrev pub event_words : ScriptData → Event → List (List ℕ)
 event_words script (Grant client set mode) = lock_words script (codes "grant") client set mode
