@@ -1,6 +1,6 @@
 -- Lists of runners, place by place.
-use Rattle.std.proofs.Common.{◌≡◌, ℕ, List, Option, Some, None, refl, subst}
-use Rattle.std.specs.Prelude.{slice_get}
+use Rattle.std.proofs.Common.{◌≡◌, ◌≢◌, ◌<◌, ◌+◌, ℕ, zero, suc, List, [], ◌∷◌, ◌++◌, length, Option, Some, None, refl, ap, subst, arith}
+use Rattle.std.specs.Prelude.{slice_get, slice_set}
 use Rattle.lt_mail.specs.Words.{out_at, in_at, Alike, SameOut, SameIn, SameEnds}
 use Rattle.lt_mail.specs.declared.mail.Mail.{Mail}
 use Rattle.lt_mail.specs.declared.lane.OutLane.{OutLane}
@@ -80,3 +80,39 @@ each_before R xs ys h k y e = here (slice_get xs k) refl (subst (λ (o : Option 
     here : (o : Option Parts) → slice_get xs k ≡ o → Alike R o (Some y) → (x : Parts) × (slice_get xs k ≡ Some x) × R x y
     here None e p = absurd p
     here (Some x) e p = (x, e, p)
+
+pub slice_left : (front back : List Parts) (k : ℕ) → k < length front → slice_get (front ++ back) k ≡ slice_get front k
+slice_left [] back k below = absurd (omega (arith, below))
+slice_left (p ∷ front) back zero below = refl
+slice_left (p ∷ front) back (suc k) below = slice_left front back k (omega (arith, below))
+
+pub slice_right : (front back : List Parts) (i k : ℕ) → i ≡ length front + k → slice_get (front ++ back) i ≡ slice_get back k
+slice_right [] back i k e = ap (slice_get back) (omega (arith, e))
+slice_right (p ∷ front) back zero k e = absurd (omega (arith, e))
+slice_right (p ∷ front) back (suc i) k e = slice_right front back i k (omega (arith, e))
+
+pub set_here : (rs : List Parts) (k : ℕ) (p : Parts) → k < length rs → slice_get (slice_set rs k p) k ≡ Some p
+set_here [] k p below = absurd (omega (arith, below))
+set_here (q ∷ rs) zero p below = refl
+set_here (q ∷ rs) (suc k) p below = set_here rs k p (omega (arith, below))
+
+pub set_other : (rs : List Parts) (k : ℕ) (p : Parts) (other : ℕ) → other ≢ k → slice_get (slice_set rs k p) other ≡ slice_get rs other
+set_other [] k p other apart = refl
+set_other (q ∷ rs) zero p zero apart = absurd (apart refl)
+set_other (q ∷ rs) zero p (suc other) apart = refl
+set_other (q ∷ rs) (suc k) p zero apart = refl
+set_other (q ∷ rs) (suc k) p (suc other) apart = set_other rs k p other (λ e. apart (ap suc e))
+
+pub each_len : (R : Parts → Parts → Type 0) (xs ys : List Parts) → EachIs R xs ys → length ys ≡ length xs
+each_len R [] [] h = refl
+each_len R [] (y ∷ ys) h = absurd (h 0)
+each_len R (x ∷ xs) [] h = absurd (h 0)
+each_len R (x ∷ xs) (y ∷ ys) h = let rest = each_len R xs ys (λ k. h (suc k)) in omega (arith, rest)
+
+pub each_push : (R : Parts → Parts → Type 0) (xs ys : List Parts) (x y : Parts) → EachIs R xs ys → R x y → EachIs R (xs ++ x ∷ []) (ys ++ y ∷ [])
+each_push R [] [] x y h r zero = r
+each_push R [] [] x y h r (suc k) = tt
+each_push R [] (z ∷ ys) x y h r k = absurd (h 0)
+each_push R (z ∷ xs) [] x y h r k = absurd (h 0)
+each_push R (z ∷ xs) (w ∷ ys) x y h r zero = h 0
+each_push R (z ∷ xs) (w ∷ ys) x y h r (suc k) = each_push R xs ys x y (λ j. h (suc j)) r k

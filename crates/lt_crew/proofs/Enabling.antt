@@ -14,8 +14,8 @@ use Rattle.lt_runner.proofs.KeptLemmas.{seen_join}
 use Rattle.lt_crew.specs.Together.{EachIs, AreKept, IsCrew, crew_world}
 use Rattle.lt_crew.specs.Meeting.{AreLinked, AreMet, AnyTwo, HaveFetched}
 use Rattle.lt_crew.specs.Enabled.{IsLeastEnabled, EachShows, IsFirstMove, NoneShows}
-use Rattle.lt_crew.proofs.Each.{each_before, each_join, each_weaker}
-use Rattle.lt_crew.proofs.Pairs.{links_last, each_len}
+use Rattle.lt_crew.proofs.Each.{each_before, each_join, each_len, each_weaker}
+use Rattle.lt_crew.proofs.Linked.{links_last}
 use Rattle.lt_crew.proofs.Shown.{shows_is}
 
 pub crew_linked : (script : ScriptData) (rs : List Parts) → IsCrew script rs → AreLinked rs

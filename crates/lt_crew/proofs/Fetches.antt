@@ -13,8 +13,7 @@ use Rattle.lt_runner.specs.Looking.{IsMet, HasFetched, Fetches}
 use Rattle.lt_crew.specs.Together.{EachIs, AreKept}
 use Rattle.lt_crew.specs.Meeting.{AreMet, AnyTwo, HaveFetched, Fetching}
 use Rattle.lt_runner.proofs.KeptLemmas.{seen_join}
-use Rattle.lt_crew.proofs.Each.{seen_self, each_self, each_join}
-use Rattle.lt_crew.proofs.Pairs.{set_here, set_other}
+use Rattle.lt_crew.proofs.Each.{seen_self, each_self, each_join, set_here, set_other}
 
 abbrev pub KeptTo : ℕ → List Parts → Type 0
 KeptTo n rs = (k : ℕ) (p : Parts) → k < n → slice_get rs k ≡ Some p → Kept p

@@ -1,10 +1,12 @@
 pub mod Each
+pub mod Linked
 pub mod Pairs
 pub mod Fetches
 pub mod Joined
 pub mod SameRun
 pub mod Shown
 pub mod Enabling
+pub mod Turns
 pub mod Pushing
 pub mod Starts
 pub mod Logs

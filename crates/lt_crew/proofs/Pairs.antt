@@ -1,20 +1,20 @@
 -- Each two runners look at the rings between them.
-use Rattle.std.proofs.Common.{◌≡◌, ◌≢◌, ◌<◌, ◌+◌, ◌-◌, ℕ, zero, suc, inl, inr, List, [], ◌∷◌, ◌++◌, get_or, take, drop, Option, Some, None, length, refl, sym, ap, subst, arith, ◌∙◌}
+use Rattle.std.proofs.Common.{◌≡◌, ◌≢◌, ◌<◌, ◌+◌, ◌-◌, ℕ, inl, inr, List, [], ◌∷◌, ◌++◌, get_or, take, drop, Option, Some, length, refl, sym, ap, subst, arith, ◌∙◌}
 use Rattle.std.specs.Prelude.{slice_get, slice_set}
 use Rattle.std.proofs.lemmas.Bool.{cases_eq, cases_order}
 use Rattle.std.proofs.lemmas.List.{length-set, length_push, take_at}
-use Rattle.std.proofs.lemmas.Option.{slice_get_cases, slice_get-get_or, slice_get_within}
-use Rattle.lt_mail.specs.Words.{out_at, in_at, on_out, on_in, Alike, Both, IsOpenLink, SameOut, SameIn}
-use Rattle.lt_mail.specs.declared.lane.OutLane.{OutLane}
+use Rattle.std.proofs.lemmas.Option.{slice_get_cases, slice_get-get_or}
+use Rattle.lt_mail.specs.Words.{out_at, in_at, on_out, on_in, Alike, Both, IsOpenLink}
 use Rattle.lt_mail.specs.declared.lane.InLane.{InLane}
 use Rattle.lt_mail.specs.Lanes.{given, waiting, taken, known}
 use Rattle.lt_runner.specs.declared.parts.Parts.{Parts}
-use Rattle.lt_runner.specs.Kept.{SameRunner, AsSeen}
+use Rattle.lt_runner.specs.Kept.{AsSeen}
 use Rattle.lt_runner.specs.Looking.{AreBeside, IsMet, LooksTo, LooksFrom}
 use Rattle.lt_crew.specs.Together.{EachIs}
 use Rattle.lt_crew.specs.Meeting.{AreMet, AnyTwo, AmongFirst, AreLinked, LooksAt, BothLook, PairMeets, Settling}
 use Rattle.lt_runner.proofs.KeptLemmas.{seen_join}
-use Rattle.lt_crew.proofs.Each.{seen_self, each_self, each_join, each_weaker, each_before}
+use Rattle.lt_crew.proofs.Each.{seen_self, each_self, each_join, each_len, each_push, slice_left, slice_right, set_here, set_other}
+use Rattle.lt_crew.proofs.Linked.{linked_last}
 
 -- what two runners know of each other is seen from the lanes between them and from the hand
 pub met_stays : (a b : ℕ) (x y u v : Parts) → out_at u.mail b ≡ out_at x.mail b → in_at v.mail a ≡ in_at y.mail a → v.hand ≡ y.hand → IsMet a b x y → IsMet a b u v
@@ -41,34 +41,6 @@ both_look m n x y x1 y1 u v apart to from met back_to back_from back = record {
   there = met_stays m n x1 y1 u v (back_from.outs n) (back_to.ins m) back_to.hand met;
   back = back;
 }
-
--- ends that are linked stay so
-links_stay : (o p : Option OutLane) (i j : Option InLane) → Alike SameOut o p → Alike SameIn i j → Both IsOpenLink o i → Both IsOpenLink p j
-links_stay None p i j u v e = absurd e
-links_stay (Some o) p None j u v e = absurd e
-links_stay (Some o) None (Some i) j u v e = absurd u
-links_stay (Some o) (Some p) (Some i) None u v e = absurd v
-links_stay (Some o) (Some p) (Some i) (Some j) u v e =
-    ((v.0.0 ∙ e.0.0 ∙ sym u.0.0, v.0.1 ∙ e.0.1 ∙ sym u.0.1, v.0.2 ∙ e.0.2 ∙ sym u.0.2, v.0.3 ∙ e.0.3 ∙ sym u.0.3), subst (λ (n : ℕ). 0 < n) (sym u.1) e.1)
-
-pub links_last : (old new : List Parts) → EachIs SameRunner old new
-    → ((a b : ℕ) (x y : Parts) → slice_get old a ≡ Some x → slice_get old b ≡ Some y → a ≢ b → Both IsOpenLink (out_at x.mail b) (in_at y.mail a))
-    → (a b : ℕ) (x y : Parts) → slice_get new a ≡ Some x → slice_get new b ≡ Some y → a ≢ b → Both IsOpenLink (out_at x.mail b) (in_at y.mail a)
-links_last old new each links a b x y ea eb apart =
-    let was_a = each_before SameRunner old new each a x ea in
-    let was_b = each_before SameRunner old new each b y eb in
-    let sends : SameRunner was_a.0 x = was_a.2 in
-    let takes : SameRunner was_b.0 y = was_b.2 in
-    links_stay (out_at was_a.0.mail b) (out_at x.mail b) (in_at was_b.0.mail a) (in_at y.mail a) (sends.ends.outs b) (takes.ends.ins a)
-    (links a b was_a.0 was_b.0 was_a.1 was_b.1 apart)
-
-pub linked_last : (old new : List Parts) → EachIs AsSeen old new → AreLinked old → AreLinked new
-linked_last old new each h =
-    let same : EachIs SameRunner old new = each_weaker AsSeen SameRunner (λ a b seen. seen.same) old new each in
-    record {
-      me = λ k p e. let was = each_before SameRunner old new same k p e in let is : SameRunner was.0 p = was.2 in is.me ∙ h.me k was.0 was.1;
-      links = links_last old new same h.links;
-    }
 
 -- each runner is as seen
 pair_seen : (m n : ℕ) (old new : List Parts) → PairMeets m n old new → EachIs AsSeen old new
@@ -190,28 +162,6 @@ all_met old new s a b x y pass apart ea eb = s.met a b x y (inl (below a x ea, b
       | inr past ↦ cc
     ]
 
-slice_left : (front back : List Parts) (k : ℕ) → k < length front → slice_get (front ++ back) k ≡ slice_get front k
-slice_left [] back k below = absurd (omega (arith, below))
-slice_left (p ∷ front) back zero below = refl
-slice_left (p ∷ front) back (suc k) below = slice_left front back k (omega (arith, below))
-
-slice_right : (front back : List Parts) (i k : ℕ) → i ≡ length front + k → slice_get (front ++ back) i ≡ slice_get back k
-slice_right [] back i k e = ap (slice_get back) (omega (arith, e))
-slice_right (p ∷ front) back zero k e = absurd (omega (arith, e))
-slice_right (p ∷ front) back (suc i) k e = slice_right front back i k (omega (arith, e))
-
-pub set_here : (rs : List Parts) (k : ℕ) (p : Parts) → k < length rs → slice_get (slice_set rs k p) k ≡ Some p
-set_here [] k p below = absurd (omega (arith, below))
-set_here (q ∷ rs) zero p below = refl
-set_here (q ∷ rs) (suc k) p below = set_here rs k p (omega (arith, below))
-
-pub set_other : (rs : List Parts) (k : ℕ) (p : Parts) (other : ℕ) → other ≢ k → slice_get (slice_set rs k p) other ≡ slice_get rs other
-set_other [] k p other apart = refl
-set_other (q ∷ rs) zero p zero apart = absurd (apart refl)
-set_other (q ∷ rs) zero p (suc other) apart = refl
-set_other (q ∷ rs) (suc k) p zero apart = refl
-set_other (q ∷ rs) (suc k) p (suc other) apart = set_other rs k p other (λ e. apart (ap suc e))
-
 -- a runner of the front and the first one of the back, with where they stand in the whole
 record Across (front back : List Parts) (m : ℕ) (x y : Parts) : Type 0 where
   first : slice_get (front ++ back) m ≡ Some x
@@ -292,20 +242,6 @@ last_starts rs last linked met = row_starts (length rs) (rs ++ last ∷ []) link
     among a b x y (inr (inl one)) apart ea eb = absurd (omega (arith, one.1))
     among a b x y (inr (inr one)) apart ea eb = absurd (omega (arith, one.0))
 
-pub each_len : (R : Parts → Parts → Type 0) (xs ys : List Parts) → EachIs R xs ys → length ys ≡ length xs
-each_len R [] [] h = refl
-each_len R [] (y ∷ ys) h = absurd (h 0)
-each_len R (x ∷ xs) [] h = absurd (h 0)
-each_len R (x ∷ xs) (y ∷ ys) h = let rest = each_len R xs ys (λ k. h (suc k)) in omega (arith, rest)
-
-pub each_push : (R : Parts → Parts → Type 0) (xs ys : List Parts) (x y : Parts) → EachIs R xs ys → R x y → EachIs R (xs ++ x ∷ []) (ys ++ y ∷ [])
-each_push R [] [] x y h r zero = r
-each_push R [] [] x y h r (suc k) = tt
-each_push R [] (z ∷ ys) x y h r k = absurd (h 0)
-each_push R (z ∷ xs) [] x y h r k = absurd (h 0)
-each_push R (z ∷ xs) (w ∷ ys) x y h r zero = h 0
-each_push R (z ∷ xs) (w ∷ ys) x y h r (suc k) = each_push R xs ys x y (λ j. h (suc j)) r k
-
 -- the last one met all others, which have met before
 pub record Settled (old new : List Parts) : Type 0 where
   pub seen : EachIs AsSeen old new
@@ -330,19 +266,6 @@ settled_last rest after final last last_after seen s =
       met = all_met (after ++ last ∷ []) (final ++ last_after ∷ [])
           (subst (λ (n : ℕ). Settling n 0 (after ++ last ∷ []) (final ++ last_after ∷ [])) (omega (arith, len, long)) ended);
     }
-
-pub linked_rest : (rest : List Parts) (last : Parts) → AreLinked (rest ++ last ∷ []) → AreLinked rest
-linked_rest rest last h = record {
-  me = λ k p e. h.me k p (in_rest k p e);
-  links = λ a b x y ea eb apart. h.links a b x y (in_rest a x ea) (in_rest b y eb) apart;
-}
-  where
-    in_rest : (k : ℕ) (p : Parts) → slice_get rest k ≡ Some p → slice_get (rest ++ last ∷ []) k ≡ Some p
-    in_rest k p e = slice_left rest (last ∷ []) k (slice_get_within rest k p e) ∙ e
-
-pub linked_after : (rest after : List Parts) (last : Parts) → AreLinked (rest ++ last ∷ []) → EachIs AsSeen rest after → AreLinked (after ++ last ∷ [])
-linked_after rest after last h seen =
-    linked_last (rest ++ last ∷ []) (after ++ last ∷ []) (each_push AsSeen rest after last last seen (seen_self last)) h
 
 pub settled_vec : (old rest after mid final new : List Parts) (last last_after : Parts) (n : ℕ) → old ≡ rest ++ last ∷ [] → mid ≡ after → n ≡ length mid
     → length final ≡ length mid → new ≡ take n (final ++ drop (length final) after) ++ last_after ∷ [] → EachIs AsSeen rest after

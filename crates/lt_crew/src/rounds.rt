@@ -168,7 +168,7 @@ fn push_at<G: Gate>(runners: &mut Vec<Runner<'_>>, place: usize, gate: &G) -> Pu
 }
 
 // Lets the runner make a turn.
-#[tactic(auto, using(crate::proofs::Pushing::pushed_moved, crate::proofs::Pushing::pushed_still, crate::proofs::Pushing::pushed_full, crate::proofs::Pushing::pushed_over))]
+#[tactic(auto, using(crate::proofs::Turns::pushed_moved, crate::proofs::Turns::pushed_still, crate::proofs::Turns::pushed_full, crate::proofs::Turns::pushed_over))]
 fn push<G: Gate>(runner: &mut Runner<'_>, gate: &G) -> Pushed
     ensures { OnePushed result runner.old runner.new }
 {

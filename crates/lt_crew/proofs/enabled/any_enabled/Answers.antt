@@ -6,7 +6,7 @@ use Rattle.lt_crew.specs.Together.{AreKept}
 use Rattle.lt_crew.specs.Enabled.{IsFirstMove}
 use Rattle.lt_runner.proofs.KeptLemmas.{seen_join}
 use Rattle.lt_crew.proofs.Each.{each_join}
-use Rattle.lt_crew.proofs.Pairs.{each_len}
+use Rattle.lt_crew.proofs.Each.{each_len}
 use Rattle.lt_crew.proofs.Enabling.{crew_linked, crew_seen, all_show, least_is}
 use Rattle.lt_crew.proofs.enabled.any_enabled.Goals as goal
 

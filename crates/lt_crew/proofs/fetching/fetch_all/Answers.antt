@@ -5,7 +5,7 @@ use Rattle.lt_runner.specs.declared.parts.Parts.{Parts}
 use Rattle.lt_runner.specs.Kept.{AsSeen}
 use Rattle.lt_runner.specs.Looking.{Fetches}
 use Rattle.lt_crew.specs.Meeting.{Fetching}
-use Rattle.lt_crew.proofs.Pairs.{each_len}
+use Rattle.lt_crew.proofs.Each.{each_len}
 use Rattle.lt_crew.proofs.Fetches.{next_fetched, fetching_starts}
 use Rattle.lt_crew.proofs.fetching.fetch_all.Goals as goal
 

@@ -2,7 +2,8 @@
 use Rattle.std.proofs.Common.{[], ◌∷◌, ◌++◌, List, sym, subst, arith}
 use Rattle.lt_runner.specs.declared.parts.Parts.{Parts}
 use Rattle.lt_crew.specs.Meeting.{AreMet, AnyTwo, AreLinked}
-use Rattle.lt_crew.proofs.Pairs.{linked_rest, linked_after, settled_vec}
+use Rattle.lt_crew.proofs.Linked.{linked_rest, linked_after}
+use Rattle.lt_crew.proofs.Pairs.{settled_vec}
 use Rattle.lt_crew.proofs.settling.+settle.Goals as goal
 
 pub settle-requires : goal.settle-requires

@@ -7,7 +7,7 @@ use Rattle.lt_runs.specs.World.{is_waiting}
 use Rattle.lt_node.specs.NodeData.{state_of}
 use Rattle.lt_crew.specs.Together.{crew_world}
 use Rattle.lt_crew.proofs.Waiters.{waits_here}
-use Rattle.lt_crew.proofs.Pushing.{get_is}
+use Rattle.lt_crew.proofs.Turns.{get_is}
 use Rattle.lt_crew.proofs.waiting.client_waits.Goals as goal
 
 pub returns : goal.returns
