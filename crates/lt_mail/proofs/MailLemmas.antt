@@ -45,6 +45,18 @@ kept_join a b c h k = record {
   ends = ends_join a b c h.ends k.ends;
 }
 
+-- no other outbox changed, so none has less room
+pub room_stays : (to : ℕ) (a b : Mail) → OutChanges Stays a b to → (node further : ℕ) → HasRoomAt further (out_at a node) → HasRoomAt further (out_at b node)
+room_stays to a b h node further room = elim (cases_eq node to) [
+  | inl e ↦ subst (λ (n : ℕ). HasRoomAt further (out_at a n) → HasRoomAt further (out_at b n)) (sym e) (here (out_at a to) (out_at b to) h.lane) room
+  | inr apart ↦ subst (λ (o : Option OutLane). HasRoomAt further o) (sym (h.others node apart)) room
+]
+  where
+    here : (x y : Option OutLane) → Both Stays x y → HasRoomAt further x → HasRoomAt further y
+    here None y q room = absurd q
+    here (Some x) None q room = absurd q
+    here (Some x) (Some y) q room = omega (arith, room, q.len, q.kept)
+
 pub one_more_reserved : (letters first : ℕ) (a b c : Mail) → Reserved letters first a b → OutChanges Stays b c first → KeepsSent b c
     → ((node : ℕ) → given_to c node ≡ given_to b node) → HasRoomAt letters (out_at c first) → Reserved letters (first + 1) a c
 one_more_reserved letters first a b c h lane kept given room = record {
@@ -54,11 +66,12 @@ one_more_reserved letters first a b c h lane kept given room = record {
     | inl e ↦ subst (λ (n : ℕ). HasRoomAt letters (out_at c n)) (sym e) room
     | inr apart ↦ subst (λ (o : Option OutLane). HasRoomAt letters o) (sym (lane.others node apart)) (h.room node (omega (arith, below, apart)))
   ];
+  room_kept = λ node further room. room_stays first b c lane node further (h.room_kept node further room);
 }
 
-pub all_reserved : (letters : ℕ) (a b : Mail) → Reserved letters (outs_count b) a b → HasRoom b letters
-all_reserved letters a b h node = elim (slice_get_cases b.outs.items node).1 [
-  | inl there ↦ h.room node there.1
+pub all_reserved : (letters first : ℕ) (a b : Mail) → Reserved letters first a b → outs_count a ≤ first → HasRoom b letters
+all_reserved letters first a b h whole node = elim (slice_get_cases b.outs.items node).1 [
+  | inl there ↦ h.room node (omega (arith, there.1, h.kept.ends.counts.0, whole))
   | inr past ↦ subst (λ (o : Option OutLane). HasRoomAt letters o) (sym past.1) tt
 ]
 

@@ -1,5 +1,5 @@
 -- What one lane of a mail did, and that no other did anything.
-use Rattle.std.specs.Prelude.{◌≡◌, ◌≢◌, ◌+◌, ◌<◌, ◌⊎◌, ℕ, [], ◌∷◌, ◌++◌, length}
+use Rattle.std.specs.Prelude.{◌≡◌, ◌≢◌, ◌+◌, ◌≤◌, ◌<◌, ◌⊎◌, ℕ, [], ◌∷◌, ◌++◌, length}
 use Rattle.std.specs.VecDeque.{deque_len, deque_capacity}
 use mathlib.Core.List.{IsPrefix}
 use Rattle.rtrb.specs.Ring.{producer_capacity, known_free}
@@ -42,11 +42,13 @@ pub record Flushes (x y : OutLane) : Type 0 where
   pub first : length (given y) < producer_capacity y.ring → waiting y ≡ []
   pub stops : (waiting y ≡ []) ⊎ (known_free y.ring ≡ 0)
 
--- no letter went anywhere
+-- no letter went anywhere, and the outbox has no less room
 pub record Stays (x y : OutLane) : Type 0 where
   pub ring : SameOut x y
   pub sent : sent_by y ≡ sent_by x
   pub given : given y ≡ given x
+  pub len : deque_len y.outbox ≡ deque_len x.outbox
+  pub kept : deque_capacity x.outbox ≤ deque_capacity y.outbox
 
 -- the letter was taken
 pub record Takes (letter : Letter) (x y : InLane) : Type 0 where
@@ -78,11 +80,12 @@ pub record KeepsSent (a b : Mail) : Type 0 where
   pub ins : (node : ℕ) → in_at b node ≡ in_at a node
   pub ends : SameEnds a b
 
--- the outboxes to the first nodes have room for so many further letters
+-- the outboxes to the first nodes have room for so many further letters, and none has less room
 pub record Reserved (letters first : ℕ) (a b : Mail) : Type 0 where
   pub kept : KeepsSent a b
   pub given : (node : ℕ) → given_to b node ≡ given_to a node
   pub room : (node : ℕ) → node < first → HasRoomAt letters (out_at b node)
+  pub room_kept : (node further : ℕ) → HasRoomAt further (out_at a node) → HasRoomAt further (out_at b node)
 
 -- the outboxes to the first nodes were flushed
 pub record Flushed (first : ℕ) (a b : Mail) : Type 0 where

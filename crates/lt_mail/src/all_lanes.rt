@@ -7,11 +7,12 @@ use std::alloc::AllocError;
 
 impl Mail {
     /// Makes room in each outbox for so many further letters.
-    #[tactic(auto, using(crate::proofs::MailLemmas::one_more_reserved, crate::proofs::MailLemmas::all_reserved, crate::proofs::MailLemmas::kept_join))]
+    #[tactic(auto, using(crate::proofs::MailLemmas::kept_join))]
     pub fn reserve(&mut self, letters: u32) -> Result<(), AllocError>
         ensures sent { (node : ℕ) → sent_to self.new node ≡ sent_to self.old node }
         ensures given { (node : ℕ) → given_to self.new node ≡ given_to self.old node }
         ensures room { OnOk result (HasRoom self.new letters) }
+        ensures kept { (further : ℕ) → HasRoom self.old further → HasRoom self.new further }
         ensures ins { (node : ℕ) → in_at self.new node ≡ in_at self.old node }
         ensures ends { SameEnds self.old self.new }
     {

@@ -14,7 +14,9 @@ impl OutLane {
         ensures given { given self.new ≡ given self.old }
         ensures waiting { waiting self.new ≡ waiting self.old }
         ensures ring { SameProducer self.old.ring self.new.ring }
+        ensures len { deque_len self.new.outbox ≡ deque_len self.old.outbox }
         ensures room { OnOk result (deque_len self.new.outbox + letters ≤ deque_capacity self.new.outbox) }
+        ensures kept { deque_capacity self.old.outbox ≤ deque_capacity self.new.outbox }
     {
         self.outbox.reserve(letters as usize)
     }
