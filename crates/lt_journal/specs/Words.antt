@@ -74,6 +74,20 @@ event_words script (Freeze set to number modes) =
     letter_words script (codes "freeze") set to ++ decimal number ∷ words_of_modes modes
 event_words script (Token set to epoch) = letter_words script (codes "token") set to ++ decimal epoch ∷ []
 
+-- the words of an event's line after those that name a lock, a drop or a letter
+abbrev pub further_words : ScriptData → Event → List (List ℕ)
+further_words script (Grant client set mode) = []
+further_words script (Wait client set mode) = []
+further_words script (Try client set mode got) = word_of_bool got ∷ []
+further_words script (Unlock client set mode) = []
+further_words script (NotHeld client set mode) = []
+further_words script (Change client set gives_up mode) = word_of mode ∷ []
+further_words script (DropAll client other set count) = decimal count ∷ []
+further_words script (Busy client other set) = []
+further_words script (Copy set to client mode) = client_name script client ∷ word_of mode ∷ []
+further_words script (Freeze set to number modes) = decimal number ∷ words_of_modes modes
+further_words script (Token set to epoch) = decimal epoch ∷ []
+
 -- the words of a line
 abbrev pub line_words : ScriptData → Line → List (List ℕ)
 line_words script (MoveLine clock node step) = codes "move" ∷ decimal clock ∷ decimal node ∷ step_words script step

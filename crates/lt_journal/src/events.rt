@@ -2,7 +2,7 @@ ghost use Rattle.std.specs.Prelude.{◌≡◌, ◌++◌, [], ◌∷◌, OnOk, if
 ghost use Rattle.std.specs.List.{flat_map};
 ghost use Rattle.lt_modes.specs.Modes.{has, word_of};
 ghost use Rattle.lt_journal.specs.declared.line.Line.TheVariants.{Move as MoveLine, Event as EventLine};
-ghost use Rattle.lt_journal.specs.Words.{after_space, spaced, line_words, lock_words, drop_words, letter_words, event_words, words_of_modes};
+ghost use Rattle.lt_journal.specs.Words.{after_space, spaced, line_words, lock_words, drop_words, letter_words, event_words, further_words, words_of_modes};
 ghost use Rattle.lt_journal.specs.Text.{line_text};
 
 use crate::names::{client_name, set_name};
@@ -57,62 +57,58 @@ pub fn words_of_event(text: &mut Text, script: &Script, event: Event) -> Result<
     ensures { OnOk result (text.new ≡ text.old ++ spaced (event_words script.now event)) }
 {
     match event {
-        Event::Grant { client, set, mode } => lock(text, script, "grant", client, set, mode),
-        Event::Wait { client, set, mode } => lock(text, script, "wait", client, set, mode),
+        Event::Grant { client, set, mode } => lock(text, script, "grant", client, set, mode)?,
+        Event::Wait { client, set, mode } => lock(text, script, "wait", client, set, mode)?,
         Event::Try {
             client,
             set,
             mode,
-            got,
-        } => {
-            lock(text, script, "try", client, set, mode)?;
-            text.word(if got { b"true" } else { b"false" })
-        }
-        Event::Unlock { client, set, mode } => lock(text, script, "unlock", client, set, mode),
-        Event::NotHeld { client, set, mode } => lock(text, script, "not_held", client, set, mode),
+            ..
+        } => lock(text, script, "try", client, set, mode)?,
+        Event::Unlock { client, set, mode } => lock(text, script, "unlock", client, set, mode)?,
+        Event::NotHeld { client, set, mode } => lock(text, script, "not_held", client, set, mode)?,
         Event::Change {
             client,
             set,
             gives_up,
-            mode,
-        } => {
-            lock(text, script, "change", client, set, gives_up)?;
-            text.word(mode.word().as_bytes())
-        }
+            ..
+        } => lock(text, script, "change", client, set, gives_up)?,
         Event::DropAll {
             client,
             other,
             set,
-            count,
-        } => {
-            drop_words(text, script, "drop", client, other, set)?;
-            text.number(u64::from(count))
-        }
-        Event::Busy { client, other, set } => drop_words(text, script, "busy", client, other, set),
-        Event::Copy {
-            set,
-            to,
-            client,
-            mode,
-        } => {
-            letter(text, script, "copy", set, to)?;
+            ..
+        } => drop_words(text, script, "drop", client, other, set)?,
+        Event::Busy { client, other, set } => drop_words(text, script, "busy", client, other, set)?,
+        Event::Copy { set, to, .. } => letter(text, script, "copy", set, to)?,
+        Event::Freeze { set, to, .. } => letter(text, script, "freeze", set, to)?,
+        Event::Token { set, to, .. } => letter(text, script, "token", set, to)?,
+    }
+    further_words(text, script, event)
+}
+
+// Writes the words of an event's line after those that name a lock, a drop or a letter.
+fn further_words(text: &mut Text, script: &Script, event: Event) -> Result<(), AllocError>
+    ensures { OnOk result (text.new ≡ text.old ++ flat_map after_space (further_words script.now event)) }
+{
+    match event {
+        Event::Try { got, .. } => text.word(if got { b"true" } else { b"false" }),
+        Event::Change { mode, .. } => text.word(mode.word().as_bytes()),
+        Event::DropAll { count, .. } => text.number(u64::from(count)),
+        Event::Copy { client, mode, .. } => {
             text.word(client_name(script, client))?;
             text.word(mode.word().as_bytes())
         }
-        Event::Freeze {
-            set,
-            to,
-            number,
-            modes,
-        } => {
-            letter(text, script, "freeze", set, to)?;
+        Event::Freeze { number, modes, .. } => {
             text.number(number)?;
             words_of_modes(text, modes)
         }
-        Event::Token { set, to, epoch } => {
-            letter(text, script, "token", set, to)?;
-            text.number(epoch)
-        }
+        Event::Token { epoch, .. } => text.number(epoch),
+        Event::Grant { .. }
+        | Event::Wait { .. }
+        | Event::Unlock { .. }
+        | Event::NotHeld { .. }
+        | Event::Busy { .. } => Ok(()),
     }
 }
 
