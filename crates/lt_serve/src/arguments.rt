@@ -1,4 +1,4 @@
-ghost use Rattle.std.specs.Prelude.{◌≡◌, ◌≢◌, map, IfOk, IfErr};
+ghost use Rattle.std.specs.Prelude.{◌≡◌, ◌≢◌, [], map, IfOk, IfErr};
 ghost use Rattle.std.specs.IoError.{error_kind};
 ghost use Rattle.std.specs.String.{string_bytes};
 ghost use Rattle.lt_limits.specs.declared.moves.TheConstants.{MAX_MOVES};
@@ -25,6 +25,7 @@ pub fn program<R: Threads + Sync, S: Source, K: Sink, G: Gate>(
     ensures served { IfOk words.now (λ texts. Serves S.left S.given S.faults S.ends K.held K.faults MAX_MOVES (command_of (map string_bytes texts.items)) result source.old source.new sink.old sink.new) }
     ensures no_memory { IfErr words.now (λ error. error_kind error ≡ ErrorKind.OutOfMemory → result.status ≡ Status.NoMemory) }
     ensures no_text { IfErr words.now (λ error. error_kind error ≢ ErrorKind.OutOfMemory → result.status ≡ Status.Usage) }
+    ensures no_run { IfErr words.now (λ error. result.run.entries ≡ []) }
     ensures unread { IfErr words.now (λ error. source.new ≡ source.old) }
     ensures unwritten { IfErr words.now (λ error. sink.new ≡ sink.old) }
 {
