@@ -5,7 +5,8 @@ use Rattle.std.specs.Io.KnownBytes.{Consumes}
 use Rattle.std.proofs.KnownBytes.{Consumes-nil, Consumes-trans}
 use Rattle.lt_io.specs.declared.whole.ReadFailure.{ReadFailure}
 use Rattle.lt_io.specs.declared.whole.ReadFailure.TheVariants.{Memory}
-use Rattle.lt_io.specs.Reading.{SourceState, ReadsOn, ReadsOut, FailsBy}
+use Rattle.lt_io.specs.Source.{SourceState}
+use Rattle.lt_io.specs.Reading.{ReadsOn, ReadsOut, FailsBy}
 
 -- before the first read
 pub nothing_read : (s : SourceState) → ReadsOn [] s s

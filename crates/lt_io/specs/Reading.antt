@@ -1,17 +1,10 @@
 -- What reading a source piece by piece comes to.
-use Rattle.std.specs.Prelude.{◌≡◌, ◌≢◌, ℕ, ◌+◌, ◌≤◌, ◌<◌, List, Option, IfSome, length}
+use Rattle.std.specs.Prelude.{◌≡◌, ◌≢◌, ℕ, ◌+◌, ◌≤◌, ◌<◌, List, IfSome, length}
 use Rattle.std.specs.Io.KnownBytes.{Consumes, IsAtEnd}
 use Rattle.lt_io.specs.FaultCounts.{Counts, count_after}
-use Rattle.lt_io.specs.Source.{LosesPart}
+use Rattle.lt_io.specs.Source.{SourceState, LosesPart}
 use Rattle.lt_io.specs.declared.whole.ReadFailure.{ReadFailure}
 use Rattle.lt_io.specs.declared.whole.ReadFailure.TheVariants.{Failed, TooLong}
-
--- what a source tells of itself: the bytes that are left, and its counts
-pub record SourceState : Type 0 where
-  pub left : Option (List ℕ)
-  pub given : ℕ
-  pub faults : ℕ
-  pub ends : ℕ
 
 -- these bytes were read: no read failed, and none was an end
 pub record ReadsOn (bytes : List ℕ) (before after : SourceState) : Type 0 where

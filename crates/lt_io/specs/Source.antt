@@ -1,7 +1,14 @@
--- What one read does to a source's counts of ends and of bytes given.
+-- What a source tells of itself, and what one read does to its counts of ends and of bytes given.
 use Rattle.std.specs.Prelude.{◌≡◌, ℕ, ◌<◌, List, Option, Result, Ok, Err}
 use Rattle.std.specs.Io.KnownBytes.{Consumes}
 use Rattle.lt_io.specs.FaultCounts.{Counts}
+
+-- the bytes that are left, where the source tells them; how many it gave, how often it failed, and how often it was found at its end
+pub record SourceState : Type 0 where
+  pub left : Option (List ℕ)
+  pub given : ℕ
+  pub faults : ℕ
+  pub ends : ℕ
 
 -- a count of ends after a read that gave so many bytes to a buffer with so much room: a read of nothing
 -- into a buffer with room is an end, and no other read is

@@ -15,10 +15,10 @@ pub struct ReaderSource<R> {
 
 impl<R: Read + Drop> ReaderSource<R> {
     pub fn new(reader: R) -> ReaderSource<R>
-        ensures left { ⟦<ReaderSource<R> as Source>⟧.left result ≡ R.remaining reader }
-        ensures given { ⟦<ReaderSource<R> as Source>⟧.given result ≡ 0 }
-        ensures faults { ⟦<ReaderSource<R> as Source>⟧.faults result ≡ 0 }
-        ensures ends { ⟦<ReaderSource<R> as Source>⟧.ends result ≡ 0 }
+        ensures left { (⟦<ReaderSource<R> as Source>⟧.state result).left ≡ R.remaining reader }
+        ensures given { (⟦<ReaderSource<R> as Source>⟧.state result).given ≡ 0 }
+        ensures faults { (⟦<ReaderSource<R> as Source>⟧.state result).faults ≡ 0 }
+        ensures ends { (⟦<ReaderSource<R> as Source>⟧.state result).ends ≡ 0 }
     {
         ReaderSource {
             reader,
@@ -30,13 +30,7 @@ impl<R: Read + Drop> ReaderSource<R> {
 }
 
 impl<R: Read + Drop> Source for ReaderSource<R> {
-    ghost left = { λ s. R.remaining s.reader };
-
-    ghost given = { λ s. s.given };
-
-    ghost faults = { λ s. s.faults };
-
-    ghost ends = { λ s. s.ends };
+    ghost state = { λ s. record { left = R.remaining s.reader; given = s.given; faults = s.faults; ends = s.ends } };
 
     fn read(&mut self, buf: &mut [u8]) -> Result<usize, Failed> {
         let Ok(count) = self.reader.read(buf) else {

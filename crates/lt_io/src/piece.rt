@@ -17,39 +17,9 @@ pub fn read_piece<S: Source>(
 ) -> Result<usize, ReadFailure>
     requires { 0 < length buf.old }
     ensures within { IfOk result (λ count. (count ≤ limit) × (count ≤ length buf.new)) }
-    ensures piece { IfOk result (λ count. 0 < count → ReadsOn (take count buf.new) (record {
-      left = S.left source.old;
-      given = S.given source.old;
-      faults = S.faults source.old;
-      ends = S.ends source.old;
-    }) (record {
-      left = S.left source.new;
-      given = S.given source.new;
-      faults = S.faults source.new;
-      ends = S.ends source.new;
-    })) }
-    ensures end { IfOk result (λ count. count ≡ 0 → ReadsOut [] (record {
-      left = S.left source.old;
-      given = S.given source.old;
-      faults = S.faults source.old;
-      ends = S.ends source.old;
-    }) (record {
-      left = S.left source.new;
-      given = S.given source.new;
-      faults = S.faults source.new;
-      ends = S.ends source.new;
-    })) }
-    ensures err { IfErr result (λ why. FailsBy why limit (record {
-      left = S.left source.old;
-      given = S.given source.old;
-      faults = S.faults source.old;
-      ends = S.ends source.old;
-    }) (record {
-      left = S.left source.new;
-      given = S.given source.new;
-      faults = S.faults source.new;
-      ends = S.ends source.new;
-    })) }
+    ensures piece { IfOk result (λ count. 0 < count → ReadsOn (take count buf.new) (S.state source.old) (S.state source.new)) }
+    ensures end { IfOk result (λ count. count ≡ 0 → ReadsOut [] (S.state source.old) (S.state source.new)) }
+    ensures err { IfErr result (λ why. FailsBy why limit (S.state source.old) (S.state source.new)) }
     ensures no_memory { IfErr result (λ why. why ≢ failure.Memory) }
 {
     let room = limit.saturating_add(1).min(buf.len());
@@ -62,28 +32,8 @@ pub fn read_piece<S: Source>(
 
 /// Reads a source to its end and keeps nothing, where no more bytes come than the limit. No memory is taken.
 pub fn skip_all<S: Source>(source: &mut S, limit: usize) -> Result<(), ReadFailure>
-    ensures out { OnOk result ((bytes : List ℕ) × (length bytes ≤ limit) × ReadsOut bytes (record {
-      left = S.left source.old;
-      given = S.given source.old;
-      faults = S.faults source.old;
-      ends = S.ends source.old;
-    }) (record {
-      left = S.left source.new;
-      given = S.given source.new;
-      faults = S.faults source.new;
-      ends = S.ends source.new;
-    })) }
-    ensures err { IfErr result (λ why. FailsBy why limit (record {
-      left = S.left source.old;
-      given = S.given source.old;
-      faults = S.faults source.old;
-      ends = S.ends source.old;
-    }) (record {
-      left = S.left source.new;
-      given = S.given source.new;
-      faults = S.faults source.new;
-      ends = S.ends source.new;
-    })) }
+    ensures out { OnOk result ((bytes : List ℕ) × (length bytes ≤ limit) × ReadsOut bytes (S.state source.old) (S.state source.new)) }
+    ensures err { IfErr result (λ why. FailsBy why limit (S.state source.old) (S.state source.new)) }
     ensures no_memory { IfErr result (λ why. why ≢ failure.Memory) }
 {
     let mut buf = [0; MAX_PIECE];

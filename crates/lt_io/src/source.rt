@@ -1,8 +1,8 @@
-ghost use Rattle.std.specs.Prelude.{ℕ, List, Option, length};
+ghost use Rattle.std.specs.Prelude.{length};
 ghost use Rattle.std.specs.Io.{ReadsAtMost};
 ghost use Rattle.std.specs.Io.KnownBytes.{ReadConsumes};
 ghost use Rattle.lt_io.specs.FaultCounts.{HasCause};
-ghost use Rattle.lt_io.specs.Source.{CountsEnd, Ends, Gives};
+ghost use Rattle.lt_io.specs.Source.{SourceState, CountsEnd, Ends, Gives};
 
 use std::error::Error;
 use std::fmt;
@@ -25,25 +25,17 @@ impl Error for Failed {}
 
 /// Where bytes come from.
 pub trait Source {
-    // The bytes that are left, where the source tells them.
-    ghost left: { Self → Option (List ℕ) };
-
-    // How many bytes it gave, how often it failed, and how often it was found at its end. Each of these
-    // counts stops at 2^64 - 1 and never falls.
-    ghost given: { Self → ℕ };
-
-    ghost faults: { Self → ℕ };
-
-    ghost ends: { Self → ℕ };
+    // What it tells of itself. Its counts stop at 2^64 - 1 and never fall.
+    ghost state: { Self → SourceState };
 
     /// Fills the front of the buffer and returns how many bytes it gave. An `Ok` of zero for a buffer
     /// that is not empty is the end of the input.
     fn read(&mut self, buf: &mut [u8]) -> Result<usize, Failed>
         ensures bound { ReadsAtMost result buf.new }
-        ensures bytes { ReadConsumes (left self.old) (left self.new) result buf.new }
-        ensures count { Gives (given self.old) (given self.new) result }
-        ensures cause { HasCause (faults self.old) (faults self.new) result }
-        ensures end { Ends (ends self.old) (ends self.new) (length buf.new) result };
+        ensures bytes { ReadConsumes (state self.old).left (state self.new).left result buf.new }
+        ensures count { Gives (state self.old).given (state self.new).given result }
+        ensures cause { HasCause (state self.old).faults (state self.new).faults result }
+        ensures end { Ends (state self.old).ends (state self.new).ends (length buf.new) result };
 }
 
 /// The count of ends after a read that gave so many bytes to a buffer with so much room.

@@ -14,13 +14,7 @@ pub struct SureSource {
 }
 
 impl Source for SureSource {
-    ghost left = { λ s. Some (drop s.at s.bytes.items) };
-
-    ghost given = { λ s. s.given };
-
-    ghost faults = { λ _. 0 };
-
-    ghost ends = { λ s. s.ends };
+    ghost state = { λ s. record { left = Some (drop s.at s.bytes.items); given = s.given; faults = 0; ends = s.ends } };
 
     fn read(&mut self, buf: &mut [u8]) -> Result<usize, Failed> {
         let count = copy_front(self.bytes.as_slice(), self.at, buf);

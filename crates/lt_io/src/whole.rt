@@ -64,29 +64,29 @@ pub fn read_all<S: Source>(
     limit: usize,
 ) -> Result<Vec<u8>, ReadFailure>
     ensures taken { IfOk result (λ bytes.
-        Consumes (S.left source.old) (S.left source.new) bytes.items) }
-    ensures at_end { OnOk result (IsAtEnd (S.left source.new)) }
-    ensures ended { OnOk result (Counts 1 (S.ends source.old) (S.ends source.new)) }
+        Consumes (S.state source.old).left (S.state source.new).left bytes.items) }
+    ensures at_end { OnOk result (IsAtEnd (S.state source.new).left) }
+    ensures ended { OnOk result (Counts 1 (S.state source.old).ends (S.state source.new).ends) }
     ensures counted { IfOk result (λ bytes.
-        Counts (vec_len bytes) (S.given source.old) (S.given source.new)) }
+        Counts (vec_len bytes) (S.state source.old).given (S.state source.new).given) }
     ensures within { IfOk result (λ bytes. vec_len bytes ≤ limit) }
 
     ensures failed { result ≡ Err ReadFailure.Failed →
-        Counts 1 (S.faults source.old) (S.faults source.new) }
+        Counts 1 (S.state source.old).faults (S.state source.new).faults }
     ensures too_long { result ≡ Err ReadFailure.TooLong →
-        Counts (limit + 1) (S.given source.old) (S.given source.new) }
+        Counts (limit + 1) (S.state source.old).given (S.state source.new).given }
     ensures too_many_left { result ≡ Err ReadFailure.TooLong →
-        IfSome (S.left source.old) (λ bytes. limit < length bytes) }
-    ensures not_ended { OnErr result (S.ends source.new ≡ S.ends source.old) }
+        IfSome (S.state source.old).left (λ bytes. limit < length bytes) }
+    ensures not_ended { OnErr result ((S.state source.new).ends ≡ (S.state source.old).ends) }
 
-    ensures part_taken { LosesPart (S.left source.old) (S.left source.new) }
-    ensures without_fault { OnOk result (S.faults source.new ≡ S.faults source.old) }
+    ensures part_taken { LosesPart (S.state source.old).left (S.state source.new).left }
+    ensures without_fault { OnOk result ((S.state source.new).faults ≡ (S.state source.old).faults) }
     ensures no_other_fault { IfErr result (λ why. why ≢ failure.Failed →
-        S.faults source.new ≡ S.faults source.old) }
-    ensures none_uncounted { S.given source.old ≤ S.given source.new }
-    ensures no_more { OnOk result (S.given source.new ≤ S.given source.old + limit) }
+        (S.state source.new).faults ≡ (S.state source.old).faults) }
+    ensures none_uncounted { (S.state source.old).given ≤ (S.state source.new).given }
+    ensures no_more { OnOk result ((S.state source.new).given ≤ (S.state source.old).given + limit) }
     ensures no_more_read { IfErr result (λ why. why ≢ failure.TooLong →
-        S.given source.new ≤ S.given source.old + limit) }
+        (S.state source.new).given ≤ (S.state source.old).given + limit) }
 {
     let mut bytes = Vec::new(alloc);
     let mut buf = [0; MAX_PIECE];
