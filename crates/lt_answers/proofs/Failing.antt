@@ -54,16 +54,16 @@ short_journal h = omega (arith, h)
 no_fault : (fault : ScriptFault) → HasFault (Some one_lock) fault → ⊥
 no_fault fault h = script_or_fault one_lock_script fault (read_of one_lock) one_lock_read h
 
-good_first : IsGood SimFirst (Some one_lock) untouched (read_whole one_lock)
+good_first : IsGood SimFirst (untouched (Some one_lock)) (read_whole one_lock)
 good_first = record { no_read_fault = no_rise; not_too_long = short_script; no_fault = no_fault; no_bad_line = λ e. cc }
 
-good_drawn : (seed : ℕ) → IsGood (Sim seed) (Some one_lock) untouched (read_whole one_lock)
+good_drawn : (seed : ℕ) → IsGood (Sim seed) (untouched (Some one_lock)) (read_whole one_lock)
 good_drawn seed = record { no_read_fault = no_rise; not_too_long = short_script; no_fault = no_fault; no_bad_line = λ e. cc }
 
-good_threads : IsGood Run (Some one_lock) untouched (read_whole one_lock)
+good_threads : IsGood Run (untouched (Some one_lock)) (read_whole one_lock)
 good_threads = record { no_read_fault = no_rise; not_too_long = short_script; no_fault = no_fault; no_bad_line = λ e. cc }
 
-good_check : IsGood Check (Some checked_lock) untouched (read_whole checked_lock)
+good_check : IsGood Check (untouched (Some checked_lock)) (read_whole checked_lock)
 good_check = record { no_read_fault = no_rise; not_too_long = short_journal; no_fault = without_fault; no_bad_line = λ e. never_bad }
 
 -- of the ends that a run can have only one is that of the script with one lock
@@ -80,7 +80,7 @@ only_done command only WriteFault e run old new t = absurd e
 only_done command only NoMemory e run old new t = absurd e
 only_done command only (BadJournal line) e run old new t = absurd e
 
-is_done : (command : Command) → OnlyJournal command one_lock one_lock_journal → IsGood command (Some one_lock) untouched (read_whole one_lock)
+is_done : (command : Command) → OnlyJournal command one_lock one_lock_journal → IsGood command (untouched (Some one_lock)) (read_whole one_lock)
     → ((answer : Status) → IsAnswered command answer → IsEnding answer) → IsDone command
 is_done command only good ends answer run old new complete t there =
     only_done command only answer (ends answer (complete (λ reads. good) no_rise there)) run old new t

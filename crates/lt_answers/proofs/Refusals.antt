@@ -37,11 +37,11 @@ fault_says = record {
 
 pub counts_say : CountsSay
 counts_say = record {
-  done = λ now t. (t.not_too_long (λ e. cc), t.no_read_fault (λ e. cc), (t.whole tt).count);
-  checked = λ now t. t.not_too_long (λ e. cc);
-  refused = λ fault now t. (t.no_read_fault (λ e. cc), (t.whole tt).count);
-  too_long = λ now t. ((t.too_long refl).count, t.no_read_fault (λ e. cc));
-  read_fault = λ now t. (t.not_too_long (λ e. cc), (t.read_fault refl).count);
+  done = λ left now t. (t.not_too_long (λ e. cc), t.no_read_fault (λ e. cc), (t.whole tt).count);
+  checked = λ left now t. t.not_too_long (λ e. cc);
+  refused = λ fault left now t. (t.no_read_fault (λ e. cc), (t.whole tt).count);
+  too_long = λ left now t. ((t.too_long refl).count, t.no_read_fault (λ e. cc));
+  read_fault = λ left now t. (t.not_too_long (λ e. cc), (t.read_fault refl).count);
   written = λ now t. t.no_write_fault (λ e. cc);
   write_fault = λ now t. (t.write_fault refl).count;
 }

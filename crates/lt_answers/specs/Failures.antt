@@ -1,5 +1,6 @@
 -- What the answers say where something fails, before which answers nothing is written, and which answers come where nothing fails.
-use Rattle.std.specs.Prelude.{◌≡◌, ◌≢◌, ℕ, List, Some, None, length}
+use Rattle.std.specs.Prelude.{◌≡◌, ◌≢◌, ℕ, List, [], Some, None, length}
+use Rattle.lt_io.specs.Source.{SourceState}
 use Rattle.lt_runs.specs.Log.{Logged}
 use Rattle.lt_limits.specs.declared.moves.TheConstants.{MAX_MOVES}
 use Rattle.lt_script.specs.declared.fault.ScriptFault.{ScriptFault}
@@ -7,7 +8,7 @@ use Rattle.lt_words.specs.declared.command.Command.{Command}
 use Rattle.lt_words.specs.declared.command.Command.TheVariants.{Run, SimFirst, Sim, Check, Make}
 use Rattle.lt_serve.specs.declared.status.Status.{Status}
 use Rattle.lt_serve.specs.declared.status.Status.TheVariants.{Done, Usage, Refused, TooLong, ReadFault, NoMemory, BadJournal}
-use Rattle.lt_serve.specs.Causes.{SourceCounts, WritesNothing}
+use Rattle.lt_serve.specs.Causes.{WritesNothing}
 use Rattle.lt_serve.specs.Complete.{IsComplete}
 use Rattle.lt_answers.specs.Examples.{Says, SaysNothing, one_lock}
 use Rattle.lt_answers.specs.OtherAnswers.{checked_lock, wrong_mode, untouched}
@@ -26,14 +27,14 @@ pub record UnwrittenSays : Type 0 where
   pub no_memory : WritesNothing NoMemory
   pub bad_journal : (line : ℕ) → WritesNothing (BadJournal line)
 
--- the counts after these bytes were read to their end
-abbrev pub read_whole : List ℕ → SourceCounts
-read_whole input = record { given = length input; faults = 0; ends = 1 }
+-- a source after these bytes of it were read to their end
+abbrev pub read_whole : List ℕ → SourceState
+read_whole input = record { left = Some []; given = length input; faults = 0; ends = 1 }
 
 -- a command that runs the script with one lock is done, where the script was read to its end, no write failed and memory was there
 abbrev pub IsDone : Command → Type 0
 IsDone command = (answer : Status) (run : List Logged) (old new : List ℕ)
-    → IsComplete (Some command) (Some one_lock) answer untouched (read_whole one_lock) 0 0
+    → IsComplete (Some command) answer (untouched (Some one_lock)) (read_whole one_lock) 0 0
     → Says MAX_MOVES command answer one_lock run old new
     → answer ≢ NoMemory
     → answer ≡ Done
@@ -42,6 +43,6 @@ pub record CompleteSays : Type 0 where
   pub first : IsDone SimFirst
   pub drawn : (seed : ℕ) → IsDone (Sim seed)
   pub threads : IsDone Run
-  pub check : (answer : Status) → IsComplete (Some Check) (Some checked_lock) answer untouched (read_whole checked_lock) 0 0
+  pub check : (answer : Status) → IsComplete (Some Check) answer (untouched (Some checked_lock)) (read_whole checked_lock) 0 0
       → answer ≢ NoMemory → answer ≡ Done
-  pub make : (answer : Status) → IsComplete (Some (Make 1 1 1 7)) None answer untouched untouched 0 0 → answer ≢ NoMemory → answer ≡ Done
+  pub make : (answer : Status) → IsComplete (Some (Make 1 1 1 7)) answer (untouched None) (untouched None) 0 0 → answer ≢ NoMemory → answer ≡ Done

@@ -1,5 +1,6 @@
 -- What the answers say that come before a run, those of `check` and `make`, and what each says of the source and the sink, in literals.
 use Rattle.std.specs.Prelude.{◌≡◌, ◌≤◌, false, ℕ, List, [], ◌∷◌, ◌++◌, Option, Some, None, codes}
+use Rattle.lt_io.specs.Source.{SourceState}
 use Rattle.lt_runs.specs.Log.{Logged}
 use Rattle.lt_limits.specs.declared.moves.TheConstants.{MAX_MOVES}
 use Rattle.lt_script.specs.declared.fault.ScriptFault.{ScriptFault}
@@ -9,7 +10,7 @@ use Rattle.lt_words.specs.Words.{command_of}
 use Rattle.lt_serve.specs.declared.limits.TheConstants.{MAX_INPUT}
 use Rattle.lt_serve.specs.declared.status.Status.{Status}
 use Rattle.lt_serve.specs.declared.status.Status.TheVariants.{Done, Stuck, Usage, Refused, TooLong, ReadFault, WriteFault, Cut, BadJournal}
-use Rattle.lt_serve.specs.Causes.{HasCause, SourceCounts, TellsSource, TellsSink, reads, limit_of}
+use Rattle.lt_serve.specs.Causes.{HasCause, TellsSource, TellsSink, reads, limit_of}
 use Rattle.lt_serve.specs.TopCall.{Tells}
 use Rattle.lt_answers.specs.Examples.{Says, SaysNothing, Writes, IsNever, one_lock, one_lock_journal, the_move}
 
@@ -54,17 +55,17 @@ pub record MakeSays : Type 0 where
   pub never_stuck : IsNever MAX_MOVES (Make 1 1 1 7) Stuck []
   pub reads_nothing : reads (Some (Make 1 1 1 7)) ≡ false
 
--- counts that were all 0 before
-abbrev pub untouched : SourceCounts
-untouched = record { given = 0; faults = 0; ends = 0 }
+-- a source of these bytes, if they are told, whose counts are all 0
+abbrev pub untouched : Option (List ℕ) → SourceState
+untouched left = record { left = left; given = 0; faults = 0; ends = 0 }
 
 pub record CountsSay : Type 0 where
-  pub done : (now : SourceCounts) → TellsSource (limit_of (Some SimFirst)) Done untouched now
+  pub done : (left : Option (List ℕ)) (now : SourceState) → TellsSource (limit_of (Some SimFirst)) Done (untouched left) now
       → (now.given ≤ 1048576) × (now.faults ≡ 0) × (now.ends ≡ 1)
-  pub checked : (now : SourceCounts) → TellsSource (limit_of (Some Check)) Done untouched now → now.given ≤ 67108864
-  pub refused : (fault : ScriptFault) (now : SourceCounts) → TellsSource MAX_INPUT (Refused fault) untouched now
+  pub checked : (left : Option (List ℕ)) (now : SourceState) → TellsSource (limit_of (Some Check)) Done (untouched left) now → now.given ≤ 67108864
+  pub refused : (fault : ScriptFault) (left : Option (List ℕ)) (now : SourceState) → TellsSource MAX_INPUT (Refused fault) (untouched left) now
       → (now.faults ≡ 0) × (now.ends ≡ 1)
-  pub too_long : (now : SourceCounts) → TellsSource (limit_of (Some Run)) TooLong untouched now → (now.given ≡ 1048577) × (now.faults ≡ 0)
-  pub read_fault : (now : SourceCounts) → TellsSource MAX_INPUT ReadFault untouched now → (now.given ≤ 1048576) × (now.faults ≡ 1)
+  pub too_long : (left : Option (List ℕ)) (now : SourceState) → TellsSource (limit_of (Some Run)) TooLong (untouched left) now → (now.given ≡ 1048577) × (now.faults ≡ 0)
+  pub read_fault : (left : Option (List ℕ)) (now : SourceState) → TellsSource MAX_INPUT ReadFault (untouched left) now → (now.given ≤ 1048576) × (now.faults ≡ 1)
   pub written : (now : ℕ) → TellsSink Done 0 now → now ≡ 0
   pub write_fault : (now : ℕ) → TellsSink WriteFault 0 now → now ≡ 1

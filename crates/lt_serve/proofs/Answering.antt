@@ -1,15 +1,16 @@
 -- What an answer says of a command: once its text is written, and where it came to no end.
 use Rattle.std.proofs.Common.{◌≡◌, true, false, ℕ, List, [], Option, Some, refl, sym, subst, inl, inr}
 use Rattle.lt_io.specs.FaultCounts.{Counts}
+use Rattle.lt_io.specs.Source.{SourceState}
 use Rattle.lt_runs.specs.Log.{Logged}
 use Rattle.lt_words.specs.declared.command.Command.{Command}
 use Rattle.lt_words.specs.declared.command.Command.TheVariants.{Run, SimFirst, Sim, Check, Make, Soak}
 use Rattle.lt_serve.specs.declared.serving.Served.{Served}
 use Rattle.lt_serve.specs.declared.status.Status.{Status}
 use Rattle.lt_serve.specs.declared.status.Status.TheVariants.{Done, Stuck, Usage, Refused, TooLong, ReadFault, WriteFault, NoMemory, Cut, BadJournal}
-use Rattle.lt_serve.specs.Causes.{SourceCounts, TellsSource, TellsSink, IsReadWhole, IsEnding, IsRefusal, WritesNothing, reads, limit_of}
+use Rattle.lt_serve.specs.Causes.{TellsSource, TellsSink, IsReadWhole, IsEnding, IsRefusal, WritesNothing, reads, limit_of}
 use Rattle.lt_serve.specs.Complete.{IsComplete, IsAnswered}
-use Rattle.lt_serve.specs.Serves.{Serves, counts_of}
+use Rattle.lt_serve.specs.Serves.{Serves}
 use Rattle.lt_serve.specs.TopCall.{Does, TellsOf}
 use Rattle.lt_serve.proofs.Causing.{HasWritten, written_causes, refused_causes, written_reading}
 use Rattle.lt_serve.proofs.Completing.{rose, refusal_complete}
@@ -37,8 +38,8 @@ told_answered moves command NoMemory left run old new told h = absurd h
 told_answered moves command (BadJournal line) left run old new told h = absurd h
 
 pub written_complete : (moves : ℕ) (command : Command) (status : Status) (left : Option (List ℕ)) (run : List Logged) (old new : Option (List ℕ))
-    (before after : SourceCounts) (w v : ℕ) → TellsOf moves command status left run old new → HasWritten status → (status ≡ WriteFault → Counts 1 w v)
-    → IsComplete (Some command) left status before after w v
+    (before after : SourceState) (w v : ℕ) → TellsOf moves command status left run old new → HasWritten status → (status ≡ WriteFault → Counts 1 w v)
+    → IsComplete (Some command) status before after w v
 written_complete moves command status left run old new before after w v told (inl h) fault =
     λ good writes memory. told_answered moves command status left run old new told h
 written_complete moves command status left run old new before after w v told (inr e) fault =
@@ -64,43 +65,43 @@ refusal_writes command left status w h = record {
 }
 
 -- a command that came to no end
-pub refusal_serves : {S K : Type 0} (left : S → Option (List ℕ)) (given faults ends : S → ℕ) (held : K → Option (List ℕ)) (write_faults : K → ℕ)
+pub refusal_serves : {S K : Type 0} (state : S → SourceState) (held : K → Option (List ℕ)) (write_faults : K → ℕ)
     (moves : ℕ) (asked : Option Command) (command : Command) (answer : Served) (status : Status) (before after : S) (sink : K)
-    → asked ≡ Some command → answer.status ≡ status → answer.run.entries ≡ [] → IsRefusal command (left before) status
-    → (reads (Some command) ≡ true → TellsSource (limit_of (Some command)) status (counts_of given faults ends before) (counts_of given faults ends after))
+    → asked ≡ Some command → answer.status ≡ status → answer.run.entries ≡ [] → IsRefusal command (state before).left status
+    → (reads (Some command) ≡ true → TellsSource (limit_of (Some command)) status (state before) (state after))
     → (reads (Some command) ≡ false → after ≡ before)
-    → Serves left given faults ends held write_faults moves asked answer before after sink sink
-refusal_serves left given faults ends held write_faults moves asked command answer status before after sink is same none refused reading unread =
-    let refusal = subst (λ (s : Status). IsRefusal command (left before) s) (sym same) refused in
-    let read = subst (λ (s : Status). reads (Some command) ≡ true → TellsSource (limit_of (Some command)) s (counts_of given faults ends before) (counts_of given faults ends after)) (sym same) reading in
-    subst (λ (a : Option Command). Serves left given faults ends held write_faults moves a answer before after sink sink) (sym is) (record {
-      tells = refusal_tells moves command answer.status (left before) answer.run.entries (held sink) refusal none;
-      causes = refused_causes (Some command) command (left before) answer.status refl refusal;
+    → Serves state held write_faults moves asked answer before after sink sink
+refusal_serves state held write_faults moves asked command answer status before after sink is same none refused reading unread =
+    let refusal = subst (λ (s : Status). IsRefusal command (state before).left s) (sym same) refused in
+    let read = subst (λ (s : Status). reads (Some command) ≡ true → TellsSource (limit_of (Some command)) s (state before) (state after)) (sym same) reading in
+    subst (λ (a : Option Command). Serves state held write_faults moves a answer before after sink sink) (sym is) (record {
+      tells = refusal_tells moves command answer.status (state before).left answer.run.entries (held sink) refusal none;
+      causes = refused_causes (Some command) command (state before).left answer.status refl refusal;
       reading = read;
       unread = unread;
-      writing = refusal_writes command (left before) answer.status (write_faults sink) refusal;
+      writing = refusal_writes command (state before).left answer.status (write_faults sink) refusal;
       unwritten = λ nothing. refl;
-      complete = refusal_complete command (left before) answer.status (counts_of given faults ends before) (counts_of given faults ends after)
+      complete = refusal_complete command answer.status (state before) (state after)
           (write_faults sink) (write_faults sink) refusal read;
     })
 
 -- a command whose text was written, or a part of it
-pub written_serves : {S K : Type 0} (left : S → Option (List ℕ)) (given faults ends : S → ℕ) (held : K → Option (List ℕ)) (write_faults : K → ℕ)
+pub written_serves : {S K : Type 0} (state : S → SourceState) (held : K → Option (List ℕ)) (write_faults : K → ℕ)
     (moves : ℕ) (asked : Option Command) (command : Command) (answer : Served) (before after : S) (sink sink_after : K)
     → asked ≡ Some command → HasWritten answer.status
-    → TellsOf moves command answer.status (left before) answer.run.entries (held sink) (held sink_after)
-    → (reads (Some command) ≡ true → IsReadWhole (limit_of (Some command)) (counts_of given faults ends before) (counts_of given faults ends after))
+    → TellsOf moves command answer.status (state before).left answer.run.entries (held sink) (held sink_after)
+    → (reads (Some command) ≡ true → IsReadWhole (limit_of (Some command)) (state before) (state after))
     → (reads (Some command) ≡ false → after ≡ before)
     → TellsSink answer.status (write_faults sink) (write_faults sink_after) → (WritesNothing answer.status → sink_after ≡ sink)
-    → Serves left given faults ends held write_faults moves asked answer before after sink sink_after
-written_serves left given faults ends held write_faults moves asked command answer before after sink sink_after is written told whole unread writing unwritten =
-    subst (λ (a : Option Command). Serves left given faults ends held write_faults moves a answer before after sink sink_after) (sym is) (record {
+    → Serves state held write_faults moves asked answer before after sink sink_after
+written_serves state held write_faults moves asked command answer before after sink sink_after is written told whole unread writing unwritten =
+    subst (λ (a : Option Command). Serves state held write_faults moves a answer before after sink sink_after) (sym is) (record {
       tells = told;
-      causes = written_causes (Some command) command (left before) answer.status refl written;
-      reading = λ read. written_reading (limit_of (Some command)) answer.status (counts_of given faults ends before) (counts_of given faults ends after) (whole read) written;
+      causes = written_causes (Some command) command (state before).left answer.status refl written;
+      reading = λ read. written_reading (limit_of (Some command)) answer.status (state before) (state after) (whole read) written;
       unread = unread;
       writing = writing;
       unwritten = unwritten;
-      complete = written_complete moves command answer.status (left before) answer.run.entries (held sink) (held sink_after)
-          (counts_of given faults ends before) (counts_of given faults ends after) (write_faults sink) (write_faults sink_after) told written writing.write_fault;
+      complete = written_complete moves command answer.status (state before).left answer.run.entries (held sink) (held sink_after)
+          (state before) (state after) (write_faults sink) (write_faults sink_after) told written writing.write_fault;
     })

@@ -2,13 +2,14 @@
 use Rattle.std.proofs.Common.{◌≡◌, ℕ, Bool, true, false, List, [], ◌∷◌, Option, Some, None, refl, sym, subst, inl, inr, ◌∙◌, ap}
 use Rattle.std.specs.Prelude.{◌⊎◌, option_map, if◌then◌else◌, codes}
 use Rattle.std.specs.Str.{bytes_eq}
+use Rattle.lt_io.specs.Source.{SourceState}
 use Rattle.lt_text.specs.Number.{number}
 use Rattle.lt_words.specs.declared.command.Command.{Command}
 use Rattle.lt_words.specs.declared.command.Command.TheVariants.{Sim, Make, Soak}
 use Rattle.lt_serve.specs.declared.status.Status.{Status}
 use Rattle.lt_serve.specs.declared.status.Status.TheVariants.{Done, Stuck, Usage, Refused, TooLong, ReadFault, WriteFault, NoMemory, Cut, BadJournal}
 use Rattle.lt_words.specs.Words.{seed_of, can_make, make_of, command_of}
-use Rattle.lt_serve.specs.Causes.{HasCause, SourceCounts, TellsSource, IsReadWhole, WritesNothing, IsEnding, CanBeMade, IsRefusal}
+use Rattle.lt_serve.specs.Causes.{HasCause, TellsSource, IsReadWhole, WritesNothing, IsEnding, CanBeMade, IsRefusal}
 
 -- the writing has begun
 abbrev pub HasWritten : Status → Type 0
@@ -67,7 +68,7 @@ refused_causes asked command left status is h = subst (λ (a : Option Command). 
     not_none : Some command ≡ None → ⊥
     not_none e = cc
 
-pub written_reading : (limit : ℕ) (status : Status) (before after : SourceCounts) → IsReadWhole limit before after → HasWritten status
+pub written_reading : (limit : ℕ) (status : Status) (before after : SourceState) → IsReadWhole limit before after → HasWritten status
     → TellsSource limit status before after
 written_reading limit status before after whole h = record {
   too_long = λ e. absurd (is_other status TooLong h tt e);

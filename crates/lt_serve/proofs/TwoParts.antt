@@ -1,7 +1,7 @@
 -- An input that was read in two parts is cut as its first part is.
 use Rattle.std.proofs.Common.{◌≡◌, ◌∙◌, ℕ, ◌≤◌, List, ◌++◌, Option, Some, None, length, take, drop, position, ap, arith, append-nil}
 use Rattle.std.proofs.lemmas.List.{take-append-le, drop-append-le}
-use Rattle.lt_io.specs.Reading.{SourceState}
+use Rattle.lt_io.specs.Source.{SourceState}
 use Rattle.lt_text.specs.Text.{lines}
 use Rattle.lt_journal.specs.declared.splitting.Parts.{Parts}
 use Rattle.lt_journal.specs.Split.{is_journal_line, parts_at, parts_of}

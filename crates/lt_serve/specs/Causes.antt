@@ -1,6 +1,7 @@
 -- Why an answer comes, and what it says of the source and the sink.
 use Rattle.std.specs.Prelude.{◌≡◌, ◌≢◌, Bool, true, false, ℕ, ◌+◌, ◌≤◌, Option, Some, None, List}
 use Rattle.lt_io.specs.FaultCounts.{Counts}
+use Rattle.lt_io.specs.Source.{SourceState}
 use Rattle.lt_io.specs.declared.whole.ReadFailure.{ReadFailure}
 use Rattle.lt_io.specs.declared.whole.ReadFailure.TheVariants.{Memory, Failed, TooLong as Long}
 use Rattle.lt_script.specs.declared.fault.ScriptFault.{ScriptFault}
@@ -46,12 +47,6 @@ pub record HasCause (asked : Option Command) (left : Option (List ℕ)) (answer 
   pub read_fault : answer ≡ ReadFault → reads asked ≡ true
   pub too_long : answer ≡ TooLong → reads asked ≡ true
 
--- how many bytes a source gave, how often it failed, and how often it was found at its end
-pub record SourceCounts : Type 0 where
-  pub given : ℕ
-  pub faults : ℕ
-  pub ends : ℕ
-
 -- the answer tells what the bytes are, or what came of them
 abbrev pub HasRead : Status → Type 0
 HasRead Done = Unit {0}
@@ -63,7 +58,7 @@ HasRead (Refused fault) = Unit {0}
 HasRead other = ⊥
 
 -- what the answer says of the source's counts, before and after, where the input may have so many bytes
-pub record TellsSource (limit : ℕ) (answer : Status) (before after : SourceCounts) : Type 0 where
+pub record TellsSource (limit : ℕ) (answer : Status) (before after : SourceState) : Type 0 where
   -- it gave one byte more than that, or no more than that
   pub too_long : answer ≡ TooLong → Counts (limit + 1) before.given after.given
   pub not_too_long : answer ≢ TooLong → after.given ≤ before.given + limit
@@ -74,7 +69,7 @@ pub record TellsSource (limit : ℕ) (answer : Status) (before after : SourceCou
   pub whole : HasRead answer → Counts 1 before.ends after.ends
 
 -- the source came to its end, no read failed, and it gave no more bytes than the input may have
-pub record IsReadWhole (limit : ℕ) (before after : SourceCounts) : Type 0 where
+pub record IsReadWhole (limit : ℕ) (before after : SourceState) : Type 0 where
   pub ended : Counts 1 before.ends after.ends
   pub few : after.given ≤ before.given + limit
   pub without_fault : after.faults ≡ before.faults

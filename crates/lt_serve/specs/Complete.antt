@@ -1,20 +1,21 @@
 -- What a command answers where nothing goes wrong.
-use Rattle.std.specs.Prelude.{◌≡◌, ◌≢◌, true, ℕ, ◌+◌, Option, Some, None, List}
+use Rattle.std.specs.Prelude.{◌≡◌, ◌≢◌, true, ℕ, ◌+◌, Option, Some, None}
 use Rattle.lt_io.specs.FaultCounts.{Rose, RoseBy}
+use Rattle.lt_io.specs.Source.{SourceState}
 use Rattle.lt_script.specs.declared.fault.ScriptFault.{ScriptFault}
 use Rattle.lt_words.specs.declared.command.Command.{Command}
 use Rattle.lt_words.specs.declared.command.Command.TheVariants.{Check, Make}
 use Rattle.lt_serve.specs.declared.status.Status.{Status}
 use Rattle.lt_serve.specs.declared.status.Status.TheVariants.{Done, NoMemory}
-use Rattle.lt_serve.specs.Causes.{SourceCounts, IsRefused, IsBad, IsEnding, reads, limit_of}
+use Rattle.lt_serve.specs.Causes.{IsRefused, IsBad, IsEnding, reads, limit_of}
 
 -- the source failed at no read and gave no more than the input may have, and its bytes are told: their script has no fault,
 -- and the journal that `check` reads has no bad line
-pub record IsGood (command : Command) (left : Option (List ℕ)) (before after : SourceCounts) : Type 0 where
+pub record IsGood (command : Command) (before after : SourceState) : Type 0 where
   pub no_read_fault : Rose before.faults after.faults → ⊥
   pub not_too_long : RoseBy (limit_of (Some command) + 1) before.given after.given → ⊥
-  pub no_fault : (fault : ScriptFault) → IsRefused (Some command) left fault → ⊥
-  pub no_bad_line : command ≡ Check → (line : ℕ) → IsBad left line → ⊥
+  pub no_fault : (fault : ScriptFault) → IsRefused (Some command) before.left fault → ⊥
+  pub no_bad_line : command ≡ Check → (line : ℕ) → IsBad before.left line → ⊥
 
 -- `make` and `check` are done; every other command has made a run to its end, which is Done, Stuck or Cut: of which end it is,
 -- and that a node met its limit at Cut, `Tells` speaks
@@ -24,10 +25,10 @@ IsAnswered Check answer = answer ≡ Done
 IsAnswered other answer = IsEnding answer
 
 -- where the input is good, if the command reads one, no write failed, and memory wasn't wanting, the command is answered so
-abbrev pub IsComplete : Option Command → Option (List ℕ) → Status → SourceCounts → SourceCounts → ℕ → ℕ → Type 0
-IsComplete None left answer before after writes_before writes_after = Unit {0}
-IsComplete (Some command) left answer before after writes_before writes_after =
-    (reads (Some command) ≡ true → IsGood command left before after)
+abbrev pub IsComplete : Option Command → Status → SourceState → SourceState → ℕ → ℕ → Type 0
+IsComplete None answer before after writes_before writes_after = Unit {0}
+IsComplete (Some command) answer before after writes_before writes_after =
+    (reads (Some command) ≡ true → IsGood command before after)
     → (Rose writes_before writes_after → ⊥)
     → answer ≢ NoMemory
     → IsAnswered command answer

@@ -1,6 +1,7 @@
 -- What is read of an input first, what comes after it, and how all of it is answered.
 use Rattle.std.specs.Prelude.{◌≡◌, ℕ, ◌+◌, ◌≤◌, List, [], ◌++◌, Option, Some, None, Result, Ok, Err, length}
-use Rattle.lt_io.specs.Reading.{SourceState, ReadsOn, ReadsOut, FailsBy}
+use Rattle.lt_io.specs.Source.{SourceState}
+use Rattle.lt_io.specs.Reading.{ReadsOn, ReadsOut, FailsBy}
 use Rattle.lt_io.specs.declared.whole.ReadFailure.{ReadFailure}
 use Rattle.lt_io.specs.declared.whole.ReadFailure.TheVariants.{Memory}
 use Rattle.lt_checking.specs.Input.{IsSettled}

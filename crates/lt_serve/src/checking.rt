@@ -31,26 +31,10 @@ use std::fmt::Write;
 
 /// Reads a script and a journal, and tells whether the journal is that of a run of the script.
 pub(crate) fn checked<S: Source>(alloc: Global, source: &mut S) -> Result<Made, Status>
-    ensures does { IfOk result (λ made. Checks made.ending (S.left source.old) made.run.entries made.text.items) }
-    ensures whole { OnOk result (IsReadWhole MAX_JOURNAL (record {
-      given = S.given source.old;
-      faults = S.faults source.old;
-      ends = S.ends source.old;
-    }) (record {
-      given = S.given source.new;
-      faults = S.faults source.new;
-      ends = S.ends source.new;
-    })) }
-    ensures reading { IfErr result (λ answer. TellsSource MAX_JOURNAL answer (record {
-      given = S.given source.old;
-      faults = S.faults source.old;
-      ends = S.ends source.old;
-    }) (record {
-      given = S.given source.new;
-      faults = S.faults source.new;
-      ends = S.ends source.new;
-    })) }
-    ensures refused { IfErr result (IsRefusal command.Check (S.left source.old)) }
+    ensures does { IfOk result (λ made. Checks made.ending (S.state source.old).left made.run.entries made.text.items) }
+    ensures whole { OnOk result (IsReadWhole MAX_JOURNAL (S.state source.old) (S.state source.new)) }
+    ensures reading { IfErr result (λ answer. TellsSource MAX_JOURNAL answer (S.state source.old) (S.state source.new)) }
+    ensures refused { IfErr result (IsRefusal command.Check (S.state source.old).left) }
 {
     let head = match read_head(alloc, source) {
         Ok(head) => head,
@@ -72,28 +56,8 @@ fn judged<S: Source>(
 ) -> Result<Result<Made, Status>, ReadFailure>
     requires few { length bytes.now ≤ MAX_JOURNAL }
     requires cut { IsCut bytes.now room }
-    ensures answer { IfOk result (λ answer. (rest : List ℕ) × IsAnswer (bytes.now ++ rest) answer × IsRest room rest (record {
-      left = S.left source.old;
-      given = S.given source.old;
-      faults = S.faults source.old;
-      ends = S.ends source.old;
-    }) (record {
-      left = S.left source.new;
-      given = S.given source.new;
-      faults = S.faults source.new;
-      ends = S.ends source.new;
-    })) }
-    ensures err { IfErr result (λ why. FailsRest room why (record {
-      left = S.left source.old;
-      given = S.given source.old;
-      faults = S.faults source.old;
-      ends = S.ends source.old;
-    }) (record {
-      left = S.left source.new;
-      given = S.given source.new;
-      faults = S.faults source.new;
-      ends = S.ends source.new;
-    })) }
+    ensures answer { IfOk result (λ answer. (rest : List ℕ) × IsAnswer (bytes.now ++ rest) answer × IsRest room rest (S.state source.old) (S.state source.new)) }
+    ensures err { IfErr result (λ why. FailsRest room why (S.state source.old) (S.state source.new)) }
 {
     let parts = split(bytes);
     let script = match read(alloc, &bytes[..parts.script as usize]) {
@@ -117,28 +81,8 @@ fn checked_journal<S: Source>(
     first: &[u8],
     room: Option<usize>,
 ) -> Result<Result<Run, ReplayError>, ReadFailure>
-    ensures told { IfOk result (λ told. (rest : List ℕ) × Answers (checked script.now (lines (first.now ++ rest))) told × IsRest room rest (record {
-      left = S.left source.old;
-      given = S.given source.old;
-      faults = S.faults source.old;
-      ends = S.ends source.old;
-    }) (record {
-      left = S.left source.new;
-      given = S.given source.new;
-      faults = S.faults source.new;
-      ends = S.ends source.new;
-    })) }
-    ensures err { IfErr result (λ why. FailsRest room why (record {
-      left = S.left source.old;
-      given = S.given source.old;
-      faults = S.faults source.old;
-      ends = S.ends source.old;
-    }) (record {
-      left = S.left source.new;
-      given = S.given source.new;
-      faults = S.faults source.new;
-      ends = S.ends source.new;
-    })) }
+    ensures told { IfOk result (λ told. (rest : List ℕ) × Answers (checked script.now (lines (first.now ++ rest))) told × IsRest room rest (S.state source.old) (S.state source.new)) }
+    ensures err { IfErr result (λ why. FailsRest room why (S.state source.old) (S.state source.new)) }
 {
     let mut checker = Checker::new(alloc, script)?;
     checker.feed(first)?;

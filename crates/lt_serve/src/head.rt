@@ -22,28 +22,8 @@ pub(crate) struct Head {
 pub(crate) fn read_head<S: Source>(alloc: Global, source: &mut S) -> Result<Head, ReadFailure>
     ensures few { IfOk result (λ head. length head.bytes.items ≤ MAX_JOURNAL) }
     ensures cut { IfOk result (λ head. IsCut head.bytes.items head.room) }
-    ensures head { IfOk result (λ head. IsHead head.bytes.items head.room (record {
-      left = S.left source.old;
-      given = S.given source.old;
-      faults = S.faults source.old;
-      ends = S.ends source.old;
-    }) (record {
-      left = S.left source.new;
-      given = S.given source.new;
-      faults = S.faults source.new;
-      ends = S.ends source.new;
-    })) }
-    ensures err { IfErr result (λ why. FailsBy why MAX_JOURNAL (record {
-      left = S.left source.old;
-      given = S.given source.old;
-      faults = S.faults source.old;
-      ends = S.ends source.old;
-    }) (record {
-      left = S.left source.new;
-      given = S.given source.new;
-      faults = S.faults source.new;
-      ends = S.ends source.new;
-    })) }
+    ensures head { IfOk result (λ head. IsHead head.bytes.items head.room (S.state source.old) (S.state source.new)) }
+    ensures err { IfErr result (λ why. FailsBy why MAX_JOURNAL (S.state source.old) (S.state source.new)) }
 {
     let mut bytes = Vec::new(alloc);
     let mut buf = [0; MAX_PIECE];

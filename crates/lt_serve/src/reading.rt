@@ -15,27 +15,11 @@ use std::alloc::Global;
 
 /// Reads the source to its end, and the script that its bytes denote.
 pub(crate) fn read_script<S: Source>(alloc: Global, source: &mut S) -> Result<Script, Status>
-    ensures script { IfOk result (Denotes (S.left source.old)) }
+    ensures script { IfOk result (Denotes (S.state source.old).left) }
     ensures kept { IfOk result IsScript }
-    ensures whole { OnOk result (IsReadWhole MAX_INPUT (record {
-      given = S.given source.old;
-      faults = S.faults source.old;
-      ends = S.ends source.old;
-    }) (record {
-      given = S.given source.new;
-      faults = S.faults source.new;
-      ends = S.ends source.new;
-    })) }
-    ensures reading { IfErr result (λ answer. TellsSource MAX_INPUT answer (record {
-      given = S.given source.old;
-      faults = S.faults source.old;
-      ends = S.ends source.old;
-    }) (record {
-      given = S.given source.new;
-      faults = S.faults source.new;
-      ends = S.ends source.new;
-    })) }
-    ensures refused { IfErr result (IsRefusal command.SimFirst (S.left source.old)) }
+    ensures whole { OnOk result (IsReadWhole MAX_INPUT (S.state source.old) (S.state source.new)) }
+    ensures reading { IfErr result (λ answer. TellsSource MAX_INPUT answer (S.state source.old) (S.state source.new)) }
+    ensures refused { IfErr result (IsRefusal command.SimFirst (S.state source.old).left) }
 {
     let bytes = read_bytes(alloc, source, MAX_INPUT)?;
     script_of(alloc, &bytes)
@@ -47,26 +31,10 @@ pub(crate) fn read_bytes<S: Source>(
     source: &mut S,
     limit: usize,
 ) -> Result<Vec<u8>, Status>
-    ensures bytes { IfOk result (λ bytes. Left (S.left source.old) bytes.items) }
+    ensures bytes { IfOk result (λ bytes. Left (S.state source.old).left bytes.items) }
     ensures few { IfOk result (λ bytes. length bytes.items ≤ limit) }
-    ensures whole { OnOk result (IsReadWhole limit (record {
-      given = S.given source.old;
-      faults = S.faults source.old;
-      ends = S.ends source.old;
-    }) (record {
-      given = S.given source.new;
-      faults = S.faults source.new;
-      ends = S.ends source.new;
-    })) }
-    ensures reading { IfErr result (λ answer. TellsSource limit answer (record {
-      given = S.given source.old;
-      faults = S.faults source.old;
-      ends = S.ends source.old;
-    }) (record {
-      given = S.given source.new;
-      faults = S.faults source.new;
-      ends = S.ends source.new;
-    })) }
+    ensures whole { OnOk result (IsReadWhole limit (S.state source.old) (S.state source.new)) }
+    ensures reading { IfErr result (λ answer. TellsSource limit answer (S.state source.old) (S.state source.new)) }
     ensures refused { IfErr result IsReadFailure }
 {
     match read_all(alloc, source, limit) {

@@ -7,28 +7,8 @@ use lt_io::{MAX_PIECE, ReadFailure, Source, read_piece, skip_all};
 
 /// Reads what is left of an input after its first bytes, and keeps nothing.
 pub(crate) fn skip_rest<S: Source>(source: &mut S, room: Option<usize>) -> Result<(), ReadFailure>
-    ensures rest { OnOk result ((rest : List ℕ) × IsRest room rest (record {
-      left = S.left source.old;
-      given = S.given source.old;
-      faults = S.faults source.old;
-      ends = S.ends source.old;
-    }) (record {
-      left = S.left source.new;
-      given = S.given source.new;
-      faults = S.faults source.new;
-      ends = S.ends source.new;
-    })) }
-    ensures err { IfErr result (λ why. FailsRest room why (record {
-      left = S.left source.old;
-      given = S.given source.old;
-      faults = S.faults source.old;
-      ends = S.ends source.old;
-    }) (record {
-      left = S.left source.new;
-      given = S.given source.new;
-      faults = S.faults source.new;
-      ends = S.ends source.new;
-    })) }
+    ensures rest { OnOk result ((rest : List ℕ) × IsRest room rest (S.state source.old) (S.state source.new)) }
+    ensures err { IfErr result (λ why. FailsRest room why (S.state source.old) (S.state source.new)) }
 {
     match room {
         Some(limit) => skip_all(source, limit),
@@ -42,28 +22,8 @@ pub(crate) fn feed_rest<S: Source>(
     room: Option<usize>,
     checker: &mut Checker<'_>,
 ) -> Result<(), ReadFailure>
-    ensures rest { OnOk result ((rest : List ℕ) × IsFed rest checker.old checker.new × IsRest room rest (record {
-      left = S.left source.old;
-      given = S.given source.old;
-      faults = S.faults source.old;
-      ends = S.ends source.old;
-    }) (record {
-      left = S.left source.new;
-      given = S.given source.new;
-      faults = S.faults source.new;
-      ends = S.ends source.new;
-    })) }
-    ensures err { IfErr result (λ why. FailsRest room why (record {
-      left = S.left source.old;
-      given = S.given source.old;
-      faults = S.faults source.old;
-      ends = S.ends source.old;
-    }) (record {
-      left = S.left source.new;
-      given = S.given source.new;
-      faults = S.faults source.new;
-      ends = S.ends source.new;
-    })) }
+    ensures rest { OnOk result ((rest : List ℕ) × IsFed rest checker.old checker.new × IsRest room rest (S.state source.old) (S.state source.new)) }
+    ensures err { IfErr result (λ why. FailsRest room why (S.state source.old) (S.state source.new)) }
 {
     match room {
         Some(limit) => feed_all(source, limit, checker),
@@ -77,28 +37,8 @@ fn feed_all<S: Source>(
     limit: usize,
     checker: &mut Checker<'_>,
 ) -> Result<(), ReadFailure>
-    ensures rest { OnOk result ((rest : List ℕ) × IsFed rest checker.old checker.new × (length rest ≤ limit) × ReadsOut rest (record {
-      left = S.left source.old;
-      given = S.given source.old;
-      faults = S.faults source.old;
-      ends = S.ends source.old;
-    }) (record {
-      left = S.left source.new;
-      given = S.given source.new;
-      faults = S.faults source.new;
-      ends = S.ends source.new;
-    })) }
-    ensures err { IfErr result (λ why. FailsBy why limit (record {
-      left = S.left source.old;
-      given = S.given source.old;
-      faults = S.faults source.old;
-      ends = S.ends source.old;
-    }) (record {
-      left = S.left source.new;
-      given = S.given source.new;
-      faults = S.faults source.new;
-      ends = S.ends source.new;
-    })) }
+    ensures rest { OnOk result ((rest : List ℕ) × IsFed rest checker.old checker.new × (length rest ≤ limit) × ReadsOut rest (S.state source.old) (S.state source.new)) }
+    ensures err { IfErr result (λ why. FailsBy why limit (S.state source.old) (S.state source.new)) }
 {
     let mut buf = [0; MAX_PIECE];
     let mut room = limit;

@@ -56,7 +56,7 @@ pub fn serve<R: Threads + Sync, S: Source, K: Sink, G: Gate>(
     sink: &mut K,
     gate: &G,
 ) -> Served
-    ensures { Serves S.left S.given S.faults S.ends K.held K.faults MAX_MOVES (command_of (map string_bytes words.now)) result source.old source.new sink.old sink.new }
+    ensures { Serves S.state K.held K.faults MAX_MOVES (command_of (map string_bytes words.now)) result source.old source.new sink.old sink.new }
 {
     serve_with(rt, alloc, USUAL, words, source, sink, gate)
 }
@@ -76,7 +76,7 @@ pub fn serve_with<R: Threads + Sync, S: Source, K: Sink, G: Gate>(
 ) -> Served
     requires moves { (0 < setup.moves) × (setup.moves ≤ MAX_MOVES) }
     requires capacity { (0 < setup.capacity) × (setup.capacity ≤ MAX_CAPACITY) }
-    ensures { Serves S.left S.given S.faults S.ends K.held K.faults setup.moves (command_of (map string_bytes words.now)) result source.old source.new sink.old sink.new }
+    ensures { Serves S.state K.held K.faults setup.moves (command_of (map string_bytes words.now)) result source.old source.new sink.old sink.new }
 {
     let command = match Command::from_words(alloc, words) {
         Ok(Some(command)) => command,
@@ -115,26 +115,10 @@ fn make<R: Threads + Sync, S: Source, G: Gate>(
     requires capacity { (0 < setup.capacity) × (setup.capacity ≤ MAX_CAPACITY) }
     requires possible { CanBeMade command }
     ensures ended { IfOk result (λ made. IsEnding made.ending) }
-    ensures does { IfOk result (λ made. Does setup.moves command made.ending (S.left source.old) made.run.entries made.text.items) }
-    ensures whole { OnOk result (reads (Some command) ≡ true → IsReadWhole (limit_of (Some command)) (record {
-      given = S.given source.old;
-      faults = S.faults source.old;
-      ends = S.ends source.old;
-    }) (record {
-      given = S.given source.new;
-      faults = S.faults source.new;
-      ends = S.ends source.new;
-    })) }
-    ensures reading { IfErr result (λ answer. reads (Some command) ≡ true → TellsSource (limit_of (Some command)) answer (record {
-      given = S.given source.old;
-      faults = S.faults source.old;
-      ends = S.ends source.old;
-    }) (record {
-      given = S.given source.new;
-      faults = S.faults source.new;
-      ends = S.ends source.new;
-    })) }
-    ensures refused { IfErr result (IsRefusal command (S.left source.old)) }
+    ensures does { IfOk result (λ made. Does setup.moves command made.ending (S.state source.old).left made.run.entries made.text.items) }
+    ensures whole { OnOk result (reads (Some command) ≡ true → IsReadWhole (limit_of (Some command)) (S.state source.old) (S.state source.new)) }
+    ensures reading { IfErr result (λ answer. reads (Some command) ≡ true → TellsSource (limit_of (Some command)) answer (S.state source.old) (S.state source.new)) }
+    ensures refused { IfErr result (IsRefusal command (S.state source.old).left) }
     ensures unread { reads (Some command) ≡ false → source.new ≡ source.old }
 {
     match command {

@@ -61,26 +61,10 @@ pub(crate) fn simulated_first<S: Source>(
     source: &mut S,
 ) -> Result<Made, Status>
     requires moves { (0 < moves) × (moves ≤ MAX_MOVES) }
-    ensures does { IfOk result (λ made. Does moves (command.SimFirst) made.ending (S.left source.old) made.run.entries made.text.items) }
-    ensures whole { OnOk result (IsReadWhole MAX_INPUT (record {
-      given = S.given source.old;
-      faults = S.faults source.old;
-      ends = S.ends source.old;
-    }) (record {
-      given = S.given source.new;
-      faults = S.faults source.new;
-      ends = S.ends source.new;
-    })) }
-    ensures reading { IfErr result (λ answer. TellsSource MAX_INPUT answer (record {
-      given = S.given source.old;
-      faults = S.faults source.old;
-      ends = S.ends source.old;
-    }) (record {
-      given = S.given source.new;
-      faults = S.faults source.new;
-      ends = S.ends source.new;
-    })) }
-    ensures refused { IfErr result (IsRefusal (command.SimFirst) (S.left source.old)) }
+    ensures does { IfOk result (λ made. Does moves (command.SimFirst) made.ending (S.state source.old).left made.run.entries made.text.items) }
+    ensures whole { OnOk result (IsReadWhole MAX_INPUT (S.state source.old) (S.state source.new)) }
+    ensures reading { IfErr result (λ answer. TellsSource MAX_INPUT answer (S.state source.old) (S.state source.new)) }
+    ensures refused { IfErr result (IsRefusal (command.SimFirst) (S.state source.old).left) }
 {
     let script = read_script(alloc, source)?;
     match first_journal(alloc, &script, moves) {
@@ -97,26 +81,10 @@ pub(crate) fn simulated_drawn<S: Source>(
     source: &mut S,
 ) -> Result<Made, Status>
     requires moves { (0 < moves) × (moves ≤ MAX_MOVES) }
-    ensures does { IfOk result (λ made. Does moves (command.Sim seed) made.ending (S.left source.old) made.run.entries made.text.items) }
-    ensures whole { OnOk result (IsReadWhole MAX_INPUT (record {
-      given = S.given source.old;
-      faults = S.faults source.old;
-      ends = S.ends source.old;
-    }) (record {
-      given = S.given source.new;
-      faults = S.faults source.new;
-      ends = S.ends source.new;
-    })) }
-    ensures reading { IfErr result (λ answer. TellsSource MAX_INPUT answer (record {
-      given = S.given source.old;
-      faults = S.faults source.old;
-      ends = S.ends source.old;
-    }) (record {
-      given = S.given source.new;
-      faults = S.faults source.new;
-      ends = S.ends source.new;
-    })) }
-    ensures refused { IfErr result (IsRefusal (command.Sim seed) (S.left source.old)) }
+    ensures does { IfOk result (λ made. Does moves (command.Sim seed) made.ending (S.state source.old).left made.run.entries made.text.items) }
+    ensures whole { OnOk result (IsReadWhole MAX_INPUT (S.state source.old) (S.state source.new)) }
+    ensures reading { IfErr result (λ answer. TellsSource MAX_INPUT answer (S.state source.old) (S.state source.new)) }
+    ensures refused { IfErr result (IsRefusal (command.Sim seed) (S.state source.old).left) }
 {
     let script = read_script(alloc, source)?;
     match drawn_journal(alloc, &script, moves, seed) {

@@ -92,26 +92,10 @@ pub(crate) fn threaded<R: Threads + Sync, S: Source, G: Gate>(
 ) -> Result<Made, Status>
     requires moves { (0 < setup.moves) × (setup.moves ≤ MAX_MOVES) }
     requires capacity { (0 < setup.capacity) × (setup.capacity ≤ MAX_CAPACITY) }
-    ensures does { IfOk result (λ made. Does setup.moves (command.Run) made.ending (S.left source.old) made.run.entries made.text.items) }
-    ensures whole { OnOk result (IsReadWhole MAX_INPUT (record {
-      given = S.given source.old;
-      faults = S.faults source.old;
-      ends = S.ends source.old;
-    }) (record {
-      given = S.given source.new;
-      faults = S.faults source.new;
-      ends = S.ends source.new;
-    })) }
-    ensures reading { IfErr result (λ answer. TellsSource MAX_INPUT answer (record {
-      given = S.given source.old;
-      faults = S.faults source.old;
-      ends = S.ends source.old;
-    }) (record {
-      given = S.given source.new;
-      faults = S.faults source.new;
-      ends = S.ends source.new;
-    })) }
-    ensures refused { IfErr result (IsRefusal (command.Run) (S.left source.old)) }
+    ensures does { IfOk result (λ made. Does setup.moves (command.Run) made.ending (S.state source.old).left made.run.entries made.text.items) }
+    ensures whole { OnOk result (IsReadWhole MAX_INPUT (S.state source.old) (S.state source.new)) }
+    ensures reading { IfErr result (λ answer. TellsSource MAX_INPUT answer (S.state source.old) (S.state source.new)) }
+    ensures refused { IfErr result (IsRefusal (command.Run) (S.state source.old).left) }
 {
     let script = read_script(alloc, source)?;
     match threads_journal(rt, alloc, &script, setup, gate) {

@@ -7,17 +7,7 @@ use Rattle.lt_serve.proofs.head.read_head.Given as goal
 
 abbrev pub invariant-loop-bytes : goal.invariant-loop-bytes
 invariant-loop-bytes g l = record {
-  read : ReadsOn l.bytes.items (record {
-    left = g.S.Source.left l.initial.source;
-    given = g.S.Source.given l.initial.source;
-    faults = g.S.Source.faults l.initial.source;
-    ends = g.S.Source.ends l.initial.source;
-  }) (record {
-    left = g.S.Source.left l.source;
-    given = g.S.Source.given l.source;
-    faults = g.S.Source.faults l.source;
-    ends = g.S.Source.ends l.source;
-  });
+  read : ReadsOn l.bytes.items (g.S.Source.state l.initial.source) (g.S.Source.state l.source);
   no_longer : vec_len l.bytes ≤ MAX_JOURNAL;
   place : l.line ≤ vec_len l.bytes;
   line : EndsLine (take l.line l.bytes.items);

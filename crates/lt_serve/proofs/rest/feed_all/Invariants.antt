@@ -6,17 +6,7 @@ use Rattle.lt_serve.proofs.rest.feed_all.Given as goal
 
 abbrev pub invariant-loop-count : goal.invariant-loop-count
 invariant-loop-count g l =
-    (bytes : List ℕ) × IsFed bytes l.initial.checker l.checker × (length bytes + l.room ≡ l.limit) × ReadsOn bytes (record {
-      left = g.S.Source.left l.initial.source;
-      given = g.S.Source.given l.initial.source;
-      faults = g.S.Source.faults l.initial.source;
-      ends = g.S.Source.ends l.initial.source;
-    }) (record {
-      left = g.S.Source.left l.source;
-      given = g.S.Source.given l.source;
-      faults = g.S.Source.faults l.source;
-      ends = g.S.Source.ends l.source;
-    })
+    (bytes : List ℕ) × IsFed bytes l.initial.checker l.checker × (length bytes + l.room ≡ l.limit) × ReadsOn bytes (g.S.Source.state l.initial.source) (g.S.Source.state l.source)
 
 abbrev pub decreases-loop-count : goal.decreases-loop-count
 decreases-loop-count g l = l.room
