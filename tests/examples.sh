@@ -1,7 +1,7 @@
 #!/bin/sh
 # Tests of all examples: both tools run on each; the pictures of docs/ are those that the tool draws; and where the
 # program is built, it makes each journal, with the right status, accepts it, and refuses it at each line that is
-# exchanged for another. Where none is built, the runs left out are counted.
+# exchanged for another; a word that isn't text gets the line of usage. Where none is built, the runs left out are counted.
 cd "$(dirname "$0")/.." || exit 1
 program=crates/lockrun/out/lockrun
 room=$(mktemp -d) || exit 1
@@ -57,6 +57,18 @@ for script in examples/*.script; do
     k=$((k + 1))
   done
 done
+
+# Sees that a word that isn't text is answered as no words are: by the line of usage and status 1.
+refuses_bytes() {
+  [ -x $program ] || { left_out=$((left_out + 1)); return; }
+  $program </dev/null >"$room/wanted" 2>&1
+  status=0
+  $program "$(printf 'sim\377')" </dev/null >"$room/printed" 2>&1 || status=$?
+  if [ $status -ne 1 ] || [ ! -s "$room/wanted" ] || ! cmp -s "$room/wanted" "$room/printed"; then
+    fail "lockrun says something else of a word that isn't text"
+  fi
+}
+refuses_bytes
 
 echo "tests/examples.sh: $examples examples, $failed failures"
 if [ $left_out -gt 0 ]; then echo "tests/examples.sh: no program is built: $left_out runs of it left out"; fi

@@ -1,5 +1,5 @@
 -- Rounds: turns that the caller makes, where a move is enabled.
-use Rattle.std.proofs.Common.{◌≡◌, ◌≢◌, ℕ, zero, suc, ◌<◌, ◌≤◌, List, [], ◌∷◌, ◌++◌, length, Option, Some, None, true, false, refl, sym, ap, subst, arith, ◌∙◌, take, drop}
+use Rattle.std.proofs.Common.{◌≡◌, ◌≢◌, ◌⊎◌, inl, inr, ℕ, zero, suc, ◌<◌, ◌≤◌, List, [], ◌∷◌, ◌++◌, length, Option, Some, None, true, false, refl, sym, ap, subst, arith, ◌∙◌, take, drop}
 use Rattle.std.specs.Prelude.{slice_index_or}
 use Rattle.std.proofs.lemmas.Bool.{true≢false}
 use Rattle.std.proofs.lemmas.List.{take_at}
@@ -165,6 +165,14 @@ others_end Moved k script old new crew cut h = other_moved script old new crew h
 others_end NoMemory k script old new crew cut h = other_over script old new crew h
 others_end Still k script old new crew cut h = other_still k script old new crew cut h
 others_end Full k script old new crew cut h = other_full k script old new crew cut h
+
+-- the node that can move makes a move, unless it may make none or memory is wanting
+pub first_moved_or_over : (pushed : Pushed) (k : ℕ) (script : ScriptData) (old new : List Parts) → pushed ≢ Full → CanPush script k old → PushedAt pushed k old new
+    → (pushed ≡ Moved) ⊎ (pushed ≡ NoMemory)
+first_moved_or_over Moved k script old new d can at = inl refl
+first_moved_or_over NoMemory k script old new d can at = inr refl
+first_moved_or_over Still k script old new d can at = absurd (first_still k script old new can at)
+first_moved_or_over Full k script old new d can at = absurd (d refl)
 
 pub first_ends : (pushed : Pushed) (k : ℕ) (script : ScriptData) (old new : List Parts) → pushed ≢ Full → IsCrew script old → CanPush script k old
     → PushedAt pushed k old new → PushEnds (first_end pushed) script old new

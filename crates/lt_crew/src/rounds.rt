@@ -1,7 +1,8 @@
-ghost use Rattle.std.specs.Prelude.{◌≡◌, ◌<◌, length};
+ghost use Rattle.std.specs.Prelude.{◌≡◌, ◌<◌, ◌⊎◌, length};
 ghost use Rattle.lt_runner.specs.Kept.{Grew};
 ghost use Rattle.lt_crew.specs.Together.{EachIs, IsCrew};
 ghost use Rattle.lt_crew.specs.Rounds.{RoundsEnd, IsCut};
+ghost use Rattle.lt_crew.specs.declared.rounds.Pushed.TheVariants as turns;
 ghost use Rattle.lt_crew.specs.Pushes.{OnePushed, PushedAt, Tried, CanPush, PushEnds, is_end, first_end, other_end};
 
 use crate::enabled::any_enabled;
@@ -104,13 +105,15 @@ fn push_from<G: Gate>(
     }
 }
 
-// How a turn of the node that can move ends the rounds.
+// How a turn of the node that can move, and may, ends the rounds.
 fn first_end(pushed: Pushed) -> Option<Ended>
+    requires { (pushed ≡ turns.Moved) ⊎ (pushed ≡ turns.NoMemory) }
     ensures { result ≡ first_end pushed }
 {
     match pushed {
         Pushed::Moved => None,
-        _ => Some(Ended::NoMemory),
+        Pushed::NoMemory => Some(Ended::NoMemory),
+        Pushed::Still | Pushed::Full => unreachable!(),
     }
 }
 

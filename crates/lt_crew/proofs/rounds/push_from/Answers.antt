@@ -2,7 +2,7 @@ use Rattle.std.proofs.Common.{subst, ℕ}
 use Rattle.lt_crew.specs.declared.rounds.Pushed.{Pushed}
 use Rattle.lt_crew.specs.Pushes.{PushedAt}
 use Rattle.lt_crew.proofs.rounds.push_from.Goals as goal
-use Rattle.lt_crew.proofs.Pushing.{first_crew, first_full, after_full, first_ends}
+use Rattle.lt_crew.proofs.Pushing.{first_crew, first_full, first_moved_or_over, after_full, first_ends}
 
 pub push_another-requires-clause-crew : goal.push_another-requires-clause-crew
 push_another-requires-clause-crew g c =
@@ -21,6 +21,11 @@ returns-in-Full g c =
     after_full c.args.node c.push_another.result c.args.script.now c.args.runners.now.items c.push_at-pushed.new.runners.items c.push_another.new.runners.items
     (subst (λ (pushed : Pushed). PushedAt pushed c.args.node c.args.runners.now.items c.push_at-pushed.new.runners.items) c.in-Full.is
     (subst (λ (k : ℕ). PushedAt c.push_at-pushed.result k c.args.runners.now.items c.push_at-pushed.new.runners.items) c.from.ensures c.push_at-pushed.ensures)) c.push_another.ensures
+
+pub first_end-requires : goal.first_end-requires
+first_end-requires g c =
+    first_moved_or_over c.push_at-pushed.result c.args.node c.args.script.now c.args.runners.now.items c.push_at-pushed.new.runners.items c.in_default.not-Full c.requires.enabled
+    (subst (λ (k : ℕ). PushedAt c.push_at-pushed.result k c.args.runners.now.items c.push_at-pushed.new.runners.items) c.from.ensures c.push_at-pushed.ensures)
 
 pub returns-in_default : goal.returns-in_default
 returns-in_default g c =
