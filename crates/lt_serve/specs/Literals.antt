@@ -1,8 +1,10 @@
--- What the exit statuses, their texts and the limits are.
-use Rattle.std.specs.Prelude.{◌≡◌, [], codes}
+-- What the exit statuses, their texts, the limits and what `soak` makes and writes are.
+use Rattle.std.specs.Prelude.{◌≡◌, ℕ, [], codes}
 use Rattle.lt_script.specs.declared.fault.Fault.TheVariants as faults
 use Rattle.lt_io.specs.declared.piece.TheConstants.{MAX_PIECE}
 use Rattle.lt_held.specs.HeldData.{most_locks}
+use Rattle.lt_gen.specs.Generator.{HasSizes}
+use Rattle.lt_summary.specs.Summary.{summary_text}
 use Rattle.lt_limits.specs.declared.moves.TheConstants.{MAX_MOVES}
 use Rattle.lt_mail.specs.declared.opening.TheConstants.{MAX_CAPACITY}
 use Rattle.lt_serve.specs.declared.limits.TheConstants.{MAX_INPUT, MAX_JOURNAL}
@@ -10,6 +12,7 @@ use Rattle.lt_serve.specs.declared.serving.TheConstants.{USUAL}
 use Rattle.lt_serve.specs.declared.status.Status.{Status}
 use Rattle.lt_serve.specs.declared.status.Status.TheVariants.{Done, Stuck, Usage, Refused, TooLong, ReadFault, WriteFault, NoMemory, Cut, BadJournal}
 use Rattle.lt_serve.specs.Status.{code_of, text_of}
+use Rattle.lt_serve.specs.TopCall.{greatest_script}
 
 -- the fault that a script of nothing has
 abbrev pub empty_script : Status
@@ -49,3 +52,11 @@ pub record LimitsAre : Type 0 where
   -- locks of one mode that a client holds in a set
   pub locks : most_locks ≡ 65536
   pub usual : USUAL ≡ record { moves = 1048576; capacity = 64; patience = 256 }
+
+pub record SoakIs : Type 0 where
+  -- the script that is made from each seed
+  pub sizes : (seed : ℕ) → HasSizes 16 4 64 4096 (greatest_script seed)
+  -- the six lines of what a run came to
+  pub text :
+      summary_text (record { nodes = 16; sets = 4; clients = 64; commands = 4096; held = 1; waiting = 2 })
+      ≡ codes "nodes 16\nsets 4\nclients 64\ncommands 4096\nheld 1\nwaiting 2\n"

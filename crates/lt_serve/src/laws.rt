@@ -1,8 +1,13 @@
-ghost use Rattle.lt_serve.specs.Literals.{CodesAre, TextsAre, LimitsAre};
+ghost use Rattle.lt_serve.specs.Literals.{CodesAre, TextsAre, LimitsAre, SoakIs};
 
-/// What the exit statuses, their texts and the limits are.
+use lt_gen::law_generated;
+
+/// What the exit statuses, their texts, the limits and what `soak` makes and writes are.
 pub fn law_literals()
     ensures codes { CodesAre }
     ensures texts { TextsAre }
     ensures limits { LimitsAre }
-{}
+    ensures soak { SoakIs }
+{
+    law_generated();
+}
