@@ -1,14 +1,16 @@
-ghost use Rattle.std.specs.Prelude.{◌≤◌, ℕ, List, length, IfErr, OnOk};
+ghost use Rattle.std.specs.Prelude.{◌≢◌, ◌≤◌, ℕ, List, length, IfErr, OnOk};
+ghost use Rattle.lt_io.specs.declared.whole.ReadFailure.TheVariants as failure;
 ghost use Rattle.lt_io.specs.Reading.{ReadsOut, FailsBy};
 ghost use Rattle.lt_serve.specs.Heads.{IsRest, FailsRest, IsFed};
 
 use lt_checker::Checker;
 use lt_io::{MAX_PIECE, ReadFailure, Source, read_piece, skip_all};
 
-/// Reads what is left of an input after its first bytes, and keeps nothing.
+/// Reads what is left of an input after its first bytes, and keeps nothing. No memory is taken.
 pub(crate) fn skip_rest<S: Source>(source: &mut S, room: Option<usize>) -> Result<(), ReadFailure>
     ensures rest { OnOk result ((rest : List ℕ) × IsRest room rest (S.state source.old) (S.state source.new)) }
     ensures err { IfErr result (λ why. FailsRest room why (S.state source.old) (S.state source.new)) }
+    ensures no_memory { IfErr result (λ why. why ≢ failure.Memory) }
 {
     match room {
         Some(limit) => skip_all(source, limit),
