@@ -1,4 +1,5 @@
 mod Answering
+mod BadLines
 mod Causing
 mod Completing
 mod Feeding

@@ -4,8 +4,11 @@ use Rattle.lt_io.specs.Source.{SourceState}
 use Rattle.lt_io.specs.Reading.{ReadsOn, ReadsOut, FailsBy}
 use Rattle.lt_io.specs.declared.whole.ReadFailure.{ReadFailure}
 use Rattle.lt_io.specs.declared.whole.ReadFailure.TheVariants.{Memory}
+use Rattle.lt_merge.specs.Run.{RunData}
 use Rattle.lt_checking.specs.Input.{IsSettled}
 use Rattle.lt_checker.specs.Checker.{CheckerData, StandsFor}
+use Rattle.lt_checker.specs.declared.error.ReplayError.{ReplayError}
+use Rattle.lt_checker.specs.declared.error.ReplayError.TheVariants.{Bad}
 use Rattle.lt_words.specs.declared.command.Command.TheVariants.{Check}
 use Rattle.lt_serve.specs.declared.limits.TheConstants.{MAX_JOURNAL}
 use Rattle.lt_serve.specs.declared.made.Made.{Made}
@@ -38,6 +41,16 @@ FailsRest (Some room) why before after = FailsBy why room before after
 pub record IsFed (rest : List ℕ) (old new : CheckerData) : Type 0 where
   pub script : new.script ≡ old.script
   pub stands : (bytes : List ℕ) → StandsFor old bytes → StandsFor new (bytes ++ rest)
+
+-- no more than so many bytes may come
+abbrev pub IsRoom : Option ℕ → Type 0
+IsRoom None = Unit {0}
+IsRoom (Some room) = room ≤ MAX_JOURNAL
+
+-- a line that is told as bad is one of so many bytes, or the one after them
+abbrev pub IsLineOf : ℕ → Result RunData ReplayError → Type 0
+IsLineOf size (Err (Bad line)) = line ≤ size + 1
+IsLineOf size told = Unit {0}
 
 -- an input of these bytes is answered so
 abbrev pub IsAnswer : List ℕ → Result Made Status → Type 0

@@ -1,4 +1,4 @@
-ghost use Rattle.std.specs.Prelude.{◌≡◌, ◌≤◌, ◌++◌, ℕ, List, Ok, take, drop, length, codes, IfOk, OnOk, IfErr};
+ghost use Rattle.std.specs.Prelude.{◌≡◌, ◌*◌, ◌≤◌, ◌++◌, ℕ, List, Ok, take, drop, length, codes, IfOk, OnOk, IfErr};
 ghost use Rattle.std.specs.Fmt.{decimal};
 ghost use Rattle.std.specs.String.{string_bytes};
 ghost use Rattle.lt_text.specs.Text.{lines};
@@ -11,7 +11,7 @@ ghost use Rattle.lt_checker.specs.Checker.{Answers};
 ghost use Rattle.lt_serve.specs.declared.limits.TheConstants.{MAX_JOURNAL};
 ghost use Rattle.lt_words.specs.declared.command.Command.TheVariants as command;
 ghost use Rattle.lt_serve.specs.Causes.{TellsSource, IsReadWhole, IsRefusal};
-ghost use Rattle.lt_serve.specs.Heads.{IsCut, IsRest, FailsRest, IsAnswer};
+ghost use Rattle.lt_serve.specs.Heads.{IsCut, IsRest, FailsRest, IsRoom, IsLineOf, IsAnswer};
 ghost use Rattle.lt_serve.specs.TopCall.{Checks, ok_text};
 
 use crate::head::read_head;
@@ -56,6 +56,7 @@ fn judged<S: Source>(
 ) -> Result<Result<Made, Status>, ReadFailure>
     requires few { length bytes.now ≤ MAX_JOURNAL }
     requires cut { IsCut bytes.now room }
+    requires room { IsRoom room }
     ensures answer { IfOk result (λ answer. (rest : List ℕ) × IsAnswer (bytes.now ++ rest) answer × IsRest room rest (S.state source.old) (S.state source.new)) }
     ensures err { IfErr result (λ why. FailsRest room why (S.state source.old) (S.state source.new)) }
 {
@@ -92,6 +93,8 @@ fn checked_journal<S: Source>(
 
 // The answer to an input with so many lines before its journal, of which a checker told this.
 fn answered(alloc: Global, before: u32, told: Result<Run, ReplayError>) -> Result<Made, Status>
+    requires few { before ≤ MAX_JOURNAL }
+    requires line { IsLineOf (2 * MAX_JOURNAL) told }
     ensures { (script : ScriptData) → (bytes : List ℕ) → IsScript script → read_of (take (parts_of bytes).script bytes) ≡ Ok script
         → before ≡ (parts_of bytes).lines → Answers (checked script (lines (drop (parts_of bytes).journal bytes))) told → IsAnswer bytes result }
 {
@@ -101,10 +104,9 @@ fn answered(alloc: Global, before: u32, told: Result<Run, ReplayError>) -> Resul
     match told {
         Ok(run) => with_count(alloc, run),
         Err(ReplayError::Memory) => Err(Status::NoMemory),
-        Err(ReplayError::Bad { line }) => match before.checked_add(line) {
-            Some(line) => Err(Status::BadJournal { line }),
-            None => Err(Status::NoMemory),
-        },
+        Err(ReplayError::Bad { line }) => Err(Status::BadJournal {
+            line: before + line,
+        }),
     }
 }
 

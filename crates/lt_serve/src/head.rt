@@ -2,7 +2,7 @@ ghost use Rattle.std.specs.Prelude.{◌≤◌, take, length, IfOk, IfErr, IfSome
 ghost use Rattle.lt_checking.specs.Input.{IsWhole, EndsLine, HasJournal, IsSettled};
 ghost use Rattle.lt_io.specs.Reading.{FailsBy};
 ghost use Rattle.lt_serve.specs.declared.limits.TheConstants.{MAX_JOURNAL};
-ghost use Rattle.lt_serve.specs.Heads.{IsCut, IsHead};
+ghost use Rattle.lt_serve.specs.Heads.{IsCut, IsHead, IsRoom};
 
 use crate::limits::MAX_JOURNAL;
 use lt_checking::law_settled;
@@ -22,6 +22,7 @@ pub(crate) struct Head {
 pub(crate) fn read_head<S: Source>(alloc: Global, source: &mut S) -> Result<Head, ReadFailure>
     ensures few { IfOk result (λ head. length head.bytes.items ≤ MAX_JOURNAL) }
     ensures cut { IfOk result (λ head. IsCut head.bytes.items head.room) }
+    ensures room { IfOk result (λ head. IsRoom head.room) }
     ensures head { IfOk result (λ head. IsHead head.bytes.items head.room (S.state source.old) (S.state source.new)) }
     ensures err { IfErr result (λ why. FailsBy why MAX_JOURNAL (S.state source.old) (S.state source.new)) }
 {

@@ -1,4 +1,4 @@
-use Rattle.std.proofs.Common.{rules, ◌≡◌, ◌∙◌, ◌++◌, ℕ, List, Ok, take, drop, ap, sym, subst}
+use Rattle.std.proofs.Common.{rules, ◌≡◌, ◌∙◌, ◌*◌, ◌≤◌, ◌++◌, ℕ, List, length, Ok, take, drop, ap, sym, subst}
 use Rattle.lt_text.specs.Text.{lines}
 use Rattle.lt_script.specs.Script.{IsScript}
 use Rattle.lt_script.specs.Reading.{read_of}
@@ -6,6 +6,8 @@ use Rattle.lt_journal.specs.declared.splitting.Parts.{Parts}
 use Rattle.lt_journal.specs.Split.{parts_of}
 use Rattle.lt_checking.specs.Checking.{checked}
 use Rattle.lt_checker.specs.Checker.{Answers}
+use Rattle.lt_serve.specs.declared.limits.TheConstants.{MAX_JOURNAL}
+use Rattle.lt_serve.proofs.BadLines.{journal_few, line_within, lines_few}
 use Rattle.lt_serve.proofs.TwoParts.{same_parts}
 use Rattle.lt_serve.proofs.checking.judged.Goals as goal
 
@@ -27,3 +29,13 @@ returns-clause-answer g c =
           (ap (λ (b : List ℕ). b ++ rest) journal ∙ sym same.journal) heard.1),
       heard.2,
     )
+
+pub answered-requires-clause-few : goal.answered-requires-clause-few
+answered-requires-clause-few g c = subst (λ (p : Parts). p.lines ≤ MAX_JOURNAL) (sym c.split-parts.ensures) (lines_few c.args.bytes.now c.requires.few)
+
+pub answered-requires-clause-line : goal.answered-requires-clause-line
+answered-requires-clause-line g c =
+    let heard = c.in_ok-told.ensures.told in
+    let few = journal_few c.args.bytes.now heard.0 c.split-parts.result.journal c.args.room _ _ c.requires.few c.requires.room heard.2 in
+    line_within c.in-Ok.script (c.split_at.result.1.now ++ heard.0) c.in_ok-told.told (2 * MAX_JOURNAL) heard.1
+    (subst (λ (first : List ℕ). length (first ++ heard.0) ≤ 2 * MAX_JOURNAL) (sym c.split_at.ensures.back) few)
