@@ -12,6 +12,9 @@ fn streams_of_std(rt: HostRuntime) -> Result<(), Fail> {
     let mut sink = WriterSink::new(Vec::new(rt.alloc()));
     let bytes = read_all(rt.alloc(), &mut source, text.len())?;
     assert_eq!(rt; bytes.as_slice(), text);
+    // A read after the end is an end too.
+    let mut buf = [0; 4];
+    assert_eq!(rt; source.read(&mut buf), Ok(0));
     assert_eq!(rt; write_all(&mut sink, text), Ok(()));
     Ok(())
 }
