@@ -1,13 +1,13 @@
 -- Pieces of known bytes: what is copied from a place on, what one more write appends, and how many writes there were.
-use Rattle.std.proofs.Common.{◌≡◌, ℕ, suc, ◌+◌, ◌-◌, ◌*◌, ◌<◌, ◌≤◌, min, List, ◌++◌, Option, Some, None, Ok, length, take, drop, inl, inr, ap, sym, subst, refl, ◌∙◌, arith, take-add, drop-drop}
+use Rattle.std.proofs.Common.{◌≡◌, ℕ, suc, ◌+◌, ◌-◌, ◌*◌, ◌<◌, ◌≤◌, min, List, ◌++◌, Option, Some, None, Ok, Err, length, take, drop, inl, inr, ap, sym, subst, refl, ◌∙◌, arith, take-add, drop-drop}
 use Rattle.std.specs.Prelude.{⊤}
 use Rattle.std.proofs.Math.Nat.{suc-mul}
 use Rattle.lt_io.specs.FaultCounts.{calls_after}
-use Rattle.lt_io.specs.Sink.{Pace, KeepsPace, WritesByFewest}
+use Rattle.lt_io.specs.Sink.{Pace, KeepsPace, WritesByFewest, StopsByFewest}
 use Rattle.std.proofs.lemmas.Bool.{cases_lt}
 use Rattle.std.proofs.lemmas.List.{take_rest, take-append-drop, take_at, drop_all, length-take-le, length-drop}
-use Rattle.std.proofs.KnownBytes.{Appends-trans}
-use Rattle.std.specs.Io.KnownBytes.{Appends}
+use Rattle.std.proofs.KnownBytes.{Appends-trans, Appends-kept}
+use Rattle.std.specs.Io.KnownBytes.{Appends, Keeps}
 
 -- past the end nothing is left, from wherever it is dropped
 pub drop-min : (xs : List ℕ) (at : ℕ) → drop (min at (length xs)) xs ≡ drop at xs
@@ -42,18 +42,18 @@ at_within xs at n inside fits = omega (arith, inside, length-drop at xs, subst (
 abbrev pub WroteByFewest : Option Pace → Option Pace → ℕ → ℕ → Type 0
 WroteByFewest None new size at = ⊤
 WroteByFewest (Some pace) new size at =
-    (n : ℕ) × (at ≡ min (n * pace.per_write) size) × ((k : ℕ) → k < n → k * pace.per_write < size) × (new ≡ Some (record pace { calls = calls_after pace.calls n }))
+    (n : ℕ) × (at ≡ min (n * pace.per_write) size) × ((k : ℕ) → k < n → k * pace.per_write < size) × (0 < n → 0 < pace.per_write) × (new ≡ Some (record pace { calls = calls_after pace.calls n }))
 
 -- before the first write
 pub none_written : (pace : Option Pace) (size : ℕ) → WroteByFewest pace pace size 0
 none_written None size = tt
-none_written (Some pace) size = (0, omega arith, λ k below. absurd (omega (arith, below)), refl)
+none_written (Some pace) size = (0, omega arith, λ k below. absurd (omega (arith, below)), λ some. absurd (omega (arith, some)), refl)
 
 -- one more write of all that is left
-pub one_more_write : (E : Type 0) (old mid new : Option Pace) (size at n : ℕ) (piece : List ℕ) → at < size → length piece ≡ size - at → WroteByFewest old mid size at
-    → KeepsPace {E = E} mid new (Ok n) piece → WroteByFewest old new size (at + n)
-one_more_write E None mid new size at n piece inside is_rest few keeps = tt
-one_more_write E (Some pace) mid new size at n piece inside is_rest (m, is_at, fewer, is_mid) keeps =
+pub one_more_write : (E : Type 0) (old mid new : Option Pace) (size at n : ℕ) (piece : List ℕ) → at < size → length piece ≡ size - at → (0 < length piece → 0 < n)
+    → WroteByFewest old mid size at → KeepsPace {E = E} mid new (Ok n) piece → WroteByFewest old new size (at + n)
+one_more_write E None mid new size at n piece inside is_rest takes few keeps = tt
+one_more_write E (Some pace) mid new size at n piece inside is_rest takes (m, is_at, fewer, some, is_mid) keeps =
     let kept = subst (λ (p : Option Pace). KeepsPace {E = E} p new (Ok n) piece) is_mid keeps in
     let product : suc m * pace.per_write ≡ m * pace.per_write + pace.per_write = suc-mul m pace.per_write in (
       suc m,
@@ -64,13 +64,30 @@ one_more_write E (Some pace) mid new size at n piece inside is_rest (m, is_at, f
             let same : k ≡ m = omega (arith, below, last) in
             subst (λ (i : ℕ). i * pace.per_write < size) (sym same) (omega (arith, is_at, inside))
       ],
+      λ _. omega (arith, kept.1, takes (omega (arith, inside, is_rest))),
       kept.0,
     )
 
 -- once all is written
 pub all_written : (old new : Option Pace) (size at : ℕ) → size ≤ at → WroteByFewest old new size at → WritesByFewest old new size
 all_written None new size at whole few = tt
-all_written (Some pace) new size at whole (n, is_at, fewer, is_new) = (n, record { enough = omega (arith, whole, is_at); fewer = fewer }, is_new)
+all_written (Some pace) new size at whole (n, is_at, fewer, some, is_new) = (n, record { enough = omega (arith, whole, is_at); fewer = fewer }, is_new)
+
+-- where one write more fails
+pub stops_by_fewest : (E : Type 0) (e : E) (old mid new : Option Pace) (held held_mid held_new : Option (List ℕ)) (bytes : List ℕ) (at : ℕ) (piece : List ℕ)
+    → at < length bytes → Appends held held_mid (take at bytes) → Keeps held_mid held_new → WroteByFewest old mid (length bytes) at
+    → KeepsPace {E = E} mid new (Err e) piece → StopsByFewest old new held held_new bytes
+stops_by_fewest E e None mid new held held_mid held_new bytes at piece inside written kept few keeps = tt
+stops_by_fewest E e (Some pace) mid new held held_mid held_new bytes at piece inside written kept (n, is_at, fewer, some, is_mid) keeps =
+    let whole : at ≡ n * pace.per_write = omega (arith, is_at, inside) in (
+      n,
+      record {
+        some_each = some;
+        not_all = omega (arith, whole, inside);
+        written = subst (λ (k : ℕ). Appends held held_new (take k bytes)) whole (Appends-kept held held_mid held_new (take at bytes) written kept);
+        counted = (subst (λ (p : Option Pace). KeepsPace {E = E} p new (Err e) piece) is_mid keeps).0;
+      },
+    )
 
 pub length_of_rest : (xs : List ℕ) (at : ℕ) → length (take (length xs - at) (drop at xs)) ≡ length xs - at
 length_of_rest xs at = ap length (take_rest xs at) ∙ length-drop at xs

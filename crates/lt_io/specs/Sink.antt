@@ -1,5 +1,5 @@
--- What one write takes, what a failed run of writes leaves, and how many calls a whole one needs.
-use Rattle.std.specs.Prelude.{◌≡◌, ℕ, ◌<◌, ◌≤◌, ◌*◌, min, List, length, take, ⊤, Option, Some, None, Result, IfOk}
+-- What one write takes, what a failed run of writes leaves, and how many calls a whole one and a failed one make.
+use Rattle.std.specs.Prelude.{◌≡◌, ℕ, suc, ◌<◌, ◌≤◌, ◌*◌, min, List, length, take, ⊤, Option, Some, None, Result, IfOk}
 use Rattle.std.specs.Io.KnownBytes.{Appends}
 use Rattle.lt_io.specs.FaultCounts.{count_after, calls_after}
 
@@ -32,3 +32,15 @@ abbrev pub WritesByFewest : Option Pace → Option Pace → ℕ → Type 0
 WritesByFewest None new size = ⊤
 WritesByFewest (Some pace) new size =
     (n : ℕ) × IsFewest pace.per_write size n × (new ≡ Some (record pace { calls = calls_after pace.calls n }))
+
+-- n calls took as much as they could, which is not all of these bytes yet, and one call more was made
+pub record StopsAfter (pace : Pace) (new : Option Pace) (held held_new : Option (List ℕ)) (bytes : List ℕ) (n : ℕ) : Type 0 where
+  pub some_each : 0 < n → 0 < pace.per_write
+  pub not_all : n * pace.per_write < length bytes
+  pub written : Appends held held_new (take (n * pace.per_write) bytes)
+  pub counted : new ≡ Some (record pace { calls = calls_after pace.calls (suc n) })
+
+-- a first part of these bytes was written by as few calls as can be, and one call more failed
+abbrev pub StopsByFewest : Option Pace → Option Pace → Option (List ℕ) → Option (List ℕ) → List ℕ → Type 0
+StopsByFewest None new held held_new bytes = ⊤
+StopsByFewest (Some pace) new held held_new bytes = (n : ℕ) × StopsAfter pace new held held_new bytes n

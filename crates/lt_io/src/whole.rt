@@ -3,7 +3,7 @@ ghost use Rattle.std.specs.Io.KnownBytes.{Consumes, Appends, IsAtEnd};
 ghost use Rattle.lt_io.specs.declared.whole.ReadFailure.TheVariants as failure;
 ghost use Rattle.lt_io.specs.FaultCounts.{Counts, HasCause};
 ghost use Rattle.lt_io.specs.Source.{LosesPart};
-ghost use Rattle.lt_io.specs.Sink.{AppendsPart, WritesByFewest};
+ghost use Rattle.lt_io.specs.Sink.{AppendsPart, WritesByFewest, StopsByFewest};
 
 use crate::piece::{MAX_PIECE, read_piece};
 use crate::sink::Sink;
@@ -105,6 +105,8 @@ pub fn write_all<K: Sink>(sink: &mut K, bytes: &[u8]) -> Result<(), Failed>
     ensures part { OnErr result (AppendsPart (K.held sink.old) (K.held sink.new) bytes.now) }
     ensures cause { HasCause (K.faults sink.old) (K.faults sink.new) result }
     ensures few { OnOk result (WritesByFewest (K.pace sink.old) (K.pace sink.new) (length bytes.now)) }
+    ensures few_failed { OnErr result (StopsByFewest (K.pace sink.old) (K.pace sink.new)
+        (K.held sink.old) (K.held sink.new) bytes.now) }
 {
     let mut at = 0;
     while at < bytes.len() {
