@@ -6,6 +6,7 @@ use Rattle.lt_runs.specs.Log.{Logged}
 use Rattle.lt_text.specs.Text as text
 use Rattle.lt_text.specs.Text.{lines}
 use Rattle.lt_script.specs.declared.fault.ScriptFault.{ScriptFault}
+use Rattle.lt_script.specs.declared.fault.Fault.TheVariants as faults
 use Rattle.lt_script.specs.Reading.{read_of}
 use Rattle.lt_journal.specs.Split as split
 use Rattle.lt_journal.specs.Split.{parts_of}
@@ -15,10 +16,11 @@ use Rattle.lt_checking.proofs.RowAnswers.{short_rows}
 use Rattle.lt_serve.specs.declared.status.Status.TheVariants.{Done}
 use Rattle.lt_serve.specs.Causes.{IsBad}
 use Rattle.lt_serve.specs.TopCall.{Checks, HasFaultBefore, ok_text}
-use Rattle.lt_answers.proofs.Results.{same_script, same_run, same_line, run_or_line, script_or_fault}
+use Rattle.lt_answers.proofs.Results.{same_script, same_run, same_line, same_fault, run_or_line, script_or_fault}
 use Rattle.lt_answers.specs.Examples.{one_lock, one_lock_script, the_move}
-use Rattle.lt_answers.specs.OtherAnswers.{CheckSays, checked_lock, wrong_mode}
+use Rattle.lt_answers.specs.OtherAnswers.{CheckSays, checked_lock, wrong_mode, no_mode, checked_no_mode}
 use Rattle.lt_answers.proofs.Runs.{one_lock_read}
+use Rattle.lt_answers.proofs.Refusals.{no_mode_read}
 use Rattle.lt_answers.proofs.Texts.{one_text}
 
 right_before : take (parts_of checked_lock).script checked_lock ≡ one_lock
@@ -28,6 +30,10 @@ right_before = refl
 wrong_before : take (parts_of wrong_mode).script wrong_mode ≡ one_lock
 unfolding text.lines text.cut_at text.words split.after_line
 wrong_before = refl
+
+no_mode_before : take (parts_of checked_no_mode).script checked_no_mode ≡ no_mode
+unfolding text.lines text.cut_at text.words split.after_line
+no_mode_before = refl
 
 right_lines : journal_in (lines checked_lock)
     ≡ codes "move 1 0 act a" ∷ codes "grant a s read" ∷ codes "held a s read 1" ∷ codes "owner s 0 0" ∷ codes "end 1" ∷ []
@@ -97,4 +103,8 @@ check_says = record {
       same_line line 7 (checked_input one_lock_script (lines wrong_mode)) (answered wrong_mode is.0 (Err line) wrong_before is.1 is.2) wrong_answer;
   never_done = λ run old new t.
       run_or_line run 7 (checked_input one_lock_script (lines wrong_mode)) (answered wrong_mode t.1.script (Ok run) wrong_before t.1.denoted t.1.accepted) wrong_answer;
+  fault = λ fault h.
+      same_fault fault (record { line = 4; fault = faults.Mode }) (read_of no_mode)
+      (subst (λ (bytes : List ℕ). read_of bytes ≡ Err fault) no_mode_before (h.refused fault refl)) no_mode_read;
+  never_refused = λ fault h. without_fault fault (h.refused fault refl);
 }

@@ -8,3 +8,4 @@ pub mod Checks
 pub mod Makes
 pub mod Failing
 pub mod Orderings
+pub mod Serving

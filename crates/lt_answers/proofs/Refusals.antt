@@ -21,7 +21,7 @@ words_say = record {
     not_none : Some SimFirst ≡ None → ⊥
     not_none e = cc
 
-no_mode_read : read_of no_mode ≡ Err (record { line = 4; fault = faults.Mode })
+pub no_mode_read : read_of no_mode ≡ Err (record { line = 4; fault = faults.Mode })
 unfolding reading.read_from text.lines text.cut_at reading.line_step text.words
 no_mode_read = refl
 
@@ -42,6 +42,10 @@ counts_say = record {
   refused = λ fault left now t. (t.no_read_fault (λ e. cc), (t.whole tt).count);
   too_long = λ left now t. ((t.too_long refl).count, t.no_read_fault (λ e. cc));
   read_fault = λ left now t. (t.not_too_long (λ e. cc), (t.read_fault refl).count);
+  stuck = λ left now t. (t.whole tt).count;
+  cut = λ left now t. (t.whole tt).count;
+  unwritten = λ left now t. (t.whole tt).count;
+  bad_journal = λ left now t. (t.whole tt).count;
   written = λ now t. t.no_write_fault (λ e. cc);
   write_fault = λ now t. (t.write_fault refl).count;
 }

@@ -21,6 +21,9 @@ one_text = decimal_digit 1 (omega arith)
 pub two_text : decimal 2 ≡ codes "2"
 two_text = decimal_digit 2 (omega arith)
 
+pub three_text : decimal 3 ≡ codes "3"
+three_text = decimal_digit 3 (omega arith)
+
 pub one_lock_text : text_of one_lock_script (the_move ∷ []) None ≡ one_lock_journal
 one_lock_text = rw one_text (rw zero_text refl)
 

@@ -5,7 +5,8 @@ use Rattle.lt_runs.specs.Log.{Logged}
 use Rattle.lt_limits.specs.declared.moves.TheConstants.{MAX_MOVES}
 use Rattle.lt_script.specs.declared.fault.ScriptFault.{ScriptFault}
 use Rattle.lt_script.specs.declared.fault.Fault.TheVariants as faults
-use Rattle.lt_words.specs.declared.command.Command.TheVariants.{Run, SimFirst, Check, Make}
+use Rattle.lt_words.specs.declared.command.Command.{Command}
+use Rattle.lt_words.specs.declared.command.Command.TheVariants.{Run, SimFirst, Sim, Check, Make, Soak}
 use Rattle.lt_words.specs.Words.{command_of}
 use Rattle.lt_serve.specs.declared.limits.TheConstants.{MAX_INPUT}
 use Rattle.lt_serve.specs.declared.status.Status.{Status}
@@ -42,22 +43,40 @@ checked_lock = one_lock ++ codes "journal\n" ++ one_lock_journal
 abbrev pub wrong_mode : List ℕ
 wrong_mode = one_lock ++ codes "journal\nmove 1 0 act a\ngrant a s write\nheld a s read 1\nowner s 0 0\nend 1\n"
 
+abbrev pub checked_no_mode : List ℕ
+checked_no_mode = no_mode ++ codes "journal\n"
+
 pub record CheckSays : Type 0 where
   pub done : Writes MAX_MOVES Check Done checked_lock (codes "ok 1\n")
   pub run : (run : List Logged) (old new : List ℕ) → Says MAX_MOVES Check Done checked_lock run old new → run ≡ the_move ∷ []
   pub never_bad : (line : ℕ) → HasCause (Some Check) (Some checked_lock) (BadJournal line) → ⊥
   pub bad : (line : ℕ) → HasCause (Some Check) (Some wrong_mode) (BadJournal line) → line ≡ 7
   pub never_done : IsNever MAX_MOVES Check Done wrong_mode
+  -- the script's fault is that of the lines before the journal, and the journal is none
+  pub fault : (fault : ScriptFault) → HasCause (Some Check) (Some checked_no_mode) (Refused fault) → fault ≡ record { line = 4; fault = faults.Mode }
+  pub never_refused : (fault : ScriptFault) → HasCause (Some Check) (Some checked_lock) (Refused fault) → ⊥
 
 pub record MakeSays : Type 0 where
   pub done : Writes MAX_MOVES (Make 1 1 1 7) Done [] (codes "nodes 1\nset s0\nset s1\nset s2\nset s3\nclient c0 at 0\nc0 unlock s0 read\n")
   pub no_run : (run : List Logged) (old new : List ℕ) → Says MAX_MOVES (Make 1 1 1 7) Done [] run old new → run ≡ []
   pub never_stuck : IsNever MAX_MOVES (Make 1 1 1 7) Stuck []
   pub reads_nothing : reads (Some (Make 1 1 1 7)) ≡ false
+  pub never_read_fault : (left : Option (List ℕ)) → HasCause (Some (Make 1 1 1 7)) left ReadFault → ⊥
+  pub never_too_long : (left : Option (List ℕ)) → HasCause (Some (Make 1 1 1 7)) left TooLong → ⊥
+
+-- a run of the greatest script that was cut
+pub record SoakSays : Type 0 where
+  pub cut : Writes MAX_MOVES (Soak 7) (Cut 3) [] (codes "cut 3\n")
+  pub reads_nothing : reads (Some (Soak 7)) ≡ false
 
 -- a source of these bytes, if they are told, whose counts are all 0
 abbrev pub untouched : Option (List ℕ) → SourceState
 untouched left = record { left = left; given = 0; faults = 0; ends = 0 }
+
+-- at this answer a source that was never at its end has come to it
+abbrev pub ComesToEnd : Command → Status → Type 0
+ComesToEnd command status =
+    (left : Option (List ℕ)) (now : SourceState) → TellsSource (limit_of (Some command)) status (untouched left) now → now.ends ≡ 1
 
 pub record CountsSay : Type 0 where
   pub done : (left : Option (List ℕ)) (now : SourceState) → TellsSource (limit_of (Some SimFirst)) Done (untouched left) now
@@ -67,5 +86,9 @@ pub record CountsSay : Type 0 where
       → (now.faults ≡ 0) × (now.ends ≡ 1)
   pub too_long : (left : Option (List ℕ)) (now : SourceState) → TellsSource (limit_of (Some Run)) TooLong (untouched left) now → (now.given ≡ 1048577) × (now.faults ≡ 0)
   pub read_fault : (left : Option (List ℕ)) (now : SourceState) → TellsSource MAX_INPUT ReadFault (untouched left) now → (now.given ≤ 1048576) × (now.faults ≡ 1)
+  pub stuck : ComesToEnd SimFirst Stuck
+  pub cut : ComesToEnd (Sim 7) (Cut 0)
+  pub unwritten : ComesToEnd Run WriteFault
+  pub bad_journal : ComesToEnd Check (BadJournal 7)
   pub written : (now : ℕ) → TellsSink Done 0 now → now ≡ 0
   pub write_fault : (now : ℕ) → TellsSink WriteFault 0 now → now ≡ 1

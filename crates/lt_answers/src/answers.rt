@@ -1,10 +1,13 @@
 ghost use Rattle.lt_answers.specs.Examples.{OneLock, TwoWriters, CutShort};
-ghost use Rattle.lt_answers.specs.OtherAnswers.{WordsSay, FaultSays, CheckSays, MakeSays, CountsSay};
+ghost use Rattle.lt_answers.specs.OtherAnswers.{WordsSay, FaultSays, CheckSays, MakeSays, SoakSays, CountsSay};
 ghost use Rattle.lt_answers.specs.Failures.{FailuresSay, UnwrittenSays, CompleteSays};
 ghost use Rattle.lt_answers.specs.TwoOrders.{OrdersSay};
+ghost use Rattle.lt_answers.specs.WholeAnswers.{ServesSay};
 
-/// What the answers to these inputs say.
-pub fn law_answers()
+use lt_io::{Sink, Source};
+
+/// What the answers to these inputs say, the last clause of any source and sink.
+pub fn law_answers<S: Source, K: Sink>()
     ensures one_lock { OneLock }
     ensures two_writers { TwoWriters }
     ensures cut_short { CutShort }
@@ -12,9 +15,11 @@ pub fn law_answers()
     ensures fault { FaultSays }
     ensures check { CheckSays }
     ensures make { MakeSays }
+    ensures soak { SoakSays }
     ensures counts { CountsSay }
     ensures failures { FailuresSay }
     ensures unwritten { UnwrittenSays }
     ensures complete { CompleteSays }
     ensures orders { OrdersSay }
+    ensures serves { ServesSay S.state K.held K.faults }
 {}
