@@ -1,6 +1,7 @@
 //! The greatest sizes, with ample memory.
 mod wide;
 
+use lt_checker::{ReplayError, replay};
 use lt_io::{MemorySink, SureSource};
 use lt_journal::read as read_journal;
 use lt_script::read as read_script;
@@ -52,11 +53,22 @@ fn joined(alloc: Global, script: &[u8], journal: &[u8]) -> Result<Vec<u8>, Alloc
     Ok(input)
 }
 
-// Words that run a script of 16 nodes, 64 clients and 4,096 commands, with the length of the journal and the answer to it.
-const RUNS: [(&str, usize, &str); 2] = [
-    ("sim first", 347_418, "ok 8900\n"),
-    ("sim 7", 347_595, "ok 9263\n"),
-];
+// Words that run a script of 16 nodes, 64 clients and 4,096 commands, with the length of the journal and how many moves it tells.
+const RUNS: [(&str, usize, u32); 2] = [("sim first", 347_418, 8_900), ("sim 7", 347_595, 9_263)];
+
+// What `replay` tells of a journal that is read first: the number of moves, or else the first bad line.
+fn replayed(alloc: Global, script: &[u8], journal: &[u8]) -> Result<Result<u32, u32>, Fail> {
+    if script.len() > 1_048_576 || journal.len() > 2_000_000 {
+        return Err(Fail::from("a long input"));
+    }
+    let script = read_script(alloc, script)?;
+    let journal = read_journal(alloc, &script, journal)?;
+    match replay(alloc, &script, &journal) {
+        Ok(run) => Ok(Ok(run.len())),
+        Err(ReplayError::Bad { line }) => Ok(Err(line)),
+        Err(ReplayError::Memory) => Err(Fail::from("no memory")),
+    }
+}
 
 #[test]
 fn runs_the_greatest_script(rt: HostRuntime) -> Result<(), Fail> {
@@ -64,14 +76,17 @@ fn runs_the_greatest_script(rt: HostRuntime) -> Result<(), Fail> {
     let (status, script) = served(&rt, alloc, "make 16 64 4096 7", b"")?;
     assert_eq!(rt; status, Status::Done);
     assert_eq!(rt; script.len(), 94_384);
-    for (words, length, answer) in &RUNS {
+    for (words, length, moves) in &RUNS {
         let (status, journal) = served(&rt, alloc, words, &script)?;
         assert_eq!(rt; status, Status::Done, "{words}");
         assert_eq!(rt; journal.len(), *length, "{words}");
         let input = joined(alloc, &script, &journal)?;
         let (status, text) = served(&rt, alloc, "check", &input)?;
         assert_eq!(rt; status, Status::Done, "{words}");
+        let answer = format!(in alloc; "ok {moves}\n")?;
         assert_eq!(rt; text.as_slice(), answer.as_bytes());
+        let told = replayed(alloc, &script, &journal)?;
+        assert_eq!(rt; told, Ok(*moves), "{words}");
     }
     Ok(())
 }
@@ -102,16 +117,21 @@ fn reads_the_longest_line(rt: HostRuntime) -> Result<(), Fail> {
     Ok(())
 }
 
+// The client has no command, so the first of these lines is bad: the fifth of the input, after three lines of the script and `journal`.
 #[test]
 fn reads_a_long_journal(rt: HostRuntime) -> Result<(), Fail> {
     let alloc = rt.alloc();
-    let script = read_script(alloc, b"nodes 1\nset s\nclient a at 0\n")?;
+    let script = b"nodes 1\nset s\nclient a at 0\n";
     let mut bytes = Vec::new(alloc);
     for _ in 0..100_000 {
         bytes.extend_from_slice(b"move 1 0 act a\n")?;
     }
     assert_eq!(rt; bytes.len(), 1_500_000);
-    let journal = read_journal(alloc, &script, &bytes)?;
-    assert_eq!(rt; journal.len(), 100_000);
+    let input = joined(alloc, script, &bytes)?;
+    let (status, text) = served(&rt, alloc, "check", &input)?;
+    assert_eq!(rt; status, Status::BadJournal { line: 5 });
+    assert_eq!(rt; text.len(), 0);
+    let told = replayed(alloc, script, &bytes)?;
+    assert_eq!(rt; told, Err(1));
     Ok(())
 }
