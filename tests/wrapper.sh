@@ -89,6 +89,11 @@ expect 'the status' '<sim><first>
 # stuck
 status 3' "$(echo '# stuck' | said "$top/lockrun" sim first)"
 
+# A program that was built starts with no other tool than the one that reads the list of its sources.
+mkdir "$room/only-cat" && ln -s "$(command -v cat)" "$room/only-cat/cat"
+expect 'no search before the program' '<make>
+status 0' "$(PATH=$room/only-cat && said "$top/lockrun" make </dev/null)"
+
 # The wrapper may be called by links, from anywhere, and with CDPATH.
 ln -s "$top/lockrun" "$room/link" && ln -s link "$room/second" && ln -s "$top" "$room/folder"
 mkdir -p "$room/cd/top" "$room/cd/crates"
