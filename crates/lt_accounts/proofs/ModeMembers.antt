@@ -7,13 +7,14 @@ use Rattle.lt_modes.specs.declared.mode.Mode.{Mode}
 use Rattle.lt_modes.specs.Modes.{Modes, has, no_modes, union, one, with_mode, same_mode}
 use Rattle.lt_modes.proofs.ModeAlgebra.{has-modes_by, has-itself, union_has_both}
 use Rattle.lt_accounts.proofs.Asks.{same_mode-true}
-use Rattle.lt_modes.specs.declared.mode.Mode.TheVariants.{IntentionRead, Read, Upgrade, IntentionWrite, Write}
+use Rattle.lt_modes.specs.declared.mode.Mode.TheVariants.{IntentionRead, Read, Upgrade, IntentionWrite, ReadIntentionWrite, Write}
 
 pub none_has : {A : Type 0} (mode : Mode) → IsTrue (has mode no_modes) → A
 none_has IntentionRead h = cc
 none_has Read h = cc
 none_has Upgrade h = cc
 none_has IntentionWrite h = cc
+none_has ReadIntentionWrite h = cc
 none_has Write h = cc
 
 -- one mode more

@@ -42,6 +42,7 @@ one_lock = codes "nodes 1\nset s\nclient a at 0\na lock s read\n"
 
 abbrev pub one_lock_script : ScriptData
 one_lock_script = record {
+  version = 1;
   nodes = 1;
   sets = record { name = codes "s"; family = 0 } ∷ [];
   clients = record { name = codes "a"; node = 0 } ∷ [];
@@ -73,6 +74,7 @@ two_writers = codes "nodes 1\nset s\nclient a at 0\nclient b at 0\na lock s writ
 
 abbrev pub two_writers_script : ScriptData
 two_writers_script = record {
+  version = 1;
   nodes = 1;
   sets = record { name = codes "s"; family = 0 } ∷ [];
   clients = record { name = codes "a"; node = 0 } ∷ record { name = codes "b"; node = 0 } ∷ [];

@@ -21,6 +21,7 @@ two_tries = codes "nodes 2\nset s\nclient a at 0\nclient b at 1\na try s read\nb
 
 abbrev pub two_tries_script : ScriptData
 two_tries_script = record {
+  version = 1;
   nodes = 2;
   sets = record { name = codes "s"; family = 0 } ∷ [];
   clients = record { name = codes "a"; node = 0 } ∷ record { name = codes "b"; node = 1 } ∷ [];

@@ -13,7 +13,7 @@ use Rattle.lt_script.specs.Script.{IsScript}
 use Rattle.lt_journal.specs.declared.line.Line.{Line}
 use Rattle.lt_journal.specs.declared.line.Line.TheVariants.{Move as MoveLine, Event as EventLine}
 use Rattle.lt_journal.specs.LineFits.{FitsLine}
-use Rattle.lt_journal.specs.RunLines.{entry_lines, closing_lines, run_lines}
+use Rattle.lt_journal.specs.RunLines.{first_lines, event_lines, entry_lines, moves_lines, closing_lines, run_lines}
 use Rattle.lt_journal.proofs.Named.{named, few_nodes}
 use Rattle.lt_journal.proofs.Written.{line_back}
 use Rattle.lt_limits.specs.declared.moves.TheConstants.{MAX_MOVES}
@@ -134,9 +134,9 @@ after_move script run later entry is_script move few fits =
 
 -- what a reader comes to who has read the moves of a run, and at rest the closing lines
 reads_run : (script : ScriptData) (later run : List Logged) (xs : List Line) (n : ℕ) → IsScript script → IsRunFrom script (world_after script run) later
-    → HasFewMoves (run ++ later) → AllByRecursion (FitsLine script) (flat_map entry_lines later)
+    → HasFewMoves (run ++ later) → AllByRecursion (FitsLine script) (moves_lines script.version later)
     → (m : ℕ) × (fold (read_on script) (at_place (record { run = run; due = xs ++ closing_at_rest script run }) n)
-    (map (written script) (xs ++ (flat_map entry_lines later ++ closing_at_rest script (run ++ later)))) ≡ at_place (record { run = run ++ later; due = [] }) m)
+    (map (written script) (xs ++ (moves_lines script.version later ++ closing_at_rest script (run ++ later)))) ≡ at_place (record { run = run ++ later; due = [] }) m)
 reads_run script [] run xs n is_script is_run few fits =
     let same : run ++ [] ≡ run = append-nil run in
     let all = xs ++ closing_at_rest script run in
@@ -149,23 +149,23 @@ reads_run script [] run xs n is_script is_run few fits =
 reads_run script (entry ∷ later) run xs n is_script is_run few fits =
     let w = world_after script run in
     let x = MoveLine entry.made.stamp.clock entry.made.stamp.node entry.made.step in
-    let events = map EventLine entry.events in
+    let events = event_lines script.version entry.events in
     let none : closing_at_rest script run ≡ [] =
     ap (λ (b : Bool). cond b (closing_lines script run None) []) (not_at_rest script w entry.made.stamp.node entry.made.step is_run.0.enabled) in
     let same : (run ++ entry ∷ []) ++ later ≡ run ++ entry ∷ later = append_assoc run (entry ∷ []) later in
-    let rest = flat_map entry_lines later ++ closing_at_rest script ((run ++ entry ∷ []) ++ later) in
-    let tail : flat_map entry_lines (entry ∷ later) ++ closing_at_rest script (run ++ entry ∷ later) ≡ x ∷ (events ++ rest) =
-    append_assoc (entry_lines entry) (flat_map entry_lines later) (closing_at_rest script (run ++ entry ∷ later))
-    ∙ ap (λ (r : List Logged). x ∷ (events ++ (flat_map entry_lines later ++ closing_at_rest script r))) (sym same) in
+    let rest = moves_lines script.version later ++ closing_at_rest script ((run ++ entry ∷ []) ++ later) in
+    let tail : moves_lines script.version (entry ∷ later) ++ closing_at_rest script (run ++ entry ∷ later) ≡ x ∷ (events ++ rest) =
+    append_assoc (entry_lines script.version entry) (moves_lines script.version later) (closing_at_rest script (run ++ entry ∷ later))
+    ∙ ap (λ (r : List Logged). x ∷ (events ++ (moves_lines script.version later ++ closing_at_rest script r))) (sym same) in
     let more = written script x ∷ map (written script) (events ++ rest) in
-    let split : map (written script) (xs ++ (flat_map entry_lines (entry ∷ later) ++ closing_at_rest script (run ++ entry ∷ later))) ≡ map (written script) xs ++ more =
-    map-append (written script) xs (flat_map entry_lines (entry ∷ later) ++ closing_at_rest script (run ++ entry ∷ later))
+    let split : map (written script) (xs ++ (moves_lines script.version (entry ∷ later) ++ closing_at_rest script (run ++ entry ∷ later))) ≡ map (written script) xs ++ more =
+    map-append (written script) xs (moves_lines script.version (entry ∷ later) ++ closing_at_rest script (run ++ entry ∷ later))
     ∙ ap (λ (ys : List Line). map (written script) xs ++ map (written script) ys) tail in
     let read = reads_due script run xs [] n more in
     let again = reads_run script later (run ++ entry ∷ []) events (suc read.0) is_script
     (subst (λ (v : World). IsRunFrom script v later) (sym (after_run-push script (start script) run entry)) is_run.1)
     (subst HasFewMoves (sym same) few)
-    (fit_right (FitsLine script) (entry_lines entry) (flat_map entry_lines later) fits) in (
+    (fit_right (FitsLine script) (entry_lines script.version entry) (moves_lines script.version later) fits) in (
       again.0,
       ap₂ (λ (ys : List Line) (ls : List (List ℕ)). fold (read_on script) (at_place (record { run = run; due = xs ++ ys }) n) ls) none split
           ∙ (read.1
@@ -178,8 +178,10 @@ reads_run script (entry ∷ later) run xs n is_script is_run few fits =
 reads_so_far : (script : ScriptData) (run : List Logged) → IsScript script → IsRun script run → HasFewMoves run
     → (m : ℕ) × (reader_after script (map (written script) (lines_so_far script run)) ≡ at_place (record { run = run; due = [] }) m)
 reads_so_far script run is_script is_run few =
-    reads_run script run [] [] 0 is_script is_run few
-    (fit_left (FitsLine script) (flat_map entry_lines run) (closing_lines script run None) (all_fit script run is_script is_run few))
+    let first = first_lines script.version in
+    reads_run script run [] first 0 is_script is_run few
+    (fit_left (FitsLine script) (moves_lines script.version run) (closing_lines script run None)
+    (fit_right (FitsLine script) first (moves_lines script.version run ++ closing_lines script run None) (all_fit script run is_script is_run few)))
 
 pub accepts : (script : ScriptData) (run : List Logged) → IsScript script → IsFinished script run → checked script (journal_lines script run) ≡ Ok run
 accepts script run is_script done =

@@ -12,7 +12,7 @@ use Rattle.lt_text.specs.Text.{lines, cut_at, is_line_end, without_return, HasNo
 use Rattle.lt_text.proofs.TextLemmas.{cut_piece, cut_last}
 use Rattle.lt_journal.specs.declared.line.Line.{Line}
 use Rattle.lt_journal.specs.LineFits.{FitsLine}
-use Rattle.lt_journal.specs.RunLines.{entry_lines, closing_lines}
+use Rattle.lt_journal.specs.RunLines.{first_lines, moves_lines, closing_lines}
 use Rattle.lt_checking.specs.Checking.{Place, Reader, written, first_place, after, read_on, led_to, verdict, checked}
 use Rattle.lt_checking.specs.Journals.{Begins, HasCome, lines_so_far}
 use Rattle.lt_checking.specs.Feeding.{Feed, new_feed, line_ended, fed, fed_piece, ended}
@@ -37,10 +37,14 @@ sound_on script (Some place) n line sound = sound_next script place line n (afte
 pub all_so_far : (script : ScriptData) (read : List (List ℕ)) (place : Place) → IsScript script → Begins script read place → AllByRecursion (FitsLine script) (lines_so_far script place.run)
 all_so_far script read place is_script b =
     let fits = all_fit script place.run is_script b.is_run b.few in
-    let moves = flat_map entry_lines place.run in
+    let first = first_lines script.version in
+    let moves = moves_lines script.version place.run in
+    let closing = closing_lines script place.run None in
     elim (cases_Bool (is_at_rest script (world_after script place.run))) [
       | inl rests ↦ rw rests fits
-      | inr moving ↦ rw (moving, append-nil moves) (fit_left (FitsLine script) moves (closing_lines script place.run None) fits)
+      | inr moving ↦
+          rw (moving, append-nil moves)
+          (fit_left (FitsLine script) (first ++ moves) closing (subst (λ (ls : List Line). AllByRecursion (FitsLine script) ls) (sym (append_assoc first moves closing)) fits))
     ]
 
 last_of : {X Y : Type 0} (P : Y → Type 0) (f : X → Y) (front : List Y) (last : Y) (xs : List X) → front ++ last ∷ [] ≡ map f xs → AllByRecursion (λ x. P (f x)) xs → P last

@@ -12,7 +12,7 @@ use Rattle.lt_runs.specs.World as world
 use Rattle.lt_script.specs.Script.{IsScript}
 use Rattle.lt_journal.specs.declared.line.Line.{Line}
 use Rattle.lt_journal.specs.Grammar.{read_line}
-use Rattle.lt_journal.specs.RunLines.{entry_lines, closing_lines, run_lines}
+use Rattle.lt_journal.specs.RunLines.{first_lines, entry_lines, moves_lines, closing_lines, run_lines}
 use Rattle.lt_checking.specs.Checking.{Place, Reader, written, closing_at_rest, first_place, by_due, after, first_reader, read_on, reader_after, led_to, verdict, verdict_at, checked}
 use Rattle.lt_checking.specs.Journals.{IsFinished, IsFirstBad, IsContinued, Begins}
 use Rattle.lt_checking.proofs.Fitting.{journal_written}
@@ -176,12 +176,17 @@ continued script read place is_script e = record { only = only; each = each }
         let from = run_from script (start script) place.run (entry ∷ later) done.is_run in
         let none : closing_at_rest script place.run ≡ [] =
         ap (λ (b : Bool). cond b (closing_lines script place.run None) []) (not_at_rest script (world_after script place.run) entry.made.stamp.node entry.made.step from.0.enabled) in
-        let moves : flat_map entry_lines place.run ≡ b.told ++ place.due = sym (append-nil (flat_map entry_lines place.run)) ∙ (ap (λ (t : List Line). flat_map entry_lines place.run ++ t) (sym none) ∙ sym b.parts) in
+        let v = script.version in
+        let first = first_lines v in
+        let before = moves_lines v place.run in
+        let moves : first ++ before ≡ b.told ++ place.due = ap (λ (t : List Line). first ++ t) (sym (append-nil before) ∙ ap (λ (t : List Line). before ++ t) (sym none)) ∙ sym b.parts in
         let closing = closing_lines script (place.run ++ entry ∷ later) None in
-        let tail = flat_map entry_lines (entry ∷ later) in (
+        let tail = moves_lines v (entry ∷ later) in (
           (place.due ++ tail) ++ closing,
-          ap (λ (t : List Line). t ++ closing) (flat_map-append entry_lines place.run (entry ∷ later) ∙ (ap (λ (t : List Line). t ++ tail) moves ∙ append_assoc b.told place.due tail))
-              ∙ append_assoc b.told (place.due ++ tail) closing,
+          ap (λ (t : List Line). first ++ (t ++ closing)) (flat_map-append (entry_lines v) place.run (entry ∷ later))
+              ∙ (sym (append_assoc first (before ++ tail) closing)
+              ∙ (ap (λ (t : List Line). t ++ closing) (sym (append_assoc first before tail) ∙ (ap (λ (t : List Line). t ++ tail) moves ∙ append_assoc b.told place.due tail))
+              ∙ append_assoc b.told (place.due ++ tail) closing)),
         )
 
     each : (later : List Logged) → IsFinished script (place.run ++ later) → (more : List (List ℕ)) × (checked script (read ++ more) ≡ Ok (place.run ++ later))

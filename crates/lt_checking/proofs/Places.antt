@@ -16,10 +16,10 @@ use Rattle.lt_runs.specs.Families.{home}
 use Rattle.lt_runs.specs.World.{World, start, world_after, is_runnable, has_mail, is_some_letter, is_enabled, is_at_rest, front_stamp, move_stamp, logged, is_of_node, IsMove}
 use Rattle.lt_model.proofs.Runs.{IsRunFrom-push}
 use Rattle.lt_journal.specs.declared.line.Line.{Line}
-use Rattle.lt_journal.specs.declared.line.Line.TheVariants.{Move as MoveLine, Event as EventLine, Held, Waiting, Owner, End, Cut, Bad}
+use Rattle.lt_journal.specs.declared.line.Line.TheVariants.{Version, Move as MoveLine, Event as EventLine, Held, Waiting, Owner, End, Cut, Bad}
 use Rattle.lt_journal.specs.Grammar.{read_line}
 use Rattle.lt_journal.specs.Text.{IsAsWritten}
-use Rattle.lt_journal.specs.RunLines.{entry_lines}
+use Rattle.lt_journal.specs.RunLines.{first_lines, event_lines, entry_lines, moves_lines}
 use Rattle.lt_journal.proofs.Found.{as_written}
 use Rattle.lt_limits.specs.declared.moves.TheConstants.{MAX_MOVES}
 use Rattle.lt_checking.specs.Checking.{Place, written, closing_at_rest, first_place, moved, is_next, may_move, by_move, by_due, after}
@@ -129,6 +129,7 @@ next_move script run line place (MoveLine clock node step) same e = elim (cases_
       }
   | inr none ↦ absurd (let e' : None ≡ Some place = sym (ap (λ (b : Bool). cond b (Some (moved script run (logged script (world_after script run) node step))) None) none) ∙ e in cc)
 ]
+next_move script run line place Version same e = absurd (cc)
 next_move script run line place (EventLine event) same e = absurd (cc)
 next_move script run line place (Held client set mode count) same e = absurd (cc)
 next_move script run line place (Waiting client set mode) same e = absurd (cc)
@@ -140,8 +141,8 @@ next_move script run line place Bad same e = absurd (cc)
 closing_none : (script : ScriptData) (run : List Logged) → is_at_rest script (world_after script run) ≡ false → closing_at_rest script run ≡ []
 closing_none script run e = rw e
 
-push_lines : (run : List Logged) (entry : Logged) → flat_map entry_lines (run ++ entry ∷ []) ≡ flat_map entry_lines run ++ entry_lines entry
-push_lines run entry = flat_map-append entry_lines run (entry ∷ []) ∙ ap (λ (t : List Line). flat_map entry_lines run ++ t) (append-nil (entry_lines entry))
+push_lines : (v : ℕ) (run : List Logged) (entry : Logged) → moves_lines v (run ++ entry ∷ []) ≡ moves_lines v run ++ entry_lines v entry
+push_lines v run entry = flat_map-append (entry_lines v) run (entry ∷ []) ∙ ap (λ (t : List Line). moves_lines v run ++ t) (append-nil (entry_lines v entry))
 
 -- a line more was read and isn't bad
 pub begins_moved : (script : ScriptData) (read : List (List ℕ)) (run : List Logged) (line : List ℕ) (place : Place) → Begins script read (record { run = run; due = [] }) → IsNextMove script run line place
@@ -150,14 +151,19 @@ begins_moved script read run line place b m =
     let w = world_after script run in
     let entry = logged script w m.node m.step in
     let x = MoveLine (move_stamp w m.node m.step).clock m.node m.step in
-    let head : entry_lines entry ≡ x ∷ map EventLine entry.events = ap (λ (n : ℕ). MoveLine (move_stamp w m.node m.step).clock n m.step ∷ map EventLine entry.events) (stamp_node w m.node m.step) in
+    let v = script.version in
+    let first = first_lines v in
+    let before = moves_lines v run in
+    let events = event_lines v entry.events in
+    let head : entry_lines v entry ≡ x ∷ events = ap (λ (n : ℕ). MoveLine (move_stamp w m.node m.step).clock n m.step ∷ events) (stamp_node w m.node m.step) in
     let none = closing_none script run (not_at_rest script w m.node m.step m.enabled) in
-    let told_is : b.told ≡ flat_map entry_lines run = sym (append-nil b.told) ∙ (b.parts ∙ (ap (λ (t : List Line). flat_map entry_lines run ++ t) none ∙ append-nil (flat_map entry_lines run))) in
+    let told_is : b.told ≡ first ++ before = sym (append-nil b.told) ∙ (b.parts ∙ ap (λ (t : List Line). first ++ t) (ap (λ (t : List Line). before ++ t) none ∙ append-nil before)) in
     let closing = closing_at_rest script (run ++ entry ∷ []) in
-    let moves : (b.told ++ x ∷ []) ++ (map EventLine entry.events ++ closing) ≡ lines_so_far script (run ++ entry ∷ []) =
-    append_assoc b.told (x ∷ []) (map EventLine entry.events ++ closing)
-    ∙ (sym (append_assoc b.told (x ∷ map EventLine entry.events) closing)
-    ∙ ap (λ (t : List Line). t ++ closing) (ap₂ (λ (s t : List Line). s ++ t) told_is (sym head) ∙ sym (push_lines run entry))) in
+    let moves : (b.told ++ x ∷ []) ++ (events ++ closing) ≡ lines_so_far script (run ++ entry ∷ []) =
+    append_assoc b.told (x ∷ []) (events ++ closing)
+    ∙ (sym (append_assoc b.told (x ∷ events) closing)
+    ∙ (ap (λ (t : List Line). t ++ closing) (ap₂ (λ (s t : List Line). s ++ t) told_is (sym head) ∙ (append_assoc first before (entry_lines v entry) ∙ ap (λ (t : List Line). first ++ t) (sym (push_lines v run entry))))
+    ∙ append_assoc first (moves_lines v (run ++ entry ∷ [])) closing)) in
     let at : Begins script (read ++ line ∷ []) (moved script run entry) = record {
       is_run = IsRunFrom-push script (start script) run entry b.is_run (is_logged script w m.node m.step m.enabled);
       few = few_push run entry m.node b.few (stamp_node w m.node m.step) m.may;

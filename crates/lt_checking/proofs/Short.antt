@@ -6,7 +6,7 @@ use Rattle.std.proofs.lemmas.Bool.{and_parts, leb-true}
 use Rattle.std.proofs.lemmas.Fmt.{length-decimal-le}
 use Rattle.std.proofs.lemmas.List.Sums.{length-filter, count_by-le-length}
 use Rattle.lt_modes.specs.declared.mode.Mode.{Mode}
-use Rattle.lt_modes.specs.declared.mode.Mode.TheVariants.{IntentionRead, Read, Upgrade, IntentionWrite, Write}
+use Rattle.lt_modes.specs.declared.mode.Mode.TheVariants.{IntentionRead, Read, Upgrade, IntentionWrite, ReadIntentionWrite, Write}
 use Rattle.lt_modes.specs.declared.moves.Step.{Step}
 use Rattle.lt_modes.specs.declared.moves.Step.TheVariants.{Act, Take}
 use Rattle.lt_modes.specs.declared.event.Event.{Event}
@@ -18,7 +18,7 @@ use Rattle.lt_script.specs.Names.{is_name}
 use Rattle.lt_script.specs.declared.limits.TheConstants.{MAX_NAME}
 use Rattle.lt_script.specs.Script.{IsScript}
 use Rattle.lt_journal.specs.declared.line.Line.{Line}
-use Rattle.lt_journal.specs.declared.line.Line.TheVariants.{Move as MoveLine, Event as EventLine, Held, Waiting, Owner, End, Cut, Bad}
+use Rattle.lt_journal.specs.declared.line.Line.TheVariants.{Version, Move as MoveLine, Event as EventLine, Held, Waiting, Owner, End, Cut, Bad}
 use Rattle.lt_journal.specs.LineFits.{IsNumber, HasNode, HasSet, HasClient, FitsStep, FitsEvent, FitsLine}
 use Rattle.lt_journal.specs.Words.{line_words}
 use Rattle.lt_journal.proofs.Named.{few_nodes}
@@ -71,11 +71,12 @@ node_number script node is_script below = omega (arith, below, few_nodes script 
 short_node : (script : ScriptData) (node : ℕ) → IsScript script → HasNode script node → IsShort (decimal node)
 short_node script node is_script below = short_number node (node_number script node is_script below)
 
-mode_length : (mode : Mode) → length (word_of mode) ≤ 15
+mode_length : (mode : Mode) → length (word_of mode) ≤ 20
 mode_length IntentionRead = omega arith
 mode_length Read = omega arith
 mode_length Upgrade = omega arith
 mode_length IntentionWrite = omega arith
+mode_length ReadIntentionWrite = omega arith
 mode_length Write = omega arith
 
 short_mode : (mode : Mode) → IsShort (word_of mode)
@@ -85,12 +86,12 @@ short_bool : (got : Bool) → IsShort (word_of_bool got)
 short_bool true = omega arith
 short_bool false = omega arith
 
-size_modes : (modes : List Mode) → size (map word_of modes) ≤ 16 * length modes
+size_modes : (modes : List Mode) → size (map word_of modes) ≤ 21 * length modes
 size_modes [] = omega arith
 size_modes (mode ∷ modes) = omega (arith, mode_length mode, size_modes modes)
 
-size_words_of_modes : (modes : Modes) → size (words_of_modes modes) ≤ 80
-size_words_of_modes modes = elim (has_none modes) as (λ none. size (cond none (codes "none" ∷ []) (map word_of (filter (λ mode. has mode modes) all_modes))) ≤ 80) [
+size_words_of_modes : (modes : Modes) → size (words_of_modes modes) ≤ 126
+size_words_of_modes modes = elim (has_none modes) as (λ none. size (cond none (codes "none" ∷ []) (map word_of (filter (λ mode. has mode modes) all_modes))) ≤ 126) [
   | true ↦ omega arith
   | false ↦ omega (
     arith,
@@ -139,6 +140,7 @@ short_event script (Token set to epoch) is_script fits = by_words (event_words s
     (omega arith, (short_set script set is_script fits.0, (short_node script to is_script fits.1, (short_number epoch fits.2, tt)))) (omega arith)
 
 pub short_line : (script : ScriptData) (x : Line) → IsScript script → FitsLine script x → length (written script x) < 200
+short_line script Version is_script fits = by_words (line_words script Version) (omega arith, (omega arith, tt)) (omega arith)
 short_line script (MoveLine clock node step) is_script fits =
     let rest = short_step script step is_script fits.2 in
     by_words (line_words script (MoveLine clock node step)) (omega arith, (short_number clock fits.0, (short_node script node is_script fits.1, rest.0))) (omega (arith, rest.1))

@@ -1,5 +1,5 @@
 -- Which lines are the journal of a run of a script, and which line is the first bad one. A line stands here without its line end.
-use Rattle.std.specs.Prelude.{ℕ, suc, List, [], ◌∷◌, ◌++◌, Bool, false, ◌&&◌, ◌==◌, nat_lt, map, fold, count_by, Option, Some, None, Result, Ok, Err, if◌then◌else◌}
+use Rattle.std.specs.Prelude.{ℕ, suc, List, [], ◌∷◌, ◌++◌, Bool, false, ◌&&◌, ◌==◌, nat_lt, fold, count_by, Option, Some, None, Result, Ok, Err, if◌then◌else◌}
 use Rattle.std.specs.Str.{bytes_eq}
 use Rattle.lt_modes.specs.declared.moves.Step.{Step}
 use Rattle.lt_modes.specs.Script.{ScriptData}
@@ -7,10 +7,10 @@ use Rattle.lt_runs.specs.Log.{Logged}
 use Rattle.lt_runs.specs.World.{world_after, is_enabled, is_at_rest, move_stamp, logged, is_of_node}
 use Rattle.lt_journal.specs.Words.{spaced}
 use Rattle.lt_journal.specs.declared.line.Line.{Line}
-use Rattle.lt_journal.specs.declared.line.Line.TheVariants.{Move as MoveLine, Event as EventLine, Held, Waiting, Owner, End, Cut, Bad}
+use Rattle.lt_journal.specs.declared.line.Line.TheVariants.{Version, Move as MoveLine, Event as EventLine, Held, Waiting, Owner, End, Cut, Bad}
 use Rattle.lt_journal.specs.Grammar.{read_line}
 use Rattle.lt_journal.specs.Words.{line_words}
-use Rattle.lt_journal.specs.RunLines.{closing_lines}
+use Rattle.lt_journal.specs.RunLines.{first_lines, event_lines, closing_lines}
 use Rattle.lt_limits.specs.declared.moves.TheConstants.{MAX_MOVES}
 
 -- how the line is written
@@ -26,15 +26,15 @@ pub record Place : Type 0 where
   pub run : List Logged
   pub due : List Line
 
--- before the first line
+-- before the first line: `version 2` is due in version 2, and at rest the closing lines
 abbrev pub first_place : ScriptData → Place
-first_place script = record { run = []; due = closing_at_rest script [] }
+first_place script = record { run = []; due = first_lines script.version ++ closing_at_rest script [] }
 
 -- after the line of a move: its event lines are due, and at rest the closing lines after them
 abbrev pub moved : ScriptData → List Logged → Logged → Place
 moved script run entry = record {
   run = run ++ entry ∷ [];
-  due = map EventLine entry.events ++ closing_at_rest script (run ++ entry ∷ []);
+  due = event_lines script.version entry.events ++ closing_at_rest script (run ++ entry ∷ []);
 }
 
 -- the node has made fewer moves than one may
@@ -50,6 +50,7 @@ is_next script run clock node step =
 abbrev pub by_move : ScriptData → List Logged → Line → Option Place
 by_move script run (MoveLine clock node step) =
     if is_next script run clock node step then Some (moved script run (logged script (world_after script run) node step)) else None
+by_move script run Version = None
 by_move script run (EventLine event) = None
 by_move script run (Held client set mode count) = None
 by_move script run (Waiting client set mode) = None

@@ -1,13 +1,12 @@
 -- What the laws of checking say of runs and their journals.
 use Rattle.std.specs.Prelude.{◌≡◌, ◌<◌, ◌≤◌, ◌+◌, ℕ, List, ◌++◌, map, take, length, count_by, None, Err, Ok, IsTrue}
-use Rattle.std.specs.List.{flat_map}
 use Rattle.lt_modes.specs.Script.{ScriptData}
 use Rattle.lt_runs.specs.Log.{Logged}
 use Rattle.lt_runs.specs.World.{world_after, is_at_rest, is_of_node, IsRun}
 use Rattle.lt_journal.specs.Text.{text_of}
 use Rattle.lt_text.specs.Text.{lines}
 use Rattle.lt_journal.specs.declared.line.Line.{Line}
-use Rattle.lt_journal.specs.RunLines.{entry_lines}
+use Rattle.lt_journal.specs.RunLines.{first_lines, moves_lines}
 use Rattle.lt_limits.specs.declared.moves.TheConstants.{MAX_MOVES}
 use Rattle.lt_checking.specs.Checking.{Place, written, closing_at_rest, checked}
 
@@ -25,9 +24,9 @@ pub record IsFinished (script : ScriptData) (run : List Logged) : Type 0 where
 abbrev pub journal_lines : ScriptData → List Logged → List (List ℕ)
 journal_lines script run = lines (text_of script run None)
 
--- the lines of the moves so far, and at rest the closing lines
+-- in version 2 the line `version 2`, the lines of the moves so far, and at rest the closing lines
 abbrev pub lines_so_far : ScriptData → List Logged → List Line
-lines_so_far script run = flat_map entry_lines run ++ closing_at_rest script run
+lines_so_far script run = first_lines script.version ++ (moves_lines script.version run ++ closing_at_rest script run)
 
 -- the place is that of a reader who has read these lines: its run is one of the script, and its lines are those that were read and then those that are due
 pub record Begins (script : ScriptData) (read : List (List ℕ)) (place : Place) : Type 0 where

@@ -11,11 +11,12 @@ use Rattle.lt_checking.specs.Feeding.{new_feed, fed_piece, ended}
 
 -- `nodes 1`
 abbrev pub empty_script : ScriptData
-empty_script = record { nodes = 1; sets = []; clients = []; commands = [] }
+empty_script = record { version = 1; nodes = 1; sets = []; clients = []; commands = [] }
 
 -- `nodes 1`, `set s`, `client a at 0`, `a lock s read`
 abbrev pub short_script : ScriptData
 short_script = record {
+  version = 1;
   nodes = 1;
   sets = record { name = codes "s"; family = 0 } ∷ [];
   clients = record { name = codes "a"; node = 0 } ∷ [];

@@ -5,7 +5,7 @@ use Rattle.std.specs.List.{flat_map}
 use Rattle.std.proofs.lemmas.Bool.{cases_eq, eqb-false, ne_eqb}
 use Rattle.std.proofs.lemmas.List.Elements.{Contains-append_left, Contains-append_right, Contains-append_cases}
 use Rattle.lt_modes.specs.declared.mode.Mode.{Mode}
-use Rattle.lt_modes.specs.declared.mode.Mode.TheVariants.{IntentionRead, Read, Upgrade, IntentionWrite, Write}
+use Rattle.lt_modes.specs.declared.mode.Mode.TheVariants.{IntentionRead, Read, Upgrade, IntentionWrite, ReadIntentionWrite, Write}
 use Rattle.lt_modes.specs.declared.event.Event.{Event}
 use Rattle.lt_modes.specs.declared.parts.Link.{Link}
 use Rattle.lt_modes.specs.Script.{ScriptData}
@@ -62,7 +62,8 @@ every_mode IntentionRead = (0, omega arith, refl)
 every_mode Read = (1, omega arith, refl)
 every_mode Upgrade = (2, omega arith, refl)
 every_mode IntentionWrite = (3, omega arith, refl)
-every_mode Write = (4, omega arith, refl)
+every_mode ReadIntentionWrite = (4, omega arith, refl)
+every_mode Write = (5, omega arith, refl)
 
 -- what a `held` line says
 abbrev count_in : Line → ℕ

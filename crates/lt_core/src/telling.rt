@@ -80,5 +80,6 @@ fn is_within(a: ModeSet, b: ModeSet) -> bool
         && (!a.has(Mode::Read) || b.has(Mode::Read))
         && (!a.has(Mode::Upgrade) || b.has(Mode::Upgrade))
         && (!a.has(Mode::IntentionWrite) || b.has(Mode::IntentionWrite))
+        && (!a.has(Mode::ReadIntentionWrite) || b.has(Mode::ReadIntentionWrite))
         && (!a.has(Mode::Write) || b.has(Mode::Write))
 }

@@ -4,7 +4,7 @@ use Rattle.std.specs.Fmt.{decimal}
 use Rattle.rand_pcg.specs.Lcg.{Lcg}
 use Rattle.lt_modes.specs.declared.command.Command.{Command}
 use Rattle.lt_modes.specs.Script.{ScriptData, SetData, ClientData}
-use Rattle.lt_script.specs.declared.limits.TheConstants.{MAX_NODES, MAX_CLIENTS, MAX_CLIENTS_OF_NODE, MAX_COMMANDS}
+use Rattle.lt_script.specs.declared.limits.TheConstants.{MAX_NODES_OF_FIRST, MAX_CLIENTS_OF_FIRST, MAX_CLIENTS_OF_NODE, MAX_COMMANDS}
 use Rattle.lt_gen.specs.declared.group.Group.{Group}
 use Rattle.lt_gen.specs.Draws.{seeded}
 use Rattle.lt_gen.specs.Groups.{group_of, commands_of, requests_of}
@@ -44,6 +44,7 @@ requests_in (suc n) clients left turn g =
 -- the script with so many nodes, clients and commands that is made from the seed; each turn makes a command
 abbrev pub script_of : ℕ → ℕ → ℕ → ℕ → ScriptData
 script_of nodes clients commands seed = record {
+  version = 1;
   nodes = nodes;
   sets = four_sets;
   clients = clients_of nodes clients;
@@ -60,8 +61,8 @@ pub record HasSizes (nodes sets clients commands : ℕ) (script : ScriptData) : 
 -- a script can have so many nodes, clients and commands
 pub record CanMake (nodes clients commands : ℕ) : Type 0 where
   pub some_node : 0 < nodes
-  pub few_nodes : nodes ≤ MAX_NODES
+  pub few_nodes : nodes ≤ MAX_NODES_OF_FIRST
   pub some_client : 0 < clients
-  pub few_clients : clients ≤ MAX_CLIENTS
+  pub few_clients : clients ≤ MAX_CLIENTS_OF_FIRST
   pub on_nodes : clients ≤ nodes * MAX_CLIENTS_OF_NODE
   pub few_commands : commands ≤ MAX_COMMANDS

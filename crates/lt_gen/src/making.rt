@@ -1,6 +1,6 @@
 ghost use Rattle.std.specs.Prelude.{◌≡◌, ◌<◌, ◌≤◌, ◌*◌, ◌++◌, ◌∷◌, [], length, IfOk, OnOk};
 ghost use Rattle.lt_script.specs.Script.{IsScript};
-ghost use Rattle.lt_script.specs.declared.limits.TheConstants.{MAX_NODES, MAX_CLIENTS, MAX_CLIENTS_OF_NODE, MAX_COMMANDS};
+ghost use Rattle.lt_script.specs.declared.limits.TheConstants.{MAX_NODES_OF_FIRST, MAX_CLIENTS_OF_FIRST, MAX_CLIENTS_OF_NODE, MAX_COMMANDS};
 ghost use Rattle.lt_gen.specs.Generator.{four_sets, client_name, clients_of, requests_in, script_of, HasSizes};
 
 use crate::draws::Draws;
@@ -20,8 +20,8 @@ pub fn script(
     commands: u32,
     seed: u64,
 ) -> Result<Script, AllocError>
-    requires nodes { (0 < nodes) × (nodes ≤ MAX_NODES) }
-    requires clients { (0 < clients) × (clients ≤ MAX_CLIENTS) }
+    requires nodes { (0 < nodes) × (nodes ≤ MAX_NODES_OF_FIRST) }
+    requires clients { (0 < clients) × (clients ≤ MAX_CLIENTS_OF_FIRST) }
     requires on_nodes { clients ≤ nodes * MAX_CLIENTS_OF_NODE }
     requires commands { commands ≤ MAX_COMMANDS }
     ensures made { IfOk result (λ s. s ≡ script_of nodes clients commands seed) }
@@ -47,7 +47,7 @@ fn add_sets(script: &mut Script) -> Result<(), AllocError>
 }
 
 fn add_clients(alloc: Global, script: &mut Script, clients: u16) -> Result<(), AllocError>
-    requires few { clients ≤ MAX_CLIENTS }
+    requires few { clients ≤ MAX_CLIENTS_OF_FIRST }
     requires on_nodes { clients ≤ script.old.nodes * MAX_CLIENTS_OF_NODE }
     requires sets { script.old.sets ≡ four_sets }
     requires none { script.old.clients ≡ [] }

@@ -7,7 +7,7 @@ use Rattle.std.proofs.lemmas.List.{drop_more}
 use Rattle.std.proofs.lemmas.List.Quantifiers.{position-Some}
 use Rattle.std.proofs.lemmas.List.Sums.{fails_before_first, sum_by-cons, sum_by-remove}
 use Rattle.lt_modes.specs.declared.mode.Mode.{Mode}
-use Rattle.lt_modes.specs.declared.mode.Mode.TheVariants.{IntentionRead, Read, Upgrade, IntentionWrite, Write}
+use Rattle.lt_modes.specs.declared.mode.Mode.TheVariants.{IntentionRead, Read, Upgrade, IntentionWrite, ReadIntentionWrite, Write}
 use Rattle.lt_modes.specs.declared.parts.Row.{Row}
 use Rattle.lt_modes.specs.Modes.{same_mode}
 use Rattle.lt_modes.specs.Held.{is_row_of, is_of, no_row, row_place, count_at, count_of, locks_of}
@@ -86,19 +86,21 @@ of_one_mode : (own : Bool) (mode : Mode) (n : ℕ)
     → (if own then n else 0)
     ≡ (if own && same_mode mode IntentionRead then n else 0) + (if own && same_mode mode Read then n else 0) + (if own && same_mode mode Upgrade then n else 0)
     + (if own && same_mode mode IntentionWrite then n else 0)
+    + (if own && same_mode mode ReadIntentionWrite then n else 0)
     + (if own && same_mode mode Write then n else 0)
 of_one_mode false mode n = refl
 of_one_mode true IntentionRead n = omega arith
 of_one_mode true Read n = omega arith
 of_one_mode true Upgrade n = omega arith
 of_one_mode true IntentionWrite n = omega arith
+of_one_mode true ReadIntentionWrite n = omega arith
 of_one_mode true Write n = omega arith
 
 pub locks_by_mode : (rows : List Row) (client : ℕ)
-    → locks_of rows client ≡ total rows client IntentionRead + total rows client Read + total rows client Upgrade + total rows client IntentionWrite + total rows client Write
+    → locks_of rows client ≡ total rows client IntentionRead + total rows client Read + total rows client Upgrade + total rows client IntentionWrite + total rows client ReadIntentionWrite + total rows client Write
 locks_by_mode [] client = refl
 locks_by_mode (row ∷ rest) client =
-    omega (arith, locks_of-cons client row rest, of_one_mode (row.client == client) row.mode row.count, locks_by_mode rest client, sum_by-cons (row_count client IntentionRead) row rest, sum_by-cons (row_count client Read) row rest, sum_by-cons (row_count client Upgrade) row rest, sum_by-cons (row_count client IntentionWrite) row rest, sum_by-cons (row_count client Write) row rest)
+    omega (arith, locks_of-cons client row rest, of_one_mode (row.client == client) row.mode row.count, locks_by_mode rest client, sum_by-cons (row_count client IntentionRead) row rest, sum_by-cons (row_count client Read) row rest, sum_by-cons (row_count client Upgrade) row rest, sum_by-cons (row_count client IntentionWrite) row rest, sum_by-cons (row_count client ReadIntentionWrite) row rest, sum_by-cons (row_count client Write) row rest)
 
 pub count_bounded : (rows : List Row) (client : ℕ) (mode : Mode) → AreRows rows → count_of rows client mode ≤ most_locks
 count_bounded rows client mode h = by_place (row_place rows client mode) refl
@@ -107,10 +109,10 @@ count_bounded rows client mode h = by_place (row_place rows client mode) refl
     by_place None e = omega arith
     by_place (Some k) e = (h.counted k no_row (position-Some (is_row_of client mode) rows k no_row e).0).within
 
--- a client has at most five rows
-pub few_locks : (rows : List Row) (client : ℕ) → AreRows rows → locks_of rows client ≤ 5 * most_locks
+-- a client has at most six rows
+pub few_locks : (rows : List Row) (client : ℕ) → AreRows rows → locks_of rows client ≤ 6 * most_locks
 few_locks rows client h =
-    omega (arith, locks_by_mode rows client, in_mode IntentionRead, in_mode Read, in_mode Upgrade, in_mode IntentionWrite, in_mode Write)
+    omega (arith, locks_by_mode rows client, in_mode IntentionRead, in_mode Read, in_mode Upgrade, in_mode IntentionWrite, in_mode ReadIntentionWrite, in_mode Write)
   where
     in_mode : (mode : Mode) → total rows client mode ≤ 65536
     in_mode mode = omega (arith, total_counted rows client mode h, count_bounded rows client mode h)

@@ -6,7 +6,7 @@ use Rattle.std.proofs.lemmas.List.Elements.{All-append, All-take, All-drop, All-
 use Rattle.std.proofs.lemmas.List.Quantifiers.{position-Some}
 use Rattle.std.proofs.lemmas.List.Sums.{sum_by-cons, sum_by_push, sum_by-set, sum_by-remove, get_or-le-sum_by}
 use Rattle.lt_modes.specs.declared.mode.Mode.{Mode}
-use Rattle.lt_modes.specs.declared.mode.Mode.TheVariants.{IntentionRead, Read, Upgrade, IntentionWrite, Write}
+use Rattle.lt_modes.specs.declared.mode.Mode.TheVariants.{IntentionRead, Read, Upgrade, IntentionWrite, ReadIntentionWrite, Write}
 use Rattle.lt_modes.specs.declared.parts.Row.{Row}
 use Rattle.lt_modes.specs.Modes.{same_mode}
 use Rattle.lt_modes.specs.Held.{is_row_of, is_of, no_row, row_place, one_less, count_at, count_of, take_at, take_lock, without_client, locks_of, locks_in}
@@ -22,6 +22,7 @@ same_mode-true IntentionRead IntentionRead e = refl
 same_mode-true Read Read e = refl
 same_mode-true Upgrade Upgrade e = refl
 same_mode-true IntentionWrite IntentionWrite e = refl
+same_mode-true ReadIntentionWrite ReadIntentionWrite e = refl
 same_mode-true Write Write e = refl
 same_mode-true a b e = cc
 
@@ -114,6 +115,7 @@ of_client rows client IntentionRead = omega (arith, locks_by_mode rows client)
 of_client rows client Read = omega (arith, locks_by_mode rows client)
 of_client rows client Upgrade = omega (arith, locks_by_mode rows client)
 of_client rows client IntentionWrite = omega (arith, locks_by_mode rows client)
+of_client rows client ReadIntentionWrite = omega (arith, locks_by_mode rows client)
 of_client rows client Write = omega (arith, locks_by_mode rows client)
 
 pub count_within : (rows : List Row) (client : ℕ) (mode : Mode) → count_of rows client mode ≤ locks_of rows client

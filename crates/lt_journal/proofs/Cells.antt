@@ -8,7 +8,7 @@ use Rattle.lt_journal.proofs.Counting.{same_holding-equal, count_of-without}
 pub cell_of-apart : (a b : Holding) → a.set < 8 → b.set < 8 → same_holding a b ≡ false → cell_of b ≢ cell_of a
 cell_of-apart a b few_a few_b e = grind arith
 
-pub cell_of-inside : (script : ScriptData) (lock : Holding) → length script.sets ≤ 8 → HasCell script lock → cell_of lock < length script.clients * 40
+pub cell_of-inside : (script : ScriptData) (lock : Holding) → length script.sets ≤ 8 → HasCell script lock → cell_of lock < length script.clients * 48
 cell_of-inside script lock few has = grind arith
 
 without_same : (lock : Holding) (held : List Holding) (other : Holding) → same_holding lock other ≡ true → count_of (without_one held lock) other ≡ count_of held other - 1

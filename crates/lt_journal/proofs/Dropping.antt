@@ -13,7 +13,7 @@ use Rattle.lt_journal.proofs.Counting.{count_of-kept}
 
 -- the place of a lock's cell among those of its client
 abbrev pub place_in : Holding → ℕ
-place_in lock = lock.set * 5 + place_of lock.mode
+place_in lock = lock.set * 6 + place_of lock.mode
 
 -- of the client's cells, those before this one are cleared where their set is of the family, and no others are
 pub record Cleared (script : ScriptData) (client lock_set cell : ℕ) (old now : List ℕ) : Type 0 where
@@ -22,7 +22,7 @@ pub record Cleared (script : ScriptData) (client lock_set cell : ℕ) (old now :
   pub unrelated : (lock : Holding) → lock.set < length script.sets → is_related script lock.set lock_set ≡ false → get_or now (cell_of lock) 0 ≡ get_or old (cell_of lock) 0
   pub others : (lock : Holding) → lock.set < length script.sets → lock.client ≢ client → get_or now (cell_of lock) 0 ≡ get_or old (cell_of lock) 0
 
-place_of-few : (mode : Mode) → place_of mode < 5
+place_of-few : (mode : Mode) → place_of mode < 6
 place_of-few mode = grind arith
 
 get_or-cleared : (cells : List ℕ) (place : ℕ) → get_or (set cells place 0) place 0 ≡ 0
@@ -41,41 +41,41 @@ none_cleared script client lock_set cells = record {
   others = λ lock has apart. refl;
 }
 
-pub one_more_cleared : (script : ScriptData) (client lock_set cell : ℕ) (old now : List ℕ) → length script.sets ≤ 8 → cell < length script.sets * 5
-    → is_related script (cell / 5) lock_set ≡ true → Cleared script client lock_set cell old now
-    → Cleared script client lock_set (cell + 1) old (set now (client * 40 + cell) 0)
+pub one_more_cleared : (script : ScriptData) (client lock_set cell : ℕ) (old now : List ℕ) → length script.sets ≤ 8 → cell < length script.sets * 6
+    → is_related script (cell / 6) lock_set ≡ true → Cleared script client lock_set cell old now
+    → Cleared script client lock_set (cell + 1) old (set now (client * 48 + cell) 0)
 one_more_cleared script client lock_set cell old now few below related so_far = record {
-  room = length-set now (client * 40 + cell) 0 ∙ so_far.room;
+  room = length-set now (client * 48 + cell) 0 ∙ so_far.room;
   dropped = λ lock has same its_related before. elim (eqb_tells (place_in lock) cell) [
     | inl equal ↦
-        let at : cell_of lock ≡ client * 40 + cell = omega arith in
-        ap (λ (k : ℕ). get_or (set now (client * 40 + cell) 0) k 0) at ∙ get_or-cleared now (client * 40 + cell)
+        let at : cell_of lock ≡ client * 48 + cell = omega arith in
+        ap (λ (k : ℕ). get_or (set now (client * 48 + cell) 0) k 0) at ∙ get_or-cleared now (client * 48 + cell)
     | inr differ ↦
-        let apart : cell_of lock ≢ client * 40 + cell = omega arith in
-        get_or-set_other now (client * 40 + cell) (cell_of lock) 0 0 apart ∙ so_far.dropped lock has same its_related (omega arith)
+        let apart : cell_of lock ≢ client * 48 + cell = omega arith in
+        get_or-set_other now (client * 48 + cell) (cell_of lock) 0 0 apart ∙ so_far.dropped lock has same its_related (omega arith)
   ];
   unrelated = λ lock has its_related.
       let few_modes = place_of-few lock.mode in
-      let apart : cell_of lock ≢ client * 40 + cell = λ (e : cell_of lock ≡ client * 40 + cell).
-      (let its_set : lock.set ≡ cell / 5 = omega arith in
+      let apart : cell_of lock ≢ client * 48 + cell = λ (e : cell_of lock ≡ client * 48 + cell).
+      (let its_set : lock.set ≡ cell / 6 = omega arith in
       let is_so = ap (λ (n : ℕ). is_related script n lock_set) its_set in
       cc) in
-      get_or-set_other now (client * 40 + cell) (cell_of lock) 0 0 apart ∙ so_far.unrelated lock has its_related;
+      get_or-set_other now (client * 48 + cell) (cell_of lock) 0 0 apart ∙ so_far.unrelated lock has its_related;
   others = λ lock has differ.
       let few_modes = place_of-few lock.mode in
-      let apart : cell_of lock ≢ client * 40 + cell = omega arith in
-      get_or-set_other now (client * 40 + cell) (cell_of lock) 0 0 apart ∙ so_far.others lock has differ;
+      let apart : cell_of lock ≢ client * 48 + cell = omega arith in
+      get_or-set_other now (client * 48 + cell) (cell_of lock) 0 0 apart ∙ so_far.others lock has differ;
 }
 
 pub one_more_left : (script : ScriptData) (client lock_set cell : ℕ) (old now : List ℕ)
-    → is_related script (cell / 5) lock_set ≡ false → Cleared script client lock_set cell old now
+    → is_related script (cell / 6) lock_set ≡ false → Cleared script client lock_set cell old now
     → Cleared script client lock_set (cell + 1) old now
 one_more_left script client lock_set cell old now unrelated so_far = record {
   room = so_far.room;
   dropped = λ lock has same its_related before. elim (eqb_tells (place_in lock) cell) [
     | inl equal ↦
         let few_modes = place_of-few lock.mode in
-        let its_set : lock.set ≡ cell / 5 = omega arith in
+        let its_set : lock.set ≡ cell / 6 = omega arith in
         let is_so = ap (λ (n : ℕ). is_related script n lock_set) its_set in
         cc
     | inr differ ↦ so_far.dropped lock has same its_related (omega arith)
@@ -90,7 +90,7 @@ kept_when script client lock_set held lock kept e =
     count_of-kept script client lock_set lock held ∙ ap (λ (b : Bool). cond b (count_of held lock) 0) e
 
 pub all_cleared : (script : ScriptData) (client lock_set : ℕ) (old now : List ℕ) (held : List Holding)
-    → Cleared script client lock_set (length script.sets * 5) old now → Counts script old held
+    → Cleared script client lock_set (length script.sets * 6) old now → Counts script old held
     → Counts script now (filter (λ lock. not (is_dropped script client lock_set lock)) held)
 all_cleared script client lock_set old now held cleared counts = record {
   room = cleared.room ∙ counts.room;

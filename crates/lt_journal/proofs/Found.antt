@@ -14,9 +14,9 @@ use Rattle.lt_journal.specs.Words.{all_modes, step_words, words_of_modes, spaced
 use Rattle.lt_text.specs.Number.{exact_number}
 use Rattle.lt_script.specs.Script.{set_number, client_number}
 use Rattle.lt_journal.specs.declared.line.Line.{Line}
-use Rattle.lt_journal.specs.declared.line.Line.TheVariants.{Waiting, Bad}
+use Rattle.lt_journal.specs.declared.line.Line.TheVariants.{Version, Waiting, Bad}
 use Rattle.lt_journal.specs.declared.lock.Lock.{Lock}
-use Rattle.lt_journal.specs.Grammar.{line_of, read_line, line_of_two, line_of_four, line_of_five, line_of_many, line_of_freeze, lock_line, lock_and_line, node_of, step_of, lock_of, lock_by, bool_of, modes_of, with_words, says_none, end_line, cut_line, busy_line, token_line, owner_line, move_line, drop_line, copy_line, try_line, change_line, held_line, freeze_line}
+use Rattle.lt_journal.specs.Grammar.{line_of, read_line, line_of_two, line_of_four, line_of_five, line_of_many, line_of_freeze, lock_line, lock_and_line, node_of, step_of, lock_of, lock_by, bool_of, modes_of, with_words, says_none, end_line, version_line, cut_line, busy_line, token_line, owner_line, move_line, drop_line, copy_line, try_line, change_line, held_line, freeze_line}
 use Rattle.lt_journal.specs.Text.{IsAsWritten}
 use Rattle.lt_journal.proofs.Spelled.{has_words, Both, both}
 use Rattle.lt_journal.proofs.Plain.{spaced_same}
@@ -65,15 +65,15 @@ picks_found (mode ∷ modes) found (word ∷ words) all e = elim (cases_Bool (by
       record { picks = (false, later.picks); words_are = later.words_are; all_are = later.all_are }
 ]
 
-abbrev AreSpelled : Bool → Bool → Bool → Bool → Bool → Type 0
-AreSpelled a b c d e =
-    let modes = picked all_modes (a, (b, (c, (d, (e, tt))))) in
+abbrev AreSpelled : Bool → Bool → Bool → Bool → Bool → Bool → Type 0
+AreSpelled a b c d e f =
+    let modes = picked all_modes (a, (b, (c, (d, (e, (f, tt)))))) in
     (has_words (map word_of modes) ≡ true) → words_of_modes (fold with_mode no_modes modes) ≡ map word_of modes
 
 absurd_none : {X : Type 0} → false ≡ true → X
 absurd_none e = absurd (cc)
 
-all_spelled : Both (λ a. Both (λ b. Both (λ c. Both (λ d. Both (AreSpelled a b c d)))))
+all_spelled : Both (λ a. Both (λ b. Both (λ c. Both (λ d. Both (λ e. Both (AreSpelled a b c d e))))))
 all_spelled = search (rules, absurd_none)
 
 modes_found : (words : List (List ℕ)) (modes : Modes) → has_words words ≡ true → modes_of words ≡ Some modes → words_of_modes modes ≡ words
@@ -84,11 +84,12 @@ modes_found words modes some e = elim (cases_Bool (says_none words)) [
   | inr other ↦
       let picks = picks_found all_modes no_modes words modes (let h = rw other at e in h) in
       let p = picks.picks in
-      let by_first = both (λ x. Both (λ y. Both (λ z. Both (λ w. Both (AreSpelled x y z w))))) all_spelled p.0 in
-      let by_second = both (λ y. Both (λ z. Both (λ w. Both (AreSpelled p.0 y z w)))) by_first p.1.0 in
-      let by_third = both (λ z. Both (λ w. Both (AreSpelled p.0 p.1.0 z w))) by_second p.1.1.0 in
-      let by_fourth = both (λ w. Both (AreSpelled p.0 p.1.0 p.1.1.0 w)) by_third p.1.1.1.0 in
-      let spelled = both (AreSpelled p.0 p.1.0 p.1.1.0 p.1.1.1.0) by_fourth p.1.1.1.1.0 in
+      let by_first = both (λ x. Both (λ y. Both (λ z. Both (λ w. Both (λ v. Both (AreSpelled x y z w v)))))) all_spelled p.0 in
+      let by_second = both (λ y. Both (λ z. Both (λ w. Both (λ v. Both (AreSpelled p.0 y z w v))))) by_first p.1.0 in
+      let by_third = both (λ z. Both (λ w. Both (λ v. Both (AreSpelled p.0 p.1.0 z w v)))) by_second p.1.1.0 in
+      let by_fourth = both (λ w. Both (λ v. Both (AreSpelled p.0 p.1.0 p.1.1.0 w v))) by_third p.1.1.1.0 in
+      let by_fifth = both (λ v. Both (AreSpelled p.0 p.1.0 p.1.1.0 p.1.1.1.0 v)) by_fourth p.1.1.1.1.0 in
+      let spelled = both (AreSpelled p.0 p.1.0 p.1.1.0 p.1.1.1.0 p.1.1.1.1.0) by_fifth p.1.1.1.1.1.0 in
       ap words_of_modes (sym picks.all_are) ∙ (spelled (ap has_words picks.words_are ∙ some) ∙ picks.words_are)
 ]
   where
@@ -99,9 +100,13 @@ modes_found words modes some e = elim (cases_Bool (says_none words)) [
 
 two_found : (script : ScriptData) (word a : List ℕ) → IsSpelled script (word ∷ a ∷ []) (line_of_two script word a)
 two_found script word a =
-    by_word (IsSpelled script (word ∷ a ∷ [])) word (codes "end") (end_line (exact_number a)) (cond (bytes_eq word (codes "cut")) (cut_line (node_of script a)) Bad) (λ e. end (exact_number a) e refl)
-    (by_word (IsSpelled script (word ∷ a ∷ [])) word (codes "cut") (cut_line (node_of script a)) Bad (λ e. cut (node_of script a) e refl) (inl refl))
+    by_word (IsSpelled script (word ∷ a ∷ [])) word (codes "end") (end_line (exact_number a)) (cond (bytes_eq word (codes "cut")) (cut_line (node_of script a)) (cond (bytes_eq word (codes "version")) (version_line a) Bad)) (λ e. end (exact_number a) e refl)
+    (by_word (IsSpelled script (word ∷ a ∷ [])) word (codes "cut") (cut_line (node_of script a)) (cond (bytes_eq word (codes "version")) (version_line a) Bad) (λ e. cut (node_of script a) e refl)
+    (by_word (IsSpelled script (word ∷ a ∷ [])) word (codes "version") (version_line a) Bad version (inl refl)))
   where
+    version : word ≡ codes "version" → IsSpelled script (word ∷ a ∷ []) (version_line a)
+    version e = by_word (IsSpelled script (word ∷ a ∷ [])) a (codes "2") Version Bad (λ f. inr (rw (e, f) refl)) (inl refl)
+
     end : (o : Option ℕ) → word ≡ codes "end" → exact_number a ≡ o → IsSpelled script (word ∷ a ∷ []) (end_line o)
     end None e f = inl refl
     end (Some n) e f = inr (rw (e, number_found a n f))

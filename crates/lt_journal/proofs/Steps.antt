@@ -1,5 +1,5 @@
 -- What one turn of a loop adds to a text, and to the moves and events done so far.
-use Rattle.std.proofs.Common.{◌≡◌, ℕ, zero, suc, ◌+◌, ◌<◌, List, [], ◌∷◌, ◌++◌, length, take, get_or, map, Some, refl, sym, ap, ◌∙◌, arith}
+use Rattle.std.proofs.Common.{◌≡◌, ℕ, zero, suc, ◌+◌, ◌<◌, List, [], ◌∷◌, ◌++◌, length, take, get_or, Some, refl, sym, ap, ◌∙◌, arith}
 use Rattle.std.specs.List.{flat_map}
 use Rattle.std.proofs.lemmas.List.{take_more, append_assoc}
 use Rattle.std.proofs.lemmas.List.Concat.{flat_map-append}
@@ -9,8 +9,8 @@ use Rattle.lt_modes.specs.Script.{ScriptData}
 use Rattle.lt_runs.specs.Log.{Logged}
 use Rattle.lt_runs.specs.Holdings.{lines_of}
 use Rattle.lt_journal.specs.declared.line.Line.{Line}
-use Rattle.lt_journal.specs.declared.line.Line.TheVariants.{Move as MoveLine, Event as EventLine}
-use Rattle.lt_journal.specs.RunLines.{lines_below, entry_lines, moves_lines}
+use Rattle.lt_journal.specs.declared.line.Line.TheVariants.{Move as MoveLine}
+use Rattle.lt_journal.specs.RunLines.{lines_below, event_lines, entry_lines, moves_lines}
 use Rattle.lt_journal.specs.Text.{line_text, lines_text}
 use Rattle.lt_merge.specs.Run.{made_at, events_at}
 
@@ -72,13 +72,13 @@ take_entry_more entries k made events e f =
 
 -- the text of the moves up to this one, and of this one with its events
 pub moves_text-more : (script : ScriptData) (entries : List Logged) (k : ℕ) (made : Move) (events : List Event) → made_at entries k ≡ Some made → events_at entries k ≡ Some events
-    → lines_text script (moves_lines (take k entries)) ++ (line_text script (MoveLine made.stamp.clock made.stamp.node made.step) ++ lines_text script (map EventLine events)) ≡ lines_text script (moves_lines (take (k + 1) entries))
+    → lines_text script (moves_lines script.version (take k entries)) ++ (line_text script (MoveLine made.stamp.clock made.stamp.node made.step) ++ lines_text script (event_lines script.version events)) ≡ lines_text script (moves_lines script.version (take (k + 1) entries))
 moves_text-more script entries k made events e f =
     let entry : Logged = record { made = made; events = events } in
-    sym (ap (λ (es : List Logged). lines_text script (moves_lines es)) (take_entry_more entries k made events e f)
-    ∙ (ap (λ (ls : List Line). lines_text script ls) (flat_map-append entry_lines (take k entries) (entry ∷ []))
-    ∙ (flat_map-append (line_text script) (moves_lines (take k entries)) (moves_lines (entry ∷ []))
-    ∙ ap (λ (ls : List Line). lines_text script (moves_lines (take k entries)) ++ lines_text script ls) (append_nil (entry_lines entry)))))
+    sym (ap (λ (es : List Logged). lines_text script (moves_lines script.version es)) (take_entry_more entries k made events e f)
+    ∙ (ap (λ (ls : List Line). lines_text script ls) (flat_map-append (entry_lines script.version) (take k entries) (entry ∷ []))
+    ∙ (flat_map-append (line_text script) (moves_lines script.version (take k entries)) (moves_lines script.version (entry ∷ []))
+    ∙ ap (λ (ls : List Line). lines_text script (moves_lines script.version (take k entries)) ++ lines_text script ls) (append_nil (entry_lines script.version entry)))))
 
 lines_of-take : (entries : List Logged) (k : ℕ) (events : List Event) → events_at entries k ≡ Some events → lines_of (take (suc k) entries) ≡ lines_of (take k entries) ++ events
 lines_of-take [] k events f = cc

@@ -14,7 +14,7 @@ use Rattle.lt_text.specs.Text.{lines, fields}
 use Rattle.lt_text.specs.Number.{exact_number}
 use denote.Ref.{Bor}
 use Rattle.lt_journal.specs.declared.line.Line.{Line}
-use Rattle.lt_journal.specs.declared.line.Line.TheVariants.{Move as MoveLine, Event as EventLine, Held, Waiting, Owner, End, Cut, Bad}
+use Rattle.lt_journal.specs.declared.line.Line.TheVariants.{Version, Move as MoveLine, Event as EventLine, Held, Waiting, Owner, End, Cut, Bad}
 use Rattle.lt_journal.specs.declared.lock.Lock.{Lock}
 
 -- the number, if it is below the bound
@@ -80,11 +80,16 @@ abbrev pub cut_line : Option ℕ → Line
 cut_line (Some node) = Cut node
 cut_line None = Bad
 
--- a line of two words: `end COUNT` or `cut NODE`
+-- `version 2`
+abbrev pub version_line : List ℕ → Line
+version_line word = if bytes_eq word (codes "2") then Version else Bad
+
+-- a line of two words: `end COUNT`, `cut NODE` or `version 2`
 abbrev pub line_of_two : ScriptData → List ℕ → List ℕ → Line
 line_of_two script word a =
     if bytes_eq word (codes "end") then end_line (exact_number a)
     else if bytes_eq word (codes "cut") then cut_line (node_of script a)
+    else if bytes_eq word (codes "version") then version_line a
     else Bad
 
 -- `busy CLIENT CLIENT SET`

@@ -1,7 +1,7 @@
 -- The table of the locks held: how many of each mode each client holds in each set.
 use Rattle.std.specs.Prelude.{◌≡◌, ◌<◌, ◌+◌, ◌*◌, List, ℕ, Option, None, length, slice_index, slice_index_or}
 use Rattle.lt_modes.specs.declared.mode.Mode.{Mode}
-use Rattle.lt_modes.specs.declared.mode.Mode.TheVariants.{IntentionRead, Read, Upgrade, IntentionWrite, Write}
+use Rattle.lt_modes.specs.declared.mode.Mode.TheVariants.{IntentionRead, Read, Upgrade, IntentionWrite, ReadIntentionWrite, Write}
 use Rattle.lt_modes.specs.Script.{ScriptData}
 use Rattle.lt_modes.specs.declared.event.Event.{Event}
 use Rattle.lt_modes.specs.declared.parts.Link.{Link}
@@ -13,11 +13,12 @@ place_of IntentionRead = 0
 place_of Read = 1
 place_of Upgrade = 2
 place_of IntentionWrite = 3
-place_of Write = 4
+place_of ReadIntentionWrite = 4
+place_of Write = 5
 
--- the place of a lock's cell: a client has five cells for each of eight sets
+-- the place of a lock's cell: a client has six cells for each of eight sets
 abbrev pub cell_of : Holding → ℕ
-cell_of lock = lock.client * 40 + (lock.set * 5 + place_of lock.mode)
+cell_of lock = lock.client * 48 + (lock.set * 6 + place_of lock.mode)
 
 -- the script has the lock's client and its set
 abbrev pub HasCell : ScriptData → Holding → Type 0
@@ -25,7 +26,7 @@ HasCell script lock = (lock.client < length script.clients) × (lock.set < lengt
 
 -- the table counts the locks: each cell has the number of the locks of its client, set and mode
 pub record Counts (script : ScriptData) (cells : List ℕ) (held : List Holding) : Type 0 where
-  pub room : length cells ≡ length script.clients * 40
+  pub room : length cells ≡ length script.clients * 48
   pub count : (lock : Holding) → HasCell script lock → slice_index cells (cell_of lock) ≡ count_of held lock
 
 -- the locks counted, what each client waits for, and where each set's token went last

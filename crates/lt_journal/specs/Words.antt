@@ -3,7 +3,7 @@ use Rattle.std.specs.Prelude.{List, [], ◌∷◌, ◌++◌, ℕ, Bool, true, fa
 use Rattle.std.specs.List.{flat_map}
 use Rattle.std.specs.Fmt.{decimal}
 use Rattle.lt_modes.specs.declared.mode.Mode.{Mode}
-use Rattle.lt_modes.specs.declared.mode.Mode.TheVariants.{IntentionRead, Read, Upgrade, IntentionWrite, Write}
+use Rattle.lt_modes.specs.declared.mode.Mode.TheVariants.{IntentionRead, Read, Upgrade, IntentionWrite, ReadIntentionWrite, Write}
 use Rattle.lt_modes.specs.declared.moves.Step.{Step}
 use Rattle.lt_modes.specs.declared.moves.Step.TheVariants.{Act, Take}
 use Rattle.lt_modes.specs.declared.event.Event.{Event}
@@ -11,7 +11,7 @@ use Rattle.lt_modes.specs.declared.event.Event.TheVariants.{Grant, Wait, Try, Un
 use Rattle.lt_modes.specs.Modes.{Modes, word_of, has, has_none}
 use Rattle.lt_modes.specs.Script.{ScriptData, set_name, client_name}
 use Rattle.lt_journal.specs.declared.line.Line.{Line}
-use Rattle.lt_journal.specs.declared.line.Line.TheVariants.{Move as MoveLine, Event as EventLine, Held, Waiting, Owner, End, Cut, Bad}
+use Rattle.lt_journal.specs.declared.line.Line.TheVariants.{Version, Move as MoveLine, Event as EventLine, Held, Waiting, Owner, End, Cut, Bad}
 
 -- a word with the space before it
 abbrev pub after_space : List ℕ → List ℕ
@@ -28,12 +28,16 @@ line words = spaced words ++ 10 ∷ []
 
 -- all modes, in order
 abbrev pub all_modes : List Mode
-all_modes = IntentionRead ∷ Read ∷ Upgrade ∷ IntentionWrite ∷ Write ∷ []
+all_modes = IntentionRead ∷ Read ∷ Upgrade ∷ IntentionWrite ∷ ReadIntentionWrite ∷ Write ∷ []
 
 -- a set of modes: their words in order, or `none`
 abbrev pub words_of_modes : Modes → List (List ℕ)
 words_of_modes modes =
     if has_none modes then codes "none" ∷ [] else map word_of (filter (λ mode. has mode modes) all_modes)
+
+-- the word of the mode with the space before it, where it is in the set
+abbrev pub member_words : Modes → Mode → List ℕ
+member_words modes mode = if has mode modes then after_space (word_of mode) else []
 
 -- the words that say what a move does
 abbrev pub step_words : ScriptData → Step → List (List ℕ)
@@ -90,6 +94,7 @@ further_words script (Token set to epoch) = decimal epoch ∷ []
 
 -- the words of a line
 abbrev pub line_words : ScriptData → Line → List (List ℕ)
+line_words script Version = codes "version" ∷ codes "2" ∷ []
 line_words script (MoveLine clock node step) = codes "move" ∷ decimal clock ∷ decimal node ∷ step_words script step
 line_words script (EventLine event) = event_words script event
 line_words script (Held client set mode count) = lock_words script (codes "held") client set mode ++ decimal count ∷ []

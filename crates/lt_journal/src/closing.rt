@@ -17,11 +17,12 @@ use lt_script::Script;
 use std::alloc::AllocError;
 
 /// All modes, in order.
-pub const MODES: [Mode; 5] = [
+pub const MODES: [Mode; 6] = [
     Mode::IntentionRead,
     Mode::Read,
     Mode::Upgrade,
     Mode::IntentionWrite,
+    Mode::ReadIntentionWrite,
     Mode::Write,
 ];
 

@@ -37,7 +37,7 @@ pub fn read_line(script: &Script, line: &[u8]) -> Line
     line_of_five(script, word, a, b, c, d)
 }
 
-// A line of two words: `end COUNT` or `cut NODE`.
+// A line of two words: `end COUNT`, `cut NODE` or `version 2`.
 fn line_of_two(script: &Script, word: &[u8], a: &[u8]) -> Line
     ensures { result ≡ line_of_two script.now word.now a.now }
 {
@@ -51,6 +51,8 @@ fn line_of_two(script: &Script, word: &[u8], a: &[u8]) -> Line
             return Line::Bad;
         };
         Line::Cut { node }
+    } else if is(word, "version") && is(a, "2") {
+        Line::Version
     } else {
         Line::Bad
     }

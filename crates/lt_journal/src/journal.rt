@@ -1,10 +1,9 @@
-ghost use Rattle.std.specs.Prelude.{◌≡◌, ◌++◌, OnOk, IfOk, map};
-ghost use Rattle.lt_journal.specs.declared.line.Line.TheVariants.{Event as EventLine};
-ghost use Rattle.lt_journal.specs.RunLines.{moves_lines, closing_lines};
+ghost use Rattle.std.specs.Prelude.{◌≡◌, ◌++◌, OnOk, IfOk};
+ghost use Rattle.lt_journal.specs.RunLines.{first_lines, event_lines, moves_lines, closing_lines};
 ghost use Rattle.lt_journal.specs.Text.{lines_text, text_of};
 
 use crate::closing::rest_lines;
-use crate::events::{event_line, move_line};
+use crate::events::{event_line, move_line, shown_event};
 use crate::tally::tally_of;
 use crate::text::Text;
 use lt_merge::Run;
@@ -23,6 +22,7 @@ pub fn write(
     ensures { IfOk result (λ text. text.items ≡ text_of script.now run.now.entries cut) }
 {
     let mut text = Text::new(alloc);
+    first_lines(&mut text, script)?;
     move_lines(&mut text, script, run)?;
     closing_lines(alloc, &mut text, script, run, cut)?;
     Ok(text.into_bytes())
@@ -42,9 +42,21 @@ pub fn write_closing(
     Ok(text.into_bytes())
 }
 
+// Writes the line before all moves, where there is one: `version 2`.
+fn first_lines(text: &mut Text, script: &Script) -> Result<(), AllocError>
+    ensures { OnOk result (text.new ≡ text.old ++ lines_text script.now (first_lines script.now.version)) }
+{
+    if script.version() == 1 {
+        return Ok(());
+    }
+    text.first_word("version")?;
+    text.word(b"2")?;
+    text.end_line()
+}
+
 // Writes the lines of all moves.
 fn move_lines(text: &mut Text, script: &Script, run: &Run) -> Result<(), AllocError>
-    ensures { OnOk result (text.new ≡ text.old ++ lines_text script.now (moves_lines run.now.entries)) }
+    ensures { OnOk result (text.new ≡ text.old ++ lines_text script.now (moves_lines script.now.version run.now.entries)) }
 {
     for k in 0..run.len() {
         move_line(text, script, run.made(k))?;
@@ -55,10 +67,10 @@ fn move_lines(text: &mut Text, script: &Script, run: &Run) -> Result<(), AllocEr
 
 // Writes the lines of a move's events.
 fn event_lines(text: &mut Text, script: &Script, events: &[Event]) -> Result<(), AllocError>
-    ensures { OnOk result (text.new ≡ text.old ++ lines_text script.now (map EventLine events.now)) }
+    ensures { OnOk result (text.new ≡ text.old ++ lines_text script.now (event_lines script.now.version events.now)) }
 {
     for event in events {
-        event_line(text, script, *event)?;
+        event_line(text, script, shown_event(script.version(), *event))?;
     }
     Ok(())
 }

@@ -56,6 +56,7 @@ mod tally;
 mod tests;
 mod text;
 
+pub use events::shown_event;
 pub use grammar::read_line;
 pub use journal::{write, write_closing};
 pub use laws::law_read_line;

@@ -3,6 +3,8 @@ use lt_modes::{Event, Mode, Step};
 /// What a line of a journal says.
 #[derive(Clone, Copy, Debug, PartialEq, Eq)]
 pub enum Line {
+    /// The first line of a journal of version 2.
+    Version,
     /// The start of a move.
     Move {
         clock: u64,

@@ -22,6 +22,10 @@ fn words_of_line(text: &mut Text, script: &Script, line: Line) -> Result<(), All
     ensures { OnOk result (text.new ≡ text.old ++ spaced (line_words script.now line)) }
 {
     match line {
+        Line::Version => {
+            text.first_word("version")?;
+            text.word(b"2")
+        }
         Line::Move { clock, node, step } => words_of_move(text, script, clock, node, step),
         Line::Event(event) => words_of_event(text, script, event),
         Line::Held {

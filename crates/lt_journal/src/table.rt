@@ -27,7 +27,7 @@ impl Model for Holding {
 }
 
 // The cells of a client's locks in one set: one for each mode.
-const CELLS_OF_SET: usize = 5;
+const CELLS_OF_SET: usize = 6;
 
 // The cells of a client: those of as many sets as a script can have.
 const CELLS_OF_CLIENT: usize = MAX_SETS as usize * CELLS_OF_SET;
@@ -146,6 +146,7 @@ fn place_of(mode: Mode) -> usize
         Mode::Read => 1,
         Mode::Upgrade => 2,
         Mode::IntentionWrite => 3,
-        Mode::Write => 4,
+        Mode::ReadIntentionWrite => 4,
+        Mode::Write => 5,
     }
 }

@@ -18,7 +18,7 @@ mod tests;
 pub use ask::Ask;
 pub use command::Command;
 pub use event::Event;
-pub use laws::law_modes;
+pub use laws::{law_five_modes, law_modes};
 pub use mode::Mode;
 pub use mode_set::ModeSet;
 pub use moves::{Move, Step};

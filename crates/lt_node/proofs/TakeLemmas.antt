@@ -21,7 +21,7 @@ use Rattle.lt_modes.specs.Made.{Made}
 use Rattle.lt_node.proofs.WithinLemmas.{IsWithin, room_later, each_within}
 use Rattle.lt_node.proofs.TokenLemmas.{few_brought, room_for_body, fitting, IsFitting}
 
-few_homes : (n : NodeData) → IsNode n → length (numbers_of n.script).homes ≤ 64
+few_homes : (n : NodeData) → IsNode n → length (numbers_of n.script).homes ≤ 256
 few_homes n node = omega (arith, length-map n.script.clients (λ (client : ClientData). client.node), node.is_script.few_clients)
 
 -- the letter fits the set that the code has in hand, which keeps no more than it may
@@ -31,7 +31,7 @@ pub record IsTakenBy (n : NodeData) (letter : Letter) (core : CoreData) : Type 0
   pub place : IsCoreOf n.me letter.set core
   pub within : IsWithin n.clock core.state
   pub fit : IsFitting (numbers_of n.script) n.me n.clock core.state letter
-  pub few : asks_in letter.body ≤ 64
+  pub few : asks_in letter.body ≤ 256
 
 pub taken_by : (m n : NodeData) (k : ℕ) (letter : Letter) (core : CoreData) → m ≡ n → IsNode m → k ≡ letter.set → core ≡ slice_index_or m.cores k core
     → fits (numbers_of n.script) n.me n.clock ((state_of n).set letter.set) (letter_seen letter) ≡ true → node_within n.script (state_of n) ≡ true → IsTakenBy n letter core

@@ -18,7 +18,7 @@ use Rattle.lt_node.specs.Room.{LeavesAsk, RoomToAct, IsReady}
 -- what a set keeps, in numbers
 pub record IsWithin (clock : ℕ) (s : SetState) : Type 0 where
   pub locks : locks_in s.held ≤ 4096
-  pub asks : waiting s ≤ 64
+  pub asks : waiting s ≤ 256
   pub epoch : epoch_of s.desk ≤ clock
   pub number : number_of s.desk ≤ clock
 
@@ -31,11 +31,11 @@ desk_numbers clock (Some desk) h =
 pub set_numbers : (clock : ℕ) (s : SetState) → set_within clock s ≡ true → IsWithin clock s
 set_numbers clock s h =
     let first = and_parts (nat_le (locks_in s.held) 4096) _ h in
-    let second = and_parts (nat_le (length (asks_here s)) 64) (desk_within clock s.desk) first.1 in
+    let second = and_parts (nat_le (length (asks_here s)) 256) (desk_within clock s.desk) first.1 in
     let desk = desk_numbers clock s.desk second.1 in
     record {
       locks = leb-true (locks_in s.held) 4096 first.0;
-      asks = omega (arith, leb-true (length (asks_here s)) 64 second.0, length-append (parked_asks s) (queue_of s));
+      asks = omega (arith, leb-true (length (asks_here s)) 256 second.0, length-append (parked_asks s) (queue_of s));
       epoch = desk.0;
       number = desk.1;
     }

@@ -32,7 +32,7 @@ RoomToTake n letter out = RoomForLetter (core_at n letter.set) letter out
 
 -- no more asks wait in the set than a script has clients
 abbrev pub HasFewAsks : CoreData → Type 0
-HasFewAsks core = waiting core.state ≤ 64
+HasFewAsks core = waiting core.state ≤ 256
 
 -- what stays of a set where memory is taken
 pub record KeptData : Type 0 where

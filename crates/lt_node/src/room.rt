@@ -54,7 +54,7 @@ fn reserve_each(cores: &mut Vec<Core>) -> Result<(), AllocError>
 // Makes room in a set, and in the desk that the letter brings, to take the letter.
 fn reserve_for(core: &mut Core, letter: &mut Letter, out: &mut Out) -> Result<(), AllocError>
     requires few { HasFewAsks core.old }
-    requires asks { asks_in letter.old.body ≤ 64 }
+    requires asks { asks_in letter.old.body ≤ 256 }
     ensures kept { kept_of core.new ≡ kept_of core.old }
     ensures letter { letter_seen letter.new ≡ letter_seen letter.old }
     ensures out { (out.new.posts ≡ out.old.posts) × (out.new.events ≡ out.old.events) }

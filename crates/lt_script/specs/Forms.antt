@@ -2,7 +2,7 @@
 use Rattle.std.specs.Prelude.{ℕ, List, [], ◌∷◌, Option, Some, None, codes, if◌then◌else◌, option_map}
 use Rattle.std.specs.Str.{bytes_eq}
 use Rattle.lt_script.specs.declared.form.Form.{Form}
-use Rattle.lt_script.specs.declared.form.Form.TheVariants.{Nodes, Set, SetWith, Client, Command}
+use Rattle.lt_script.specs.declared.form.Form.TheVariants.{Version, Nodes, Set, SetWith, Client, Command}
 use Rattle.lt_script.specs.declared.form.Order.{Order}
 use Rattle.lt_script.specs.declared.form.Order.TheVariants.{Lock, Try, Unlock, Change, Drop}
 
@@ -16,11 +16,17 @@ pub data OrderData : Type 0 where
 
 -- a line by its form
 pub data FormData : Type 0 where
+  VersionForm : FormData
   NodesForm : List ℕ → FormData
   SetForm : List ℕ → FormData
   SetWithForm : List ℕ → List ℕ → FormData
   ClientForm : List ℕ → List ℕ → FormData
   CommandForm : List ℕ → OrderData → FormData
+
+-- `version 2`
+abbrev pub version_form : List (List ℕ) → Option FormData
+version_form (n ∷ []) = if bytes_eq n (codes "2") then Some VersionForm else None
+version_form words = None
 
 -- `nodes N`
 abbrev pub nodes_form : List (List ℕ) → Option FormData
@@ -57,7 +63,8 @@ order_of words = None
 abbrev pub form_of : List (List ℕ) → Option FormData
 form_of [] = None
 form_of (w ∷ ws) =
-    if bytes_eq w (codes "nodes") then nodes_form ws
+    if bytes_eq w (codes "version") then version_form ws
+    else if bytes_eq w (codes "nodes") then nodes_form ws
     else if bytes_eq w (codes "set") then set_form ws
     else if bytes_eq w (codes "client") then client_form ws
     else option_map (CommandForm w) (order_of ws)
@@ -72,6 +79,7 @@ order_seen (Change set gives_up mode) = ChangeOrder set.now gives_up.now mode.no
 order_seen (Drop client set) = DropOrder client.now set.now
 
 abbrev pub form_seen : Form → FormData
+form_seen Version = VersionForm
 form_seen (Nodes nodes) = NodesForm nodes.now
 form_seen (Set name) = SetForm name.now
 form_seen (SetWith name first) = SetWithForm name.now first.now

@@ -1,5 +1,5 @@
 -- How a script is written.
-use Rattle.std.specs.Prelude.{ℕ, List, [], ◌∷◌, ◌++◌, map, codes, slice_get, if◌then◌else◌}
+use Rattle.std.specs.Prelude.{ℕ, ◌==◌, List, [], ◌∷◌, ◌++◌, map, codes, slice_get, if◌then◌else◌}
 use Rattle.std.specs.Fmt.{decimal}
 use Rattle.std.specs.Str.{bytes_eq}
 use Rattle.lt_modes.specs.declared.command.Command.{Command}
@@ -7,6 +7,10 @@ use Rattle.lt_modes.specs.declared.command.Command.TheVariants.{Lock, Try, Unloc
 use Rattle.lt_modes.specs.Modes.{word_of}
 use Rattle.lt_modes.specs.Script.{ScriptData, SetData, ClientData, name_of_set, set_name, client_name}
 use Rattle.lt_text.specs.Text.{spaced, text}
+
+-- `version 2` for a script of version 2, and nothing for one of version 1
+abbrev pub version_words : ℕ → List (List (List ℕ))
+version_words version = if version == 1 then [] else (codes "version" ∷ codes "2" ∷ []) ∷ []
 
 -- `nodes N`
 abbrev pub nodes_words : ℕ → List (List ℕ)
@@ -40,7 +44,8 @@ command_words s request = client_name s request.0 ∷ order_words s request.1
 
 -- the words of each line
 abbrev pub script_words : ScriptData → List (List (List ℕ))
-script_words s = nodes_words s.nodes ∷ (map (set_words s.sets) s.sets ++ (map client_words s.clients ++ map (command_words s) s.commands))
+script_words s =
+    version_words s.version ++ nodes_words s.nodes ∷ (map (set_words s.sets) s.sets ++ (map client_words s.clients ++ map (command_words s) s.commands))
 
 -- the lines, with one space between two words
 unfoldable pub print_of : ScriptData → List ℕ

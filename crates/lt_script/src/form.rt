@@ -1,6 +1,6 @@
 ghost use Rattle.std.specs.Prelude.{◌≡◌, option_map};
 ghost use Rattle.lt_text.specs.Text.{words};
-ghost use Rattle.lt_script.specs.Forms.{form_seen, order_seen, form_of, nodes_form, set_form, client_form, order_of, two_word_order, CommandForm};
+ghost use Rattle.lt_script.specs.Forms.{form_seen, order_seen, form_of, version_form, nodes_form, set_form, client_form, order_of, two_word_order, CommandForm};
 
 use lt_text::{is, next_word};
 
@@ -33,6 +33,8 @@ pub enum Order<'a> {
 /// A line of a script by its form, with its words.
 #[derive(Clone, Copy, Debug)]
 pub enum Form<'a> {
+    /// The line `version 2`.
+    Version,
     Nodes { nodes: &'a [u8] },
     Set { name: &'a [u8] },
     /// A set in the family of another one.
@@ -48,7 +50,9 @@ pub fn form_of<'a>(line: &'a [u8]) -> Option<Form<'a>>
     let Some((word, rest)) = next_word(line) else {
         return None;
     };
-    if is(word, "nodes") {
+    if is(word, "version") {
+        version_form(rest)
+    } else if is(word, "nodes") {
         nodes_form(rest)
     } else if is(word, "set") {
         set_form(rest)
@@ -57,6 +61,19 @@ pub fn form_of<'a>(line: &'a [u8]) -> Option<Form<'a>>
     } else {
         command_form(word, rest)
     }
+}
+
+// The form of a line that begins with `version`.
+fn version_form<'a>(line: &'a [u8]) -> Option<Form<'a>>
+    ensures { option_map form_seen result ≡ version_form (words line.now) }
+{
+    let Some((version, rest)) = next_word(line) else {
+        return None;
+    };
+    if next_word(rest).is_some() || !is(version, "2") {
+        return None;
+    }
+    Some(Form::Version)
 }
 
 // The form of a line that begins with `nodes`.

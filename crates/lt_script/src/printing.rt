@@ -4,7 +4,7 @@ ghost use Rattle.lt_modes.specs.Modes.{word_of};
 ghost use Rattle.lt_text.specs.Text.{each_after_space};
 ghost use Rattle.lt_script.specs.Script.{IsRequest};
 ghost use Rattle.lt_script.specs.Reading.{read_of};
-ghost use Rattle.lt_script.specs.Printing.{print_of, line_of, nodes_words, set_words, client_words, order_words, command_words};
+ghost use Rattle.lt_script.specs.Printing.{print_of, line_of, version_words, nodes_words, set_words, client_words, order_words, command_words};
 
 use crate::declarations::{ClientDecl, SetDecl};
 use crate::script::Script;
@@ -12,17 +12,28 @@ use lt_modes::{Command, Mode};
 use lt_text::push_number;
 use std::alloc::{AllocError, Global};
 
-/// Writes the script as `read` reads it: the line `nodes`, the sets, the clients and the commands.
+/// Writes the script as `read` reads it: for version 2 the line `version 2`, and then the line `nodes`, the sets, the clients and the commands.
 pub fn print(alloc: Global, script: &Script) -> Result<Vec<u8>, AllocError>
     ensures text { IfOk result (λ text. text.items ≡ print_of script.now) }
     ensures read_back { IfOk result (λ text. read_of text.items ≡ Ok script.now) }
 {
     let mut out = Vec::new(alloc);
+    push_version(&mut out, script.version())?;
     push_nodes(&mut out, script.nodes())?;
     push_sets(&mut out, script)?;
     push_clients(&mut out, script)?;
     push_commands(&mut out, script)?;
     Ok(out)
+}
+
+fn push_version(out: &mut Vec<u8>, version: u8) -> Result<(), AllocError>
+    ensures { OnOk result (out.new.items ≡ out.old.items ++ flat_map line_of (version_words version)) }
+{
+    if version == 1 {
+        Ok(())
+    } else {
+        push_text(out, "version 2\n")
+    }
 }
 
 fn push_nodes(out: &mut Vec<u8>, nodes: u8) -> Result<(), AllocError>

@@ -3,7 +3,7 @@ use Rattle.std.specs.Prelude.{◌*◌, ◌^◌, Bool, ◌&&◌, nat_lt, nat_le, 
 use Rattle.std.specs.Str.{bytes_eq}
 use Rattle.std.specs.Str.Parse.{digits_value}
 use Rattle.lt_text.specs.Number.{is_numeral, number}
-use Rattle.lt_script.specs.declared.limits.TheConstants.{MAX_NODES, MAX_CLIENTS, MAX_CLIENTS_OF_NODE, MAX_COMMANDS}
+use Rattle.lt_script.specs.declared.limits.TheConstants.{MAX_NODES_OF_FIRST, MAX_CLIENTS_OF_FIRST, MAX_CLIENTS_OF_NODE, MAX_COMMANDS}
 use Rattle.lt_words.specs.declared.command.Command.{Command}
 use Rattle.lt_words.specs.declared.command.Command.TheVariants.{Run, SimFirst, Sim, Check, Make, Soak}
 
@@ -36,8 +36,8 @@ two_words word seed =
 -- a script can be made with so many nodes, clients and commands
 abbrev pub can_make : ℕ → ℕ → ℕ → Bool
 can_make nodes clients commands =
-    nat_le 1 nodes && nat_le nodes MAX_NODES
-    && nat_le 1 clients && nat_le clients MAX_CLIENTS && nat_le clients (nodes * MAX_CLIENTS_OF_NODE)
+    nat_le 1 nodes && nat_le nodes MAX_NODES_OF_FIRST
+    && nat_le 1 clients && nat_le clients MAX_CLIENTS_OF_FIRST && nat_le clients (nodes * MAX_CLIENTS_OF_NODE)
     && nat_le commands MAX_COMMANDS
 
 -- `make` with these numbers, where each word was one

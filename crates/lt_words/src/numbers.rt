@@ -3,7 +3,7 @@ ghost use Rattle.lt_text.specs.Number.{are_digits, is_numeral, number};
 ghost use Rattle.lt_words.specs.Words.{seed_of, can_make, make_of};
 
 use crate::command::Command;
-use lt_script::{MAX_CLIENTS, MAX_CLIENTS_OF_NODE, MAX_COMMANDS, MAX_NODES};
+use lt_script::{MAX_CLIENTS_OF_FIRST, MAX_CLIENTS_OF_NODE, MAX_COMMANDS, MAX_NODES_OF_FIRST};
 use lt_text::number;
 
 pub fn make_of(nodes: &str, clients: &str, commands: &str, seed: &str) -> Option<Command>
@@ -34,9 +34,9 @@ fn can_make(nodes: u32, clients: u32, commands: u32) -> bool
     ensures { result ≡ can_make nodes clients commands }
 {
     1 <= nodes
-        && nodes <= u32::from(MAX_NODES)
+        && nodes <= u32::from(MAX_NODES_OF_FIRST)
         && 1 <= clients
-        && clients <= u32::from(MAX_CLIENTS)
+        && clients <= u32::from(MAX_CLIENTS_OF_FIRST)
         && clients <= nodes * u32::from(MAX_CLIENTS_OF_NODE)
         && commands <= MAX_COMMANDS
 }

@@ -1,6 +1,6 @@
 -- Longer worked examples, in other orders of moves.
 use Rattle.std.specs.Prelude.{true, false, [], ◌∷◌, codes}
-use Rattle.lt_modes.specs.declared.mode.Mode.TheVariants.{IntentionRead, Read, Upgrade, IntentionWrite, Write}
+use Rattle.lt_modes.specs.declared.mode.Mode.TheVariants.{IntentionRead, Read, Upgrade, IntentionWrite, ReadIntentionWrite, Write}
 use Rattle.lt_modes.specs.declared.command.Command.TheVariants.{Lock, Try, Unlock, Change, DropAll}
 use Rattle.lt_modes.specs.declared.event.Event.TheVariants.{Grant, Wait, Try as Tried, Unlock as Unlocked, NotHeld, Change as Changed, DropAll as Dropped, Copy, Freeze, Token}
 use Rattle.lt_modes.specs.Modes.{no_modes, all_modes, modes_in}
@@ -11,6 +11,7 @@ use Rattle.lt_worked.specs.Worked.{Worked, set_of, client_of, act, take, holds, 
 abbrev pub freezes_overtake : Worked
 freezes_overtake = record {
   script = record {
+    version = 1;
     nodes = 3;
     sets = set_of (codes "s0") 0 ∷ [];
     clients =
@@ -41,7 +42,7 @@ freezes_overtake = record {
       act 5 0 0 (Dropped 0 0 0 0 ∷ []) ∷
       act 1 2 4 (Wait 4 0 IntentionWrite ∷ []) ∷
       take 6 0 2 [] ∷
-      take 7 1 0 (Freeze 0 0 2 (modes_in (Read ∷ Upgrade ∷ Write ∷ [])) ∷ []) ∷
+      take 7 1 0 (Freeze 0 0 2 (modes_in (Read ∷ Upgrade ∷ ReadIntentionWrite ∷ Write ∷ [])) ∷ []) ∷
       act 8 1 1 (Unlocked 1 0 Read ∷ Token 0 2 2 ∷ []) ∷
       take 9 2 1 (Grant 4 0 IntentionWrite ∷ Freeze 0 0 3 no_modes ∷ []) ∷
       act 7 0 0 (Wait 0 0 Write ∷ []) ∷
@@ -64,6 +65,7 @@ freezes_overtake = record {
 abbrev pub copies_and_freezes : Worked
 copies_and_freezes = record {
   script = record {
+    version = 1;
     nodes = 4;
     sets = set_of (codes "s0") 0 ∷ [];
     clients = client_of (codes "c0") 0 ∷ client_of (codes "c1") 3 ∷ client_of (codes "c2") 2 ∷ [];
@@ -85,7 +87,7 @@ copies_and_freezes = record {
       take 4 0 2 [] ∷
       take 3 3 0 (Grant 1 0 Read ∷ []) ∷
       take 4 3 0 (Copy 0 0 0 Read ∷ Freeze 0 0 1 no_modes ∷ []) ∷
-      take 5 3 0 (Freeze 0 0 2 (modes_in (Upgrade ∷ IntentionWrite ∷ Write ∷ [])) ∷ Token 0 2 2 ∷ []) ∷
+      take 5 3 0 (Freeze 0 0 2 (modes_in (Upgrade ∷ IntentionWrite ∷ ReadIntentionWrite ∷ Write ∷ [])) ∷ Token 0 2 2 ∷ []) ∷
       take 5 0 3 (Grant 0 0 Read ∷ []) ∷
       take 6 0 3 [] ∷
       take 7 0 3 [] ∷
@@ -99,7 +101,7 @@ copies_and_freezes = record {
       take 12 2 3 [] ∷
       act 13 2 2 (Tried 2 0 IntentionRead true ∷ []) ∷
       take 13 0 2 [] ∷
-      act 14 2 2 (Wait 2 0 IntentionWrite ∷ Freeze 0 0 4 (modes_in (Read ∷ Upgrade ∷ Write ∷ [])) ∷ Freeze 0 3 4 (modes_in (Read ∷ Upgrade ∷ Write ∷ [])) ∷ []) ∷
+      act 14 2 2 (Wait 2 0 IntentionWrite ∷ Freeze 0 0 4 (modes_in (Read ∷ Upgrade ∷ ReadIntentionWrite ∷ Write ∷ [])) ∷ Freeze 0 3 4 (modes_in (Read ∷ Upgrade ∷ ReadIntentionWrite ∷ Write ∷ [])) ∷ []) ∷
       take 15 3 2 [] ∷
       take 15 0 2 [] ∷
       [];
@@ -112,6 +114,7 @@ copies_and_freezes = record {
 abbrev pub token_goes_round : Worked
 token_goes_round = record {
   script = record {
+    version = 1;
     nodes = 3;
     sets = set_of (codes "s0") 0 ∷ [];
     clients =
@@ -170,6 +173,7 @@ token_goes_round = record {
 abbrev pub token_comes_back : Worked
 token_comes_back = record {
   script = record {
+    version = 1;
     nodes = 2;
     sets = set_of (codes "s0") 0 ∷ [];
     clients =
@@ -219,6 +223,7 @@ token_comes_back = record {
 abbrev pub three_sets : Worked
 three_sets = record {
   script = record {
+    version = 1;
     nodes = 4;
     sets = set_of (codes "s0") 0 ∷ set_of (codes "s1") 0 ∷ set_of (codes "s2") 2 ∷ [];
     clients =
@@ -284,6 +289,7 @@ three_sets = record {
 abbrev pub upgrade_from_write : Worked
 upgrade_from_write = record {
   script = record {
+    version = 1;
     nodes = 4;
     sets = set_of (codes "s0") 0 ∷ [];
     clients =
@@ -325,7 +331,7 @@ upgrade_from_write = record {
       act 10 0 1 (Wait 1 0 Upgrade ∷ []) ∷
       take 10 1 0 (Grant 3 0 Write ∷ []) ∷
       take 11 1 0 [] ∷
-      act 12 1 3 (Changed 3 0 Write Upgrade ∷ Copy 0 0 0 Read ∷ Freeze 0 0 1 (modes_in (Upgrade ∷ IntentionWrite ∷ Write ∷ [])) ∷ []) ∷
+      act 12 1 3 (Changed 3 0 Write Upgrade ∷ Copy 0 0 0 Read ∷ Freeze 0 0 1 (modes_in (Upgrade ∷ IntentionWrite ∷ ReadIntentionWrite ∷ Write ∷ [])) ∷ []) ∷
       act 13 1 3 (Unlocked 3 0 Upgrade ∷ Token 0 3 2 ∷ []) ∷
       take 14 3 1 (Grant 2 0 Upgrade ∷ []) ∷
       act 15 3 2 (Unlocked 2 0 Upgrade ∷ Token 0 0 3 ∷ []) ∷
@@ -347,6 +353,7 @@ upgrade_from_write = record {
 abbrev pub copies_stay_owed : Worked
 copies_stay_owed = record {
   script = record {
+    version = 1;
     nodes = 3;
     sets = set_of (codes "s0") 0 ∷ [];
     clients =
@@ -376,14 +383,14 @@ copies_stay_owed = record {
       act 1 2 0 (Wait 0 0 Read ∷ []) ∷
       take 2 0 2 [] ∷
       act 2 2 1 (Wait 1 0 IntentionRead ∷ []) ∷
-      take 3 0 2 (Copy 0 2 1 IntentionRead ∷ Freeze 0 2 1 (modes_in (IntentionWrite ∷ Write ∷ [])) ∷ []) ∷
-      take 4 0 1 (Freeze 0 2 2 (modes_in (Upgrade ∷ IntentionWrite ∷ Write ∷ [])) ∷ []) ∷
+      take 3 0 2 (Copy 0 2 1 IntentionRead ∷ Freeze 0 2 1 (modes_in (IntentionWrite ∷ ReadIntentionWrite ∷ Write ∷ [])) ∷ []) ∷
+      take 4 0 1 (Freeze 0 2 2 (modes_in (Upgrade ∷ IntentionWrite ∷ ReadIntentionWrite ∷ Write ∷ [])) ∷ []) ∷
       act 5 0 4 (Wait 4 0 Read ∷ []) ∷
       act 6 0 3 (Unlocked 3 0 IntentionWrite ∷ Grant 4 0 Read ∷ Copy 0 2 0 Read ∷ Token 0 1 1 ∷ []) ∷
       act 7 0 3 (Wait 3 0 IntentionWrite ∷ []) ∷
       act 8 0 4 (Unlocked 4 0 Read ∷ []) ∷
       take 7 1 0 (Grant 2 0 Upgrade ∷ Freeze 0 0 3 no_modes ∷ Freeze 0 2 3 no_modes ∷ []) ∷
-      take 8 1 0 (Freeze 0 0 4 (modes_in (Read ∷ Upgrade ∷ Write ∷ [])) ∷ Freeze 0 2 4 (modes_in (Read ∷ Upgrade ∷ Write ∷ [])) ∷ []) ∷
+      take 8 1 0 (Freeze 0 0 4 (modes_in (Read ∷ Upgrade ∷ ReadIntentionWrite ∷ Write ∷ [])) ∷ Freeze 0 2 4 (modes_in (Read ∷ Upgrade ∷ ReadIntentionWrite ∷ Write ∷ [])) ∷ []) ∷
       take 9 1 0 [] ∷
       take 9 0 1 [] ∷
       take 8 2 1 [] ∷
@@ -409,6 +416,7 @@ copies_stay_owed = record {
 abbrev pub owed_until_told : Worked
 owed_until_told = record {
   script = record {
+    version = 1;
     nodes = 2;
     sets = set_of (codes "s0") 0 ∷ [];
     clients =
@@ -439,7 +447,7 @@ owed_until_told = record {
       act 5 1 2 (Unlocked 2 0 Read ∷ []) ∷
       take 3 0 1 (Copy 0 1 0 Read ∷ []) ∷
       take 6 1 0 (Grant 0 0 Read ∷ []) ∷
-      take 4 0 1 (Freeze 0 1 1 (modes_in (Read ∷ Upgrade ∷ Write ∷ [])) ∷ []) ∷
+      take 4 0 1 (Freeze 0 1 1 (modes_in (Read ∷ Upgrade ∷ ReadIntentionWrite ∷ Write ∷ [])) ∷ []) ∷
       act 5 0 1 (Unlocked 1 0 Read ∷ Token 0 1 1 ∷ []) ∷
       act 6 0 1 (Wait 1 0 Write ∷ []) ∷
       take 7 0 1 [] ∷

@@ -11,6 +11,7 @@ use Rattle.lt_worked.specs.Worked.{Worked, end_of, queued_clients, parked_client
 abbrev pub read_everywhere : Worked
 read_everywhere = record {
   script = record {
+    version = 1;
     nodes = 3;
     sets = set_of (codes "s") 0 ∷ [];
     clients = client_of (codes "a") 0 ∷ client_of (codes "b") 1 ∷ client_of (codes "c") 2 ∷ [];
@@ -38,6 +39,7 @@ read_everywhere = record {
 abbrev pub reader_draws_desk : Worked
 reader_draws_desk = record {
   script = record {
+    version = 1;
     nodes = 2;
     sets = set_of (codes "s") 0 ∷ [];
     clients = client_of (codes "a") 0 ∷ client_of (codes "b") 1 ∷ [];
@@ -62,6 +64,7 @@ reader_draws_desk = record {
 abbrev pub token_to_writer : Worked
 token_to_writer = record {
   script = record {
+    version = 1;
     nodes = 2;
     sets = set_of (codes "s") 0 ∷ [];
     clients = client_of (codes "a") 0 ∷ client_of (codes "b") 1 ∷ [];
@@ -87,6 +90,7 @@ token_to_writer = record {
 abbrev pub frozen_read : Worked
 frozen_read = record {
   script = record {
+    version = 1;
     nodes = 2;
     sets = set_of (codes "s") 0 ∷ [];
     clients =
@@ -121,6 +125,7 @@ frozen_read = record {
 abbrev pub try_at_home : Worked
 try_at_home = record {
   script = record {
+    version = 1;
     nodes = 2;
     sets = set_of (codes "s") 0 ∷ [];
     clients =
@@ -162,6 +167,7 @@ try_at_home = record {
 abbrev pub change_after_reader : Worked
 change_after_reader = record {
   script = record {
+    version = 1;
     nodes = 2;
     sets = set_of (codes "s") 0 ∷ [];
     clients = client_of (codes "a") 0 ∷ client_of (codes "b") 1 ∷ [];
@@ -191,6 +197,7 @@ change_after_reader = record {
 abbrev pub changes_from_two_nodes : Worked
 changes_from_two_nodes = record {
   script = record {
+    version = 1;
     nodes = 2;
     sets = set_of (codes "s") 0 ∷ [];
     clients = client_of (codes "a") 0 ∷ client_of (codes "b") 1 ∷ [];
@@ -220,6 +227,7 @@ changes_from_two_nodes = record {
 abbrev pub asks_park_behind : Worked
 asks_park_behind = record {
   script = record {
+    version = 1;
     nodes = 4;
     sets = set_of (codes "s") 0 ∷ [];
     clients =
@@ -264,6 +272,7 @@ TwoAsksParked =
 abbrev pub marked_ask_parks : Worked
 marked_ask_parks = record {
   script = record {
+    version = 1;
     nodes = 4;
     sets = set_of (codes "s") 0 ∷ [];
     clients =
@@ -314,6 +323,7 @@ marked_ask_parks = record {
 abbrev pub upgrade_with_readers : Worked
 upgrade_with_readers = record {
   script = record {
+    version = 1;
     nodes = 2;
     sets = set_of (codes "s") 0 ∷ [];
     clients =
@@ -366,6 +376,7 @@ upgrade_with_readers = record {
 abbrev pub change_before_writer : Worked
 change_before_writer = record {
   script = record {
+    version = 1;
     nodes = 3;
     sets = set_of (codes "s") 0 ∷ [];
     clients =
@@ -405,6 +416,7 @@ change_before_writer = record {
 abbrev pub drop_without_waiting : Worked
 drop_without_waiting = record {
   script = record {
+    version = 1;
     nodes = 3;
     sets = set_of (codes "s") 0 ∷ set_of (codes "t") 0 ∷ [];
     clients = client_of (codes "a") 2 ∷ client_of (codes "b") 0 ∷ [];
@@ -432,6 +444,7 @@ drop_without_waiting = record {
 abbrev pub shared_with_upgrade : Worked
 shared_with_upgrade = record {
   script = record {
+    version = 1;
     nodes = 2;
     sets = set_of (codes "s") 0 ∷ [];
     clients =

@@ -10,6 +10,7 @@ use Rattle.lt_worked.specs.Worked.{Worked, set_of, client_of, act, holds, owner}
 abbrev pub lock_then_unlock : Worked
 lock_then_unlock = record {
   script = record {
+    version = 1;
     nodes = 1;
     sets = set_of (codes "s") 0 ∷ [];
     clients = client_of (codes "a") 0 ∷ [];
@@ -31,6 +32,7 @@ lock_then_unlock = record {
 abbrev pub write_in_turn : Worked
 write_in_turn = record {
   script = record {
+    version = 1;
     nodes = 1;
     sets = set_of (codes "s") 0 ∷ [];
     clients = client_of (codes "a") 0 ∷ client_of (codes "b") 0 ∷ [];
@@ -56,6 +58,7 @@ write_in_turn = record {
 abbrev pub write_kept : Worked
 write_kept = record {
   script = record {
+    version = 1;
     nodes = 1;
     sets = set_of (codes "s") 0 ∷ [];
     clients = client_of (codes "a") 0 ∷ client_of (codes "b") 0 ∷ [];
@@ -77,6 +80,7 @@ write_kept = record {
 abbrev pub many_locks : Worked
 many_locks = record {
   script = record {
+    version = 1;
     nodes = 1;
     sets = set_of (codes "s") 0 ∷ [];
     clients = client_of (codes "a") 0 ∷ client_of (codes "b") 0 ∷ [];
@@ -110,6 +114,7 @@ many_locks = record {
 abbrev pub never_held : Worked
 never_held = record {
   script = record {
+    version = 1;
     nodes = 1;
     sets = set_of (codes "s") 0 ∷ [];
     clients = client_of (codes "a") 0 ∷ [];
@@ -131,6 +136,7 @@ never_held = record {
 abbrev pub drop_in_family : Worked
 drop_in_family = record {
   script = record {
+    version = 1;
     nodes = 1;
     sets = set_of (codes "s") 0 ∷ set_of (codes "r") 0 ∷ [];
     clients = client_of (codes "b") 0 ∷ client_of (codes "c") 0 ∷ client_of (codes "a") 0 ∷ [];
@@ -158,6 +164,7 @@ drop_in_family = record {
 abbrev pub holder_first : Worked
 holder_first = record {
   script = record {
+    version = 1;
     nodes = 1;
     sets = set_of (codes "s") 0 ∷ [];
     clients = client_of (codes "c") 0 ∷ client_of (codes "d") 0 ∷ [];
@@ -181,6 +188,7 @@ holder_first = record {
 abbrev pub change_down : Worked
 change_down = record {
   script = record {
+    version = 1;
     nodes = 1;
     sets = set_of (codes "s") 0 ∷ [];
     clients = client_of (codes "a") 0 ∷ [];
@@ -204,6 +212,7 @@ change_down = record {
 abbrev pub changes_wait : Worked
 changes_wait = record {
   script = record {
+    version = 1;
     nodes = 1;
     sets = set_of (codes "s") 0 ∷ [];
     clients = client_of (codes "a") 0 ∷ client_of (codes "b") 0 ∷ [];

@@ -1,6 +1,6 @@
 -- Worked examples on several nodes, in other orders of moves.
 use Rattle.std.specs.Prelude.{false, [], ◌∷◌, codes}
-use Rattle.lt_modes.specs.declared.mode.Mode.TheVariants.{IntentionRead, Read, Upgrade, IntentionWrite, Write}
+use Rattle.lt_modes.specs.declared.mode.Mode.TheVariants.{IntentionRead, Read, Upgrade, IntentionWrite, ReadIntentionWrite, Write}
 use Rattle.lt_modes.specs.declared.command.Command.TheVariants.{Lock, Try, Unlock, Change, DropAll}
 use Rattle.lt_modes.specs.declared.event.Event.TheVariants.{Grant, Wait, Try as Tried, Unlock as Unlocked, NotHeld, Change as Changed, DropAll as Dropped, Copy, Freeze, Token}
 use Rattle.lt_modes.specs.Modes.{no_modes, all_modes, modes_in}
@@ -11,6 +11,7 @@ use Rattle.lt_worked.specs.Worked.{Worked, set_of, client_of, act, take, holds, 
 abbrev pub late_copy : Worked
 late_copy = record {
   script = record {
+    version = 1;
     nodes = 3;
     sets = set_of (codes "s") 0 ∷ [];
     clients =
@@ -34,7 +35,7 @@ late_copy = record {
       act 1 2 2 (Wait 2 0 Read ∷ []) ∷
       take 2 0 2 (Copy 0 2 2 Read ∷ []) ∷
       act 1 1 1 (Wait 1 0 Upgrade ∷ []) ∷
-      take 3 0 1 (Freeze 0 2 1 (modes_in (Upgrade ∷ IntentionWrite ∷ Write ∷ [])) ∷ Token 0 1 1 ∷ []) ∷
+      take 3 0 1 (Freeze 0 2 1 (modes_in (Upgrade ∷ IntentionWrite ∷ ReadIntentionWrite ∷ Write ∷ [])) ∷ Token 0 1 1 ∷ []) ∷
       take 4 1 0 (Grant 1 0 Upgrade ∷ Freeze 0 0 2 no_modes ∷ Freeze 0 2 2 no_modes ∷ []) ∷
       act 4 0 0 (Unlocked 0 0 Read ∷ []) ∷
       take 5 1 0 [] ∷
@@ -59,6 +60,7 @@ late_copy = record {
 abbrev pub overtaking_tells : Worked
 overtaking_tells = record {
   script = record {
+    version = 1;
     nodes = 3;
     sets = set_of (codes "s") 0 ∷ [];
     clients = client_of (codes "a") 0 ∷ client_of (codes "b") 1 ∷ client_of (codes "c") 2 ∷ [];
@@ -80,7 +82,7 @@ overtaking_tells = record {
       take 3 2 0 (Grant 2 0 Read ∷ []) ∷
       act 4 2 2 (Grant 2 0 IntentionRead ∷ []) ∷
       act 1 1 1 (Wait 1 0 Upgrade ∷ []) ∷
-      take 3 0 1 (Freeze 0 2 1 (modes_in (Upgrade ∷ IntentionWrite ∷ Write ∷ [])) ∷ Token 0 1 1 ∷ []) ∷
+      take 3 0 1 (Freeze 0 2 1 (modes_in (Upgrade ∷ IntentionWrite ∷ ReadIntentionWrite ∷ Write ∷ [])) ∷ Token 0 1 1 ∷ []) ∷
       act 5 2 2 (Unlocked 2 0 Read ∷ []) ∷
       take 4 1 0 (Grant 1 0 Upgrade ∷ Freeze 0 0 2 no_modes ∷ Freeze 0 2 2 no_modes ∷ []) ∷
       take 6 2 1 [] ∷
@@ -103,6 +105,7 @@ overtaking_tells = record {
 abbrev pub drop_at_desk : Worked
 drop_at_desk = record {
   script = record {
+    version = 1;
     nodes = 2;
     sets = set_of (codes "s") 0 ∷ [];
     clients = client_of (codes "a") 0 ∷ client_of (codes "b") 1 ∷ client_of (codes "c") 1 ∷ [];
@@ -151,6 +154,7 @@ drop_at_desk = record {
 abbrev pub several_copies : Worked
 several_copies = record {
   script = record {
+    version = 1;
     nodes = 4;
     sets = set_of (codes "s") 0 ∷ [];
     clients = client_of (codes "a") 2 ∷ client_of (codes "b") 2 ∷ client_of (codes "c") 3 ∷ [];
@@ -184,7 +188,7 @@ several_copies = record {
       take 9 3 2 [] ∷
       act 9 2 1 (Wait 1 0 Read ∷ []) ∷
       take 10 2 3 (Grant 0 0 IntentionRead ∷ []) ∷
-      take 10 3 2 (Freeze 0 2 1 (modes_in (IntentionWrite ∷ Write ∷ [])) ∷ []) ∷
+      take 10 3 2 (Freeze 0 2 1 (modes_in (IntentionWrite ∷ ReadIntentionWrite ∷ Write ∷ [])) ∷ []) ∷
       act 11 2 0 (NotHeld 0 0 Read ∷ []) ∷
       take 12 2 3 [] ∷
       [];
@@ -197,6 +201,7 @@ several_copies = record {
 abbrev pub copy_and_freeze : Worked
 copy_and_freeze = record {
   script = record {
+    version = 1;
     nodes = 2;
     sets = set_of (codes "s0") 0 ∷ [];
     clients =
@@ -219,7 +224,7 @@ copy_and_freeze = record {
       take 2 0 1 (Copy 0 1 3 IntentionWrite ∷ []) ∷
       act 2 1 0 (Wait 0 0 Read ∷ []) ∷
       take 3 1 0 (Grant 3 0 IntentionWrite ∷ []) ∷
-      act 3 0 2 (Wait 2 0 Read ∷ Freeze 0 1 1 (modes_in (IntentionWrite ∷ Write ∷ [])) ∷ []) ∷
+      act 3 0 2 (Wait 2 0 Read ∷ Freeze 0 1 1 (modes_in (IntentionWrite ∷ ReadIntentionWrite ∷ Write ∷ [])) ∷ []) ∷
       take 4 1 0 [] ∷
       act 4 0 1 (Unlocked 1 0 IntentionWrite ∷ []) ∷
       take 5 0 1 [] ∷
@@ -233,6 +238,7 @@ copy_and_freeze = record {
 abbrev pub desk_with_copy_out : Worked
 desk_with_copy_out = record {
   script = record {
+    version = 1;
     nodes = 4;
     sets = set_of (codes "s0") 0 ∷ [];
     clients = client_of (codes "c0") 3 ∷ client_of (codes "c2") 2 ∷ client_of (codes "c4") 3 ∷ [];
@@ -253,7 +259,7 @@ desk_with_copy_out = record {
       take 3 2 0 (Grant 1 0 Read ∷ []) ∷
       take 4 2 0 (Copy 0 3 0 Read ∷ []) ∷
       act 5 2 1 (Unlocked 1 0 Read ∷ []) ∷
-      take 6 2 0 (Freeze 0 3 1 (modes_in (IntentionWrite ∷ Write ∷ [])) ∷ Token 0 3 2 ∷ []) ∷
+      take 6 2 0 (Freeze 0 3 1 (modes_in (IntentionWrite ∷ ReadIntentionWrite ∷ Write ∷ [])) ∷ Token 0 3 2 ∷ []) ∷
       take 5 3 2 (Grant 0 0 Read ∷ []) ∷
       take 7 3 2 [] ∷
       take 8 3 2 (Grant 2 0 Read ∷ []) ∷
@@ -267,6 +273,7 @@ desk_with_copy_out = record {
 abbrev pub second_ask_bars : Worked
 second_ask_bars = record {
   script = record {
+    version = 1;
     nodes = 2;
     sets = set_of (codes "s0") 0 ∷ [];
     clients =
@@ -310,6 +317,7 @@ second_ask_bars = record {
 abbrev pub token_meets_parked : Worked
 token_meets_parked = record {
   script = record {
+    version = 1;
     nodes = 3;
     sets = set_of (codes "s0") 0 ∷ [];
     clients =
@@ -352,6 +360,7 @@ token_meets_parked = record {
 abbrev pub upgrades_in_turn : Worked
 upgrades_in_turn = record {
   script = record {
+    version = 1;
     nodes = 2;
     sets = set_of (codes "s0") 0 ∷ set_of (codes "s1") 0 ∷ [];
     clients =
@@ -395,6 +404,7 @@ upgrades_in_turn = record {
 abbrev pub copy_after_move : Worked
 copy_after_move = record {
   script = record {
+    version = 1;
     nodes = 4;
     sets = set_of (codes "s0") 0 ∷ [];
     clients =
@@ -439,6 +449,7 @@ copy_after_move = record {
 abbrev pub change_to_write : Worked
 change_to_write = record {
   script = record {
+    version = 1;
     nodes = 2;
     sets = set_of (codes "s0") 0 ∷ [];
     clients =
@@ -489,6 +500,7 @@ change_to_write = record {
 abbrev pub old_freeze : Worked
 old_freeze = record {
   script = record {
+    version = 1;
     nodes = 3;
     sets = set_of (codes "s0") 0 ∷ [];
     clients =
@@ -511,7 +523,7 @@ old_freeze = record {
       act 1 2 1 (Wait 1 0 Read ∷ []) ∷
       act 1 1 2 (Wait 2 0 Upgrade ∷ []) ∷
       take 2 0 2 (Copy 0 2 1 Read ∷ []) ∷
-      take 3 0 1 (Freeze 0 2 1 (modes_in (Upgrade ∷ IntentionWrite ∷ Write ∷ [])) ∷ Token 0 1 1 ∷ []) ∷
+      take 3 0 1 (Freeze 0 2 1 (modes_in (Upgrade ∷ IntentionWrite ∷ ReadIntentionWrite ∷ Write ∷ [])) ∷ Token 0 1 1 ∷ []) ∷
       act 4 0 3 (Unlocked 3 0 Read ∷ []) ∷
       take 4 1 0 (Grant 2 0 Upgrade ∷ Freeze 0 0 2 no_modes ∷ Freeze 0 2 2 no_modes ∷ []) ∷
       take 5 1 0 [] ∷
@@ -534,6 +546,7 @@ old_freeze = record {
 abbrev pub old_tell : Worked
 old_tell = record {
   script = record {
+    version = 1;
     nodes = 4;
     sets = set_of (codes "s0") 0 ∷ [];
     clients =
@@ -578,7 +591,7 @@ old_tell = record {
       take 11 1 3 [] ∷
       act 12 1 3 (Wait 3 0 IntentionWrite ∷ []) ∷
       take 11 3 1 [] ∷
-      take 13 3 1 (Freeze 0 1 3 (modes_in (Read ∷ Upgrade ∷ Write ∷ [])) ∷ []) ∷
+      take 13 3 1 (Freeze 0 1 3 (modes_in (Read ∷ Upgrade ∷ ReadIntentionWrite ∷ Write ∷ [])) ∷ []) ∷
       take 14 1 3 [] ∷
       [];
   held = holds 0 0 IntentionRead 1 ∷ holds 4 0 Upgrade 1 ∷ [];

@@ -1,6 +1,6 @@
 -- A worked world: asks that follow the token.
 use Rattle.std.specs.Prelude.{true, false, [], ◌∷◌, None, codes}
-use Rattle.lt_modes.specs.declared.mode.Mode.TheVariants.{IntentionRead, Read, Upgrade, IntentionWrite, Write}
+use Rattle.lt_modes.specs.declared.mode.Mode.TheVariants.{IntentionRead, Read, Upgrade, IntentionWrite, ReadIntentionWrite, Write}
 use Rattle.lt_modes.specs.declared.command.Command.TheVariants.{Lock, Unlock, Change}
 use Rattle.lt_modes.specs.declared.event.Event.TheVariants.{Grant, Wait, Unlock as Unlocked, Change as Changed, Copy, Freeze, Token}
 use Rattle.lt_modes.specs.declared.moves.Step.TheVariants.{Take}
@@ -14,6 +14,7 @@ use Rattle.lt_worked.specs.Moment.{Moment, blank, untouched, stamp, hoped, entry
 abbrev pub asks_behind_token : Worked
 asks_behind_token = record {
   script = record {
+    version = 1;
     nodes = 4;
     sets = set_of (codes "s0") 0 ∷ [];
     clients =
@@ -111,7 +112,7 @@ asks_behind_token_after_17 = record {
             record {
               held = [];
               charge = no_modes;
-              frozen = modes_in (IntentionWrite ∷ Write ∷ []);
+              frozen = modes_in (IntentionWrite ∷ ReadIntentionWrite ∷ Write ∷ []);
               number = 0;
               firm = owner 2 1;
               hoped = hoped 1 (stamp 1 1);
@@ -227,7 +228,7 @@ asks_behind_token_after_17 = record {
                 number = 0;
                 queue = new_ask 3 Write (stamp 1 1) ∷ [];
                 entries =
-                    entry no_modes [] (stamp 2 0) [] (modes_in (IntentionWrite ∷ Write ∷ [])) ∷
+                    entry no_modes [] (stamp 2 0) [] (modes_in (IntentionWrite ∷ ReadIntentionWrite ∷ Write ∷ [])) ∷
                     blank ∷
                     entry no_modes [] (stamp 8 2) (stamp 2 2 ∷ []) all_modes ∷
                     blank ∷

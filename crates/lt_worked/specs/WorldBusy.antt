@@ -1,6 +1,6 @@
 -- A worked world: a drop of a client that waits.
 use Rattle.std.specs.Prelude.{false, [], ◌∷◌, Some, None, codes}
-use Rattle.lt_modes.specs.declared.mode.Mode.TheVariants.{IntentionRead, Read, Upgrade, IntentionWrite, Write}
+use Rattle.lt_modes.specs.declared.mode.Mode.TheVariants.{IntentionRead, Read, Upgrade, IntentionWrite, ReadIntentionWrite, Write}
 use Rattle.lt_modes.specs.declared.command.Command.TheVariants.{Lock, Unlock, DropAll}
 use Rattle.lt_modes.specs.declared.event.Event.TheVariants.{Grant, Wait, Unlock as Unlocked, DropAll as Dropped, Busy, Copy, Freeze, Token}
 use Rattle.lt_modes.specs.declared.moves.Step.TheVariants.{Act, Take}
@@ -14,6 +14,7 @@ use Rattle.lt_worked.specs.Moment.{Moment, blank, untouched, stamp, held_row, ho
 abbrev pub busy_in_another_set : Worked
 busy_in_another_set = record {
   script = record {
+    version = 1;
     nodes = 3;
     sets = set_of (codes "s0") 0 ∷ set_of (codes "s1") 1 ∷ set_of (codes "s2") 2 ∷ [];
     clients =
@@ -83,10 +84,10 @@ busy_in_another_set = record {
       act 13 0 4 (Dropped 4 4 1 0 ∷ []) ∷
       take 14 0 1 (Copy 0 1 3 Read ∷ Freeze 0 1 1 no_modes ∷ []) ∷
       act 15 0 4 (Unlocked 4 0 Upgrade ∷ []) ∷
-      act 16 0 4 (Wait 4 0 IntentionWrite ∷ Freeze 0 1 2 (modes_in (Read ∷ Upgrade ∷ Write ∷ [])) ∷ []) ∷
+      act 16 0 4 (Wait 4 0 IntentionWrite ∷ Freeze 0 1 2 (modes_in (Read ∷ Upgrade ∷ ReadIntentionWrite ∷ Write ∷ [])) ∷ []) ∷
       take 13 1 0 [] ∷
       take 14 1 0 [] ∷
-      take 17 0 1 (Copy 0 2 1 IntentionRead ∷ Freeze 0 2 3 (modes_in (Read ∷ Upgrade ∷ Write ∷ [])) ∷ []) ∷
+      take 17 0 1 (Copy 0 2 1 IntentionRead ∷ Freeze 0 2 3 (modes_in (Read ∷ Upgrade ∷ ReadIntentionWrite ∷ Write ∷ [])) ∷ []) ∷
       take 18 0 2 [] ∷
       take 15 1 0 [] ∷
       take 16 1 0 (Grant 3 0 Read ∷ []) ∷
@@ -98,7 +99,7 @@ busy_in_another_set = record {
       take 22 1 0 [] ∷
       take 19 0 1 (Grant 4 0 IntentionWrite ∷ Freeze 0 2 4 no_modes ∷ []) ∷
       act 20 0 4 (Unlocked 4 0 IntentionWrite ∷ []) ∷
-      take 22 0 1 (Freeze 0 2 5 (modes_in (Upgrade ∷ IntentionWrite ∷ Write ∷ [])) ∷ Token 0 1 3 ∷ []) ∷
+      take 22 0 1 (Freeze 0 2 5 (modes_in (Upgrade ∷ IntentionWrite ∷ ReadIntentionWrite ∷ Write ∷ [])) ∷ Token 0 1 3 ∷ []) ∷
       act 23 0 4 (Wait 4 1 Upgrade ∷ []) ∷
       take 24 0 2 [] ∷
       take 23 1 0 [] ∷
@@ -109,7 +110,7 @@ busy_in_another_set = record {
       take 28 1 0 [] ∷
       act 29 1 7 (Unlocked 7 1 IntentionRead ∷ []) ∷
       act 30 1 7 (Unlocked 7 0 Upgrade ∷ []) ∷
-      take 31 1 0 (Freeze 0 2 7 (modes_in (Upgrade ∷ IntentionWrite ∷ Write ∷ [])) ∷ Token 0 2 4 ∷ []) ∷
+      take 31 1 0 (Freeze 0 2 7 (modes_in (Upgrade ∷ IntentionWrite ∷ ReadIntentionWrite ∷ Write ∷ [])) ∷ Token 0 2 4 ∷ []) ∷
       take 28 2 1 [] ∷
       take 32 2 1 [] ∷
       take 33 2 1 (Grant 0 0 Upgrade ∷ []) ∷
@@ -136,7 +137,7 @@ busy_in_another_set_after_38 = record {
             record {
               held = [];
               charge = no_modes;
-              frozen = modes_in (Read ∷ Upgrade ∷ Write ∷ []);
+              frozen = modes_in (Read ∷ Upgrade ∷ ReadIntentionWrite ∷ Write ∷ []);
               number = 3;
               firm = owner 0 2;
               hoped = None;
@@ -147,9 +148,9 @@ busy_in_another_set_after_38 = record {
                 number = 3;
                 queue = new_ask 4 IntentionWrite (stamp 16 0) ∷ [];
                 entries =
-                    entry no_modes [] (stamp 2 0) [] (modes_in (Read ∷ Upgrade ∷ Write ∷ [])) ∷
-                    entry no_modes (owed (stamp 12 1) Read ∷ []) (stamp 11 1) [] (modes_in (Read ∷ Upgrade ∷ Write ∷ [])) ∷
-                    entry no_modes (owed (stamp 1 2) IntentionRead ∷ []) (stamp 0 0) [] (modes_in (Read ∷ Upgrade ∷ Write ∷ [])) ∷
+                    entry no_modes [] (stamp 2 0) [] (modes_in (Read ∷ Upgrade ∷ ReadIntentionWrite ∷ Write ∷ [])) ∷
+                    entry no_modes (owed (stamp 12 1) Read ∷ []) (stamp 11 1) [] (modes_in (Read ∷ Upgrade ∷ ReadIntentionWrite ∷ Write ∷ [])) ∷
+                    entry no_modes (owed (stamp 1 2) IntentionRead ∷ []) (stamp 0 0) [] (modes_in (Read ∷ Upgrade ∷ ReadIntentionWrite ∷ Write ∷ [])) ∷
                     [];
               });
             } ∷
@@ -184,7 +185,7 @@ busy_in_another_set_after_38 = record {
             record {
               held = [];
               charge = no_modes;
-              frozen = modes_in (Upgrade ∷ IntentionWrite ∷ Write ∷ []);
+              frozen = modes_in (Upgrade ∷ IntentionWrite ∷ ReadIntentionWrite ∷ Write ∷ []);
               number = 0;
               firm = owner 0 2;
               hoped = None;
@@ -195,7 +196,7 @@ busy_in_another_set_after_38 = record {
             record {
               held = held_row 7 Write 1 ∷ held_row 7 IntentionRead 1 ∷ [];
               charge = no_modes;
-              frozen = modes_in (Upgrade ∷ IntentionWrite ∷ Write ∷ []);
+              frozen = modes_in (Upgrade ∷ IntentionWrite ∷ ReadIntentionWrite ∷ Write ∷ []);
               number = 0;
               firm = owner 1 1;
               hoped = None;
@@ -207,7 +208,7 @@ busy_in_another_set_after_38 = record {
                 queue = new_ask 3 Upgrade (stamp 19 1) ∷ [];
                 entries =
                     entry no_modes [] (stamp 5 0) [] all_modes ∷
-                    entry no_modes [] (stamp 0 0) [] (modes_in (Upgrade ∷ IntentionWrite ∷ Write ∷ [])) ∷
+                    entry no_modes [] (stamp 0 0) [] (modes_in (Upgrade ∷ IntentionWrite ∷ ReadIntentionWrite ∷ Write ∷ [])) ∷
                     blank ∷
                     [];
               });
@@ -279,7 +280,7 @@ busy_in_another_set_after_38 = record {
               stamp = stamp 16 0;
               set = 0;
               link = owner 0 2;
-              body = FreezeBody 2 (modes_in (Read ∷ Upgrade ∷ Write ∷ []));
+              body = FreezeBody 2 (modes_in (Read ∷ Upgrade ∷ ReadIntentionWrite ∷ Write ∷ []));
             } ∷
             record {
               stamp = stamp 18 0;
@@ -303,7 +304,7 @@ busy_in_another_set_after_38 = record {
               stamp = stamp 17 0;
               set = 0;
               link = owner 0 2;
-              body = FreezeBody 3 (modes_in (Read ∷ Upgrade ∷ Write ∷ []));
+              body = FreezeBody 3 (modes_in (Read ∷ Upgrade ∷ ReadIntentionWrite ∷ Write ∷ []));
             } ∷
             [];
       } ∷

@@ -1,6 +1,6 @@
 -- A worked world: a copy and the token by different ways.
 use Rattle.std.specs.Prelude.{false, [], ◌∷◌, Some, None, codes}
-use Rattle.lt_modes.specs.declared.mode.Mode.TheVariants.{IntentionRead, Read, Upgrade, IntentionWrite, Write}
+use Rattle.lt_modes.specs.declared.mode.Mode.TheVariants.{IntentionRead, Read, Upgrade, IntentionWrite, ReadIntentionWrite, Write}
 use Rattle.lt_modes.specs.declared.command.Command.TheVariants.{Lock, Try, Unlock}
 use Rattle.lt_modes.specs.declared.event.Event.TheVariants.{Grant, Wait, Try as Tried, Unlock as Unlocked, Copy, Freeze, Token}
 use Rattle.lt_modes.specs.declared.moves.Step.TheVariants.{Act, Take}
@@ -13,6 +13,7 @@ use Rattle.lt_worked.specs.Moment.{Moment, blank, stamp, owed, entry, new_ask, t
 abbrev pub copy_before_token : Worked
 copy_before_token = record {
   script = record {
+    version = 1;
     nodes = 3;
     sets = set_of (codes "s") 0 ∷ [];
     clients =
@@ -38,7 +39,7 @@ copy_before_token = record {
       act 1 2 2 (Wait 2 0 Read ∷ []) ∷
       take 2 0 2 (Copy 0 2 2 Read ∷ []) ∷
       act 1 1 1 (Wait 1 0 Upgrade ∷ []) ∷
-      take 3 0 1 (Freeze 0 2 1 (modes_in (Upgrade ∷ IntentionWrite ∷ Write ∷ [])) ∷ Token 0 1 1 ∷ []) ∷
+      take 3 0 1 (Freeze 0 2 1 (modes_in (Upgrade ∷ IntentionWrite ∷ ReadIntentionWrite ∷ Write ∷ [])) ∷ Token 0 1 1 ∷ []) ∷
       take 4 1 0 (Grant 1 0 Upgrade ∷ Freeze 0 0 2 no_modes ∷ Freeze 0 2 2 no_modes ∷ []) ∷
       act 4 0 0 (Unlocked 0 0 Read ∷ []) ∷
       take 5 1 0 [] ∷
@@ -73,7 +74,7 @@ copy_before_token_after_10 = record {
             record {
               held = [];
               charge = no_modes;
-              frozen = modes_in (Upgrade ∷ IntentionWrite ∷ Write ∷ []);
+              frozen = modes_in (Upgrade ∷ IntentionWrite ∷ ReadIntentionWrite ∷ Write ∷ []);
               number = 1;
               firm = owner 1 1;
               hoped = None;
@@ -142,7 +143,7 @@ copy_before_token_after_10 = record {
               stamp = stamp 3 0;
               set = 0;
               link = owner 0 0;
-              body = FreezeBody 1 (modes_in (Upgrade ∷ IntentionWrite ∷ Write ∷ []));
+              body = FreezeBody 1 (modes_in (Upgrade ∷ IntentionWrite ∷ ReadIntentionWrite ∷ Write ∷ []));
             } ∷
             [];
       } ∷

@@ -1,6 +1,6 @@
 -- A worked world: a drop of several locks of one mode.
 use Rattle.std.specs.Prelude.{false, [], ◌∷◌, Some, None, codes}
-use Rattle.lt_modes.specs.declared.mode.Mode.TheVariants.{IntentionRead, Read, Upgrade, IntentionWrite, Write}
+use Rattle.lt_modes.specs.declared.mode.Mode.TheVariants.{IntentionRead, Read, Upgrade, IntentionWrite, ReadIntentionWrite, Write}
 use Rattle.lt_modes.specs.declared.command.Command.TheVariants.{Lock, Unlock, DropAll}
 use Rattle.lt_modes.specs.declared.event.Event.TheVariants.{Grant, Wait, Unlock as Unlocked, NotHeld, DropAll as Dropped, Busy, Copy, Token}
 use Rattle.lt_modes.specs.declared.moves.Step.TheVariants.{Act}
@@ -12,6 +12,7 @@ use Rattle.lt_worked.specs.Moment.{Moment, blank, untouched, stamp, held_row, en
 abbrev pub drop_counts_locks : Worked
 drop_counts_locks = record {
   script = record {
+    version = 1;
     nodes = 2;
     sets = set_of (codes "s0") 0 ∷ set_of (codes "s1") 0 ∷ set_of (codes "s2") 0 ∷ [];
     clients =
@@ -133,7 +134,7 @@ drop_counts_locks_after_24 = record {
             record {
               held = [];
               charge = no_modes;
-              frozen = modes_in (Read ∷ Upgrade ∷ IntentionWrite ∷ Write ∷ []);
+              frozen = modes_in (Read ∷ Upgrade ∷ IntentionWrite ∷ ReadIntentionWrite ∷ Write ∷ []);
               number = 0;
               firm = owner 1 1;
               hoped = None;
@@ -178,7 +179,7 @@ drop_counts_locks_after_24 = record {
             record {
               held = held_row 2 IntentionWrite 1 ∷ [];
               charge = no_modes;
-              frozen = modes_in (Upgrade ∷ IntentionWrite ∷ Write ∷ []);
+              frozen = modes_in (Upgrade ∷ IntentionWrite ∷ ReadIntentionWrite ∷ Write ∷ []);
               number = 0;
               firm = owner 1 1;
               hoped = None;
@@ -194,8 +195,8 @@ drop_counts_locks_after_24 = record {
                     new_ask 6 Upgrade (stamp 19 1) ∷
                     [];
                 entries =
-                    entry no_modes [] (stamp 14 0) (stamp 11 0 ∷ []) (modes_in (Read ∷ Upgrade ∷ IntentionWrite ∷ Write ∷ [])) ∷
-                    entry no_modes [] (stamp 0 0) [] (modes_in (Upgrade ∷ IntentionWrite ∷ Write ∷ [])) ∷
+                    entry no_modes [] (stamp 14 0) (stamp 11 0 ∷ []) (modes_in (Read ∷ Upgrade ∷ IntentionWrite ∷ ReadIntentionWrite ∷ Write ∷ [])) ∷
+                    entry no_modes [] (stamp 0 0) [] (modes_in (Upgrade ∷ IntentionWrite ∷ ReadIntentionWrite ∷ Write ∷ [])) ∷
                     [];
               });
             } ∷

@@ -1,6 +1,6 @@
 -- Worked worlds in the middle of worked examples.
 use Rattle.std.specs.Prelude.{false, [], ◌∷◌, Some, None}
-use Rattle.lt_modes.specs.declared.mode.Mode.TheVariants.{IntentionRead, Read, Upgrade, IntentionWrite, Write}
+use Rattle.lt_modes.specs.declared.mode.Mode.TheVariants.{IntentionRead, Read, Upgrade, IntentionWrite, ReadIntentionWrite, Write}
 use Rattle.lt_modes.specs.declared.moves.Step.TheVariants.{Act, Take}
 use Rattle.lt_modes.specs.Modes.{no_modes, all_modes, modes_in}
 use Rattle.lt_modes.specs.State.{TellBody, TokenBody, FreezeBody}
@@ -22,7 +22,7 @@ copies_and_freezes_after_19 = record {
             record {
               held = held_row 0 Read 1 ∷ [];
               charge = modes_in (Read ∷ []);
-              frozen = modes_in (Upgrade ∷ IntentionWrite ∷ Write ∷ []);
+              frozen = modes_in (Upgrade ∷ IntentionWrite ∷ ReadIntentionWrite ∷ Write ∷ []);
               number = 2;
               firm = owner 2 2;
               hoped = None;
@@ -134,7 +134,7 @@ token_comes_back_after_13 = record {
             record {
               held = held_row 1 IntentionRead 1 ∷ [];
               charge = modes_in (IntentionRead ∷ []);
-              frozen = modes_in (Read ∷ Upgrade ∷ Write ∷ []);
+              frozen = modes_in (Read ∷ Upgrade ∷ ReadIntentionWrite ∷ Write ∷ []);
               number = 1;
               firm = owner 0 2;
               hoped = None;
@@ -172,7 +172,7 @@ token_comes_back_after_13 = record {
                 queue = new_ask 0 IntentionWrite (stamp 5 0) ∷ [];
                 entries =
                     entry no_modes [] (stamp 4 0) [] (modes_in (Write ∷ [])) ∷
-                    entry (modes_in (IntentionRead ∷ [])) [] (stamp 8 1) [] (modes_in (Read ∷ Upgrade ∷ Write ∷ [])) ∷
+                    entry (modes_in (IntentionRead ∷ [])) [] (stamp 8 1) [] (modes_in (Read ∷ Upgrade ∷ ReadIntentionWrite ∷ Write ∷ [])) ∷
                     [];
               });
             } ∷
@@ -261,7 +261,7 @@ old_freeze_after_16 = record {
               stamp = stamp 3 0;
               set = 0;
               link = owner 0 0;
-              body = FreezeBody 1 (modes_in (Upgrade ∷ IntentionWrite ∷ Write ∷ []));
+              body = FreezeBody 1 (modes_in (Upgrade ∷ IntentionWrite ∷ ReadIntentionWrite ∷ Write ∷ []));
             } ∷
             [];
       } ∷

@@ -1,6 +1,6 @@
 -- A worked world: hoped links.
 use Rattle.std.specs.Prelude.{true, false, [], ◌∷◌, Some, None, codes}
-use Rattle.lt_modes.specs.declared.mode.Mode.TheVariants.{IntentionRead, Read, Upgrade, IntentionWrite, Write}
+use Rattle.lt_modes.specs.declared.mode.Mode.TheVariants.{IntentionRead, Read, Upgrade, IntentionWrite, ReadIntentionWrite, Write}
 use Rattle.lt_modes.specs.declared.command.Command.TheVariants.{Lock, Unlock, Change, DropAll}
 use Rattle.lt_modes.specs.declared.event.Event.TheVariants.{Grant, Wait, Unlock as Unlocked, Change as Changed, DropAll as Dropped, Token}
 use Rattle.lt_modes.specs.declared.moves.Step.TheVariants.{Take}
@@ -14,6 +14,7 @@ use Rattle.lt_worked.specs.Moment.{Moment, blank, untouched, stamp, hoped, entry
 abbrev pub asks_by_hoped_links : Worked
 asks_by_hoped_links = record {
   script = record {
+    version = 1;
     nodes = 3;
     sets = set_of (codes "s0") 0 ∷ set_of (codes "s1") 0 ∷ [];
     clients =
@@ -93,7 +94,7 @@ asks_by_hoped_links_after_21 = record {
             record {
               held = [];
               charge = no_modes;
-              frozen = modes_in (Upgrade ∷ IntentionWrite ∷ Write ∷ []);
+              frozen = modes_in (Upgrade ∷ IntentionWrite ∷ ReadIntentionWrite ∷ Write ∷ []);
               number = 0;
               firm = owner 2 1;
               hoped = hoped 1 (stamp 1 1);
@@ -118,7 +119,7 @@ asks_by_hoped_links_after_21 = record {
             record {
               held = [];
               charge = no_modes;
-              frozen = modes_in (IntentionWrite ∷ Write ∷ []);
+              frozen = modes_in (IntentionWrite ∷ ReadIntentionWrite ∷ Write ∷ []);
               number = 0;
               firm = owner 2 3;
               hoped = hoped 2 (stamp 8 2);
@@ -202,8 +203,8 @@ asks_by_hoped_links_after_21 = record {
                 number = 0;
                 queue = new_ask 3 Read (stamp 7 2) ∷ [];
                 entries =
-                    entry no_modes [] (stamp 2 0) [] (modes_in (Upgrade ∷ IntentionWrite ∷ Write ∷ [])) ∷
-                    entry no_modes [] (stamp 9 1) (stamp 2 1 ∷ []) (modes_in (IntentionWrite ∷ Write ∷ [])) ∷
+                    entry no_modes [] (stamp 2 0) [] (modes_in (Upgrade ∷ IntentionWrite ∷ ReadIntentionWrite ∷ Write ∷ [])) ∷
+                    entry no_modes [] (stamp 9 1) (stamp 2 1 ∷ []) (modes_in (IntentionWrite ∷ ReadIntentionWrite ∷ Write ∷ [])) ∷
                     entry no_modes [] (stamp 5 2) [] all_modes ∷
                     [];
               });

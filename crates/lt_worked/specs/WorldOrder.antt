@@ -1,6 +1,6 @@
 -- A worked world: a drop in two sets.
 use Rattle.std.specs.Prelude.{true, false, [], ◌∷◌, Some, None, codes}
-use Rattle.lt_modes.specs.declared.mode.Mode.TheVariants.{IntentionRead, Read, Upgrade, IntentionWrite, Write}
+use Rattle.lt_modes.specs.declared.mode.Mode.TheVariants.{IntentionRead, Read, Upgrade, IntentionWrite, ReadIntentionWrite, Write}
 use Rattle.lt_modes.specs.declared.command.Command.TheVariants.{Lock, Try, Unlock, Change, DropAll}
 use Rattle.lt_modes.specs.declared.event.Event.TheVariants.{Grant, Wait, Try as Tried, Unlock as Unlocked, Change as Changed, DropAll as Dropped, Busy, Copy, Freeze, Token}
 use Rattle.lt_modes.specs.declared.moves.Step.TheVariants.{Act, Take}
@@ -14,6 +14,7 @@ use Rattle.lt_worked.specs.Moment.{Moment, blank, untouched, stamp, held_row, ow
 abbrev pub drop_in_order : Worked
 drop_in_order = record {
   script = record {
+    version = 1;
     nodes = 3;
     sets = set_of (codes "s0") 0 ∷ set_of (codes "s1") 0 ∷ [];
     clients =
@@ -87,7 +88,7 @@ drop_in_order = record {
       take 16 0 2 [] ∷
       act 15 2 0 (Dropped 0 0 0 0 ∷ []) ∷
       act 18 1 3 (Wait 3 1 Read ∷ []) ∷
-      take 19 0 1 (Freeze 1 1 1 (modes_in (IntentionWrite ∷ Write ∷ [])) ∷ Token 1 1 1 ∷ []) ∷
+      take 19 0 1 (Freeze 1 1 1 (modes_in (IntentionWrite ∷ ReadIntentionWrite ∷ Write ∷ [])) ∷ Token 1 1 1 ∷ []) ∷
       act 20 0 2 (Wait 2 0 Upgrade ∷ []) ∷
       take 20 1 0 [] ∷
       act 16 2 0 (Wait 0 1 Write ∷ []) ∷

@@ -1,6 +1,6 @@
 -- A worked world: two tokens on their way.
 use Rattle.std.specs.Prelude.{true, false, [], ◌∷◌, Some, None, codes}
-use Rattle.lt_modes.specs.declared.mode.Mode.TheVariants.{Read, Upgrade, IntentionWrite, Write}
+use Rattle.lt_modes.specs.declared.mode.Mode.TheVariants.{Read, Upgrade, IntentionWrite, ReadIntentionWrite, Write}
 use Rattle.lt_modes.specs.declared.command.Command.TheVariants.{Lock, Try, Unlock, Change, DropAll}
 use Rattle.lt_modes.specs.declared.event.Event.TheVariants.{Grant, Wait, Try as Tried, Unlock as Unlocked, NotHeld, Change as Changed, DropAll as Dropped, Freeze, Token}
 use Rattle.lt_modes.specs.declared.moves.Step.TheVariants.{Act, Take}
@@ -14,6 +14,7 @@ use Rattle.lt_worked.specs.Moment.{Moment, blank, untouched, stamp, entry, new_a
 abbrev pub tokens_on_way : Worked
 tokens_on_way = record {
   script = record {
+    version = 1;
     nodes = 4;
     sets = set_of (codes "s0") 0 ∷ set_of (codes "s1") 1 ∷ set_of (codes "s2") 1 ∷ [];
     clients =
@@ -101,7 +102,7 @@ tokens_on_way_after_11 = record {
             record {
               held = [];
               charge = no_modes;
-              frozen = modes_in (Upgrade ∷ IntentionWrite ∷ Write ∷ []);
+              frozen = modes_in (Upgrade ∷ IntentionWrite ∷ ReadIntentionWrite ∷ Write ∷ []);
               number = 0;
               firm = owner 1 1;
               hoped = None;
@@ -112,7 +113,7 @@ tokens_on_way_after_11 = record {
             record {
               held = [];
               charge = no_modes;
-              frozen = modes_in (Upgrade ∷ IntentionWrite ∷ Write ∷ []);
+              frozen = modes_in (Upgrade ∷ IntentionWrite ∷ ReadIntentionWrite ∷ Write ∷ []);
               number = 0;
               firm = owner 1 1;
               hoped = None;
@@ -204,7 +205,7 @@ tokens_on_way_after_11 = record {
                 number = 0;
                 queue = new_ask 4 Upgrade (stamp 2 1) ∷ [];
                 entries =
-                    entry no_modes [] (stamp 3 0) [] (modes_in (Upgrade ∷ IntentionWrite ∷ Write ∷ [])) ∷
+                    entry no_modes [] (stamp 3 0) [] (modes_in (Upgrade ∷ IntentionWrite ∷ ReadIntentionWrite ∷ Write ∷ [])) ∷
                     blank ∷
                     blank ∷
                     blank ∷
@@ -220,7 +221,7 @@ tokens_on_way_after_11 = record {
                 number = 0;
                 queue = new_ask 0 Upgrade (stamp 3 1) ∷ [];
                 entries =
-                    entry (modes_in (Read ∷ [])) [] (stamp 4 0) [] (modes_in (Upgrade ∷ IntentionWrite ∷ Write ∷ [])) ∷
+                    entry (modes_in (Read ∷ [])) [] (stamp 4 0) [] (modes_in (Upgrade ∷ IntentionWrite ∷ ReadIntentionWrite ∷ Write ∷ [])) ∷
                     blank ∷
                     blank ∷
                     blank ∷

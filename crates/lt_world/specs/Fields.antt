@@ -47,7 +47,7 @@ abbrev pub full_node : ScriptData → ℕ → List Logged → Option ℕ
 full_node script limit run = first_below script.nodes (is_full script limit run) nat_lt
 
 abbrev pub no_script : ScriptData
-no_script = record { nodes = 0; sets = []; clients = []; commands = [] }
+no_script = record { version = 1; nodes = 0; sets = []; clients = []; commands = [] }
 
 abbrev pub no_node : NodeData
 no_node = record { script = no_script; me = 0; clock = 0; made = []; cores = [] }

@@ -26,6 +26,6 @@ loop-mode-preserved c = λ held counts.
 
 pub returns : goal.returns
 returns c = λ held counts.
-    let all : c.loop-mode.mode-index ≡ 5 = omega arith in
+    let all : c.loop-mode.mode-index ≡ 6 = omega arith in
     c.loop-mode.invariant held counts
     ∙ ap (λ (n : ℕ). c.args.text.now ++ lines_text c.args.script.now (flat_map (held_in_mode held c.args.client c.args.set) (take n MODES))) all

@@ -6,4 +6,4 @@ use Rattle.lt_script.proofs.line.fault_after_nodes.Goals as goal
 
 pub returns-in-Client : goal.returns-in-Client
 returns-in-Client c =
-    subst (λ (form : Form). c.client_fault.result ≡ form_fault (Some c.args.script.now) (form_seen form)) (sym c.in-Client.is) c.client_fault.ensures
+    subst (λ (form : Form). c.client_fault.result ≡ form_fault c.args._version (Some c.args.script.now) (form_seen form)) (sym c.in-Client.is) c.client_fault.ensures

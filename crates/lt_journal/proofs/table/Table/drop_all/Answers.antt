@@ -12,15 +12,15 @@ loop-cell-preserved c =
     let cell = c.loop-cell.cell in
     elim c.if-is_related.branch [
       | then-is_related w ↦
-          let below : cell < length c.args.script.now.sets * 5 = omega arith in
-          let related : is_related c.args.script.now (cell / 5) c.args.set ≡ true = cc in
+          let below : cell < length c.args.script.now.sets * 6 = omega arith in
+          let related : is_related c.args.script.now (cell / 6) c.args.set ≡ true = cc in
           let first : c.from-first.result ≡ c.args.client = cc in
-          let is : c.if-is_related.self ≡ set c.loop-cell.self (c.args.client * 40 + cell) 0 =
+          let is : c.if-is_related.self ≡ set c.loop-cell.self (c.args.client * 48 + cell) 0 =
           w.self-is ∙ (w.put.ensures ∙ (rw first refl)) in
           subst (λ (now : List ℕ). Cleared c.args.script.now c.args.client c.args.set (cell + 1) c.args.self.now now) (sym is)
           (one_more_cleared c.args.script.now c.args.client c.args.set cell c.args.self.now c.loop-cell.self c.clients.ensures.kept.few_sets below related c.loop-cell.invariant)
       | else-is_related w ↦
-          let unrelated : is_related c.args.script.now (cell / 5) c.args.set ≡ false = cc in
+          let unrelated : is_related c.args.script.now (cell / 6) c.args.set ≡ false = cc in
           subst (λ (now : List ℕ). Cleared c.args.script.now c.args.client c.args.set (cell + 1) c.args.self.now now) (sym w.self-is)
           (one_more_left c.args.script.now c.args.client c.args.set cell c.args.self.now c.loop-cell.self unrelated c.loop-cell.invariant)
     ]
@@ -31,6 +31,6 @@ returns-then-client-clients c = λ held counts.
 
 pub returns : goal.returns
 returns c = λ held counts.
-    let all : c.loop-cell.cell ≡ length c.args.script.now.sets * 5 = omega arith in
+    let all : c.loop-cell.cell ≡ length c.args.script.now.sets * 6 = omega arith in
     all_cleared c.args.script.now c.args.client c.args.set c.args.self.now c.loop-cell.self held
     (subst (λ (cell : ℕ). Cleared c.args.script.now c.args.client c.args.set cell c.args.self.now c.loop-cell.self) all c.loop-cell.invariant) counts
