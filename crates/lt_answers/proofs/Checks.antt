@@ -2,7 +2,7 @@
 use Rattle.std.proofs.Common.{◌≡◌, ℕ, List, [], ◌∷◌, ◌++◌, Ok, Err, Some, refl, ap, ap₂, subst, ◌∙◌}
 use Rattle.std.specs.Prelude.{Result, take, codes}
 use Rattle.lt_modes.specs.Script.{ScriptData}
-use Rattle.lt_runs.specs.Log.{Logged}
+use Rattle.lt_spec.specs.Log.{Logged}
 use Rattle.lt_text.specs.Text as text
 use Rattle.lt_text.specs.Text.{lines}
 use Rattle.lt_script.specs.declared.fault.ScriptFault.{ScriptFault}
@@ -10,9 +10,9 @@ use Rattle.lt_script.specs.declared.fault.Fault.TheVariants as faults
 use Rattle.lt_script.specs.Reading.{read_of}
 use Rattle.lt_journal.specs.Split as split
 use Rattle.lt_journal.specs.Split.{parts_of}
-use Rattle.lt_checking.specs.Checking.{checked}
-use Rattle.lt_checking.specs.Input.{checked_input, counted_from, journal_in, lines_before}
-use Rattle.lt_checking.proofs.RowAnswers.{short_rows}
+use Rattle.lt_law_checking.specs.Checking.{checked}
+use Rattle.lt_law_checking.specs.Input.{checked_input, counted_from, journal_in, lines_before}
+use Rattle.lt_law_checking.proofs.RowAnswers.{short_rows}
 use Rattle.lt_serve.specs.declared.status.Status.TheVariants.{Done}
 use Rattle.lt_serve.specs.Causes.{IsBad}
 use Rattle.lt_serve.specs.TopCall.{Checks, HasFaultBefore, ok_text}

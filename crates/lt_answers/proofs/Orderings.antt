@@ -3,9 +3,9 @@ use Rattle.std.proofs.Common.{arith, ◌≡◌, ℕ, Ok, Some, refl, sym, ap, su
 use Rattle.std.proofs.lemmas.Bool.{false≢true}
 use Rattle.lt_modes.specs.declared.moves.Step.TheVariants.{Act}
 use Rattle.lt_modes.specs.Script.{ScriptData}
-use Rattle.lt_runs.specs.Log.{Logged}
-use Rattle.lt_runs.specs.World.{start, logged, IsRun}
-use Rattle.lt_runs.specs.FixedOrder.{Turn, first_run}
+use Rattle.lt_spec.specs.Log.{Logged}
+use Rattle.lt_spec.specs.World.{start, logged, IsRun}
+use Rattle.lt_spec.specs.FixedOrder.{Turn, first_run}
 use Rattle.lt_text.specs.Text as text
 use Rattle.lt_script.specs.Reading.{read_of}
 use Rattle.lt_script.specs.Reading as reading

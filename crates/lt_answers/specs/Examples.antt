@@ -4,9 +4,9 @@ use Rattle.lt_modes.specs.declared.mode.Mode.TheVariants.{Read, Write}
 use Rattle.lt_modes.specs.declared.command.Command.TheVariants.{Lock}
 use Rattle.lt_modes.specs.declared.moves.Step.TheVariants.{Act}
 use Rattle.lt_modes.specs.Script.{ScriptData}
-use Rattle.lt_runs.specs.World.{start, logged}
-use Rattle.lt_runs.specs.Log.{Logged}
-use Rattle.lt_runs.specs.FixedOrder.{first_run}
+use Rattle.lt_spec.specs.World.{start, logged}
+use Rattle.lt_spec.specs.Log.{Logged}
+use Rattle.lt_spec.specs.FixedOrder.{first_run}
 use Rattle.lt_limits.specs.declared.moves.TheConstants.{MAX_MOVES}
 use Rattle.lt_words.specs.declared.command.Command.{Command}
 use Rattle.lt_words.specs.declared.command.Command.TheVariants.{Run, SimFirst, Sim}

@@ -5,8 +5,8 @@ use Rattle.lt_modes.specs.declared.command.Command.TheVariants.{Try}
 use Rattle.lt_modes.specs.declared.event.Event.TheVariants.{Try as Tried}
 use Rattle.lt_modes.specs.declared.moves.Step.TheVariants.{Act}
 use Rattle.lt_modes.specs.Script.{ScriptData}
-use Rattle.lt_runs.specs.Log.{Logged}
-use Rattle.lt_runs.specs.World.{IsRun}
+use Rattle.lt_spec.specs.Log.{Logged}
+use Rattle.lt_spec.specs.World.{IsRun}
 use Rattle.lt_limits.specs.declared.moves.TheConstants.{MAX_MOVES}
 use Rattle.lt_merge.specs.Merging.{AreRising}
 use Rattle.lt_words.specs.declared.command.Command.{Command}

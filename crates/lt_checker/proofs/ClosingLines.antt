@@ -1,8 +1,8 @@
 -- The closing lines that are written are read back.
 use Rattle.std.proofs.Common.{◌≡◌, List, true, None, refl, ◌∙◌}
 use Rattle.lt_modes.specs.Script.{ScriptData}
-use Rattle.lt_runs.specs.Log.{Logged}
-use Rattle.lt_runs.specs.World.{world_after, is_at_rest, IsRun}
+use Rattle.lt_spec.specs.Log.{Logged}
+use Rattle.lt_spec.specs.World.{world_after, is_at_rest, IsRun}
 use Rattle.lt_script.specs.Script.{IsScript}
 use Rattle.lt_journal.specs.Grammar.{journal_of}
 use Rattle.lt_journal.specs.LineFits.{FitsLine}
@@ -10,9 +10,9 @@ use Rattle.lt_journal.specs.RunLines.{moves_lines, closing_lines}
 use Rattle.lt_journal.specs.Text.{lines_text}
 use Rattle.lt_journal.proofs.Named.{named, few_nodes}
 use Rattle.lt_journal.proofs.Written.{read_back}
-use Rattle.lt_checking.specs.Checking.{closing_at_rest}
-use Rattle.lt_checking.specs.Journals.{HasFewMoves}
-use Rattle.lt_checking.proofs.Fitting.{all_fit, fit_right}
+use Rattle.lt_law_checking.specs.Checking.{closing_at_rest}
+use Rattle.lt_law_checking.specs.Journals.{HasFewMoves}
+use Rattle.lt_law_checking.proofs.Fitting.{all_fit, fit_right}
 
 pub closing_read : (script : ScriptData) (run : List Logged) → IsScript script → IsRun script run → HasFewMoves run → is_at_rest script (world_after script run) ≡ true
     → journal_of script (lines_text script (closing_lines script run None)) ≡ closing_at_rest script run

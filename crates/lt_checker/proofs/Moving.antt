@@ -7,9 +7,9 @@ use Rattle.lt_modes.specs.declared.moves.Move.{Move}
 use Rattle.lt_modes.specs.declared.moves.Step.{Step}
 use Rattle.lt_modes.specs.declared.moves.Step.TheVariants.{Act, Take}
 use Rattle.lt_modes.specs.Script.{ScriptData}
-use Rattle.lt_runs.specs.Log.{Logged}
-use Rattle.lt_runs.specs.Families.{home}
-use Rattle.lt_runs.specs.World.{World, start, world_after, is_runnable, is_some_letter, is_enabled, move_stamp, logged, IsRun}
+use Rattle.lt_spec.specs.Log.{Logged}
+use Rattle.lt_spec.specs.Families.{home}
+use Rattle.lt_spec.specs.World.{World, start, world_after, is_runnable, is_some_letter, is_enabled, move_stamp, logged, IsRun}
 use Rattle.lt_model.proofs.Runs.{IsRunFrom-push}
 use Rattle.lt_script.specs.Script.{IsScript}
 use Rattle.lt_limits.specs.declared.moves.TheConstants.{MAX_MOVES}
@@ -18,10 +18,10 @@ use Rattle.lt_modes.specs.declared.event.Event.{Event}
 use Rattle.lt_journal.specs.declared.line.Line.{Line}
 use Rattle.lt_journal.specs.declared.line.Line.TheVariants.{Move as MoveLine, Event as EventLine}
 use Rattle.lt_world.specs.Fields.{WorldData, world_of}
-use Rattle.lt_checking.specs.Checking.{closing_at_rest, moved, may_move, by_move}
-use Rattle.lt_checking.specs.Journals.{HasFewMoves}
-use Rattle.lt_checking.proofs.Places.{stamp_node, is_logged, count_push, few_push}
-use Rattle.lt_checking.proofs.Heard.{come_moved}
+use Rattle.lt_law_checking.specs.Checking.{closing_at_rest, moved, may_move, by_move}
+use Rattle.lt_law_checking.specs.Journals.{HasFewMoves}
+use Rattle.lt_law_checking.proofs.Places.{stamp_node, is_logged, count_push, few_push}
+use Rattle.lt_law_checking.proofs.Heard.{come_moved}
 use Rattle.lt_checker.specs.Place.{AreCounts, IsPlace}
 
 -- a move that is enabled is one of a node of the script

@@ -1,7 +1,7 @@
 ghost use Rattle.std.specs.Prelude.{◌≡◌, [], ◌∷◌, ◌++◌, ℕ, List, take, Some, None, Err, IsNone, IsErr, IfOk, OnOk, OnErr};
 ghost use Rattle.lt_text.specs.Text.{lines, without_return};
-ghost use Rattle.lt_checking.specs.Checking.{checked, read_on};
-ghost use Rattle.lt_checking.specs.Feeding.{Feed, new_feed, fed_piece, last_ended, ended};
+ghost use Rattle.lt_law_checking.specs.Checking.{checked, read_on};
+ghost use Rattle.lt_law_checking.specs.Feeding.{Feed, new_feed, fed_piece, last_ended, ended};
 ghost use Rattle.lt_checker.specs.Checker.{CheckerData, StandsFor, Answers, with_piece, spent};
 
 use crate::error::ReplayError;

@@ -1,11 +1,11 @@
 ghost use Rattle.std.specs.Prelude.{◌≡◌, [], ◌∷◌, ◌++◌, map, OnOk};
 ghost use Rattle.lt_modes.specs.Script.{ScriptData};
-ghost use Rattle.lt_runs.specs.World.{IsRun};
+ghost use Rattle.lt_spec.specs.World.{IsRun};
 ghost use Rattle.lt_script.specs.Script.{IsScript};
 ghost use Rattle.lt_journal.specs.declared.line.Line.TheVariants.{Event as EventLine};
 ghost use Rattle.lt_journal.specs.Grammar.{journal_of};
-ghost use Rattle.lt_checking.specs.Checking.{closing_at_rest};
-ghost use Rattle.lt_checking.specs.Journals.{HasFewMoves};
+ghost use Rattle.lt_law_checking.specs.Checking.{closing_at_rest};
+ghost use Rattle.lt_law_checking.specs.Journals.{HasFewMoves};
 
 use lt_journal::{Line, read_line, write_closing};
 use lt_modes::Event;

@@ -1,6 +1,6 @@
 ghost use Rattle.std.specs.Prelude.{◌≡◌, IfOk};
 ghost use Rattle.lt_script.specs.Script.{IsScript};
-ghost use Rattle.lt_checking.specs.Checking.{first_reader, read_on, verdict};
+ghost use Rattle.lt_law_checking.specs.Checking.{first_reader, read_on, verdict};
 ghost use Rattle.lt_checker.specs.Checker.{Answers};
 
 use crate::counts::Counts;

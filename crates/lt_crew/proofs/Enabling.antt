@@ -4,7 +4,7 @@ use Rattle.std.specs.Prelude.{slice_get}
 use Rattle.std.proofs.lemmas.Bool.{cases_eq}
 use Rattle.std.proofs.lemmas.Option.{slice_get_cases, slice_get-get_or, slice_get_within}
 use Rattle.lt_modes.specs.Script.{ScriptData}
-use Rattle.lt_joined.specs.CanMove.{can_move, RestIsNoMove}
+use Rattle.lt_law_merged.specs.CanMove.{can_move, RestIsNoMove}
 use Rattle.lt_runner.specs.declared.parts.Parts.{Parts}
 use Rattle.lt_runner.specs.Crew.{InCrew}
 use Rattle.lt_runner.specs.Kept.{SameRunner, AsSeen}

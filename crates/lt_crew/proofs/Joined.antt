@@ -10,9 +10,9 @@ use Rattle.lt_lists.proofs.Members.{some_equal}
 use Rattle.lt_letter.specs.Seen.{letter_seen}
 use Rattle.lt_modes.specs.Script.{ScriptData}
 use Rattle.lt_modes.specs.State.{Letter}
-use Rattle.lt_runs.specs.World.{start}
-use Rattle.lt_plays.specs.Plays.{Plays}
-use Rattle.lt_plays.specs.Parts.{Part, Joined}
+use Rattle.lt_spec.specs.World.{start}
+use Rattle.lt_law_plays.specs.Plays.{Plays}
+use Rattle.lt_law_plays.specs.Parts.{Part, Joined}
 use Rattle.lt_node.specs.NodeData.{state_of}
 use Rattle.lt_mail.specs.declared.lane.OutLane.{OutLane}
 use Rattle.lt_mail.specs.Lanes.{given, waiting, sent_by}

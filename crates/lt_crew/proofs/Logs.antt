@@ -4,16 +4,16 @@ use Rattle.std.specs.Prelude.{slice_get}
 use Rattle.std.specs.List.{remove}
 use Rattle.std.proofs.lemmas.List.{length-append, append_assoc, map-append}
 use Rattle.lt_modes.specs.Script.{ScriptData}
-use Rattle.lt_runs.specs.Log.{Logged}
+use Rattle.lt_spec.specs.Log.{Logged}
 use Rattle.lt_merge.specs.Run.{RunData}
 use Rattle.lt_merge.specs.Merging.{all_entries}
-use Rattle.lt_plays.specs.Parts.{Part, logs_of, part_at}
-use Rattle.lt_plays.specs.Merged.{merged}
-use Rattle.lt_plays.proofs.MergedLogs.{merged_is_one}
-use Rattle.lt_joined.proofs.Joining.{joined_merges, part_is}
+use Rattle.lt_law_plays.specs.Parts.{Part, logs_of, part_at}
+use Rattle.lt_law_plays.specs.Merged.{merged}
+use Rattle.lt_law_plays.proofs.MergedLogs.{merged_is_one}
+use Rattle.lt_law_merged.proofs.Joining.{joined_merges, part_is}
 use Rattle.lt_mail.specs.Words.{Alike}
 use Rattle.lt_crew.proofs.Shown.{part_here}
-use Rattle.lt_joined.proofs.PartLogs.{logs_of_parts}
+use Rattle.lt_law_merged.proofs.PartLogs.{logs_of_parts}
 use Rattle.lt_runner.specs.declared.parts.Parts.{Parts}
 use Rattle.lt_runner.specs.Kept.{SameRunner, AsSeen}
 use Rattle.lt_crew.specs.Together.{part_of, IsCrew, AreKept, EachIs}

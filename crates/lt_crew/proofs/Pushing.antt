@@ -4,10 +4,10 @@ use Rattle.std.specs.Prelude.{slice_index_or}
 use Rattle.std.proofs.lemmas.Bool.{true≢false}
 use Rattle.std.proofs.lemmas.List.{take_at}
 use Rattle.lt_modes.specs.Script.{ScriptData}
-use Rattle.lt_runs.specs.Log.{Logged}
+use Rattle.lt_spec.specs.Log.{Logged}
 use Rattle.lt_lists.proofs.Members.{some_equal}
-use Rattle.lt_runs.specs.World.{World, world_after}
-use Rattle.lt_joined.specs.CanMove.{can_move}
+use Rattle.lt_spec.specs.World.{World, world_after}
+use Rattle.lt_law_merged.specs.CanMove.{can_move}
 use Rattle.lt_runner.specs.declared.parts.Parts.{Parts}
 use Rattle.lt_runner.specs.Choices.{choice_of}
 use Rattle.lt_runner.specs.Looking.{is_move}

@@ -5,8 +5,8 @@ use Rattle.std.specs.Option.{option_map}
 use Rattle.std.proofs.Math.Path.{fun_ext}
 use Rattle.std.proofs.lemmas.Option.{slice_get-map}
 use Rattle.lt_modes.specs.Script.{ScriptData}
-use Rattle.lt_plays.specs.Merged.{merged}
-use Rattle.lt_plays.specs.Parts.{Part, part_or, logs_of}
+use Rattle.lt_law_plays.specs.Merged.{merged}
+use Rattle.lt_law_plays.specs.Parts.{Part, part_or, logs_of}
 use Rattle.lt_mail.specs.Words.{Alike}
 use Rattle.lt_runner.specs.declared.parts.Parts.{Parts}
 use Rattle.lt_crew.specs.Together.{part_of, crew_run, EachIs}

@@ -10,15 +10,15 @@ use Rattle.lt_modes.specs.State.{Letter}
 use Rattle.lt_lists.specs.Below.{any_below}
 use Rattle.lt_lists.proofs.Members.{contains_first}
 use Rattle.lt_lists.proofs.Searches.{any_below_at}
-use Rattle.lt_runs.specs.NodeMove.{NodeState}
-use Rattle.lt_runs.specs.World.{is_some_letter, has_mail}
-use Rattle.lt_plays.specs.Plays.{can_act}
-use Rattle.lt_plays.specs.Parts.{Part, Joined}
-use Rattle.lt_joined.specs.JoinedRun.{IsJoinedRun}
-use Rattle.lt_joined.specs.States.{AreShort}
-use Rattle.lt_joined.specs.CanMove.{can_move}
-use Rattle.lt_joined.proofs.Joining.{joined_merges}
-use Rattle.lt_joined.proofs.LeftLetters.{states_within, asks_have_place, clocks_below, letters_left_fit}
+use Rattle.lt_spec.specs.NodeMove.{NodeState}
+use Rattle.lt_spec.specs.World.{is_some_letter, has_mail}
+use Rattle.lt_law_plays.specs.Plays.{can_act}
+use Rattle.lt_law_plays.specs.Parts.{Part, Joined}
+use Rattle.lt_law_merged.specs.JoinedRun.{IsJoinedRun}
+use Rattle.lt_law_merged.specs.States.{AreShort}
+use Rattle.lt_law_merged.specs.CanMove.{can_move}
+use Rattle.lt_law_merged.proofs.Joining.{joined_merges}
+use Rattle.lt_law_merged.proofs.LeftLetters.{states_within, asks_have_place, clocks_below, letters_left_fit}
 use Rattle.lt_node.specs.NodeData.{state_of}
 use Rattle.lt_mail.specs.Words.{known_from, waiting_to}
 use Rattle.lt_runner.specs.declared.choice.Choice.TheVariants.{Nothing, Take}

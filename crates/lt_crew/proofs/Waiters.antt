@@ -2,11 +2,11 @@
 use Rattle.std.proofs.Common.{◌≡◌, ℕ, List, Some, sym, ap, ◌∙◌}
 use Rattle.std.specs.Prelude.{slice_get}
 use Rattle.lt_modes.specs.Script.{ScriptData}
-use Rattle.lt_runs.specs.Families.{home}
-use Rattle.lt_runs.specs.NodeMove.{NodeState, node_waits}
-use Rattle.lt_runs.specs.World.{is_waiting}
+use Rattle.lt_spec.specs.Families.{home}
+use Rattle.lt_spec.specs.NodeMove.{NodeState, node_waits}
+use Rattle.lt_spec.specs.World.{is_waiting}
 use Rattle.lt_node.specs.NodeData.{state_of}
-use Rattle.lt_joined.proofs.Joining.{joined_merges}
+use Rattle.lt_law_merged.proofs.Joining.{joined_merges}
 use Rattle.lt_runner.specs.declared.parts.Parts.{Parts}
 use Rattle.lt_crew.specs.Together.{part_of, crew_world, IsCrew, AreKept}
 use Rattle.lt_crew.specs.Meeting.{AreMet, AnyTwo}

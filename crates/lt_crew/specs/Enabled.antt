@@ -1,8 +1,8 @@
 -- The node that can make a move.
 use Rattle.std.specs.Prelude.{◌≡◌, ◌<◌, true, false, ℕ, List, Option, Some, None, slice_get}
 use Rattle.lt_modes.specs.Script.{ScriptData}
-use Rattle.lt_runs.specs.World.{World, is_at_rest}
-use Rattle.lt_joined.specs.CanMove.{can_move}
+use Rattle.lt_spec.specs.World.{World, is_at_rest}
+use Rattle.lt_law_merged.specs.CanMove.{can_move}
 use Rattle.lt_runner.specs.declared.parts.Parts.{Parts}
 use Rattle.lt_runner.specs.Choices.{choice_of}
 use Rattle.lt_runner.specs.Looking.{is_move}

@@ -1,8 +1,8 @@
 -- Rounds: all runners work at once, and where a move is enabled then the caller makes one itself.
 use Rattle.std.specs.Prelude.{◌≡◌, ◌<◌, ◌-◌, true, false, ℕ, List, Some, length, sum_by, slice_get}
 use Rattle.lt_modes.specs.Script.{ScriptData}
-use Rattle.lt_runs.specs.World.{is_at_rest}
-use Rattle.lt_joined.specs.CanMove.{can_move}
+use Rattle.lt_spec.specs.World.{is_at_rest}
+use Rattle.lt_law_merged.specs.CanMove.{can_move}
 use Rattle.lt_runner.specs.declared.parts.Parts.{Parts}
 use Rattle.lt_crew.specs.declared.rounds.Ended.{Ended}
 use Rattle.lt_crew.specs.declared.rounds.Ended.TheVariants.{Rest, Cut, NoMemory}

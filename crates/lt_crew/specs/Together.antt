@@ -3,10 +3,10 @@ use Rattle.std.specs.Prelude.{◌≡◌, ◌≢◌, ◌-◌, ℕ, List, Some, le
 use Rattle.lt_modes.specs.Script.{ScriptData}
 use Rattle.lt_modes.specs.State.{Letter}
 use Rattle.lt_script.specs.Script.{IsScript}
-use Rattle.lt_runs.specs.Log.{Logged}
-use Rattle.lt_runs.specs.World.{World, world_after}
-use Rattle.lt_plays.specs.Merged.{merged}
-use Rattle.lt_plays.specs.Parts.{Part, logs_of}
+use Rattle.lt_spec.specs.Log.{Logged}
+use Rattle.lt_spec.specs.World.{World, world_after}
+use Rattle.lt_law_plays.specs.Merged.{merged}
+use Rattle.lt_law_plays.specs.Parts.{Part, logs_of}
 use Rattle.lt_node.specs.NodeData.{state_of}
 use Rattle.lt_mail.specs.Words.{out_at, in_at, sent_to, taken_from, IsOpenLink, Both, Alike}
 use Rattle.lt_runner.specs.declared.parts.Parts.{Parts}

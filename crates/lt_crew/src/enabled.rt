@@ -6,7 +6,7 @@ ghost use Rattle.lt_crew.specs.Enabled.{IsLeastEnabled, EachShows, IsFirstMove};
 
 use crate::fetching::{all_kept, fetch_all};
 use crate::settling::settle;
-use lt_joined::law_can_move;
+use lt_law_merged::law_can_move;
 use lt_runner::Runner;
 use lt_script::Script;
 

@@ -1,6 +1,6 @@
 // Who waits.
 ghost use Rattle.std.specs.Prelude.{◌≡◌, ◌<◌, length};
-ghost use Rattle.lt_runs.specs.World.{anyone_waits, is_waiting};
+ghost use Rattle.lt_spec.specs.World.{anyone_waits, is_waiting};
 ghost use Rattle.lt_runner.specs.Kept.{AsSeen};
 ghost use Rattle.lt_crew.specs.Together.{EachIs, IsCrew, AreKept, crew_world};
 ghost use Rattle.lt_crew.specs.Meeting.{AreMet, AnyTwo};

@@ -1,7 +1,7 @@
 -- What one change of the table does to what it counts.
 use Rattle.std.proofs.Common.{◌≡◌, ◌≢◌, ℕ, ◌-◌, ◌*◌, ◌<◌, ◌≤◌, cond, Bool, true, false, List, length, get_or, set, refl, sym, ap, subst, ◌∙◌, arith, length-set, get_or-set_same, get_or-set_other}
 use Rattle.lt_modes.specs.Script.{ScriptData}
-use Rattle.lt_runs.specs.Holdings.{Holding, same_holding, without_one, count_of}
+use Rattle.lt_spec.specs.Holdings.{Holding, same_holding, without_one, count_of}
 use Rattle.lt_journal.specs.LockTable.{cell_of, HasCell, Counts}
 use Rattle.lt_journal.proofs.Counting.{same_holding-equal, count_of-without}
 

@@ -8,7 +8,7 @@ use Rattle.std.proofs.lemmas.List.Sums.{sum_by-cons}
 use Rattle.lt_modes.specs.declared.mode.Mode.{Mode}
 use Rattle.lt_modes.specs.Modes.{same_mode}
 use Rattle.lt_modes.specs.Script.{ScriptData}
-use Rattle.lt_runs.specs.Holdings.{Holding, same_holding, without_one, without_at, is_dropped, count_of}
+use Rattle.lt_spec.specs.Holdings.{Holding, same_holding, without_one, without_at, is_dropped, count_of}
 
 same_mode-equal : (a b : Mode) → same_mode a b ≡ true → a ≡ b
 same_mode-equal a b e = grind arith

@@ -6,8 +6,8 @@ use Rattle.std.proofs.lemmas.Bool.Decides.{eqb_tells}
 use Rattle.std.proofs.lemmas.List.{get_or_past}
 use Rattle.lt_modes.specs.declared.mode.Mode.{Mode}
 use Rattle.lt_modes.specs.Script.{ScriptData}
-use Rattle.lt_runs.specs.Families.{is_related}
-use Rattle.lt_runs.specs.Holdings.{Holding, is_dropped, count_of}
+use Rattle.lt_spec.specs.Families.{is_related}
+use Rattle.lt_spec.specs.Holdings.{Holding, is_dropped, count_of}
 use Rattle.lt_journal.specs.LockTable.{place_of, cell_of, HasCell, Counts}
 use Rattle.lt_journal.proofs.Counting.{count_of-kept}
 

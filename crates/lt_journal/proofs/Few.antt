@@ -5,8 +5,8 @@ use Rattle.std.proofs.lemmas.List.Sums.{length-filter, count_by-le-length}
 use Rattle.lt_modes.specs.declared.event.Event.{Event}
 use Rattle.lt_modes.specs.declared.event.Event.TheVariants.{Grant, Try, Unlock, Change, DropAll}
 use Rattle.lt_modes.specs.Script.{ScriptData}
-use Rattle.lt_runs.specs.Log.{Logged}
-use Rattle.lt_runs.specs.Holdings.{Holding, holding, without_one, without_at, is_dropped, same_holding, after_line, holdings, lines_of}
+use Rattle.lt_spec.specs.Log.{Logged}
+use Rattle.lt_spec.specs.Holdings.{Holding, holding, without_one, without_at, is_dropped, same_holding, after_line, holdings, lines_of}
 use Rattle.lt_merge.specs.Run.{events_at}
 use Rattle.std.specs.Prelude.{not, position, Result, Ok, Err, OnErr}
 use Rattle.lt_journal.proofs.Steps.{lines_of-more}

@@ -7,9 +7,9 @@ use Rattle.lt_modes.specs.declared.mode.Mode.{Mode}
 use Rattle.lt_modes.specs.declared.event.Event.{Event}
 use Rattle.lt_modes.specs.declared.event.Event.TheVariants.{Grant, Wait, Try, Unlock, NotHeld, Change, DropAll, Busy, Copy, Freeze, Token}
 use Rattle.lt_modes.specs.Script.{ScriptData}
-use Rattle.lt_runs.specs.Log.{Logged}
+use Rattle.lt_spec.specs.Log.{Logged}
 use Rattle.lt_modes.specs.declared.parts.Link.{Link}
-use Rattle.lt_runs.specs.Holdings.{Holding, holding, holdings, same_holding, count_of, wanted, wanted_after, owner_of, owner_after, lines_of}
+use Rattle.lt_spec.specs.Holdings.{Holding, holding, holdings, same_holding, count_of, wanted, wanted_after, owner_of, owner_after, lines_of}
 use Rattle.lt_journal.specs.declared.line.Line.{Line}
 use Rattle.lt_journal.specs.declared.line.Line.TheVariants.{Version, Held}
 use Rattle.lt_journal.specs.Words.{all_modes}

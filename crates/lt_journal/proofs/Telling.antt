@@ -8,7 +8,7 @@ use Rattle.lt_modes.specs.declared.event.Event.{Event}
 use Rattle.lt_modes.specs.declared.event.Event.TheVariants.{Grant, Wait, Unlock, Change, Token}
 use Rattle.lt_modes.specs.declared.parts.Link.{Link}
 use Rattle.lt_modes.specs.Script.{ScriptData}
-use Rattle.lt_runs.specs.Holdings.{Holding, holding, holdings, after_line, wanted, wanted_after, owner_of, owner_after}
+use Rattle.lt_spec.specs.Holdings.{Holding, holding, holdings, after_line, wanted, wanted_after, owner_of, owner_after}
 use Rattle.lt_journal.proofs.Few.{length-without}
 use Rattle.lt_journal.specs.LockTable.{Counts, Tally, IsTallied, waits_for, owner_at}
 

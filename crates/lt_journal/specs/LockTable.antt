@@ -5,7 +5,7 @@ use Rattle.lt_modes.specs.declared.mode.Mode.TheVariants.{IntentionRead, Read, U
 use Rattle.lt_modes.specs.Script.{ScriptData}
 use Rattle.lt_modes.specs.declared.event.Event.{Event}
 use Rattle.lt_modes.specs.declared.parts.Link.{Link}
-use Rattle.lt_runs.specs.Holdings.{Holding, holdings, count_of, wanted, owner_of}
+use Rattle.lt_spec.specs.Holdings.{Holding, holdings, count_of, wanted, owner_of}
 
 -- the place of a mode among all modes
 abbrev pub place_of : Mode → ℕ

@@ -7,8 +7,8 @@ use Rattle.lt_modes.specs.declared.event.Event.TheVariants.{Freeze}
 use Rattle.lt_modes.specs.FiveModes.{shown_in}
 use Rattle.lt_modes.specs.declared.parts.Link.{Link}
 use Rattle.lt_modes.specs.Script.{ScriptData}
-use Rattle.lt_runs.specs.Log.{Logged}
-use Rattle.lt_runs.specs.Holdings.{Holding, holding, holdings, count_of, wanted, owner_of, lines_of}
+use Rattle.lt_spec.specs.Log.{Logged}
+use Rattle.lt_spec.specs.Holdings.{Holding, holding, holdings, count_of, wanted, owner_of, lines_of}
 use Rattle.lt_journal.specs.Words.{all_modes}
 use Rattle.lt_journal.specs.declared.line.Line.{Line}
 use Rattle.lt_journal.specs.declared.line.Line.TheVariants.{Version, Move as MoveLine, Event as EventLine, Held, Waiting, Owner, End, Cut}

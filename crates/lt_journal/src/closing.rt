@@ -1,7 +1,7 @@
 ghost use Rattle.std.specs.Prelude.{◌≡◌, ◌<◌, ◌++◌, ◌∷◌, [], List, OnOk, length};
 ghost use Rattle.lt_modes.specs.declared.event.Event.{Event as AnyEvent};
 ghost use Rattle.lt_modes.specs.Script.{ScriptData};
-ghost use Rattle.lt_runs.specs.Holdings.{Holding as AnyHolding};
+ghost use Rattle.lt_spec.specs.Holdings.{Holding as AnyHolding};
 ghost use Rattle.lt_journal.specs.declared.line.Line.TheVariants.{End};
 ghost use Rattle.lt_journal.specs.LockTable.{Counts, IsTallied, waits_for, owner_at};
 ghost use Rattle.lt_journal.specs.RunLines.{held_line, held_in_set, held_by, held_lines, waiting_line, waiting_lines, owner_line, owner_lines, rest_lines};

@@ -1,6 +1,6 @@
 ghost use Rattle.std.specs.Prelude.{◌≡◌, slice_get};
 ghost use Rattle.lt_modes.specs.Script.{set_name, client_name};
-ghost use Rattle.lt_runs.specs.Families.{family, is_related};
+ghost use Rattle.lt_spec.specs.Families.{family, is_related};
 
 use lt_script::Script;
 

@@ -1,5 +1,5 @@
 ghost use Rattle.std.specs.Prelude.{◌≡◌, ◌+◌, ◌^◌, OnErr, ◌↔◌, ◌≤◌, ◌++◌, ◌∷◌, [], List, not, IsTrue, IfOk, OnOk, length, filter, slice_index, slice_set};
-ghost use Rattle.lt_runs.specs.Holdings.{Holding as AnyHolding, without_one, is_dropped};
+ghost use Rattle.lt_spec.specs.Holdings.{Holding as AnyHolding, without_one, is_dropped};
 ghost use Rattle.lt_journal.specs.LockTable.{place_of, cell_of, HasCell, Counts};
 
 use crate::names::is_related;
@@ -17,7 +17,7 @@ pub struct Holding {
 }
 
 impl Model for Holding {
-    ghost use Rattle.lt_runs.specs.Holdings.{Holding as HoldingData};
+    ghost use Rattle.lt_spec.specs.Holdings.{Holding as HoldingData};
 
     ghost Value = { HoldingData };
 

@@ -1,7 +1,7 @@
 ghost use Rattle.std.specs.Prelude.{◌≡◌, ◌≤◌, ◌+◌, ◌^◌, ◌++◌, ◌∷◌, [], List, length, OnErr, IfOk, OnOk, slice_set};
 ghost use Rattle.lt_modes.specs.declared.event.Event.{Event as AnyEvent};
 ghost use Rattle.lt_modes.specs.declared.event.Event.TheVariants.{Grant, Change};
-ghost use Rattle.lt_runs.specs.Holdings.{holdings, lines_of};
+ghost use Rattle.lt_spec.specs.Holdings.{holdings, lines_of};
 ghost use Rattle.lt_journal.specs.LockTable.{IsTallied};
 
 use crate::table::{Holding, Table};

@@ -5,7 +5,7 @@ use Rattle.std.specs.Option.{option_map}
 use Rattle.std.proofs.lemmas.List.{take-append-le, drop-append-le, drop_at}
 use Rattle.std.proofs.lemmas.Slice.{between_to_end, between_is}
 use Rattle.lt_modes.specs.declared.event.Event.{Event}
-use Rattle.lt_runs.specs.Log.{Logged}
+use Rattle.lt_spec.specs.Log.{Logged}
 use Rattle.lt_merge.specs.declared.run.Mark.{Mark}
 use Rattle.lt_merge.specs.Run.{just_made, with_event, made_at, events_at}
 use Rattle.lt_merge.specs.Marks.{first_place, IsLaid, entries_of, part_at}

@@ -1,7 +1,7 @@
 -- How a run is stored: all events in one list, and for each move the place where its events begin.
 use Rattle.std.specs.Prelude.{List, [], ◌∷◌, ℕ, zero, suc, ◌≤◌, length, slice_range, Option, Some, None}
 use Rattle.lt_modes.specs.declared.event.Event.{Event}
-use Rattle.lt_runs.specs.Log.{Logged}
+use Rattle.lt_spec.specs.Log.{Logged}
 use Rattle.lt_merge.specs.declared.run.Mark.{Mark}
 
 -- where the events end that stand before these moves

@@ -3,7 +3,7 @@ use Rattle.std.specs.Prelude.{List, [], ◌∷◌, ◌++◌, ℕ, Option, slice_
 use Rattle.std.specs.Option.{option_map}
 use Rattle.lt_modes.specs.declared.moves.Move.{Move}
 use Rattle.lt_modes.specs.declared.event.Event.{Event}
-use Rattle.lt_runs.specs.Log.{Logged}
+use Rattle.lt_spec.specs.Log.{Logged}
 
 -- the moves with their events; the moves that there is room for; the events that there is room for
 pub record RunData : Type 0 where

@@ -14,13 +14,13 @@ use Rattle.lt_modes.specs.Serving.{next_service, next_move}
 use Rattle.lt_modes.specs.Fits.{Numbers}
 use Rattle.lt_modes.specs.Sound.{IsNoLater, ChargeKept, SoundDesk, SoundSet}
 use Rattle.lt_lists.specs.Below.{one_if}
-use Rattle.lt_runs.specs.World.{World, after}
-use Rattle.lt_runs.specs.Facts.{state_at, tokens_in, places_in_state, places_in_body}
+use Rattle.lt_spec.specs.World.{World, after}
+use Rattle.lt_spec.specs.Facts.{state_at, tokens_in, places_in_state, places_in_body}
 use Rattle.lt_modes.specs.Queue.{times_in}
 use Rattle.lt_model.specs.OnWay.{OnWay, Comes, DeskIs, in_set, tell_in, tell_parked, copy_in, freeze_in, tells_of, copies_to, freezes_to, account_of, news_of}
 use Rattle.lt_model.specs.Moments.{Moment, Between, Acting, Frozen, is_at, is_moving, is_unfrozen, is_serving}
-use Rattle.lt_accounts.specs.Account.{Account, AccountKept, AreClear, counted}
-use Rattle.lt_accounts.specs.News.{News, NewsKept, Notice}
+use Rattle.lt_law_accounts.specs.Account.{Account, AccountKept, AreClear, counted}
+use Rattle.lt_law_accounts.specs.News.{News, NewsKept, Notice}
 use Rattle.lt_model.specs.Paths.{Paths, StateOnPath, LetterOnPath}
 use Rattle.lt_model.specs.SoundNode.{numbers_of}
 use Rattle.lt_model.specs.Touches.{of_set, SameSet}
@@ -35,9 +35,9 @@ use Rattle.lt_model.proofs.Gathered.{tells_alike}
 use Rattle.lt_model.proofs.OthersStay.{same_set, others_stay}
 use Rattle.lt_model.proofs.TokenComes.{desk_somewhere}
 use Rattle.lt_model.proofs.ClocksGrow.{clocks_grow}
-use Rattle.lt_accounts.proofs.AccountFacts.{held_below_charge}
-use Rattle.lt_accounts.proofs.AccountAsks.{ticks_kept, ages_kept}
-use Rattle.lt_accounts.proofs.NewsLemmas.{begins_kept}
+use Rattle.lt_law_accounts.proofs.AccountFacts.{held_below_charge}
+use Rattle.lt_law_accounts.proofs.AccountAsks.{ticks_kept, ages_kept}
+use Rattle.lt_law_accounts.proofs.NewsLemmas.{begins_kept}
 
 -- the clock stays or goes on, and goes on where the node is in its move
 abbrev pub Goes : Bool → ℕ → ℕ → Type 0

@@ -16,11 +16,11 @@ use Rattle.lt_modes.specs.Made.{Made}
 use Rattle.lt_modes.specs.SetMove.{answers}
 use Rattle.lt_modes.specs.Routing.{Way, Parks, Goes, reversed, sent_on, route}
 use Rattle.lt_modes.specs.declared.parts.Hoped.{Hoped}
-use Rattle.lt_accounts.specs.Account.{owed_and_waiting}
-use Rattle.lt_accounts.specs.AccountSteps.{MayJoin, unlocking}
+use Rattle.lt_law_accounts.specs.Account.{owed_and_waiting}
+use Rattle.lt_law_accounts.specs.AccountSteps.{MayJoin, unlocking}
 use Rattle.lt_model.specs.AccountRules.{own_account, GrantsByRule, FrozenIsNotGranted, CommandsAreSteps}
-use Rattle.lt_accounts.proofs.AccountFacts.{bars_not, not_bars, below_by_members}
-use Rattle.lt_accounts.proofs.ModeMembers.{has-union, has-left, has-right}
+use Rattle.lt_law_accounts.proofs.AccountFacts.{bars_not, not_bars, below_by_members}
+use Rattle.lt_law_accounts.proofs.ModeMembers.{has-union, has-left, has-right}
 use Rattle.lt_model.proofs.Effects.{route_ways}
 
 -- a test that fails against a union fails against its parts

@@ -17,9 +17,9 @@ use Rattle.lt_modes.specs.Made.{Made, Post}
 use Rattle.lt_modes.specs.Telling.{finish}
 use Rattle.lt_modes.specs.SetMove.{drop, take}
 use Rattle.lt_lists.specs.Below.{put, sum_below}
-use Rattle.lt_runs.specs.Families.{family, related}
-use Rattle.lt_runs.specs.NodeMove.{NodeState, NodeMade, node_waits, next_command, touched, each_touched, drop_all, locks_in_sets, act_stamp, take_stamp, at_clock, one_made, obey, node_act, node_take}
-use Rattle.lt_runs.specs.World.{World, start, opened, put_mail, after_made, after}
+use Rattle.lt_spec.specs.Families.{family, related}
+use Rattle.lt_spec.specs.NodeMove.{NodeState, NodeMade, node_waits, next_command, touched, each_touched, drop_all, locks_in_sets, act_stamp, take_stamp, at_clock, one_made, obey, node_act, node_take}
+use Rattle.lt_spec.specs.World.{World, start, opened, put_mail, after_made, after}
 use Rattle.lt_model.specs.AddedLocks.{adds, added_by}
 use Rattle.lt_model.specs.Homes.{HasTargets, IsWhole}
 use Rattle.lt_lists.proofs.Sums.{sum_below-none, sum_below-change, sum_below-at}

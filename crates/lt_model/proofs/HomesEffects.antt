@@ -24,7 +24,7 @@ use Rattle.lt_modes.specs.Routing.{Way, Parks, Goes, learn, dealt, body_of, reve
 use Rattle.lt_modes.specs.Telling.{tell_of, finish}
 use Rattle.lt_modes.specs.Taking.{take_body, arrive}
 use Rattle.lt_modes.specs.SetMove.{ask_of, asked, dropped, take, drop}
-use Rattle.lt_runs.specs.Families.{home}
+use Rattle.lt_spec.specs.Families.{home}
 use Rattle.lt_model.specs.Homes.{IsRowAtHome, IsAskAtHome, IsAskOf, IsParkedAtHome, IsBodyAtHome, IsStateAtHome, IsLineWithin}
 use Rattle.lt_model.proofs.Effects.{route_ways}
 use Rattle.lt_model.proofs.RuleEffects.{EndRules, ActRules, finish_rule, take_rule}

@@ -16,10 +16,10 @@ use Rattle.lt_modes.specs.Made.{Made, Post}
 use Rattle.lt_modes.specs.Telling.{finish}
 use Rattle.lt_modes.specs.SetMove.{drop, take}
 use Rattle.lt_lists.specs.Below.{put}
-use Rattle.lt_runs.specs.Families.{command_if, commands_of, home, family, related}
-use Rattle.lt_runs.specs.Log.{Logged}
-use Rattle.lt_runs.specs.NodeMove.{NodeState, NodeMade, node_waits, next_command, touched, each_touched, drop_all, locks_in_sets, act_stamp, take_stamp, at_clock, one_made, obey, node_act, node_take}
-use Rattle.lt_runs.specs.World.{World, start, is_some_letter, is_enabled, opened, take_front, node_move, after, after_run, IsRunFrom}
+use Rattle.lt_spec.specs.Families.{command_if, commands_of, home, family, related}
+use Rattle.lt_spec.specs.Log.{Logged}
+use Rattle.lt_spec.specs.NodeMove.{NodeState, NodeMade, node_waits, next_command, touched, each_touched, drop_all, locks_in_sets, act_stamp, take_stamp, at_clock, one_made, obey, node_act, node_take}
+use Rattle.lt_spec.specs.World.{World, start, is_some_letter, is_enabled, opened, take_front, node_move, after, after_run, IsRunFrom}
 use Rattle.lt_model.specs.Homes.{HasTargets, IsWhole, IsStateAtHome, IsLetterAtHome, Homes}
 use Rattle.lt_model.specs.HomeLaws.{HomesKept, HomesInRuns}
 use Rattle.lt_model.proofs.Letters.{all_sent, before_take}

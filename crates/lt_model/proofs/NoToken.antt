@@ -10,8 +10,8 @@ use Rattle.lt_modes.specs.declared.parts.Link.{Link}
 use Rattle.lt_modes.specs.State.{SetState, Body, AskBody, TellBody, CopyBody, TokenBody, FreezeBody, Letter}
 use Rattle.lt_modes.specs.Made.{Made, Post, then_do}
 use Rattle.lt_modes.specs.Telling.{tell}
-use Rattle.lt_runs.specs.World.{token_by, token_to}
-use Rattle.lt_runs.specs.Facts.{tokens_in}
+use Rattle.lt_spec.specs.World.{token_by, token_to}
+use Rattle.lt_spec.specs.Facts.{tokens_in}
 use Rattle.lt_model.specs.Paths.{IsTrueLink, BodyOnPath, LetterOnPath}
 use Rattle.lt_model.specs.PathEffects.{Quiet, token_weight, posts_weight, Moved}
 use Rattle.lt_lists.proofs.AllLemmas.{all_append, all_weaker}

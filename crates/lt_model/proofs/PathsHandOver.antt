@@ -21,7 +21,7 @@ use Rattle.lt_modes.specs.Routing.{learn}
 use Rattle.lt_modes.specs.Telling.{tell, attend, finish, finish_by}
 use Rattle.lt_modes.specs.Taking.{take_body, arrive}
 use Rattle.lt_modes.specs.SetMove.{answers, given, granted, ask_of, asked, locked, tried, unlocked, change_held, changed, dropped, lock, try, unlock, change, drop, take}
-use Rattle.lt_runs.specs.Facts.{tokens_in}
+use Rattle.lt_spec.specs.Facts.{tokens_in}
 use Rattle.lt_lists.specs.Below.{one_if}
 use Rattle.lt_model.specs.Paths.{IsTrueLink, DeskOnPath, HasWay, StateOnPath, BodyOnPath, LetterOnPath}
 use Rattle.lt_model.specs.PathEffects.{Ground, Quiet, Moved}

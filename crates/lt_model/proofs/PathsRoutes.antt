@@ -15,7 +15,7 @@ use Rattle.lt_modes.specs.Queue.{entered, place}
 use Rattle.lt_modes.specs.Made.{Made, then_do}
 use Rattle.lt_modes.specs.Routing.{Way, Parks, Goes, learn, dealt, is_behind, hoped_way, way, way_onward, body_of, reversed, sent_on, route, route_by}
 use Rattle.lt_modes.specs.Telling.{tell}
-use Rattle.lt_runs.specs.Facts.{tokens_in}
+use Rattle.lt_spec.specs.Facts.{tokens_in}
 use Rattle.lt_lists.specs.Below.{one_if}
 use Rattle.lt_model.specs.Paths.{IsTrueLink, IsNamed, IsParkedNamed, DeskOnPath, HasWay, StateOnPath, BodyOnPath}
 use Rattle.lt_model.specs.PathEffects.{Ground, Quiet}

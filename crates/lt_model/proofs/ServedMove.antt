@@ -13,10 +13,10 @@ use Rattle.lt_modes.specs.HandingOver.{hand_over_to}
 use Rattle.lt_modes.specs.Telling.{tell_of}
 use Rattle.lt_modes.specs.SetMove.{take}
 use Rattle.lt_lists.specs.Below.{put}
-use Rattle.lt_runs.specs.Log.{Logged}
-use Rattle.lt_runs.specs.NodeMove.{NodeState, next_command, act_stamp, take_stamp, at_clock, one_made, node_act, node_take}
-use Rattle.lt_runs.specs.World.{World, start, opened, take_front, node_move, after, after_run, IsRunFrom}
-use Rattle.lt_runs.specs.Facts.{state_at}
+use Rattle.lt_spec.specs.Log.{Logged}
+use Rattle.lt_spec.specs.NodeMove.{NodeState, next_command, act_stamp, take_stamp, at_clock, one_made, node_act, node_take}
+use Rattle.lt_spec.specs.World.{World, start, opened, take_front, node_move, after, after_run, IsRunFrom}
+use Rattle.lt_spec.specs.Facts.{state_at}
 use Rattle.lt_model.specs.Invariant.{IsServed}
 use Rattle.lt_model.specs.Laws.{ServedKept, ServedInRuns}
 use Rattle.lt_model.proofs.SentInMove.{take-sent}

@@ -16,9 +16,9 @@ use Rattle.lt_modes.specs.Telling.{finish}
 use Rattle.lt_modes.specs.Taking.{arrive}
 use Rattle.lt_modes.specs.SetMove.{locked, tried, unlocked, changed, drop}
 use Rattle.lt_lists.specs.Below.{put}
-use Rattle.lt_runs.specs.Families.{related}
-use Rattle.lt_runs.specs.NodeMove.{NodeState, NodeMade, no_move, node_waits, next_command, touched, each_touched, drop_all, act_stamp, take_stamp, at_clock, one_made, obey}
-use Rattle.lt_runs.specs.World.{World, is_some_letter, opened, front_stamp, take_front, token_to, after_made}
+use Rattle.lt_spec.specs.Families.{related}
+use Rattle.lt_spec.specs.NodeMove.{NodeState, NodeMade, no_move, node_waits, next_command, touched, each_touched, drop_all, act_stamp, take_stamp, at_clock, one_made, obey}
+use Rattle.lt_spec.specs.World.{World, is_some_letter, opened, front_stamp, take_front, token_to, after_made}
 use Rattle.lt_model.specs.MomentLaws.{MovesInSteps, MovesAreParts, Part, part_on, applied, with_end, parts_of_command, parts_of_front}
 use Rattle.lt_model.proofs.PathsMove.{has_mail_parts}
 use Rattle.lt_model.proofs.PathsGoing.{sent-sent, sent-none}

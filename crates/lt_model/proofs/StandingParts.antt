@@ -11,11 +11,11 @@ use Rattle.lt_modes.specs.Made.{Post}
 use Rattle.lt_modes.specs.Queue.{times_in}
 use Rattle.lt_modes.specs.Serving.{queue_of_desk}
 use Rattle.lt_modes.specs.Routing.{dealt, body_of, reversed}
-use Rattle.lt_runs.specs.Facts.{times_parked, places_in_state, places_in_body}
+use Rattle.lt_spec.specs.Facts.{times_parked, places_in_state, places_in_body}
 use Rattle.lt_model.specs.Standing.{IsMadeBy}
 use Rattle.lt_model.specs.PathEffects.{posts_weight}
 use Rattle.lt_lists.proofs.AllLemmas.{all_append}
-use Rattle.lt_accounts.proofs.Asks.{times_in-entered}
+use Rattle.lt_law_accounts.proofs.Asks.{times_in-entered}
 use Rattle.lt_model.proofs.Effects.{Fact}
 
 -- how often the ask stands in a letter of the set

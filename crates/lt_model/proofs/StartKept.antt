@@ -1,6 +1,6 @@
 -- The start of each script has the invariant.
-use Rattle.lt_accounts.proofs.FirstAccount.{empty_account, empty_is_kept}
-use Rattle.lt_accounts.proofs.ModeMembers.{none_has}
+use Rattle.lt_law_accounts.proofs.FirstAccount.{empty_account, empty_is_kept}
+use Rattle.lt_law_accounts.proofs.ModeMembers.{none_has}
 use Rattle.lt_lists.proofs.Sums.{sum_below-none, sum_first}
 use Rattle.lt_lists.proofs.Gathering.{gather_none}
 use Rattle.std.proofs.lemmas.List.Elements.{All-nil}
@@ -19,13 +19,13 @@ use Rattle.lt_modes.specs.Serving.{next_service, next_move}
 use Rattle.lt_modes.specs.Fits.{Numbers}
 use Rattle.lt_modes.specs.Sound.{SoundSet}
 use Rattle.lt_lists.specs.Below.{sum_below, gather_below, one_if}
-use Rattle.lt_runs.specs.World.{start}
+use Rattle.lt_spec.specs.World.{start}
 use Rattle.lt_model.specs.Moments.{Between, is_at}
 use Rattle.lt_model.specs.OnWay.{Comes, DeskIs, in_set, tell_in, tell_parked, copy_in, freeze_in, tells_of, copies_to, freezes_to, account_of, news_of}
-use Rattle.lt_runs.specs.Facts.{state_at, places_in_state, place_count}
+use Rattle.lt_spec.specs.Facts.{state_at, places_in_state, place_count}
 use Rattle.lt_modes.specs.Queue.{times_in}
-use Rattle.lt_accounts.specs.Account.{Account, AccountKept, counted}
-use Rattle.lt_accounts.specs.News.{News, Notice, NewsKept}
+use Rattle.lt_law_accounts.specs.Account.{Account, AccountKept, counted}
+use Rattle.lt_law_accounts.specs.News.{News, Notice, NewsKept}
 use Rattle.lt_model.specs.Invariant.{DeskKept, SetKept, Kept, LinesKept}
 use Rattle.lt_model.specs.Paths.{HasWay, Paths}
 use Rattle.lt_modes.specs.declared.parts.Hoped.{Hoped}

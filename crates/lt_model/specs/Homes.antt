@@ -15,10 +15,10 @@ use Rattle.lt_modes.specs.Serving.{queue_of}
 use Rattle.lt_modes.specs.Fits.{is_at_home, asks_here}
 use Rattle.lt_modes.specs.Sound.{SoundRow, SoundParked}
 use Rattle.lt_model.specs.SoundNode.{numbers_of}
-use Rattle.lt_runs.specs.Families.{home}
-use Rattle.lt_runs.specs.Log.{Logged}
-use Rattle.lt_runs.specs.World.{World}
-use Rattle.lt_runs.specs.Facts.{state_at}
+use Rattle.lt_spec.specs.Families.{home}
+use Rattle.lt_spec.specs.Log.{Logged}
+use Rattle.lt_spec.specs.World.{World}
+use Rattle.lt_spec.specs.Facts.{state_at}
 
 -- the command is for a set of the script, and drops the locks of a client on the node of the one that makes it
 abbrev pub HasTargets : ScriptData → ℕ → Command → Type 0

@@ -11,17 +11,17 @@ use Rattle.lt_modes.specs.Tells.{is_newer}
 use Rattle.lt_modes.specs.Serving.{next_service, next_move}
 use Rattle.lt_modes.specs.Sound.{SoundSet}
 use Rattle.lt_lists.specs.Below.{sum_below}
-use Rattle.lt_runs.specs.World.{World}
-use Rattle.lt_runs.specs.Families.{home}
-use Rattle.lt_runs.specs.Holdings.{Holding, holding, holdings, wanted, count_of as times_held}
+use Rattle.lt_spec.specs.World.{World}
+use Rattle.lt_spec.specs.Families.{home}
+use Rattle.lt_spec.specs.Holdings.{Holding, holding, holdings, wanted, count_of as times_held}
 use Rattle.lt_model.specs.SoundNode.{ClientsKept, numbers_of}
-use Rattle.lt_runs.specs.Facts.{state_at, place_count}
+use Rattle.lt_spec.specs.Facts.{state_at, place_count}
 use Rattle.lt_modes.specs.Queue.{times_in}
 use Rattle.lt_model.specs.Moments.{Moment, Between, is_moving, is_unfrozen}
 use Rattle.lt_model.specs.OnWay.{OnWay, Comes, IsCopyTo, DeskIs, account_of, news_of}
 use Rattle.lt_model.specs.Paths.{Paths}
-use Rattle.lt_accounts.specs.Account.{AreClear, AccountKept, counted}
-use Rattle.lt_accounts.specs.News.{NewsKept}
+use Rattle.lt_law_accounts.specs.Account.{AreClear, AccountKept, counted}
+use Rattle.lt_law_accounts.specs.News.{NewsKept}
 
 -- what the letter says is not younger than the letter, and a tell is of a node of the script
 abbrev pub BodyKept : ScriptData → ℕ → Body → Type 0

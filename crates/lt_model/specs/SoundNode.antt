@@ -6,7 +6,7 @@ use Rattle.lt_modes.specs.Held.{locks_of}
 use Rattle.lt_modes.specs.Fits.{Numbers}
 use Rattle.lt_modes.specs.Sound.{SoundSet}
 use Rattle.lt_lists.specs.Below.{sum_below}
-use Rattle.lt_runs.specs.NodeMove.{NodeState}
+use Rattle.lt_spec.specs.NodeMove.{NodeState}
 
 -- the numbers of a script
 abbrev pub numbers_of : ScriptData → Numbers

@@ -12,8 +12,8 @@ use Rattle.lt_modes.specs.Script.{ScriptData}
 use Rattle.lt_script.specs.Script.{IsScript, IsRequest, HasTargets}
 use Rattle.lt_lists.specs.Below.{put}
 use Rattle.lt_lists.proofs.Members.{filter_map-which, some_equal}
-use Rattle.lt_runs.specs.Families.{commands_of, command_if, home}
-use Rattle.lt_runs.specs.NodeMove.{NodeState, next_command, has_command, one_made, at_clock}
+use Rattle.lt_spec.specs.Families.{commands_of, command_if, home}
+use Rattle.lt_spec.specs.NodeMove.{NodeState, next_command, has_command, one_made, at_clock}
 use Rattle.lt_node.specs.NodeData.{NodeData, IsNode, state_of, core_at}
 use Rattle.lt_node.specs.Clients.{Progress, KnowsClients, progress_of, no_progress, made_of, next_of, one_more, no_command}
 use Rattle.lt_node.proofs.NodeLemmas.{put_read}

@@ -8,8 +8,8 @@ use Rattle.lt_modes.specs.declared.command.Command.TheVariants as commands
 use Rattle.lt_modes.specs.Script.{ScriptData}
 use Rattle.lt_letter.specs.OutData.{OutData}
 use Rattle.lt_core.specs.CoreData.{CoreData}
-use Rattle.lt_runs.specs.Families.{related}
-use Rattle.lt_runs.specs.NodeMove.{NodeState, NodeMade, drop_all, each_touched, answered_first, locks_in_sets, one_made, at_clock}
+use Rattle.lt_spec.specs.Families.{related}
+use Rattle.lt_spec.specs.NodeMove.{NodeState, NodeMade, drop_all, each_touched, answered_first, locks_in_sets, one_made, at_clock}
 use Rattle.lt_node.specs.NodeData.{NodeData, NodeDoes, state_of, sent_by}
 use Rattle.lt_node.specs.Family.{SetsDo, ending, with_sets}
 use Rattle.lt_node.specs.Answers.{answer_to}

@@ -15,8 +15,8 @@ use Rattle.lt_core.specs.Bound.{RoomToSend}
 use Rattle.lt_core.specs.CoreData.{CoreData, Does}
 use Rattle.lt_core.proofs.BoundLemmas.{ends_fit, orders_fit}
 use Rattle.lt_lists.specs.Below.{put}
-use Rattle.lt_runs.specs.Families.{family, related}
-use Rattle.lt_runs.specs.NodeMove.{NodeState, each_touched, touched}
+use Rattle.lt_spec.specs.Families.{family, related}
+use Rattle.lt_spec.specs.NodeMove.{NodeState, each_touched, touched}
 use Rattle.lt_node.specs.NodeData.{IsCoreOf, first_core, sent_by}
 use Rattle.lt_node.specs.Family.{ending, with_sets, sets_in, SetsDo}
 use Rattle.lt_node.specs.Room.{most_sent}

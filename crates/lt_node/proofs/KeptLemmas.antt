@@ -9,7 +9,7 @@ use Rattle.std.proofs.lemmas.List.{length-map, get_or-set_other, get_or_default}
 use Rattle.lt_modes.specs.State.{SetState}
 use Rattle.lt_core.specs.CoreData.{CoreData, HasMemory, waiting}
 use Rattle.lt_limits.specs.Limits.{node_within}
-use Rattle.lt_runs.specs.NodeMove.{NodeState}
+use Rattle.lt_spec.specs.NodeMove.{NodeState}
 use Rattle.lt_node.specs.NodeData.{NodeData, IsNode, SameNode, state_of, first_core}
 use Rattle.lt_node.specs.Room.{KeptData, HasFewAsks, kept_of}
 use Rattle.lt_node.proofs.NodeLemmas.{node_is}

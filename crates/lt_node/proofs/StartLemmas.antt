@@ -8,8 +8,8 @@ use Rattle.std.proofs.Math.ListN.{get_or-map as map_read}
 use Rattle.lt_modes.specs.Script.{ScriptData, ClientData, home_at, node_of_client}
 use Rattle.lt_modes.specs.State.{first_state}
 use Rattle.lt_script.specs.Script.{IsScript}
-use Rattle.lt_runs.specs.Families.{commands_of, home}
-use Rattle.lt_runs.specs.World.{start}
+use Rattle.lt_spec.specs.Families.{commands_of, home}
+use Rattle.lt_spec.specs.World.{start}
 use Rattle.lt_core.specs.CoreData.{CoreData}
 use Rattle.lt_node.specs.NodeData.{IsNode, IsCoreOf, state_of, first_core}
 use Rattle.lt_node.specs.Clients.{Progress, KnowsClients, no_progress, made_of}

@@ -16,7 +16,7 @@ use Rattle.lt_limits.specs.Limits.{node_within}
 use Rattle.lt_node.specs.NodeData.{NodeData, NodeDoes, IsNode, IsCoreOf, numbers_of, state_of, core_at}
 use Rattle.lt_node.specs.Room.{RoomToTake}
 use Rattle.lt_node.proofs.NodeLemmas.{core_is, node_is, touch_does}
-use Rattle.lt_runs.specs.NodeMove.{node_take, take_stamp}
+use Rattle.lt_spec.specs.NodeMove.{node_take, take_stamp}
 use Rattle.lt_modes.specs.Made.{Made}
 use Rattle.lt_node.proofs.WithinLemmas.{IsWithin, room_later, each_within}
 use Rattle.lt_node.proofs.TokenLemmas.{few_brought, room_for_body, fitting, IsFitting}

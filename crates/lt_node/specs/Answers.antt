@@ -7,8 +7,8 @@ use Rattle.lt_core.specs.declared.order.Order.TheVariants as orders
 use Rattle.lt_core.specs.declared.order.Answer.{Answer}
 use Rattle.lt_core.specs.declared.order.Answer.TheVariants.{Dropped, Busy}
 use Rattle.lt_core.specs.Orders.{answer_of}
-use Rattle.lt_runs.specs.Families.{related}
-use Rattle.lt_runs.specs.NodeMove.{NodeState, node_waits, next_command, locks_in_sets}
+use Rattle.lt_spec.specs.Families.{related}
+use Rattle.lt_spec.specs.NodeMove.{NodeState, node_waits, next_command, locks_in_sets}
 
 -- the answer to the command
 abbrev pub answer_to : ScriptData → ℕ → ℕ → NodeState → Command → Answer

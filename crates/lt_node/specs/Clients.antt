@@ -4,7 +4,7 @@ use Rattle.lt_modes.specs.declared.mode.Mode.TheVariants.{IntentionRead}
 use Rattle.lt_modes.specs.declared.command.Command.{Command}
 use Rattle.lt_modes.specs.declared.command.Command.TheVariants.{Unlock}
 use Rattle.lt_modes.specs.Script.{ScriptData, ClientData}
-use Rattle.lt_runs.specs.Families.{commands_of, home}
+use Rattle.lt_spec.specs.Families.{commands_of, home}
 
 -- the commands of a client, and how many of them it has made
 pub record Progress : Type 0 where

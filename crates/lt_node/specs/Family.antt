@@ -8,7 +8,7 @@ use Rattle.lt_modes.specs.Telling.{finish}
 use Rattle.lt_modes.specs.SetMove.{drop}
 use Rattle.lt_letter.specs.OutData.{OutData}
 use Rattle.lt_core.specs.CoreData.{CoreData}
-use Rattle.lt_runs.specs.NodeMove.{NodeState, NodeMade}
+use Rattle.lt_spec.specs.NodeMove.{NodeState, NodeMade}
 use Rattle.lt_node.specs.NodeData.{first_core, sent_by}
 
 -- the state of each set

@@ -6,7 +6,7 @@ use Rattle.lt_modes.specs.Fits.{Numbers}
 use Rattle.lt_letter.specs.OutData.{OutData}
 use Rattle.lt_core.specs.CoreData.{CoreData}
 use Rattle.lt_script.specs.Script.{IsScript}
-use Rattle.lt_runs.specs.NodeMove.{NodeState, NodeMade}
+use Rattle.lt_spec.specs.NodeMove.{NodeState, NodeMade}
 
 -- the script, the node's number and clock, how many commands each client has made here, and its sets
 pub record NodeData : Type 0 where

@@ -1,7 +1,7 @@
 ghost use Rattle.std.specs.Prelude.{◌≡◌, ◌<◌, ◌+◌, ◌==◌, ◌^◌, [], ℕ, length, map, nat_lt, IfOk, slice_index_or, if◌then◌else◌};
 ghost use Rattle.lt_modes.specs.Script.{ClientData};
 ghost use Rattle.lt_script.specs.Script.{IsScript};
-ghost use Rattle.lt_runs.specs.Families.{commands_of, home};
+ghost use Rattle.lt_spec.specs.Families.{commands_of, home};
 ghost use Rattle.lt_node.specs.Clients.{next_of, one_more, no_progress};
 
 use lt_modes::Command;

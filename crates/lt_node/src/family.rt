@@ -2,8 +2,8 @@ ghost use Rattle.std.specs.Prelude.{◌≡◌, ◌+◌, ◌≤◌, ◌<◌, ◌^
 ghost use Rattle.lt_letter.specs.OutData.{OutData};
 ghost use Rattle.lt_core.specs.Bound.{RoomToSend};
 ghost use Rattle.lt_core.specs.CoreData.{Does, HasRoom};
-ghost use Rattle.lt_runs.specs.Families.{related};
-ghost use Rattle.lt_runs.specs.NodeMove.{NodeState, each_touched, locks_in_sets};
+ghost use Rattle.lt_spec.specs.Families.{related};
+ghost use Rattle.lt_spec.specs.NodeMove.{NodeState, each_touched, locks_in_sets};
 ghost use Rattle.lt_node.specs.NodeData.{IsCoreOf, first_core};
 ghost use Rattle.lt_node.specs.Family.{SetsDo, ending, with_sets};
 ghost use Rattle.lt_node.specs.Room.{HasFewLocks, most_sent};

@@ -2,9 +2,9 @@ ghost use Rattle.std.specs.Prelude.{◌≡◌, ◌<◌, ◌+◌, ◌&&◌, ◌^�
 ghost use Rattle.lt_modes.specs.Fits.{fits};
 ghost use Rattle.lt_letter.specs.Seen.{letter_seen};
 ghost use Rattle.lt_core.specs.Tests.{numbers_of as numbers_seen};
-ghost use Rattle.lt_runs.specs.Families.{home};
-ghost use Rattle.lt_runs.specs.NodeMove.{node_waits, has_command, act_stamp, take_stamp};
-ghost use Rattle.lt_runs.specs.World.{start};
+ghost use Rattle.lt_spec.specs.Families.{home};
+ghost use Rattle.lt_spec.specs.NodeMove.{node_waits, has_command, act_stamp, take_stamp};
+ghost use Rattle.lt_spec.specs.World.{start};
 ghost use Rattle.lt_script.specs.Script.{IsScript};
 ghost use Rattle.lt_node.specs.NodeData.{IsNode, IsCoreOf, state_of, numbers_of, first_core};
 

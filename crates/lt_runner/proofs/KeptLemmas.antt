@@ -4,12 +4,12 @@ use Rattle.std.specs.Prelude.{IsTrue}
 use Rattle.std.proofs.lemmas.List.{length_push}
 use Rattle.lt_modes.specs.Script.{ScriptData}
 use Rattle.lt_modes.specs.State.{Letter}
-use Rattle.lt_runs.specs.Log.{Logged}
-use Rattle.lt_runs.specs.NodeMove.{NodeState}
-use Rattle.lt_runs.specs.World.{start}
-use Rattle.lt_plays.specs.Plays.{Cause, can_make, made_of, entry_of, used_by, letters_for, Plays}
-use Rattle.lt_plays.proofs.PlayLemmas.{plays_same, plays_grow}
-use Rattle.lt_peers.specs.Peers.{NodeNames}
+use Rattle.lt_spec.specs.Log.{Logged}
+use Rattle.lt_spec.specs.NodeMove.{NodeState}
+use Rattle.lt_spec.specs.World.{start}
+use Rattle.lt_law_plays.specs.Plays.{Cause, can_make, made_of, entry_of, used_by, letters_for, Plays}
+use Rattle.lt_law_plays.proofs.PlayLemmas.{plays_same, plays_grow}
+use Rattle.lt_law_recipients.specs.Peers.{NodeNames}
 use Rattle.lt_node.specs.NodeData.{state_of}
 use Rattle.lt_mail.specs.Words.{outs_count, ins_count, sent_to, taken_from}
 use Rattle.lt_mail.proofs.MailLemmas.{ends_join}

@@ -9,12 +9,12 @@ use Rattle.lt_modes.specs.State.{Letter, SetState}
 use Rattle.lt_modes.specs.Made.{Post}
 use Rattle.lt_letter.specs.OutData.{OutData}
 use Rattle.lt_letter.specs.Seen.{letter_seen}
-use Rattle.lt_runs.specs.Families.{home}
-use Rattle.lt_runs.specs.NodeMove.{NodeMade, node_act, node_take, node_waits, has_command, act_stamp, take_stamp}
-use Rattle.lt_plays.specs.Plays.{Cause, OfClient, OfLetter, can_act, can_make, made_of, letters_for, entry_of, used_by}
-use Rattle.lt_peers.specs.Peers.{IsForPeer}
-use Rattle.lt_peers.specs.PeerLaws.{ReachesPeers}
-use Rattle.lt_peers.proofs.Moves.{acts_reach_peers, takes_reach_peers}
+use Rattle.lt_spec.specs.Families.{home}
+use Rattle.lt_spec.specs.NodeMove.{NodeMade, node_act, node_take, node_waits, has_command, act_stamp, take_stamp}
+use Rattle.lt_law_plays.specs.Plays.{Cause, OfClient, OfLetter, can_act, can_make, made_of, letters_for, entry_of, used_by}
+use Rattle.lt_law_recipients.specs.Peers.{IsForPeer}
+use Rattle.lt_law_recipients.specs.PeerLaws.{ReachesPeers}
+use Rattle.lt_law_recipients.proofs.Moves.{acts_reach_peers, takes_reach_peers}
 use Rattle.lt_node.specs.NodeData.{NodeData, NodeDoes, state_of}
 use Rattle.lt_mail.specs.Words.{on_in, sent_to}
 use Rattle.lt_mail.specs.Lanes.{taken}

@@ -3,11 +3,11 @@ use Rattle.std.specs.Prelude.{◌≡◌, ℕ, List, [], ◌∷◌, ◌++◌, len
 use Rattle.lt_modes.specs.declared.event.Event.{Event}
 use Rattle.lt_modes.specs.declared.moves.Move.{Move}
 use Rattle.lt_modes.specs.Made.{Post}
-use Rattle.lt_runs.specs.Log.{Logged}
+use Rattle.lt_spec.specs.Log.{Logged}
 use Rattle.lt_merge.specs.Run.{with_event}
 use Rattle.lt_letter.specs.OutData.{OutData}
-use Rattle.lt_peers.specs.Peers.{IsForPeer}
-use Rattle.lt_plays.specs.Plays.{letters_for}
+use Rattle.lt_law_recipients.specs.Peers.{IsForPeer}
+use Rattle.lt_law_plays.specs.Plays.{letters_for}
 use Rattle.lt_mail.specs.declared.mail.Mail.{Mail}
 use Rattle.lt_mail.specs.Words.{in_at, outs_count, HasRoom, sent_to, SameEnds}
 use Rattle.lt_runner.specs.declared.parts.Parts.{Parts}

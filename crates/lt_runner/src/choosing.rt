@@ -1,5 +1,5 @@
 ghost use Rattle.std.specs.Prelude.{◌≡◌, ◌<◌, ◌^◌, length};
-ghost use Rattle.lt_plays.specs.Plays.{can_act};
+ghost use Rattle.lt_law_plays.specs.Plays.{can_act};
 ghost use Rattle.lt_node.specs.NodeData.{state_of};
 ghost use Rattle.lt_runner.specs.Choices.{may_move, may_act, may_take, first_client, act_choice, choice_of, choice_by};
 ghost use Rattle.lt_letter.specs.Seen.{letter_seen};

@@ -3,7 +3,7 @@ ghost use Rattle.std.specs.Prelude.{◌≡◌, None};
 ghost use Rattle.lt_mail.specs.Words.{ins_count};
 ghost use Rattle.lt_runner.specs.Choices.{choice_of};
 ghost use Rattle.lt_runner.specs.Looking.{AreBeside, IsMet, LooksTo, LooksFrom, HasFetched, Fetches, Knows, is_move};
-ghost use Rattle.lt_runs.specs.NodeMove.{node_waits};
+ghost use Rattle.lt_spec.specs.NodeMove.{node_waits};
 ghost use Rattle.lt_node.specs.NodeData.{state_of};
 
 use crate::choice::Choice;

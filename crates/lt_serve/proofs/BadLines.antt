@@ -6,7 +6,7 @@ use Rattle.lt_modes.specs.Script.{ScriptData}
 use Rattle.lt_merge.specs.Run.{RunData}
 use Rattle.lt_text.specs.Text.{cut_at, lines, put_front, is_line_end, without_return}
 use Rattle.lt_journal.specs.Split.{is_journal_line, parts_at, parts_of}
-use Rattle.lt_checking.specs.Checking.{Place, Reader, checked, first_reader, reader_after, after, is_over, led_to, read_at, read_on, verdict_at}
+use Rattle.lt_law_checking.specs.Checking.{Place, Reader, checked, first_reader, reader_after, after, is_over, led_to, read_at, read_on, verdict_at}
 use Rattle.lt_checker.specs.Checker.{Answers}
 use Rattle.lt_checker.specs.declared.error.ReplayError.{ReplayError}
 use Rattle.lt_checker.specs.declared.error.ReplayError.TheVariants.{Memory, Bad}

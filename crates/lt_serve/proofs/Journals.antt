@@ -2,12 +2,12 @@
 use Rattle.std.proofs.Common.{◌≡◌, ◌∙◌, ℕ, List, Some, Result, Ok, Err, take, drop, ap, sym, subst, rules}
 use Rattle.std.specs.Prelude.{IfOk, IfErr}
 use Rattle.lt_modes.specs.Script.{ScriptData}
-use Rattle.lt_runs.specs.Log.{Logged}
+use Rattle.lt_spec.specs.Log.{Logged}
 use Rattle.lt_text.specs.Text.{lines}
 use Rattle.lt_journal.specs.Split.{parts_of}
-use Rattle.lt_checking.specs.Checking.{checked}
-use Rattle.lt_checking.specs.Journals.{IsFinished}
-use Rattle.lt_promises.specs.Promised.{Promised}
+use Rattle.lt_law_checking.specs.Checking.{checked}
+use Rattle.lt_law_checking.specs.Journals.{IsFinished}
+use Rattle.lt_law_promises.specs.Promised.{Promised}
 use Rattle.lt_script.specs.Reading.{read_of}
 use Rattle.lt_words.specs.declared.command.Command.TheVariants.{Check}
 use Rattle.lt_serve.specs.declared.made.Made.{Made}
@@ -17,7 +17,7 @@ use Rattle.lt_serve.specs.Causes.{IsRefusal}
 use Rattle.lt_serve.specs.Input.{IsAnswerOfBytes}
 use Rattle.lt_serve.specs.Heads.{IsAnswer}
 use Rattle.lt_serve.specs.TopCall.{ok_text}
-use Rattle.lt_checking.specs.Input.{journal_in, lines_before, counted_from, checked_input}
+use Rattle.lt_law_checking.specs.Input.{journal_in, lines_before, counted_from, checked_input}
 
 pub input_told : (script : ScriptData) (bytes : List ℕ) (told : Result (List Logged) ℕ)
     → lines (drop (parts_of bytes).journal bytes) ≡ journal_in (lines bytes) → (parts_of bytes).lines ≡ lines_before (lines bytes)

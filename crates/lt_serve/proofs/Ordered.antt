@@ -2,10 +2,10 @@
 use Rattle.std.proofs.Common.{◌≡◌, ◌∙◌, ℕ, suc, List, [], ◌∷◌, ◌++◌, Option, Some, None, length, refl, sym, ap}
 use Rattle.std.specs.Prelude.{option_map}
 use Rattle.lt_modes.specs.Script.{ScriptData}
-use Rattle.lt_runs.specs.Log.{Logged}
-use Rattle.lt_runs.specs.World.{World, after, after_run, logged}
-use Rattle.lt_runs.specs.FixedOrder.{Turn, pick, count_turns, first_run_from}
-use Rattle.lt_checking.proofs.Places.{stamp_node}
+use Rattle.lt_spec.specs.Log.{Logged}
+use Rattle.lt_spec.specs.World.{World, after, after_run, logged}
+use Rattle.lt_spec.specs.FixedOrder.{Turn, pick, count_turns, first_run_from}
+use Rattle.lt_law_checking.proofs.Places.{stamp_node}
 use Rattle.lt_world.specs.declared.choice.Choice.{Choice}
 use Rattle.lt_world.specs.Choice.{choice_of}
 use Rattle.lt_serve.specs.declared.order.Order.{Order}

@@ -1,9 +1,9 @@
 -- How a run ended, and what is known of a run that was made.
 use Rattle.std.specs.Prelude.{◌≡◌, ◌<◌, true, false, ℕ, List, Option, Some, None, length, take}
 use Rattle.lt_modes.specs.Script.{ScriptData}
-use Rattle.lt_runs.specs.Log.{Logged}
-use Rattle.lt_runs.specs.World.{world_after, IsRun, is_at_rest, anyone_waits}
-use Rattle.lt_promises.specs.Promised.{Promised}
+use Rattle.lt_spec.specs.Log.{Logged}
+use Rattle.lt_spec.specs.World.{world_after, IsRun, is_at_rest, anyone_waits}
+use Rattle.lt_law_promises.specs.Promised.{Promised}
 use Rattle.lt_world.specs.Fields.{full_node}
 use Rattle.lt_serve.specs.declared.status.Status.{Status}
 use Rattle.lt_serve.specs.declared.status.Status.TheVariants.{Done, Stuck, Cut}

@@ -5,7 +5,7 @@ use Rattle.lt_io.specs.Reading.{ReadsOn, ReadsOut, FailsBy}
 use Rattle.lt_io.specs.declared.whole.ReadFailure.{ReadFailure}
 use Rattle.lt_io.specs.declared.whole.ReadFailure.TheVariants.{Memory}
 use Rattle.lt_merge.specs.Run.{RunData}
-use Rattle.lt_checking.specs.Input.{IsSettled}
+use Rattle.lt_law_checking.specs.Input.{IsSettled}
 use Rattle.lt_checker.specs.Checker.{CheckerData, StandsFor}
 use Rattle.lt_checker.specs.declared.error.ReplayError.{ReplayError}
 use Rattle.lt_checker.specs.declared.error.ReplayError.TheVariants.{Bad}

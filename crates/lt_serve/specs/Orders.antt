@@ -1,9 +1,9 @@
 -- In which order a simulation makes the enabled moves.
 use Rattle.std.specs.Prelude.{◌≡◌, ℕ, List, [], ◌∷◌, Some}
 use Rattle.lt_modes.specs.Script.{ScriptData}
-use Rattle.lt_runs.specs.Log.{Logged}
-use Rattle.lt_runs.specs.World.{World, start, after, logged}
-use Rattle.lt_runs.specs.FixedOrder.{Turn, pick, count_turns}
+use Rattle.lt_spec.specs.Log.{Logged}
+use Rattle.lt_spec.specs.World.{World, start, after, logged}
+use Rattle.lt_spec.specs.FixedOrder.{Turn, pick, count_turns}
 use Rattle.lt_gen.specs.Draws.{seeded, draw_of}
 use Rattle.lt_serve.specs.declared.order.Order.{Order}
 use Rattle.lt_serve.specs.declared.order.Order.TheVariants.{First, Drawn}

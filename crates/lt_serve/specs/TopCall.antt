@@ -4,16 +4,16 @@ use Rattle.std.specs.Fmt.{decimal}
 use Rattle.std.specs.Io.KnownBytes.{Appends}
 use Rattle.lt_io.specs.Sink.{AppendsPart}
 use Rattle.lt_modes.specs.Script.{ScriptData}
-use Rattle.lt_runs.specs.Log.{Logged}
+use Rattle.lt_spec.specs.Log.{Logged}
 use Rattle.lt_merge.specs.Merging.{AreRising}
-use Rattle.lt_runs.specs.FixedOrder.{first_run}
+use Rattle.lt_spec.specs.FixedOrder.{first_run}
 use Rattle.lt_journal.specs.Split.{parts_of}
 use Rattle.lt_journal.specs.Text.{text_of, lines_text}
 use Rattle.lt_journal.specs.declared.line.Line.TheVariants.{Cut as CutLine}
 use Rattle.lt_text.specs.Text.{lines}
-use Rattle.lt_checking.specs.Input.{checked_input}
-use Rattle.lt_checking.specs.Journals.{IsFinished}
-use Rattle.lt_promises.specs.Promised.{Promised}
+use Rattle.lt_law_checking.specs.Input.{checked_input}
+use Rattle.lt_law_checking.specs.Journals.{IsFinished}
+use Rattle.lt_law_promises.specs.Promised.{Promised}
 use Rattle.lt_gen.specs.Generator.{script_of}
 use Rattle.lt_summary.specs.Summary.{summary_of, summary_text}
 use Rattle.lt_script.specs.declared.fault.ScriptFault.{ScriptFault}

@@ -1,11 +1,11 @@
 ghost use Rattle.std.specs.Prelude.{◌≤◌, take, length, IfOk, IfErr, IfSome, IfNone, IsTrue};
-ghost use Rattle.lt_checking.specs.Input.{IsWhole, EndsLine, HasJournal, IsSettled};
+ghost use Rattle.lt_law_checking.specs.Input.{IsWhole, EndsLine, HasJournal, IsSettled};
 ghost use Rattle.lt_io.specs.Reading.{FailsBy};
 ghost use Rattle.lt_serve.specs.declared.limits.TheConstants.{MAX_JOURNAL};
 ghost use Rattle.lt_serve.specs.Heads.{IsCut, IsHead, IsRoom};
 
 use crate::limits::MAX_JOURNAL;
-use lt_checking::law_settled;
+use lt_law_checking::law_settled;
 use lt_io::{MAX_PIECE, ReadFailure, Source, read_piece};
 use lt_journal::split;
 use std::alloc::Global;

@@ -1,6 +1,6 @@
 ghost use Rattle.std.specs.Prelude.{◌≡◌, IsTrue, IsNone, IfSome, OnSome, option_map};
-ghost use Rattle.lt_runs.specs.World.{is_enabled, is_at_rest};
-ghost use Rattle.lt_runs.specs.FixedOrder.{pick, count_turns};
+ghost use Rattle.lt_spec.specs.World.{is_enabled, is_at_rest};
+ghost use Rattle.lt_spec.specs.FixedOrder.{pick, count_turns};
 ghost use Rattle.lt_world.specs.Choice.{choice_of};
 ghost use Rattle.lt_world.specs.Fields.{world_of};
 ghost use Rattle.lt_gen.specs.Draws.{draw_of};

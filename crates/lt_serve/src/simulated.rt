@@ -1,6 +1,6 @@
 ghost use Rattle.std.specs.Prelude.{◌≡◌, ◌<◌, ◌≤◌, length, IfOk, IfErr, OnOk};
 ghost use Rattle.lt_script.specs.Script.{IsScript};
-ghost use Rattle.lt_runs.specs.FixedOrder.{first_run};
+ghost use Rattle.lt_spec.specs.FixedOrder.{first_run};
 ghost use Rattle.lt_journal.specs.Text.{text_of};
 ghost use Rattle.lt_limits.specs.declared.moves.TheConstants.{MAX_MOVES};
 ghost use Rattle.lt_serve.specs.Orders.{AreDrawn};

@@ -1,6 +1,6 @@
 ghost use Rattle.std.specs.Prelude.{◌≡◌, ◌<◌, ◌≤◌, [], None, IsTrue, IfOk, OnOk};
 ghost use Rattle.lt_script.specs.Script.{IsScript};
-ghost use Rattle.lt_runs.specs.World.{is_at_rest};
+ghost use Rattle.lt_spec.specs.World.{is_at_rest};
 ghost use Rattle.lt_limits.specs.declared.moves.TheConstants.{MAX_MOVES};
 ghost use Rattle.lt_world.specs.Fields.{world_of, full_node};
 ghost use Rattle.lt_serve.specs.Orders.{AreInOrder};
@@ -9,7 +9,7 @@ ghost use Rattle.lt_serve.specs.Endings.{EndsAs, RanTo, StopsInTime};
 use crate::order::Order;
 use crate::status::Status;
 use lt_merge::Run;
-use lt_promises::law_promised;
+use lt_law_promises::law_promised;
 use lt_script::Script;
 use lt_world::World;
 use std::alloc::{AllocError, Global};

@@ -18,7 +18,7 @@ use lt_io::Source;
 use lt_journal::write;
 use lt_limits::MAX_MOVES;
 use lt_merge::Run;
-use lt_promises::law_promised;
+use lt_law_promises::law_promised;
 use lt_runner::Gate;
 use lt_script::Script;
 use lt_threads::{Ending, run_on_threads};

@@ -1,6 +1,6 @@
 ghost use Rattle.std.specs.Prelude.{◌≡◌, ◌<◌, ◌++◌, ◌∷◌, [], not, fold, filter, length, position, IfOk, OnOk, IfSome};
-ghost use Rattle.lt_runs.specs.Families.{family};
-ghost use Rattle.lt_runs.specs.Holdings.{Holding, holding, after_line, without_one, same_holding, is_dropped, holdings, lines_of};
+ghost use Rattle.lt_spec.specs.Families.{family};
+ghost use Rattle.lt_spec.specs.Holdings.{Holding, holding, after_line, without_one, same_holding, is_dropped, holdings, lines_of};
 
 use lt_merge::Run;
 use lt_modes::{Event, Mode};
@@ -17,7 +17,7 @@ pub(crate) struct Lock {
 }
 
 impl Model for Lock {
-    ghost use Rattle.lt_runs.specs.Holdings.{Holding};
+    ghost use Rattle.lt_spec.specs.Holdings.{Holding};
 
     ghost Value = { Holding };
 

@@ -1,5 +1,5 @@
 ghost use Rattle.std.specs.Prelude.{◌≡◌, fold, is_some};
-ghost use Rattle.lt_runs.specs.Holdings.{wanted, wanted_after, lines_of};
+ghost use Rattle.lt_spec.specs.Holdings.{wanted, wanted_after, lines_of};
 ghost use Rattle.lt_summary.specs.Summary.{waiting_after};
 
 use crate::locks::Lock;

@@ -7,11 +7,11 @@ use Rattle.lt_modes.specs.declared.moves.Step.TheVariants.{Act}
 use Rattle.lt_modes.specs.Script.{ScriptData}
 use Rattle.lt_lists.specs.Below.{any_below}
 use Rattle.lt_lists.proofs.Searches.{any_below_same}
-use Rattle.lt_runs.specs.Log.{Logged}
-use Rattle.lt_runs.specs.World.{World, world_after, is_enabled, has_mail, is_of_node, is_at_rest, anyone_waits}
-use Rattle.lt_plays.specs.Plays.{can_act}
-use Rattle.lt_joined.specs.CanMove as joined
-use Rattle.lt_joined.proofs.Moving.{act_is_seen}
+use Rattle.lt_spec.specs.Log.{Logged}
+use Rattle.lt_spec.specs.World.{World, world_after, is_enabled, has_mail, is_of_node, is_at_rest, anyone_waits}
+use Rattle.lt_law_plays.specs.Plays.{can_act}
+use Rattle.lt_law_merged.specs.CanMove as joined
+use Rattle.lt_law_merged.proofs.Moving.{act_is_seen}
 use Rattle.lt_merge.specs.Run.{RunData}
 use Rattle.lt_merge.specs.Merging.{Merges}
 use Rattle.lt_runner.specs.declared.parts.Parts.{Parts}

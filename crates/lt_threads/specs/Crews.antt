@@ -1,7 +1,7 @@
 -- How the rounds of a crew end its run.
 use Rattle.std.specs.Prelude.{◌≡◌, true, false, ℕ, List, Some, slice_get}
 use Rattle.lt_modes.specs.Script.{ScriptData}
-use Rattle.lt_runs.specs.World.{is_at_rest, anyone_waits}
+use Rattle.lt_spec.specs.World.{is_at_rest, anyone_waits}
 use Rattle.lt_runner.specs.declared.parts.Parts.{Parts}
 use Rattle.lt_crew.specs.Together.{crew_world}
 use Rattle.lt_crew.specs.Rounds.{IsCut}

@@ -1,8 +1,8 @@
 -- What a run on threads comes to.
 use Rattle.std.specs.Prelude.{◌≡◌, true, false, ℕ, List, Some}
 use Rattle.lt_modes.specs.Script.{ScriptData}
-use Rattle.lt_runs.specs.Log.{Logged}
-use Rattle.lt_runs.specs.World.{world_after, is_at_rest, anyone_waits, IsRun}
+use Rattle.lt_spec.specs.Log.{Logged}
+use Rattle.lt_spec.specs.World.{world_after, is_at_rest, anyone_waits, IsRun}
 use Rattle.lt_merge.specs.Merging.{AreRising}
 use Rattle.lt_world.specs.Fields.{full_node}
 use Rattle.lt_threads.specs.declared.threads.Ending.{Ending}

@@ -11,9 +11,9 @@ use Rattle.lt_modes.specs.declared.moves.Step.{Step}
 use Rattle.lt_modes.specs.declared.moves.Step.TheVariants.{Act, Take}
 use Rattle.lt_modes.specs.Script.{ScriptData}
 use Rattle.lt_script.specs.Script.{IsScript}
-use Rattle.lt_runs.specs.Log.{Logged}
-use Rattle.lt_runs.specs.World.{World, world_after, is_enabled, is_of_node}
-use Rattle.lt_order.proofs.Order.{takes_where}
+use Rattle.lt_spec.specs.Log.{Logged}
+use Rattle.lt_spec.specs.World.{World, world_after, is_enabled, is_of_node}
+use Rattle.lt_law_enabled.proofs.Order.{takes_where}
 use Rattle.lt_world.specs.Fields.{moves_of, can_move, is_full, full_node, AreCounted, AreAtMost}
 use Rattle.lt_world.proofs.Premises.{act_parts, act_inside}
 

@@ -6,9 +6,9 @@ use Rattle.lt_modes.specs.declared.event.Event.{Event}
 use Rattle.lt_modes.specs.declared.moves.Step.{Step}
 use Rattle.lt_modes.specs.Script.{ScriptData}
 use Rattle.lt_modes.specs.Made.{Post}
-use Rattle.lt_runs.specs.Log.{Logged}
-use Rattle.lt_runs.specs.NodeMove.{NodeMade}
-use Rattle.lt_runs.specs.World.{World, world_after, is_enabled, node_move, opened, move_stamp, logged, IsRun}
+use Rattle.lt_spec.specs.Log.{Logged}
+use Rattle.lt_spec.specs.NodeMove.{NodeMade}
+use Rattle.lt_spec.specs.World.{World, world_after, is_enabled, node_move, opened, move_stamp, logged, IsRun}
 use Rattle.lt_letter.specs.OutData.{OutData}
 use Rattle.lt_node.specs.NodeData.{NodeData, sent_by}
 use Rattle.lt_world.specs.Mail.{WireData, AreDelivered}

@@ -6,12 +6,12 @@ use Rattle.lt_modes.specs.declared.moves.Step.{Step}
 use Rattle.lt_modes.specs.declared.moves.Step.TheVariants.{Act, Take}
 use Rattle.lt_modes.specs.Script.{ScriptData}
 use Rattle.lt_lists.proofs.Searches.{none_counted, any_below_at}
-use Rattle.lt_runs.specs.Families.{home}
-use Rattle.lt_runs.specs.World.{World, is_enabled, is_at_rest, is_runnable}
-use Rattle.lt_runs.specs.FixedOrder.{Turn, takes, count_turns, pick}
-use Rattle.lt_order.specs.OrderLaws.{HasLetter}
-use Rattle.lt_order.proofs.Order.{rests, takes_where, picks_first, picks_within}
-use Rattle.lt_order.proofs.Takes.{none_taken}
+use Rattle.lt_spec.specs.Families.{home}
+use Rattle.lt_spec.specs.World.{World, is_enabled, is_at_rest, is_runnable}
+use Rattle.lt_spec.specs.FixedOrder.{Turn, takes, count_turns, pick}
+use Rattle.lt_law_enabled.specs.OrderLaws.{HasLetter}
+use Rattle.lt_law_enabled.proofs.Order.{rests, takes_where, picks_first, picks_within}
+use Rattle.lt_law_enabled.proofs.Takes.{none_taken}
 use Rattle.lt_world.proofs.Premises.{act_parts}
 
 -- no move is enabled where none is counted

@@ -7,11 +7,11 @@ use Rattle.lt_modes.specs.declared.moves.Step.TheVariants.{Take}
 use Rattle.lt_modes.specs.Script.{ScriptData}
 use Rattle.lt_modes.specs.State.{Letter}
 use Rattle.lt_modes.specs.Made.{Post}
-use Rattle.lt_runs.specs.Log.{Logged}
-use Rattle.lt_runs.specs.NodeMove.{NodeState, NodeMade, node_take, take_stamp}
-use Rattle.lt_runs.specs.World.{World, world_after, is_enabled, node_move, take_front, front_stamp, move_stamp, opened, put_mail}
-use Rattle.lt_order.specs.OrderLaws.{HasLetter}
-use Rattle.lt_order.proofs.Order.{takes_where}
+use Rattle.lt_spec.specs.Log.{Logged}
+use Rattle.lt_spec.specs.NodeMove.{NodeState, NodeMade, node_take, take_stamp}
+use Rattle.lt_spec.specs.World.{World, world_after, is_enabled, node_move, take_front, front_stamp, move_stamp, opened, put_mail}
+use Rattle.lt_law_enabled.specs.OrderLaws.{HasLetter}
+use Rattle.lt_law_enabled.proofs.Order.{takes_where}
 use Rattle.lt_letter.specs.OutData.{OutData}
 use Rattle.lt_node.specs.NodeData.{NodeData, NodeDoes, state_of}
 use Rattle.lt_world.specs.Mail.{WireData, wire_between, mail_in, put_wire, SameLetters, AreDelivered}

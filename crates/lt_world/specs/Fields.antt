@@ -4,9 +4,9 @@ use Rattle.lt_modes.specs.declared.moves.Step.TheVariants.{Act, Take}
 use Rattle.lt_modes.specs.Script.{ScriptData}
 use Rattle.lt_lists.specs.Below.{any_below, first_below, sum_below}
 use Rattle.lt_script.specs.Script.{IsScript}
-use Rattle.lt_runs.specs.Log.{Logged}
-use Rattle.lt_runs.specs.NodeMove.{NodeState}
-use Rattle.lt_runs.specs.World.{World, world_after, is_enabled, is_runnable, is_of_node, IsRun}
+use Rattle.lt_spec.specs.Log.{Logged}
+use Rattle.lt_spec.specs.NodeMove.{NodeState}
+use Rattle.lt_spec.specs.World.{World, world_after, is_enabled, is_runnable, is_of_node, IsRun}
 use Rattle.lt_letter.specs.OutData.{OutData}
 use Rattle.lt_node.specs.NodeData.{NodeData, SameNode, state_of}
 use Rattle.lt_merge.specs.Run.{RunData}

@@ -1,9 +1,9 @@
 ghost use Rattle.std.specs.Prelude.{◌≡◌, ◌<◌, ◌≤◌, ◌+◌, ◌^◌, ℕ, [], ◌∷◌, ◌++◌, All, length, slice_set, IsTrue, IfOk, OnOk, OnErr};
 ghost use Rattle.lt_modes.specs.Made as rules;
 ghost use Rattle.lt_modes.specs.declared.moves.Step.TheVariants.{Act, Take};
-ghost use Rattle.lt_runs.specs.World.{start, world_after, is_enabled, logged};
+ghost use Rattle.lt_spec.specs.World.{start, world_after, is_enabled, logged};
 ghost use Rattle.lt_letter.specs.Seen.{letter_seen};
-ghost use Rattle.lt_runs.specs.NodeMove.{node_act, node_take, act_stamp, take_stamp};
+ghost use Rattle.lt_spec.specs.NodeMove.{node_act, node_take, act_stamp, take_stamp};
 ghost use Rattle.lt_node.specs.NodeData.{NodeDoes, state_of};
 ghost use Rattle.lt_node.specs.Room.{RoomToAct, RoomToTake};
 ghost use Rattle.lt_world.specs.Mail.{SameLetters, AreDelivered, inbox_at, mail_in};

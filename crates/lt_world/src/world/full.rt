@@ -2,7 +2,7 @@ ghost use Rattle.std.specs.Prelude.{◌≡◌, ◌<◌, ℕ, length, IsTrue, IsN
 ghost use Rattle.lt_modes.specs.declared.moves.Step.{Step};
 ghost use Rattle.lt_modes.specs.declared.moves.Step.TheVariants.{Act, Take};
 ghost use Rattle.lt_lists.specs.Below.{any_below};
-ghost use Rattle.lt_runs.specs.World.{is_enabled};
+ghost use Rattle.lt_spec.specs.World.{is_enabled};
 ghost use Rattle.lt_world.specs.Fields.{world_of, moves_of, can_move, is_full, full_node};
 
 use super::World;

@@ -1,6 +1,6 @@
 ghost use Rattle.std.specs.Prelude.{◌≡◌, ◌<◌, ◌^◌, length, IfSome, None, slice_get, option_map};
-ghost use Rattle.lt_runs.specs.World.{made_by};
-ghost use Rattle.lt_runs.specs.FixedOrder.{pick, takes, count_acts, next_act, act_after, act_turn, acts_before, comes_after};
+ghost use Rattle.lt_spec.specs.World.{made_by};
+ghost use Rattle.lt_spec.specs.FixedOrder.{pick, takes, count_acts, next_act, act_after, act_turn, acts_before, comes_after};
 ghost use Rattle.lt_world.specs.Fields.{IsRunnable, world_of};
 ghost use Rattle.lt_world.specs.Choice.{choice_of, client_of, first_with, IsTurn};
 

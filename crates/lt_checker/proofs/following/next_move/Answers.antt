@@ -1,13 +1,13 @@
 use Rattle.std.proofs.Common.{◌≡◌, ◌-◌, ◌++◌, ℕ, nat_lt, true, List, Some, length, get_or, map, sym, ap, subst, ◌∙◌, arith, rules}
 use Rattle.std.proofs.lemmas.Bool.{ltb-true}
-use Rattle.lt_runs.specs.Log.{Logged}
-use Rattle.lt_runs.specs.World.{is_enabled}
+use Rattle.lt_spec.specs.Log.{Logged}
+use Rattle.lt_spec.specs.World.{is_enabled}
 use Rattle.lt_limits.specs.declared.moves.TheConstants.{MAX_MOVES}
 use Rattle.lt_merge.specs.Run.{made_at, events_at}
 use Rattle.lt_journal.specs.declared.line.Line.{Line}
 use Rattle.lt_journal.specs.declared.line.Line.TheVariants.{Event as EventLine}
 use Rattle.lt_world.specs.Fields.{world_of}
-use Rattle.lt_checking.specs.Checking.{Place, by_move, closing_at_rest}
+use Rattle.lt_law_checking.specs.Checking.{Place, by_move, closing_at_rest}
 use Rattle.lt_checker.specs.Place.{IsPlace}
 use Rattle.lt_checker.proofs.Moving.{inside, stepped, last_place, next_is_run, next_few, next_clock, wrong_clock, right_move, next_place, next_is_place}
 use Rattle.lt_checker.proofs.following.next_move.Goals as goal

@@ -1,9 +1,9 @@
 use Rattle.std.proofs.Common.{◌≡◌, ◌<◌, ℕ, length, ap, arith, subst, sym, ◌∙◌}
 use Rattle.std.specs.Prelude.{slice_index_or}
 use Rattle.lt_runner.specs.declared.parts.Parts.{Parts}
-use Rattle.lt_runs.specs.Families.{home}
-use Rattle.lt_runs.specs.NodeMove.{node_waits}
-use Rattle.lt_runs.specs.World.{is_waiting}
+use Rattle.lt_spec.specs.Families.{home}
+use Rattle.lt_spec.specs.NodeMove.{node_waits}
+use Rattle.lt_spec.specs.World.{is_waiting}
 use Rattle.lt_node.specs.NodeData.{state_of}
 use Rattle.lt_crew.specs.Together.{crew_world}
 use Rattle.lt_crew.proofs.Waiters.{waits_here}

@@ -1,6 +1,6 @@
 use Rattle.std.proofs.Common.{◌≡◌, ◌<◌, ◌∙◌, true, length, arith, sym}
 use Rattle.lt_lists.proofs.Searches.{any_below_at}
-use Rattle.lt_runs.specs.World.{is_waiting}
+use Rattle.lt_spec.specs.World.{is_waiting}
 use Rattle.lt_crew.specs.Together.{crew_world}
 use Rattle.lt_crew.proofs.waiting.some_client_waits.Goals as goal
 

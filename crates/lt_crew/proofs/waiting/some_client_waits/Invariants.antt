@@ -1,7 +1,7 @@
 -- The loop over clients.
 use Rattle.std.proofs.Common.{◌≡◌, false}
 use Rattle.lt_lists.specs.Below.{any_below}
-use Rattle.lt_runs.specs.World.{is_waiting}
+use Rattle.lt_spec.specs.World.{is_waiting}
 use Rattle.lt_crew.specs.Together.{crew_world}
 use Rattle.lt_crew.proofs.waiting.some_client_waits.Given as goal
 

@@ -2,7 +2,7 @@ use Rattle.std.proofs.Common.{◌≡◌, ◌∙◌, ◌++◌, ap, sym, ℕ, List
 use Rattle.std.specs.List.{flat_map}
 use Rattle.std.proofs.lemmas.List.Concat.{flat_map-append}
 use Rattle.lt_modes.specs.declared.mode.Mode.TheVariants.{IntentionRead}
-use Rattle.lt_runs.specs.Holdings.{holding}
+use Rattle.lt_spec.specs.Holdings.{holding}
 use Rattle.lt_journal.specs.declared.line.Line.{Line}
 use Rattle.lt_journal.specs.RunLines.{held_line, held_in_mode}
 use Rattle.lt_journal.specs.Text.{line_text, lines_text}

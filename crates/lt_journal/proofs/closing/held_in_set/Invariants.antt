@@ -1,6 +1,6 @@
 use Rattle.std.proofs.Common.{◌≡◌, ◌++◌, List, take}
 use Rattle.std.specs.List.{flat_map}
-use Rattle.lt_runs.specs.Holdings.{Holding}
+use Rattle.lt_spec.specs.Holdings.{Holding}
 use Rattle.lt_journal.specs.RunLines.{held_in_mode}
 use Rattle.lt_journal.specs.Text.{lines_text}
 use Rattle.lt_journal.specs.declared.closing.TheConstants.{MODES}

@@ -1,5 +1,5 @@
 use Rattle.std.proofs.Common.{◌≡◌, ◌++◌, List}
-use Rattle.lt_runs.specs.Holdings.{Holding}
+use Rattle.lt_spec.specs.Holdings.{Holding}
 use Rattle.lt_journal.specs.RunLines.{lines_below, held_by}
 use Rattle.lt_journal.specs.Text.{lines_text}
 use Rattle.lt_journal.specs.LockTable.{Counts}

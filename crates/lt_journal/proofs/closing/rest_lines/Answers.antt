@@ -1,7 +1,7 @@
 use Rattle.std.proofs.Common.{ap, ◌∙◌, refl, sym, subst, length, List, Option}
 use Rattle.lt_modes.specs.declared.parts.Link.{Link}
 use Rattle.std.proofs.lemmas.Result.{on_ok_weaker}
-use Rattle.lt_runs.specs.Holdings.{holdings, wanted, owner_of, Holding}
+use Rattle.lt_spec.specs.Holdings.{holdings, wanted, owner_of, Holding}
 use Rattle.lt_journal.specs.LockTable.{Tally, IsTallied, waits_for, owner_at}
 use Rattle.lt_journal.specs.RunLines.{waiting_line, waiting_lines, owner_line, owner_lines}
 use Rattle.lt_journal.proofs.Steps.{lines_more, lines_below-same}

@@ -1,6 +1,6 @@
 use Rattle.std.proofs.Common.{take, subst, arith, List}
 use Rattle.lt_modes.specs.declared.event.Event.{Event}
-use Rattle.lt_runs.specs.Holdings.{lines_of}
+use Rattle.lt_spec.specs.Holdings.{lines_of}
 use Rattle.lt_journal.specs.LockTable.{IsTallied}
 use Rattle.lt_journal.proofs.Steps.{lines_of-more}
 use Rattle.lt_journal.proofs.Few.{events_up_to, on_err}

@@ -1,5 +1,5 @@
 use Rattle.std.proofs.Common.{take}
-use Rattle.lt_runs.specs.Holdings.{lines_of}
+use Rattle.lt_spec.specs.Holdings.{lines_of}
 use Rattle.lt_journal.specs.LockTable.{IsTallied}
 use Rattle.lt_journal.proofs.tally.apply_run.Given as goal
 

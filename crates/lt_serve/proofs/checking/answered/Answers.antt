@@ -1,12 +1,12 @@
 use Rattle.std.proofs.Common.{◌≡◌, Ok, drop, subst}
 use Rattle.lt_text.specs.Text.{lines}
 use Rattle.lt_journal.specs.Split.{parts_of}
-use Rattle.lt_checking.specs.Checking.{checked}
-use Rattle.lt_checking.specs.Input.{checked_input}
-use Rattle.lt_checking.specs.Journals.{IsFinished}
+use Rattle.lt_law_checking.specs.Checking.{checked}
+use Rattle.lt_law_checking.specs.Input.{checked_input}
+use Rattle.lt_law_checking.specs.Journals.{IsFinished}
 use Rattle.lt_checker.specs.Checker.{Answers}
-use Rattle.lt_promises.specs.Promised.{Promised}
-use Rattle.lt_bounds.proofs.Within.{whole}
+use Rattle.lt_law_promises.specs.Promised.{Promised}
+use Rattle.lt_law_limits.proofs.Within.{whole}
 use Rattle.lt_serve.proofs.Journals.{input_told, counted_answer}
 use Rattle.lt_serve.proofs.checking.answered.Goals as goal
 

@@ -1,7 +1,7 @@
 use Rattle.std.proofs.Common.{◌≡◌, ◌∙◌, ◌++◌, ap, subst, []}
 use Rattle.lt_modes.specs.Script.{ScriptData}
 use Rattle.lt_text.specs.Text.{lines}
-use Rattle.lt_checking.specs.Checking.{checked}
+use Rattle.lt_law_checking.specs.Checking.{checked}
 use Rattle.lt_checker.specs.Checker.{Answers, CheckerData}
 use Rattle.lt_serve.proofs.checking.checked_journal.Goals as goal
 

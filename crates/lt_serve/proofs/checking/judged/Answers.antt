@@ -4,7 +4,7 @@ use Rattle.lt_script.specs.Script.{IsScript}
 use Rattle.lt_script.specs.Reading.{read_of}
 use Rattle.lt_journal.specs.declared.splitting.Parts.{Parts}
 use Rattle.lt_journal.specs.Split.{parts_of}
-use Rattle.lt_checking.specs.Checking.{checked}
+use Rattle.lt_law_checking.specs.Checking.{checked}
 use Rattle.lt_checker.specs.Checker.{Answers}
 use Rattle.lt_serve.specs.declared.limits.TheConstants.{MAX_JOURNAL}
 use Rattle.lt_serve.proofs.BadLines.{journal_few, line_within, lines_few}

@@ -1,4 +1,4 @@
-use Rattle.lt_runs.specs.World.{start}
+use Rattle.lt_spec.specs.World.{start}
 use Rattle.lt_serve.proofs.Ordered.{first_from}
 use Rattle.lt_serve.proofs.simulated.first_journal.Goals as goal
 

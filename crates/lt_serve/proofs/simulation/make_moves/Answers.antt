@@ -1,8 +1,8 @@
 use Rattle.std.proofs.Common.{◌≡◌, ◌∙◌, ◌++◌, ◌∷◌, [], ◌<◌, ℕ, None, ap, subst, sym, rules}
 use Rattle.std.specs.Prelude.{IsTrue}
 use Rattle.lt_script.specs.Script.{IsScript}
-use Rattle.lt_runs.specs.World.{start, logged, is_enabled}
-use Rattle.lt_runs.specs.FixedOrder.{count_turns}
+use Rattle.lt_spec.specs.World.{start, logged, is_enabled}
+use Rattle.lt_spec.specs.FixedOrder.{count_turns}
 use Rattle.lt_world.specs.Fields.{WorldData, full_node, world_of}
 use Rattle.lt_serve.specs.declared.order.Order.{Order}
 use Rattle.lt_serve.specs.Endings.{StopsInTime}

@@ -1,5 +1,5 @@
 use Rattle.std.proofs.Common.{◌≡◌}
-use Rattle.lt_runs.specs.World.{start}
+use Rattle.lt_spec.specs.World.{start}
 use Rattle.lt_serve.specs.Endings.{StopsInTime}
 use Rattle.lt_serve.specs.Orders.{AreInOrder}
 use Rattle.lt_serve.proofs.Ordered.{order_after}

@@ -1,6 +1,6 @@
 use Rattle.std.proofs.Common.{◌∙◌, ap, Option}
 use Rattle.std.specs.Prelude.{None, fold}
-use Rattle.lt_runs.specs.Holdings.{Holding, wanted_after}
+use Rattle.lt_spec.specs.Holdings.{Holding, wanted_after}
 use Rattle.lt_summary.proofs.Lines.{fold_lines-more}
 use Rattle.lt_summary.proofs.waiting.wanted.Goals as goal
 

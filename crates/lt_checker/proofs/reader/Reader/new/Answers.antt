@@ -2,9 +2,9 @@ use Rattle.std.proofs.Common.{◌≡◌, ◌++◌, ◌∙◌, [], List, ap, arit
 use Rattle.lt_journal.specs.declared.line.Line.{Line}
 use Rattle.lt_limits.specs.declared.moves.TheConstants.{MAX_MOVES}
 use Rattle.lt_world.specs.Fields.{WorldData}
-use Rattle.lt_checking.specs.Checking.{Place, first_place, closing_at_rest}
-use Rattle.lt_checking.specs.Journals.{HasCome}
-use Rattle.lt_checking.proofs.Places.{first_begins}
+use Rattle.lt_law_checking.specs.Checking.{Place, first_place, closing_at_rest}
+use Rattle.lt_law_checking.specs.Journals.{HasCome}
+use Rattle.lt_law_checking.proofs.Places.{first_begins}
 use Rattle.lt_checker.specs.Place.{AreCounts}
 use Rattle.lt_checker.proofs.reader.Reader.new.Goals as goal
 

@@ -1,5 +1,5 @@
 use Rattle.std.proofs.Common.{◌≡◌, ◌-◌, sym, subst, List, ℕ, set, get_or, rules}
-use Rattle.lt_runs.specs.Holdings.{without_one}
+use Rattle.lt_spec.specs.Holdings.{without_one}
 use Rattle.lt_journal.specs.LockTable.{cell_of, HasCell, Counts}
 use Rattle.lt_journal.proofs.Cells.{less_in_cell, less_elsewhere}
 use Rattle.lt_journal.proofs.table.Table.take.Goals as goal

@@ -1,6 +1,6 @@
 use Rattle.std.proofs.Common.{Bool, true, sym, subst, ap, ◌∙◌}
 use Rattle.lt_modes.specs.declared.event.Event.TheVariants.{Try, Unlock, DropAll}
-use Rattle.lt_runs.specs.Holdings.{holdings}
+use Rattle.lt_spec.specs.Holdings.{holdings}
 use Rattle.lt_journal.specs.LockTable.{Tally, IsTallied}
 use Rattle.lt_journal.proofs.Telling.{tells_next, tells_event}
 use Rattle.lt_journal.proofs.tally.Tally.apply.Goals as goal

@@ -1,7 +1,7 @@
 use Rattle.std.proofs.Common.{◌++◌, ◌∷◌, [], sym, subst, arith}
 use Rattle.std.proofs.lemmas.Result.{on_ok_weaker, on_err_weaker}
 use Rattle.lt_modes.specs.declared.event.Event.TheVariants.{Unlock}
-use Rattle.lt_runs.specs.Holdings.{holdings}
+use Rattle.lt_spec.specs.Holdings.{holdings}
 use Rattle.lt_journal.specs.LockTable.{Tally, IsTallied}
 use Rattle.lt_journal.proofs.Telling.{tells_next, as_change, fewer_held}
 use Rattle.lt_journal.proofs.tally.Tally.change.Goals as goal

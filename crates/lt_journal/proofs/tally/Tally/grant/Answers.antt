@@ -1,6 +1,6 @@
 use Rattle.std.proofs.Common.{◌++◌, ◌∷◌, [], sym, subst}
 use Rattle.lt_modes.specs.declared.event.Event.TheVariants.{Grant}
-use Rattle.lt_runs.specs.Holdings.{holdings}
+use Rattle.lt_spec.specs.Holdings.{holdings}
 use Rattle.lt_journal.specs.LockTable.{Tally, IsTallied}
 use Rattle.lt_journal.proofs.Telling.{tells_next}
 use Rattle.lt_journal.proofs.tally.Tally.grant.Goals as goal

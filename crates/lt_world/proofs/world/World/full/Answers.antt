@@ -1,7 +1,7 @@
 use Rattle.std.proofs.Common.{◌≡◌, ◌<◌, ◌∙◌, ℕ, None, true, false, arith, sym, ap, subst}
 use Rattle.lt_modes.specs.declared.moves.Step.{Step}
 use Rattle.std.specs.Prelude.{IsTrue}
-use Rattle.lt_runs.specs.World.{is_enabled}
+use Rattle.lt_spec.specs.World.{is_enabled}
 use Rattle.lt_world.specs.Fields.{WorldData, world_of, moves_of, is_full, full_node}
 use Rattle.lt_world.proofs.Counts.{least_full, none_full, none_at_limit, room_left}
 use Rattle.lt_world.proofs.world.World.full.Goals as goal
