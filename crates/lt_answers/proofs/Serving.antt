@@ -8,7 +8,7 @@ use Rattle.lt_words.specs.declared.command.Command.{Command}
 use Rattle.lt_words.specs.declared.command.Command.TheVariants.{SimFirst, Check}
 use Rattle.lt_serve.specs.declared.status.Status.{Status}
 use Rattle.lt_serve.specs.declared.status.Status.TheVariants.{Done, Cut}
-use Rattle.lt_serve.specs.Causes.{HasCause, TellsSource, TellsSink, WritesNothing, limit_of}
+use Rattle.lt_serve.specs.Causes.{HasStatusCause, TellsSource, TellsSink, WritesNothing, limit_of}
 use Rattle.lt_serve.specs.Complete.{IsComplete}
 use Rattle.lt_serve.specs.TopCall.{Tells}
 use Rattle.lt_answers.specs.Examples.{two_writers}
@@ -51,7 +51,7 @@ serves_say state held faults = record {
       (told 1 SimFirst answer.status (Cut 0) (state s).left (Some two_writers) answer.run.entries (held k) (Some old) (held l) (Some new)
       is input before after h.tells);
   bad = λ answer s t k l h line is input.
-      check_says.bad line (subst₂ (λ (left : Option (List ℕ)) (a : Status). HasCause (Some Check) left a) input is h.causes);
+      check_says.bad line (subst₂ (λ (left : Option (List ℕ)) (a : Status). HasStatusCause (Some Check) left a) input is h.causes);
   wrong_words = λ answer s t k l h.
       let usage = h.causes.no_command refl in
       (usage, h.unread refl, h.unwritten (subst WritesNothing (sym usage) tt));

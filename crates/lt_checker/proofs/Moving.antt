@@ -18,7 +18,7 @@ use Rattle.lt_modes.specs.declared.event.Event.{Event}
 use Rattle.lt_journal.specs.declared.line.Line.{Line}
 use Rattle.lt_journal.specs.declared.line.Line.TheVariants.{Move as MoveLine, Event as EventLine}
 use Rattle.lt_world.specs.Fields.{WorldData, world_of}
-use Rattle.lt_law_checking.specs.Checking.{closing_at_rest, moved, may_move, by_move}
+use Rattle.lt_law_checking.specs.Checking.{closing_at_rest, moved, has_moves_left, by_move}
 use Rattle.lt_law_checking.specs.Journals.{HasFewMoves}
 use Rattle.lt_law_checking.proofs.Places.{stamp_node, is_logged, count_push, few_push}
 use Rattle.lt_law_checking.proofs.Heard.{come_moved}
@@ -66,7 +66,7 @@ counts_more script counts run entry q were is_q inside = record {
 pub record IsStepped (script : ScriptData) (world : WorldData) (counts : List ℕ) (node : ℕ) (step : Step) (next : WorldData) : Type 0 where
   pub place : IsPlace script world counts []
   pub enabled : is_enabled script (world_after script world.run) node step ≡ true
-  pub may : may_move world.run node ≡ true
+  pub may : has_moves_left world.run node ≡ true
   pub next_is : next ≡ record world { run = world.run ++ logged script (world_after script world.run) node step ∷ [] }
 
 pub inside : (script : ScriptData) (world : WorldData) (counts : List ℕ) (node : ℕ) (step : Step) → IsPlace script world counts []
@@ -131,7 +131,7 @@ pub wrong_clock : (script : ScriptData) (run : List Logged) (clock node : ℕ) (
 wrong_clock script run clock node step apart =
     let w = world_after script run in
     ap (λ (b : Bool). cond b (Some (moved script run (logged script w node step))) None)
-    (no_next (is_enabled script w node step) (clock == (move_stamp w node step).clock) (may_move run node) (ne_eqb clock (move_stamp w node step).clock apart))
+    (no_next (is_enabled script w node step) (clock == (move_stamp w node step).clock) (has_moves_left run node) (ne_eqb clock (move_stamp w node step).clock apart))
 
 pub right_move : (script : ScriptData) (world : WorldData) (counts : List ℕ) (node : ℕ) (step : Step) (next : WorldData) (clock : ℕ) → IsStepped script world counts node step next
     → clock ≡ (move_stamp (world_after script world.run) node step).clock
@@ -139,8 +139,8 @@ pub right_move : (script : ScriptData) (world : WorldData) (counts : List ℕ) (
 right_move script world counts node step next clock s same =
     let w = world_after script world.run in
     ap (λ (b : Bool). cond b (Some (moved script world.run (logged script w node step))) None)
-    (and_from (is_enabled script w node step) ((clock == (move_stamp w node step).clock) && may_move world.run node) s.enabled
-    (and_from (clock == (move_stamp w node step).clock) (may_move world.run node) (eq-eqb clock (move_stamp w node step).clock same) s.may))
+    (and_from (is_enabled script w node step) ((clock == (move_stamp w node step).clock) && has_moves_left world.run node) s.enabled
+    (and_from (clock == (move_stamp w node step).clock) (has_moves_left world.run node) (eq-eqb clock (move_stamp w node step).clock same) s.may))
 
 -- the events that stand last in the run are those of the move
 pub last_events : (run : List Logged) (entry : Logged) (k : ℕ) (events : List Event) → suc k ≡ length (run ++ entry ∷ []) → events_at (run ++ entry ∷ []) k ≡ Some events → entry.events ≡ events

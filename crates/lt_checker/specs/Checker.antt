@@ -37,7 +37,7 @@ abbrev pub StandsFor : CheckerData → List ℕ → Type 0
 StandsFor checker bytes = checker.feed ≡ Some (fed_piece checker.script (new_feed checker.script) bytes)
 
 -- the answer tells this run, or this bad line, or that memory was refused
-abbrev pub Answers : Result (List Logged) ℕ → Result RunData ReplayError → Type 0
-Answers told (Ok run) = told ≡ Ok run.entries
-Answers told (Err Memory) = Unit {0}
-Answers told (Err (Bad line)) = told ≡ Err line
+abbrev pub IsAnswer : Result (List Logged) ℕ → Result RunData ReplayError → Type 0
+IsAnswer told (Ok run) = told ≡ Ok run.entries
+IsAnswer told (Err Memory) = Unit {0}
+IsAnswer told (Err (Bad line)) = told ≡ Err line

@@ -29,9 +29,9 @@ LedTo next true run due = next ≡ Some (record { run = run; due = due })
 LedTo next false run due = next ≡ None
 
 -- the place, while no line was bad
-abbrev pub place_of : Bool → List Logged → List Line → Option Place
-place_of true run due = None
-place_of false run due = Some (record { run = run; due = due })
+abbrev pub place_now : Bool → List Logged → List Line → Option Place
+place_now true run due = None
+place_now false run due = Some (record { run = run; due = due })
 
 -- where no line was bad, the fields are those of a place
 abbrev pub KeepsPlace : Bool → ScriptData → WorldData → List ℕ → List Line → Type 0

@@ -2,7 +2,7 @@ ghost use Rattle.std.specs.Prelude.{◌≡◌, [], ◌∷◌, ◌++◌, ℕ, Lis
 ghost use Rattle.lt_text.specs.Text.{lines, without_return};
 ghost use Rattle.lt_law_checking.specs.Checking.{checked, read_on};
 ghost use Rattle.lt_law_checking.specs.Feeding.{Feed, new_feed, fed_piece, last_ended, ended};
-ghost use Rattle.lt_checker.specs.Checker.{CheckerData, StandsFor, Answers, with_piece, spent};
+ghost use Rattle.lt_checker.specs.Checker.{CheckerData, StandsFor, IsAnswer, with_piece, spent};
 
 use crate::error::ReplayError;
 use crate::reader::Reader;
@@ -64,8 +64,8 @@ impl<'a> Checker<'a> {
 
     /// The run whose journal the bytes are, or the first bad line.
     pub fn end(self) -> Result<Run, ReplayError>
-        ensures answers { (bytes : List ℕ) → StandsFor self.entry bytes → Answers (checked self.entry.script (lines bytes)) result }
-        ensures ended { (feed : Feed) → self.entry.feed ≡ Some feed → Answers (ended self.entry.script feed) result }
+        ensures answers { (bytes : List ℕ) → StandsFor self.entry bytes → IsAnswer (checked self.entry.script (lines bytes)) result }
+        ensures ended { (feed : Feed) → self.entry.feed ≡ Some feed → IsAnswer (ended self.entry.script feed) result }
         ensures refused { IsNone self.entry.feed → result ≡ Err ReplayError.Memory }
     {
         let Checker {

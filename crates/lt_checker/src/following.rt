@@ -1,5 +1,5 @@
 ghost use Rattle.std.specs.Prelude.{◌≡◌, [], IfOk, IsTrue};
-ghost use Rattle.lt_law_checking.specs.Checking.{by_move, after};
+ghost use Rattle.lt_law_checking.specs.Checking.{by_move, place_after};
 ghost use Rattle.lt_checker.specs.Place.{IsPlace, LedTo};
 
 use crate::counts::Counts;
@@ -25,7 +25,7 @@ pub(crate) fn follow(
     requires { IsPlace script.now world.old counts.old due.old.items }
     ensures place { IfOk result (λ good. IsTrue good → IsPlace script.now world.new counts.new due.new.items) }
     ensures led { IfOk result (λ good.
-        LedTo (after script.now (record { run = world.old.run; due = due.old.items }) line.now) good world.new.run due.new.items) }
+        LedTo (place_after script.now (record { run = world.old.run; due = due.old.items }) line.now) good world.new.run due.new.items) }
 {
     let Some(expected) = due.pop_front() else {
         return next_move(alloc, script, world, counts, due, read_line(script, line));

@@ -1,7 +1,7 @@
 ghost use Rattle.std.specs.Prelude.{◌≡◌, IfOk};
 ghost use Rattle.lt_script.specs.Script.{IsScript};
 ghost use Rattle.lt_law_checking.specs.Checking.{first_reader, read_on, verdict};
-ghost use Rattle.lt_checker.specs.Checker.{Answers};
+ghost use Rattle.lt_checker.specs.Checker.{IsAnswer};
 
 use crate::counts::Counts;
 use crate::due::push_closing;
@@ -33,13 +33,13 @@ pub(crate) struct Reader<'a> {
 impl<'a> Model for Reader<'a> {
     ghost use Rattle.std.specs.Prelude.{◌<◌, ◌+◌, ◌^◌};
     ghost use Rattle.lt_script.specs.Script.{IsScript};
-    ghost use Rattle.lt_checker.specs.Place.{ReaderData, KeepsPlace, place_of};
+    ghost use Rattle.lt_checker.specs.Place.{ReaderData, KeepsPlace, place_now};
 
     ghost Value = { ReaderData };
 
     ghost view = { λ r. record {
       script = r.script.now;
-      reader = record { place = place_of r.bad r.world.run r.due.items; good = r.good };
+      reader = record { place = place_now r.bad r.world.run r.due.items; good = r.good };
     } };
 
     ghost invariant = { λ r. IsScript r.script.now × (r.good + 1 < 2 ^ 32) × KeepsPlace r.bad r.script.now r.world r.counts r.due.items };
@@ -99,7 +99,7 @@ impl<'a> Reader<'a> {
 
     /// The run, where all its lines are there.
     pub(crate) fn finish(self) -> Result<Run, ReplayError>
-        ensures answers { Answers (verdict self.entry.script self.entry.reader) result }
+        ensures answers { IsAnswer (verdict self.entry.script self.entry.reader) result }
         ensures is_script { IsScript self.entry.script }
     {
         if self.bad || !self.due.is_empty() || !self.world.at_rest() {

@@ -5,14 +5,14 @@ use Rattle.std.specs.Prelude.{insert, ◌&&◌, not, fold, filter_map, nat_lt}
 use Rattle.std.proofs.lemmas.List.Edits.{length-insert}
 use Rattle.lt_modes.specs.declared.mode.Mode.{Mode}
 use Rattle.lt_modes.specs.declared.parts.Hoped.{Hoped}
-use Rattle.lt_modes.specs.Modes.{bars, same_modes, is_taking, Modes}
+use Rattle.lt_modes.specs.Modes.{bars, same_modes, excludes_itself, Modes}
 use Rattle.lt_modes.specs.State.{Parked, ParkedAsk, ParkedTell, Letter, Body, AskBody, TellBody, CopyBody, TokenBody, FreezeBody, SetState, Desk}
 use Rattle.lt_modes.specs.Held.{held_modes, count_of, take_lock}
 use Rattle.lt_modes.specs.Queue.{place, after_holders_from}
 use Rattle.lt_modes.specs.Tells.{told}
 use Rattle.lt_modes.specs.Records.{entry_of}
 use Rattle.lt_modes.specs.Granting.{can_grant}
-use Rattle.lt_modes.specs.Serving.{queue_of_desk, queue_of, next_move, ask_at, serve}
+use Rattle.lt_modes.specs.Serving.{queue_of_desk, queue_of, next_draw, ask_at, serve}
 use Rattle.lt_core.proofs.AskLemmas.{asks_last, asks_first, count_few}
 use Rattle.lt_core.specs.Steps.{ask_count}
 use Rattle.lt_letter.specs.OutData.{OutData, FitsOut}
@@ -49,7 +49,7 @@ most_attended set stamp s =
     let frozen : AtMost (nodes_of s.desk) second = subst (λ n. AtMost n second) (nodes_served (length (queue_of s)) set stamp s) (most_frozen set stamp first.state first.state.desk) in
     most_then (length (queue_of s) + nodes_of s.desk) 1 (then_do first (freeze set stamp)) (hand_over set stamp)
     (most_then (length (queue_of s)) (nodes_of s.desk) first (freeze set stamp) (most_served (length (queue_of s)) set stamp s) frozen)
-    (most_for set stamp second.state (next_move stamp.node second.state))
+    (most_for set stamp second.state (next_draw stamp.node second.state))
 
 -- one letter at most leads an ask or a tell on
 most_way : (set : ℕ) (stamp : Stamp) (item : Parked) (s : SetState) (w : Way) → (length (sent_on set stamp item s w).posts ≤ 1) × (length (sent_on set stamp item s w).events ≤ 0)
@@ -108,7 +108,7 @@ waits_reversed me item s false hoped = omega arith
 waits_sent : (set : ℕ) (stamp : Stamp) (item : Parked) (s : SetState) (w : Way) → most (sent_on set stamp item s w).state ≤ most s + 1
 waits_sent set stamp item s Parks = omega (arith, asks_last s.parked item, count_few item)
 waits_sent set stamp (ParkedAsk ask) s (Goes to marked) =
-    waits_reversed stamp.node (ParkedAsk ask) s (is_taking ask.mode && not (ask.node == stamp.node)) (Some (record { node = ask.node; stamp = ask.stamp }))
+    waits_reversed stamp.node (ParkedAsk ask) s (excludes_itself ask.mode && not (ask.node == stamp.node)) (Some (record { node = ask.node; stamp = ask.stamp }))
 waits_sent set stamp (ParkedTell tell) s (Goes to marked) = omega arith
 
 waits_routed : (set : ℕ) (stamp : Stamp) (marked : Bool) (item : Parked) (s : SetState) (d : Option Desk) → s.desk ≡ d → most (route_by set stamp marked item s d).state ≤ most s + 1

@@ -6,7 +6,7 @@ use Rattle.lt_modes.specs.SetMove.{take}
 use Rattle.lt_modes.specs.Telling.{finish}
 use Rattle.lt_letter.specs.OutData.{OutData, FitsOut}
 use Rattle.lt_core.specs.declared.order.Order.{Order}
-use Rattle.lt_core.specs.CoreData.{waiting}
+use Rattle.lt_core.specs.CoreData.{waiting_here}
 use Rattle.lt_core.specs.Orders.{move_of}
 
 -- the nodes that the desk knows, where it is here
@@ -17,7 +17,7 @@ nodes_of (Some desk) = length desk.entries
 -- so many letters at most, and so many event lines, come from the end of a move: one for each ask that waits,
 -- one for each node, and the token or a tell
 abbrev pub most : SetState → ℕ
-most s = waiting s + nodes_of s.desk + 1
+most s = waiting_here s + nodes_of s.desk + 1
 
 -- so many asks and nodes come with what a letter says
 abbrev pub brought : Body → ℕ

@@ -1,6 +1,6 @@
 ghost use Rattle.std.specs.Prelude.{◌≡◌, ◌+◌, ◌≤◌, ◌<◌, length, Some, None, IfSome, slice_index_or};
 ghost use Rattle.lt_modes.specs.Queue.{no_ask};
-ghost use Rattle.lt_modes.specs.Serving.{queue_of, next_move};
+ghost use Rattle.lt_modes.specs.Serving.{queue_of, next_draw};
 ghost use Rattle.lt_modes.specs.Freezing.{freeze};
 ghost use Rattle.lt_modes.specs.HandingOver.{hand_over, hand_over_to};
 ghost use Rattle.lt_desk.specs.Freezes.{bits_from};
@@ -82,7 +82,7 @@ impl Core {
 
     // The place of the ask to whose node the desk moves.
     fn next_move(&self) -> Option<u32>
-        ensures next { result ≡ next_move self.now.node self.now.state }
+        ensures next { result ≡ next_draw self.now.node self.now.state }
         ensures within { IfSome result (λ k. k < length (queue_of self.now.state)) }
     {
         match &self.desk {

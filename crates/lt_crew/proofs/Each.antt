@@ -7,7 +7,7 @@ use Rattle.lt_mail.specs.declared.lane.OutLane.{OutLane}
 use Rattle.lt_mail.specs.declared.lane.InLane.{InLane}
 use Rattle.lt_runner.specs.declared.hand.Hand.{Hand}
 use Rattle.lt_runner.specs.declared.parts.Parts.{Parts}
-use Rattle.lt_runner.specs.Hands.{Holds}
+use Rattle.lt_runner.specs.Hands.{HandStays}
 use Rattle.lt_runner.specs.Kept.{SameRunner, AsSeen}
 use Rattle.lt_crew.specs.Together.{EachIs}
 
@@ -40,7 +40,7 @@ seen_self a = record {
   hand = holds a.hand;
 }
   where
-    holds : (x : Option Hand) → Holds x x
+    holds : (x : Option Hand) → HandStays x x
     holds None = tt
     holds (Some x) = (refl, refl)
 

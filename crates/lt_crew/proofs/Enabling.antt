@@ -8,17 +8,17 @@ use Rattle.lt_law_merged.specs.CanMove.{can_move, RestIsNoMove}
 use Rattle.lt_runner.specs.declared.parts.Parts.{Parts}
 use Rattle.lt_runner.specs.Crew.{InCrew}
 use Rattle.lt_runner.specs.Kept.{SameRunner, AsSeen}
-use Rattle.lt_runner.specs.Choices.{choice_of}
+use Rattle.lt_runner.specs.Choices.{next_choice}
 use Rattle.lt_runner.specs.Looking.{is_move}
 use Rattle.lt_runner.proofs.KeptLemmas.{seen_join}
 use Rattle.lt_crew.specs.Together.{EachIs, AreKept, IsCrew, crew_world}
-use Rattle.lt_crew.specs.Meeting.{AreLinked, AreMet, AnyTwo, HaveFetched}
+use Rattle.lt_crew.specs.Meeting.{RunnersLinked, AreMet, AnyTwo, HaveFetched}
 use Rattle.lt_crew.specs.Enabled.{IsLeastEnabled, EachShows, IsFirstMove, NoneShows}
 use Rattle.lt_crew.proofs.Each.{each_before, each_join, each_len, each_weaker}
 use Rattle.lt_crew.proofs.Linked.{links_last}
 use Rattle.lt_crew.proofs.Shown.{shows_is}
 
-pub crew_linked : (script : ScriptData) (rs : List Parts) → IsCrew script rs → AreLinked rs
+pub crew_linked : (script : ScriptData) (rs : List Parts) → IsCrew script rs → RunnersLinked rs
 crew_linked script rs crew = record { me = λ k p e. (crew.each k p e).me; links = crew.links }
 
 pub crew_last : (script : ScriptData) (old new : List Parts) → EachIs SameRunner old new → IsCrew script old → IsCrew script new
@@ -47,13 +47,13 @@ crew_seen script old mid new first second crew =
 same : {a b : Parts} → Some a ≡ Some b → a ≡ b
 same e = cc
 
-pub next_shows : (n : ℕ) (rs : List Parts) (d : Parts) → n < length rs → NoneShows n rs → is_move (choice_of (get_or rs n d)) ≡ false → NoneShows (n + 1) rs
+pub next_shows : (n : ℕ) (rs : List Parts) (d : Parts) → n < length rs → NoneShows n rs → is_move (next_choice (get_or rs n d)) ≡ false → NoneShows (n + 1) rs
 next_shows n rs d inside before here k p below e = elim (cases_eq k n) [
-  | inl at ↦ subst (λ (q : Parts). is_move (choice_of q) ≡ false) (same (sym (slice_get-get_or rs n d inside) ∙ ap (slice_get rs) (sym at) ∙ e)) here
+  | inl at ↦ subst (λ (q : Parts). is_move (next_choice q) ≡ false) (same (sym (slice_get-get_or rs n d inside) ∙ ap (slice_get rs) (sym at) ∙ e)) here
   | inr apart ↦ before k p (omega (arith, below, apart)) e
 ]
 
-pub first_shows : (n : ℕ) (rs : List Parts) (d : Parts) → n < length rs → NoneShows n rs → is_move (choice_of (get_or rs n d)) ≡ true → IsFirstMove rs (Some n)
+pub first_shows : (n : ℕ) (rs : List Parts) (d : Parts) → n < length rs → NoneShows n rs → is_move (next_choice (get_or rs n d)) ≡ true → IsFirstMove rs (Some n)
 first_shows n rs d inside before here = (record { p = get_or rs n d; here = slice_get-get_or rs n d inside; shows = here }, before)
 
 pub none_shows : (n : ℕ) (rs : List Parts) → length rs ≤ n → NoneShows n rs → IsFirstMove rs None

@@ -3,27 +3,27 @@ use Rattle.std.proofs.Common.{◌≡◌, ◌<◌, ◌≤◌, ◌+◌, ℕ, inl, 
 use Rattle.std.specs.Prelude.{slice_get, slice_set}
 use Rattle.std.proofs.lemmas.Bool.{cases_eq}
 use Rattle.std.proofs.lemmas.Option.{slice_get-get_or, slice_get_within}
-use Rattle.lt_mail.specs.Lanes.{given, waiting}
+use Rattle.lt_mail.specs.Lanes.{ring_given, outbox_letters}
 use Rattle.lt_mail.specs.Words.{out_at, on_out, Alike}
 use Rattle.lt_runner.specs.declared.hand.Hand.{Hand}
 use Rattle.lt_runner.specs.declared.parts.Parts.{Parts}
-use Rattle.lt_runner.specs.Hands.{Holds}
-use Rattle.lt_runner.specs.Kept.{Kept, AsSeen}
-use Rattle.lt_runner.specs.Looking.{IsMet, HasFetched, Fetches}
+use Rattle.lt_runner.specs.Hands.{HandStays}
+use Rattle.lt_runner.specs.Kept.{RunnerInvariant, AsSeen}
+use Rattle.lt_runner.specs.Looking.{HasMet, HasFetched, Fetches}
 use Rattle.lt_crew.specs.Together.{EachIs, AreKept}
 use Rattle.lt_crew.specs.Meeting.{AreMet, AnyTwo, HaveFetched, Fetching}
 use Rattle.lt_runner.proofs.KeptLemmas.{seen_join}
 use Rattle.lt_crew.proofs.Each.{seen_self, each_self, each_join, set_here, set_other}
 
 abbrev pub KeptTo : ℕ → List Parts → Type 0
-KeptTo n rs = (k : ℕ) (p : Parts) → k < n → slice_get rs k ≡ Some p → Kept p
+KeptTo n rs = (k : ℕ) (p : Parts) → k < n → slice_get rs k ≡ Some p → RunnerInvariant p
 
 same : {a b : Parts} → Some a ≡ Some b → a ≡ b
 same e = cc
 
-pub next_kept : (n : ℕ) (rs : List Parts) (d : Parts) → n < length rs → KeptTo n rs → Kept (get_or rs n d) → KeptTo (n + 1) rs
+pub next_kept : (n : ℕ) (rs : List Parts) (d : Parts) → n < length rs → KeptTo n rs → RunnerInvariant (get_or rs n d) → KeptTo (n + 1) rs
 next_kept n rs d inside before here k p below e = elim (cases_eq k n) [
-  | inl at ↦ subst (λ (q : Parts). Kept q) (same (sym (slice_get-get_or rs n d inside) ∙ ap (slice_get rs) (sym at) ∙ e)) here
+  | inl at ↦ subst (λ (q : Parts). RunnerInvariant q) (same (sym (slice_get-get_or rs n d inside) ∙ ap (slice_get rs) (sym at) ∙ e)) here
   | inr apart ↦ before k p (omega (arith, below, apart)) e
 ]
 
@@ -35,16 +35,16 @@ record Was (old : List Parts) (k : ℕ) (p : Parts) : Type 0 where
   was : Parts
   here : slice_get old k ≡ Some was
   outs : (node : ℕ) → out_at p.mail node ≡ out_at was.mail node
-  met : (a : ℕ) (x u : Parts) → out_at u.mail k ≡ out_at x.mail k → IsMet a k x was → IsMet a k u p
+  met : (a : ℕ) (x u : Parts) → out_at u.mail k ≡ out_at x.mail k → HasMet a k x was → HasMet a k u p
 
 -- what the sender and the taker know stays when the taker takes a letter into its hand
-met_fetched : (a k : ℕ) (x u y v : Parts) → out_at u.mail k ≡ out_at x.mail k → Fetches y v → IsMet a k x y → IsMet a k u v
+met_fetched : (a k : ℕ) (x u y v : Parts) → out_at u.mail k ≡ out_at x.mail k → Fetches y v → HasMet a k x y → HasMet a k u v
 met_fetched a k x u y v out f met = record {
-  whole = f.whole a ∙ met.whole ∙ ap (on_out given) (sym out);
-  moves = λ none empty. ap (on_out waiting) out ∙ met.moves (was_none y.hand v.hand f.seen.hand none) (sym (f.none none a) ∙ empty);
+  whole = f.whole a ∙ met.whole ∙ ap (on_out ring_given) (sym out);
+  moves = λ none empty. ap (on_out outbox_letters) out ∙ met.moves (was_none y.hand v.hand f.seen.hand none) (sym (f.none none a) ∙ empty);
 }
   where
-    was_none : (h g : Option Hand) → Holds h g → g ≡ None → h ≡ None
+    was_none : (h g : Option Hand) → HandStays h g → g ≡ None → h ≡ None
     was_none None g holds e = refl
     was_none (Some h) None holds e = absurd holds
     was_none (Some h) (Some g) holds e = absurd (cc)

@@ -15,13 +15,13 @@ use Rattle.lt_law_plays.specs.Plays.{Plays}
 use Rattle.lt_law_plays.specs.Parts.{Part, Joined}
 use Rattle.lt_node.specs.NodeData.{state_of}
 use Rattle.lt_mail.specs.declared.lane.OutLane.{OutLane}
-use Rattle.lt_mail.specs.Lanes.{given, waiting, sent_by}
+use Rattle.lt_mail.specs.Lanes.{ring_given, outbox_letters, sent_by}
 use Rattle.lt_mail.specs.Words.{on_out, out_at, sent_to, given_to, waiting_to, taken_from, known_from}
 use Rattle.lt_runner.specs.declared.parts.Parts.{Parts}
 use Rattle.lt_runner.specs.Hands.{in_hand}
-use Rattle.lt_runner.specs.Kept.{Kept}
+use Rattle.lt_runner.specs.Kept.{RunnerInvariant}
 use Rattle.lt_crew.specs.Together.{used_of, part_of, IsCrew, AreKept}
-use Rattle.lt_runner.specs.Looking.{IsMet}
+use Rattle.lt_runner.specs.Looking.{HasMet}
 use Rattle.lt_crew.specs.Meeting.{AreMet, AnyTwo}
 
 -- what stands before the last letters
@@ -30,33 +30,33 @@ front xs ys =
     let same : length (xs ++ ys) - length ys ≡ length xs = omega (arith, length-append xs ys) in
     rw same (take-append_seam xs ys)
 
-pub used_is : (p : Parts) (kept : Kept p) (node : ℕ) → used_of p node ≡ kept.used node
+pub used_is : (p : Parts) (kept : RunnerInvariant p) (node : ℕ) → used_of p node ≡ kept.used node
 used_is p kept node =
     let all = kept.taken node in
     ap (λ (letters : List Letter). take (length letters - length (in_hand node p.hand)) letters) all ∙ front (kept.used node) (in_hand node p.hand)
 
--- what was sent is what the ring was given, and then what waits
+-- what was sent is what the ring was ring_given, and then what waits
 pub sent_is : (p : Parts) (node : ℕ) → sent_to p.mail node ≡ given_to p.mail node ++ waiting_to p.mail node
 sent_is p node = by_lane (out_at p.mail node)
   where
-    by_lane : (lane : Option OutLane) → on_out sent_by lane ≡ on_out given lane ++ on_out waiting lane
+    by_lane : (lane : Option OutLane) → on_out sent_by lane ≡ on_out ring_given lane ++ on_out outbox_letters lane
     by_lane None = refl
-    by_lane (Some lane) = map-append letter_seen (given lane) (waiting lane)
+    by_lane (Some lane) = map-append letter_seen (ring_given lane) (outbox_letters lane)
 
 -- the letters of node a for the runner that were not used
 abbrev pub left_for : ℕ → ℕ → Parts → Parts → List Letter
 left_for a b x y = in_hand a y.hand ++ (known_from y.mail a ++ waiting_to x.mail b)
 
-pub left_is : (a b : ℕ) (x y : Parts) (kept : Kept y) → IsMet a b x y → sent_to x.mail b ≡ used_of y a ++ left_for a b x y
+pub left_is : (a b : ℕ) (x y : Parts) (kept : RunnerInvariant y) → HasMet a b x y → sent_to x.mail b ≡ used_of y a ++ left_for a b x y
 left_is a b x y kept met =
     let used = used_of y a in
     let hand = in_hand a y.hand in
     let known = known_from y.mail a in
-    let waiting = waiting_to x.mail b in
+    let outbox_letters = waiting_to x.mail b in
     let taken : taken_from y.mail a ≡ used ++ hand = kept.taken a ∙ ap (λ (letters : List Letter). letters ++ hand) (sym (used_is y kept a)) in
-    let given : given_to x.mail b ≡ (used ++ hand) ++ known = sym met.whole ∙ ap (λ (letters : List Letter). letters ++ known) taken in
-    sent_is x b ∙ (ap (λ (letters : List Letter). letters ++ waiting) given
-    ∙ (append_assoc (used ++ hand) known waiting ∙ append_assoc used hand (known ++ waiting)))
+    let ring_given : given_to x.mail b ≡ (used ++ hand) ++ known = sym met.whole ∙ ap (λ (letters : List Letter). letters ++ known) taken in
+    sent_is x b ∙ (ap (λ (letters : List Letter). letters ++ outbox_letters) ring_given
+    ∙ (append_assoc (used ++ hand) known outbox_letters ∙ append_assoc used hand (known ++ outbox_letters)))
 
 pub part_from : (rs : List Parts) (k : ℕ) (part : Part) → slice_get (map part_of rs) k ≡ Some part → (p : Parts) × (slice_get rs k ≡ Some p) × (part_of p ≡ part)
 part_from rs k part e = by_place (slice_get rs k) refl (sym (slice_get-map part_of rs k) ∙ e)

@@ -8,7 +8,7 @@ use Rattle.lt_mail.specs.declared.lane.InLane.{InLane}
 use Rattle.lt_runner.specs.declared.parts.Parts.{Parts}
 use Rattle.lt_runner.specs.Kept.{SameRunner, AsSeen}
 use Rattle.lt_crew.specs.Together.{EachIs}
-use Rattle.lt_crew.specs.Meeting.{AreLinked}
+use Rattle.lt_crew.specs.Meeting.{RunnersLinked}
 use Rattle.lt_crew.proofs.Each.{seen_self, each_weaker, each_before, each_push, slice_left}
 
 links_stay : (o p : Option OutLane) (i j : Option InLane) → Alike SameOut o p → Alike SameIn i j → Both IsOpenLink o i → Both IsOpenLink p j
@@ -30,7 +30,7 @@ links_last old new each links a b x y ea eb apart =
     links_stay (out_at was_a.0.mail b) (out_at x.mail b) (in_at was_b.0.mail a) (in_at y.mail a) (sends.ends.outs b) (takes.ends.ins a)
     (links a b was_a.0 was_b.0 was_a.1 was_b.1 apart)
 
-pub linked_last : (old new : List Parts) → EachIs AsSeen old new → AreLinked old → AreLinked new
+pub linked_last : (old new : List Parts) → EachIs AsSeen old new → RunnersLinked old → RunnersLinked new
 linked_last old new each h =
     let same : EachIs SameRunner old new = each_weaker AsSeen SameRunner (λ a b seen. seen.same) old new each in
     record {
@@ -38,7 +38,7 @@ linked_last old new each h =
       links = links_last old new same h.links;
     }
 
-pub linked_rest : (rest : List Parts) (last : Parts) → AreLinked (rest ++ last ∷ []) → AreLinked rest
+pub linked_rest : (rest : List Parts) (last : Parts) → RunnersLinked (rest ++ last ∷ []) → RunnersLinked rest
 linked_rest rest last h = record {
   me = λ k p e. h.me k p (in_rest k p e);
   links = λ a b x y ea eb apart. h.links a b x y (in_rest a x ea) (in_rest b y eb) apart;
@@ -47,6 +47,6 @@ linked_rest rest last h = record {
     in_rest : (k : ℕ) (p : Parts) → slice_get rest k ≡ Some p → slice_get (rest ++ last ∷ []) k ≡ Some p
     in_rest k p e = slice_left rest (last ∷ []) k (slice_get_within rest k p e) ∙ e
 
-pub linked_after : (rest after : List Parts) (last : Parts) → AreLinked (rest ++ last ∷ []) → EachIs AsSeen rest after → AreLinked (after ++ last ∷ [])
+pub linked_after : (rest after : List Parts) (last : Parts) → RunnersLinked (rest ++ last ∷ []) → EachIs AsSeen rest after → RunnersLinked (after ++ last ∷ [])
 linked_after rest after last h seen =
     linked_last (rest ++ last ∷ []) (after ++ last ∷ []) (each_push AsSeen rest after last last seen (seen_self last)) h

@@ -18,7 +18,7 @@ use Rattle.lt_runner.specs.declared.parts.Parts.{Parts}
 use Rattle.lt_runner.specs.Kept.{SameRunner, AsSeen}
 use Rattle.lt_crew.specs.Together.{part_of, IsCrew, AreKept, EachIs}
 use Rattle.lt_crew.specs.Meeting.{AreMet, AnyTwo}
-use Rattle.lt_crew.specs.Finished.{entries_of, log_of, AreCrewLogs}
+use Rattle.lt_crew.specs.Finished.{run_entries, log_of, AreCrewLogs}
 use Rattle.lt_crew.proofs.Each.{each_weaker}
 use Rattle.lt_crew.proofs.Enabling.{crew_last}
 use Rattle.lt_crew.proofs.Joined.{joined}
@@ -32,7 +32,7 @@ heads : {X : Type 0} {x y : X} {xs ys : List X} → x ∷ xs ≡ y ∷ ys → (x
 heads e = (cc, cc)
 
 -- no log is longer than a node may make moves
-few_entries : (rs : List Parts) (logs : List RunData) → map entries_of logs ≡ map log_of rs
+few_entries : (rs : List Parts) (logs : List RunData) → map run_entries logs ≡ map log_of rs
     → ((k : ℕ) (p : Parts) → slice_get rs k ≡ Some p → length p.log.entries ≤ 1048576) → length (all_entries logs) ≤ length rs * 1048576
 few_entries [] [] e short = omega arith
 few_entries [] (log ∷ logs) e short = absurd (cc)
@@ -43,7 +43,7 @@ few_entries (p ∷ rs) (log ∷ logs) e short =
     omega (arith, rest, short 0 p refl, ap length both.0, length-append log.entries (all_entries logs))
 
 pub crew_logs : (script : ScriptData) (old rs : List Parts) (logs : List RunData) → IsCrew script old → EachIs AsSeen old rs → AreMet AnyTwo rs → AreKept rs
-    → map entries_of logs ≡ map log_of rs → AreCrewLogs script old logs
+    → map run_entries logs ≡ map log_of rs → AreCrewLogs script old logs
 crew_logs script old rs logs was seen met kept same =
     let crew = crew_last script old rs (each_weaker AsSeen SameRunner (λ a b s. s.same) old rs seen) was in
     let plays = joined script rs crew kept met in
@@ -72,11 +72,11 @@ crew_logs script old rs logs was seen met kept same =
     short crew k p e = let bound = (kept k p e).bounded in let limit = (crew.each k p e).limit in omega (arith, bound, limit)
 
 -- the logs that were taken and those that are left are all
-pub log_taken : (all : List (List Logged)) (logs : List RunData) (log : RunData) (rs : List Parts) (p : Parts) → map entries_of logs ++ map log_of rs ≡ all
-    → 0 < length rs → p ≡ get_or rs 0 p → log.entries ≡ p.log.entries → map entries_of (logs ++ log ∷ []) ++ map log_of (remove rs 0) ≡ all
+pub log_taken : (all : List (List Logged)) (logs : List RunData) (log : RunData) (rs : List Parts) (p : Parts) → map run_entries logs ++ map log_of rs ≡ all
+    → 0 < length rs → p ≡ get_or rs 0 p → log.entries ≡ p.log.entries → map run_entries (logs ++ log ∷ []) ++ map log_of (remove rs 0) ≡ all
 log_taken all logs log [] p e some first same = absurd (omega (arith, some))
 log_taken all logs log (q ∷ rs) p e some first same =
-    ap (λ (xs : List (List Logged)). xs ++ map log_of rs) (map-append entries_of logs (log ∷ []))
-    ∙ append_assoc (map entries_of logs) (log.entries ∷ []) (map log_of rs)
-    ∙ ap (λ (x : List Logged). map entries_of logs ++ x ∷ map log_of rs) (same ∙ ap log_of first)
+    ap (λ (xs : List (List Logged)). xs ++ map log_of rs) (map-append run_entries logs (log ∷ []))
+    ∙ append_assoc (map run_entries logs) (log.entries ∷ []) (map log_of rs)
+    ∙ ap (λ (x : List Logged). map run_entries logs ++ x ∷ map log_of rs) (same ∙ ap log_of first)
     ∙ e

@@ -6,24 +6,24 @@ use Rattle.std.proofs.lemmas.List.{length-set, length_push, take_at}
 use Rattle.std.proofs.lemmas.Option.{slice_get_cases, slice_get-get_or}
 use Rattle.lt_mail.specs.Words.{out_at, in_at, on_out, on_in, Alike, Both, IsOpenLink}
 use Rattle.lt_mail.specs.declared.lane.InLane.{InLane}
-use Rattle.lt_mail.specs.Lanes.{given, waiting, taken, known}
+use Rattle.lt_mail.specs.Lanes.{ring_given, outbox_letters, taken, known}
 use Rattle.lt_runner.specs.declared.parts.Parts.{Parts}
 use Rattle.lt_runner.specs.Kept.{AsSeen}
-use Rattle.lt_runner.specs.Looking.{AreBeside, IsMet, LooksTo, LooksFrom}
+use Rattle.lt_runner.specs.Looking.{AreBeside, HasMet, LooksTo, LooksFrom}
 use Rattle.lt_crew.specs.Together.{EachIs}
-use Rattle.lt_crew.specs.Meeting.{AreMet, AnyTwo, AmongFirst, AreLinked, LooksAt, BothLook, PairMeets, Settling}
+use Rattle.lt_crew.specs.Meeting.{AreMet, AnyTwo, AmongFirst, RunnersLinked, LooksAt, BothLook, PairMeets, Settling}
 use Rattle.lt_runner.proofs.KeptLemmas.{seen_join}
 use Rattle.lt_crew.proofs.Each.{seen_self, each_self, each_join, each_len, each_push, slice_left, slice_right, set_here, set_other}
 use Rattle.lt_crew.proofs.Linked.{linked_last}
 
 -- what two runners know of each other is seen from the lanes between them and from the hand
-pub met_stays : (a b : ℕ) (x y u v : Parts) → out_at u.mail b ≡ out_at x.mail b → in_at v.mail a ≡ in_at y.mail a → v.hand ≡ y.hand → IsMet a b x y → IsMet a b u v
+pub met_stays : (a b : ℕ) (x y u v : Parts) → out_at u.mail b ≡ out_at x.mail b → in_at v.mail a ≡ in_at y.mail a → v.hand ≡ y.hand → HasMet a b x y → HasMet a b u v
 met_stays a b x y u v out into hand met = record {
-  whole = ap (λ (i : Option InLane). on_in taken i ++ on_in known i) into ∙ met.whole ∙ ap (on_out given) (sym out);
-  moves = λ none empty. ap (on_out waiting) out ∙ met.moves (sym hand ∙ none) (ap (on_in known) (sym into) ∙ empty);
+  whole = ap (λ (i : Option InLane). on_in taken i ++ on_in known i) into ∙ met.whole ∙ ap (on_out ring_given) (sym out);
+  moves = λ none empty. ap (on_out outbox_letters) out ∙ met.moves (sym hand ∙ none) (ap (on_in known) (sym into) ∙ empty);
 }
 
-pub both_look : (m n : ℕ) (x y x1 y1 u v : Parts) → m ≢ n → LooksTo n x x1 → LooksFrom m y y1 → IsMet m n x1 y1 → LooksTo m y1 v → LooksFrom n x1 u → IsMet n m v u
+pub both_look : (m n : ℕ) (x y x1 y1 u v : Parts) → m ≢ n → LooksTo n x x1 → LooksFrom m y y1 → HasMet m n x1 y1 → LooksTo m y1 v → LooksFrom n x1 u → HasMet n m v u
     → BothLook m n x y u v
 both_look m n x y x1 y1 u v apart to from met back_to back_from back = record {
   first = record {
@@ -101,11 +101,11 @@ next_pair m n old now new order s h =
     same : {a b : Parts} → Some a ≡ Some b → a ≡ b
     same e = cc
 
-    at_two : (a b i j : ℕ) (x y p q : Parts) → a ≡ i → b ≡ j → x ≡ p → y ≡ q → IsMet i j p q → IsMet a b x y
-    at_two a b i j x y p q e f g k met = subst (λ (o : ℕ). IsMet o b x y) (sym e)
-        (subst (λ (o : ℕ). IsMet i o x y) (sym f) (subst (λ (o : Parts). IsMet i j o y) (sym g) (subst (λ (o : Parts). IsMet i j p o) (sym k) met)))
+    at_two : (a b i j : ℕ) (x y p q : Parts) → a ≡ i → b ≡ j → x ≡ p → y ≡ q → HasMet i j p q → HasMet a b x y
+    at_two a b i j x y p q e f g k met = subst (λ (o : ℕ). HasMet o b x y) (sym e)
+        (subst (λ (o : ℕ). HasMet i o x y) (sym f) (subst (λ (o : Parts). HasMet i j o y) (sym g) (subst (λ (o : Parts). HasMet i j p o) (sym k) met)))
 
-    apart_met : (a b : ℕ) (x y : Parts) → AmongFirst n (m + 1) a b → a ≢ b → (a ≡ m → b ≢ n) → (a ≡ n → b ≢ m) → slice_get new a ≡ Some x → slice_get new b ≡ Some y → IsMet a b x y
+    apart_met : (a b : ℕ) (x y : Parts) → AmongFirst n (m + 1) a b → a ≢ b → (a ≡ m → b ≢ n) → (a ≡ n → b ≢ m) → slice_get new a ≡ Some x → slice_get new b ≡ Some y → HasMet a b x y
     apart_met a b x y pass other there back ea eb =
         let wa = was_at m n now new h a x ea in
         let wb = was_at m n now new h b y eb in
@@ -133,7 +133,7 @@ next_pair m n old now new order s h =
       ]
     ]
 
-pub row_starts : (n : ℕ) (rs : List Parts) → AreLinked rs → AreMet (AmongFirst n 0) rs → Settling n 0 rs rs
+pub row_starts : (n : ℕ) (rs : List Parts) → RunnersLinked rs → AreMet (AmongFirst n 0) rs → Settling n 0 rs rs
 row_starts n rs linked met = record { linked = linked; seen = each_self AsSeen seen_self rs; met = met }
 
 pub row_ends : (n : ℕ) (old new : List Parts) → Settling n n old new → Settling (n + 1) 0 old new
@@ -174,7 +174,7 @@ across front back m x y d e order some ex ey = record {
   second = slice_right front back (length front) 0 (omega arith) ∙ slice_get-get_or back 0 e some ∙ ap Some (sym ey);
 }
 
-pub beside_across : (front back : List Parts) (m : ℕ) (d e : Parts) → m < length front → 0 < length back → AreLinked (front ++ back)
+pub beside_across : (front back : List Parts) (m : ℕ) (d e : Parts) → m < length front → 0 < length back → RunnersLinked (front ++ back)
     → AreBeside (get_or front m d) (get_or back 0 e)
 beside_across front back m d e order some linked =
     let x = get_or front m d in
@@ -184,7 +184,7 @@ beside_across front back m d e order some linked =
     (subst (λ (i : ℕ). Both IsOpenLink (out_at x.mail (length front)) (in_at y.mail i)) (sym (linked.me m x at.first))
     (linked.links m (length front) x y at.first at.second (λ e. omega (arith, e, order))))
 
-pub beside_back : (front back : List Parts) (m : ℕ) (d e : Parts) → m < length front → 0 < length back → AreLinked (front ++ back)
+pub beside_back : (front back : List Parts) (m : ℕ) (d e : Parts) → m < length front → 0 < length back → RunnersLinked (front ++ back)
     → AreBeside (get_or back 0 e) (get_or front m d)
 beside_back front back m d e order some linked =
     let x = get_or front m d in
@@ -195,7 +195,7 @@ beside_back front back m d e order some linked =
     (linked.links (length front) m y x at.second at.first (λ e. omega (arith, e, order))))
 
 -- the two looked at each other, and stand where they stood
-pub pair_meets : (front back : List Parts) (m : ℕ) (d e u v : Parts) → m < length front → 0 < length back → AreLinked (front ++ back)
+pub pair_meets : (front back : List Parts) (m : ℕ) (d e u v : Parts) → m < length front → 0 < length back → RunnersLinked (front ++ back)
     → BothLook (get_or front m d).node.me (get_or back 0 e).node.me (get_or front m d) (get_or back 0 e) u v
     → PairMeets m (length front) (front ++ back) (slice_set front m u ++ slice_set back 0 v)
 pair_meets front back m d e u v order some linked look = record {
@@ -233,7 +233,7 @@ pair_meets front back m d e u v order some linked look = record {
           ∙ set_other back 0 v (k - length front) (λ e. omega (arith, e, above)) ∙ sym (slice_right front back k (k - length front) (omega (arith, above)))
     ]
 
-pub last_starts : (rs : List Parts) (last : Parts) → AreLinked (rs ++ last ∷ []) → AreMet AnyTwo rs → Settling (length rs) 0 (rs ++ last ∷ []) (rs ++ last ∷ [])
+pub last_starts : (rs : List Parts) (last : Parts) → RunnersLinked (rs ++ last ∷ []) → AreMet AnyTwo rs → Settling (length rs) 0 (rs ++ last ∷ []) (rs ++ last ∷ [])
 last_starts rs last linked met = row_starts (length rs) (rs ++ last ∷ []) linked among
   where
     among : AreMet (AmongFirst (length rs) 0) (rs ++ last ∷ [])

@@ -9,7 +9,7 @@ use Rattle.lt_lists.proofs.Members.{some_equal}
 use Rattle.lt_spec.specs.World.{World, world_after}
 use Rattle.lt_law_merged.specs.CanMove.{can_move}
 use Rattle.lt_runner.specs.declared.parts.Parts.{Parts}
-use Rattle.lt_runner.specs.Choices.{choice_of}
+use Rattle.lt_runner.specs.Choices.{next_choice}
 use Rattle.lt_runner.specs.Looking.{is_move}
 use Rattle.lt_runner.specs.Kept.{SameRunner, AsSeen, Grew}
 use Rattle.lt_crew.specs.declared.rounds.Ended.{Ended}
@@ -18,7 +18,7 @@ use Rattle.lt_crew.specs.declared.rounds.Pushed.{Pushed}
 use Rattle.lt_crew.specs.declared.rounds.Pushed.TheVariants.{Moved, Still, Full, NoMemory}
 use Rattle.lt_crew.specs.Together.{EachIs, IsCrew, crew_world}
 use Rattle.lt_crew.specs.Enabled.{IsLeastEnabled, IsFirstMove}
-use Rattle.lt_crew.specs.Rounds.{IsCut, room_of}
+use Rattle.lt_crew.specs.Rounds.{IsCrewCut, room_of}
 use Rattle.lt_crew.specs.Pushes.{PushedAt, Tried, CanPush, PushedOn, PushEnds, is_end, first_end, other_end}
 use Rattle.lt_runner.proofs.KeptLemmas.{seen_join}
 use Rattle.lt_crew.proofs.Each.{seen_self, each_join, each_len, each_weaker, each_before}
@@ -49,7 +49,7 @@ crew_grew script old new h crew = crew_lasts script old new (grew_same old new h
 pub same_world : (script : ScriptData) (old new : List Parts) → EachIs AsSeen old new → crew_world script new ≡ crew_world script old
 same_world script old new h = ap (world_after script) (same_run script old new (each_weaker AsSeen SameLog (λ a b seen. seen.log) old new h))
 
-pub cut_lasts : (k : ℕ) (script : ScriptData) (old new : List Parts) → EachIs AsSeen old new → IsCut k script old → IsCut k script new
+pub cut_lasts : (k : ℕ) (script : ScriptData) (old new : List Parts) → EachIs AsSeen old new → IsCrewCut k script old → IsCrewCut k script new
 cut_lasts k script old new h cut = record {
   below = cut.below;
   moves = subst (λ (w : World). can_move script w k ≡ true) (sym world) cut.moves;
@@ -104,12 +104,12 @@ other_moved script old new crew h = record { crew = crew_grew script old new h.g
 pub other_over : (script : ScriptData) (old new : List Parts) → IsCrew script old → Tried NoMemory old new → PushEnds (Some ended.NoMemory) script old new
 other_over script old new crew h = record { crew = crew_grew script old new h.grew crew; grew = h.grew; ends = tt }
 
-pub other_still : (k : ℕ) (script : ScriptData) (old new : List Parts) → IsCrew script old → IsCut k script old → Tried Still old new
+pub other_still : (k : ℕ) (script : ScriptData) (old new : List Parts) → IsCrew script old → IsCrewCut k script old → Tried Still old new
     → PushEnds (Some (ended.Cut k)) script old new
 other_still k script old new crew cut h =
     record { crew = crew_grew script old new h.grew crew; grew = h.grew; ends = cut_lasts k script old new h.ends cut }
 
-pub other_full : (k : ℕ) (script : ScriptData) (old new : List Parts) → IsCrew script old → IsCut k script old → Tried Full old new
+pub other_full : (k : ℕ) (script : ScriptData) (old new : List Parts) → IsCrew script old → IsCrewCut k script old → Tried Full old new
     → PushEnds (Some (ended.Cut k)) script old new
 other_full k script old new crew cut h =
     record { crew = crew_grew script old new h.grew crew; grew = h.grew; ends = cut_lasts k script old new h.ends cut }
@@ -129,7 +129,7 @@ first_still k script old new can at = at.one.shown (λ e. true≢false (sym (can
 pub first_crew : (k : ℕ) (script : ScriptData) (old new : List Parts) → IsCrew script old → PushedAt Full k old new → IsCrew script new
 first_crew k script old new crew at = crew_grew script old new (at_grew Full k old new at) crew
 
-pub first_full : (k : ℕ) (script : ScriptData) (old new : List Parts) → CanPush script k old → PushedAt Full k old new → IsCut k script new
+pub first_full : (k : ℕ) (script : ScriptData) (old new : List Parts) → CanPush script k old → PushedAt Full k old new → IsCrewCut k script new
 first_full k script old new can at = record {
   below = can.least.0;
   moves = subst (λ (w : World). can_move script w k ≡ true) (sym world) can.least.1;
@@ -159,7 +159,7 @@ after_full k e script old mid new at = after_grew e script old mid new (at_grew 
 pub after_seen : (e : Option Ended) (script : ScriptData) (old mid new : List Parts) → EachIs AsSeen old mid → PushEnds e script mid new → PushEnds e script old new
 after_seen e script old mid new seen = after_grew e script old mid new (each_seen old mid seen)
 
-pub others_end : (tried : Pushed) (k : ℕ) (script : ScriptData) (old new : List Parts) → IsCrew script old → IsCut k script old → Tried tried old new
+pub others_end : (tried : Pushed) (k : ℕ) (script : ScriptData) (old new : List Parts) → IsCrew script old → IsCrewCut k script old → Tried tried old new
     → PushEnds (other_end tried k) script old new
 others_end Moved k script old new crew cut h = other_moved script old new crew h
 others_end NoMemory k script old new crew cut h = other_over script old new crew h
@@ -203,5 +203,5 @@ lent_grew old new len whole same h = rw (take_at new (drop (length new) old) len
 pub can_push : (script : ScriptData) (k : ℕ) (rs : List Parts) → IsLeastEnabled script (crew_world script rs) (Some k) → IsFirstMove rs (Some k) → CanPush script k rs
 can_push script k rs least first = record {
   least = least;
-  shows = λ p e. let same = some_equal first.0.p p (sym first.0.here ∙ e) in ap (λ (q : Parts). is_move (choice_of q)) (sym same) ∙ first.0.shows;
+  shows = λ p e. let same = some_equal first.0.p p (sym first.0.here ∙ e) in ap (λ (q : Parts). is_move (next_choice q)) (sym same) ∙ first.0.shows;
 }

@@ -25,7 +25,7 @@ use Rattle.lt_runner.specs.declared.choice.Choice.TheVariants.{Nothing, Take}
 use Rattle.lt_runner.specs.declared.choice.TheConstants.{LAST_CLOCK}
 use Rattle.lt_runner.specs.declared.hand.Hand.{Hand}
 use Rattle.lt_runner.specs.declared.parts.Parts.{Parts}
-use Rattle.lt_runner.specs.Choices.{least_below, or_this, may_move, may_act, may_take, act_of, act_choice, choice_by, choice_of}
+use Rattle.lt_runner.specs.Choices.{least_below, or_this, may_move, may_act, may_take, act_of, act_choice, choice_by, next_choice}
 use Rattle.lt_runner.specs.Hands.{in_hand, IsFromPeer}
 use Rattle.lt_crew.specs.Together.{part_of, crew_run, crew_world, IsCrew, AreKept}
 use Rattle.lt_runner.specs.Looking.{HasFetched, is_move}
@@ -185,11 +185,11 @@ no_mail script rs k p seen fetched empty = none_below script.nodes (λ a. has_ma
 
 -- a runner that has met all others and fetched what came shows a move exactly where its node can make one
 pub shows_is : (script : ScriptData) (rs : List Parts) → IsCrew script rs → AreKept rs → AreMet AnyTwo rs → (k : ℕ) (p : Parts) → slice_get rs k ≡ Some p
-    → HasFetched p → is_move (choice_of p) ≡ can_move script (crew_world script rs) k
+    → HasFetched p → is_move (next_choice p) ≡ can_move script (crew_world script rs) k
 shows_is script rs crew kept met k p here fetched =
     let in_crew = crew.each k p here in
     let state = state_of p.node in
-    let named : is_move (choice_of p) ≡ is_move (choice_by script k state p.hand) =
+    let named : is_move (next_choice p) ≡ is_move (choice_by script k state p.hand) =
     ap (λ (s : ScriptData). is_move (choice_by s p.node.me state p.hand)) in_crew.script_is
     ∙ ap (λ (m : ℕ). is_move (choice_by script m state p.hand)) in_crew.me in
     named ∙ by_hand p.hand refl

@@ -10,8 +10,8 @@ use Rattle.lt_mail.specs.Words.{Alike}
 use Rattle.lt_runner.specs.declared.parts.Parts.{Parts}
 use Rattle.lt_runner.specs.declared.turned.Worked.TheVariants as worked
 use Rattle.lt_runner.specs.declared.choice.Choice.TheVariants as choices
-use Rattle.lt_runner.specs.Choices.{choice_of}
-use Rattle.lt_runner.specs.Kept.{Kept, AsSeen, Grew, MovedOne, OneEnds}
+use Rattle.lt_runner.specs.Choices.{next_choice}
+use Rattle.lt_runner.specs.Kept.{RunnerInvariant, AsSeen, Grew, MovedOne, OneEnds}
 use Rattle.lt_crew.specs.declared.rounds.Pushed.{Pushed}
 use Rattle.lt_crew.specs.declared.rounds.Pushed.TheVariants.{Moved, Still, Full, NoMemory}
 use Rattle.lt_crew.specs.Together.{EachIs}
@@ -37,10 +37,10 @@ longer a b h = omega (arith, ap (λ (log : List Logged). length log) h.log.1, le
 
 -- one turn
 
-pub pushed_moved : (a b : Parts) → Grew a b → Kept b → length a.log.entries < length b.log.entries → OnePushed Moved a b
+pub pushed_moved : (a b : Parts) → Grew a b → RunnerInvariant b → length a.log.entries < length b.log.entries → OnePushed Moved a b
 pushed_moved a b grew kept more = record { grew = grew; ends = more; bounded = kept.bounded; shown = λ shows e. cc }
 
-pub pushed_still : (a b : Parts) → Grew a b → Kept b → OneEnds worked.Idle a b → (choice_of a ≢ choices.Nothing → worked.Idle ≡ worked.Idle → MovedOne a b)
+pub pushed_still : (a b : Parts) → Grew a b → RunnerInvariant b → OneEnds worked.Idle a b → (next_choice a ≢ choices.Nothing → worked.Idle ≡ worked.Idle → MovedOne a b)
     → nat_lt (length a.log.entries) (length b.log.entries) ≡ false → OnePushed Still a b
 pushed_still a b grew kept one moves none = record {
   grew = grew;
@@ -58,10 +58,10 @@ pushed_still a b grew kept one moves none = record {
     by_end (inl m) = absurd (moved m)
     by_end (inr quiet) = quiet.0
 
-pub pushed_full : (a b : Parts) → Grew a b → Kept b → OneEnds worked.Full a b → OnePushed Full a b
+pub pushed_full : (a b : Parts) → Grew a b → RunnerInvariant b → OneEnds worked.Full a b → OnePushed Full a b
 pushed_full a b grew kept one = record { grew = grew; ends = (one.0, one.1.log); bounded = kept.bounded; shown = λ shows e. cc }
 
-pub pushed_over : (a b : Parts) → Grew a b → Kept b → OnePushed NoMemory a b
+pub pushed_over : (a b : Parts) → Grew a b → RunnerInvariant b → OnePushed NoMemory a b
 pushed_over a b grew kept = record { grew = grew; ends = tt; bounded = kept.bounded; shown = λ shows e. cc }
 
 -- how many moves are left, place by place

@@ -8,8 +8,8 @@ use Rattle.lt_merge.specs.Merging.{all_entries, AreLogs, Merges}
 use Rattle.lt_runner.specs.declared.parts.Parts.{Parts}
 use Rattle.lt_crew.specs.Together.{crew_run}
 
-abbrev pub entries_of : RunData → List Logged
-entries_of log = log.entries
+abbrev pub run_entries : RunData → List Logged
+run_entries log = log.entries
 
 abbrev pub log_of : Parts → List Logged
 log_of p = p.log.entries

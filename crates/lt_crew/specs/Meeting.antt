@@ -3,12 +3,12 @@ use Rattle.std.specs.Prelude.{◌≡◌, ◌≢◌, ◌⊎◌, ◌<◌, ℕ, Lis
 use Rattle.lt_mail.specs.Words.{out_at, in_at, Both, IsOpenLink}
 use Rattle.lt_runner.specs.declared.parts.Parts.{Parts}
 use Rattle.lt_runner.specs.Kept.{AsSeen}
-use Rattle.lt_runner.specs.Looking.{IsMet, HasFetched}
+use Rattle.lt_runner.specs.Looking.{HasMet, HasFetched}
 use Rattle.lt_crew.specs.Together.{EachIs}
 
 -- so it is of each two runners that pass
 abbrev pub AreMet : (ℕ → ℕ → Type 0) → List Parts → Type 0
-AreMet pass rs = (a b : ℕ) (x y : Parts) → pass a b → a ≢ b → slice_get rs a ≡ Some x → slice_get rs b ≡ Some y → IsMet a b x y
+AreMet pass rs = (a b : ℕ) (x y : Parts) → pass a b → a ≢ b → slice_get rs a ≡ Some x → slice_get rs b ≡ Some y → HasMet a b x y
 
 -- any two
 abbrev pub AnyTwo : ℕ → ℕ → Type 0
@@ -23,7 +23,7 @@ abbrev pub HaveFetched : ℕ → List Parts → Type 0
 HaveFetched n rs = (k : ℕ) (p : Parts) → k < n → slice_get rs k ≡ Some p → HasFetched p
 
 -- each runner is that of its place, and each two have the ends of the rings between them
-pub record AreLinked (rs : List Parts) : Type 0 where
+pub record RunnersLinked (rs : List Parts) : Type 0 where
   pub me : (k : ℕ) (p : Parts) → slice_get rs k ≡ Some p → p.node.me ≡ k
   pub links : (a b : ℕ) (x y : Parts) → slice_get rs a ≡ Some x → slice_get rs b ≡ Some y → a ≢ b → Both IsOpenLink (out_at x.mail b) (in_at y.mail a)
 
@@ -38,8 +38,8 @@ pub record LooksAt (other : ℕ) (a b : Parts) : Type 0 where
 pub record BothLook (m n : ℕ) (x y u v : Parts) : Type 0 where
   pub first : LooksAt n x u
   pub second : LooksAt m y v
-  pub there : IsMet m n u v
-  pub back : IsMet n m v u
+  pub there : HasMet m n u v
+  pub back : HasMet n m v u
 
 -- so did those at these two places, and the others stay
 pub record PairMeets (m n : ℕ) (old new : List Parts) : Type 0 where
@@ -56,7 +56,7 @@ pub record PairMeets (m n : ℕ) (old new : List Parts) : Type 0 where
 
 -- of the runners each two of the first n looked at the rings between them, and so did the one after these and the first m
 pub record Settling (n m : ℕ) (old new : List Parts) : Type 0 where
-  pub linked : AreLinked new
+  pub linked : RunnersLinked new
   pub seen : EachIs AsSeen old new
   pub met : AreMet (AmongFirst n m) new
 

@@ -3,7 +3,7 @@ use Rattle.std.specs.Prelude.{◌≡◌, ◌≢◌, ◌≤◌, ◌<◌, Bool, tr
 use Rattle.lt_modes.specs.Script.{ScriptData}
 use Rattle.lt_runner.specs.declared.parts.Parts.{Parts}
 use Rattle.lt_runner.specs.declared.choice.Choice.TheVariants as choices
-use Rattle.lt_runner.specs.Choices.{choice_of}
+use Rattle.lt_runner.specs.Choices.{next_choice}
 use Rattle.lt_runner.specs.Looking.{is_move}
 use Rattle.lt_runner.specs.Kept.{AsSeen, Grew}
 use Rattle.lt_crew.specs.declared.rounds.Ended.{Ended}
@@ -26,7 +26,7 @@ pub record OnePushed (pushed : Pushed) (a b : Parts) : Type 0 where
   pub grew : Grew a b
   pub ends : PushedEnds pushed a b
   pub bounded : length b.log.entries ≤ b.limit
-  pub shown : choice_of a ≢ choices.Nothing → pushed ≢ Still
+  pub shown : next_choice a ≢ choices.Nothing → pushed ≢ Still
 
 -- the one at this place did, and the others stay
 pub record PushedAt (pushed : Pushed) (k : ℕ) (old new : List Parts) : Type 0 where
@@ -51,7 +51,7 @@ pub record Tried (pushed : Pushed) (old new : List Parts) : Type 0 where
 -- this is the least node that can make a move, and its runner shows one
 pub record CanPush (script : ScriptData) (k : ℕ) (rs : List Parts) : Type 0 where
   pub least : IsLeastEnabled script (crew_world script rs) (Some k)
-  pub shows : (p : Parts) → slice_get rs k ≡ Some p → is_move (choice_of p) ≡ true
+  pub shows : (p : Parts) → slice_get rs k ≡ Some p → is_move (next_choice p) ≡ true
 
 -- a move was made, or the rounds are over
 abbrev pub PushedOn : Option Ended → ScriptData → List Parts → List Parts → Type 0

@@ -9,7 +9,7 @@ use Rattle.lt_crew.specs.declared.rounds.Ended.TheVariants.{Rest, Cut, NoMemory}
 use Rattle.lt_crew.specs.Together.{crew_world}
 
 -- node k is the least that can make a move, and has made as many as it may
-pub record IsCut (k : ℕ) (script : ScriptData) (rs : List Parts) : Type 0 where
+pub record IsCrewCut (k : ℕ) (script : ScriptData) (rs : List Parts) : Type 0 where
   pub below : k < script.nodes
   pub moves : can_move script (crew_world script rs) k ≡ true
   pub least : (j : ℕ) → j < k → can_move script (crew_world script rs) j ≡ false
@@ -18,7 +18,7 @@ pub record IsCut (k : ℕ) (script : ScriptData) (rs : List Parts) : Type 0 wher
 -- the runners are at rest, or one of them is cut
 abbrev pub RoundsEnd : Ended → ScriptData → List Parts → Type 0
 RoundsEnd Rest script rs = is_at_rest script (crew_world script rs) ≡ true
-RoundsEnd (Cut k) script rs = IsCut k script rs
+RoundsEnd (Cut k) script rs = IsCrewCut k script rs
 RoundsEnd NoMemory script rs = Unit {0}
 
 -- how many moves more they may make together

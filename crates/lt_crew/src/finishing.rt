@@ -1,7 +1,7 @@
 // The logs of all runners.
 ghost use Rattle.std.specs.Prelude.{◌≡◌, [], IfOk, map};
 ghost use Rattle.lt_crew.specs.Together.{IsCrew};
-ghost use Rattle.lt_crew.specs.Finished.{AreCrewLogs, entries_of, log_of};
+ghost use Rattle.lt_crew.specs.Finished.{AreCrewLogs, run_entries, log_of};
 
 use crate::fetching::all_kept;
 use crate::settling::settle;
@@ -29,7 +29,7 @@ pub fn finish<'a>(
 // Adds the logs of the runners.
 fn take_logs<'a>(mut runners: Vec<Runner<'a>>, mut logs: Vec<Log>) -> Result<Vec<Log>, AllocError>
     requires { logs.items ≡ [] }
-    ensures { IfOk result (λ all. map entries_of all.items ≡ map log_of runners.entry.items) }
+    ensures { IfOk result (λ all. map run_entries all.items ≡ map log_of runners.entry.items) }
 {
     while !runners.is_empty() {
         let runner = runners.remove(0);

@@ -1,7 +1,7 @@
 ghost use Rattle.std.specs.Prelude.{◌≡◌, ◌<◌, ◌⊎◌, length};
 ghost use Rattle.lt_runner.specs.Kept.{Grew};
 ghost use Rattle.lt_crew.specs.Together.{EachIs, IsCrew};
-ghost use Rattle.lt_crew.specs.Rounds.{RoundsEnd, IsCut};
+ghost use Rattle.lt_crew.specs.Rounds.{RoundsEnd, IsCrewCut};
 ghost use Rattle.lt_crew.specs.declared.rounds.Pushed.TheVariants as turns;
 ghost use Rattle.lt_crew.specs.Pushes.{OnePushed, PushedAt, Tried, CanPush, PushEnds, is_end, first_end, other_end};
 
@@ -125,7 +125,7 @@ fn push_another<G: Gate>(
     gate: &G,
 ) -> Option<Ended>
     requires crew { IsCrew script.now runners.old.items }
-    requires cut { IsCut node script.now runners.old.items }
+    requires cut { IsCrewCut node script.now runners.old.items }
     ensures { PushEnds result script.now runners.old.items runners.new.items }
 {
     let tried = try_each(runners, gate);

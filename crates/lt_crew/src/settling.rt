@@ -3,13 +3,13 @@ ghost use Rattle.std.specs.Prelude.{◌≡◌, ◌<◌, ◌+◌, ◌++◌, ◌�
 ghost use Rattle.lt_runner.specs.Looking.{AreBeside};
 ghost use Rattle.lt_runner.specs.Kept.{AsSeen};
 ghost use Rattle.lt_crew.specs.Together.{EachIs};
-ghost use Rattle.lt_crew.specs.Meeting.{AreMet, AnyTwo, AreLinked, BothLook, PairMeets, Settling};
+ghost use Rattle.lt_crew.specs.Meeting.{AreMet, AnyTwo, RunnersLinked, BothLook, PairMeets, Settling};
 
 use lt_runner::Runner;
 
 /// Each two runners look at the rings between them, after which each knows all letters that are in its rings.
 pub(crate) fn settle<'a>(runners: &mut Vec<Runner<'a>>)
-    requires { AreLinked runners.old.items }
+    requires { RunnersLinked runners.old.items }
     ensures seen { EachIs AsSeen runners.old.items runners.new.items }
     ensures met { AreMet AnyTwo runners.new.items }
     ensures len { vec_len runners.new ≡ vec_len runners.old }
@@ -24,7 +24,7 @@ pub(crate) fn settle<'a>(runners: &mut Vec<Runner<'a>>)
 
 // The last runner and each other one look at the rings between them.
 fn meet_all<'a>(runners: &mut [Runner<'a>], last: &mut Runner<'a>)
-    requires linked { AreLinked (runners.old ++ last.old ∷ []) }
+    requires linked { RunnersLinked (runners.old ++ last.old ∷ []) }
     requires met { AreMet AnyTwo runners.old }
     ensures { Settling (length runners.old) (length runners.old) (runners.old ++ last.old ∷ []) (runners.new ++ last.new ∷ []) }
 {
@@ -35,7 +35,7 @@ fn meet_all<'a>(runners: &mut [Runner<'a>], last: &mut Runner<'a>)
 
 fn meet_two<'a>(runners: &mut [Runner<'a>], earlier: usize, last: &mut Runner<'a>)
     requires inside { earlier < length runners.old }
-    requires linked { AreLinked (runners.old ++ last.old ∷ []) }
+    requires linked { RunnersLinked (runners.old ++ last.old ∷ []) }
     ensures { PairMeets earlier (length runners.old) (runners.old ++ last.old ∷ []) (runners.new ++ last.new ∷ []) }
 {
     meet_both(&mut runners[earlier], last);

@@ -15,7 +15,7 @@ use Rattle.lt_script.proofs.ScriptLemmas.{set_added, client_added}
 use Rattle.lt_gen.specs.declared.group.Group.{Group}
 use Rattle.lt_gen.specs.declared.group.Group.TheVariants.{Last, Lock, Try, Upgrade, Change}
 use Rattle.lt_gen.specs.Draws.{draw_of, seeded}
-use Rattle.lt_gen.specs.Groups.{mode_at, group_of, group_by, set_of, commands_of, requests_of}
+use Rattle.lt_gen.specs.Groups.{nth_mode, group_of, group_by, set_of, group_commands, requests_of}
 use Rattle.lt_gen.specs.Generator.{four_sets, client_at, clients_of, requests_in, CanMake, HasSizes, script_of}
 use Rattle.lt_gen.proofs.ClientNames.{name_made, name_is_new}
 use Rattle.lt_gen.proofs.Loads.{clients_counted, load_fits}
@@ -79,7 +79,7 @@ group_set left set kind g = elim (cases_Bool (nat_lt kind 2)) [
   ])
 ]
 
-group_few : (left set kind : ℕ) (g : Lcg) → 2 ≤ left → length (commands_of (group_by left set kind g).0) ≤ left
+group_few : (left set kind : ℕ) (g : Lcg) → 2 ≤ left → length (group_commands (group_by left set kind g).0) ≤ left
 group_few left set kind g enough = elim (cases_Bool (nat_lt kind 2)) [
   | inl low ↦ rw low enough
   | inr high ↦ rw high (elim (cases_Bool (kind == 2)) [
@@ -97,7 +97,7 @@ set_drawn left g = elim (cases_Bool (left == 1)) [
 ]
 
 -- a drawn group has no more commands than are left
-few_drawn : (left : ℕ) (g : Lcg) → left ≢ 0 → length (commands_of (group_of left g).0) ≤ left
+few_drawn : (left : ℕ) (g : Lcg) → left ≢ 0 → length (group_commands (group_of left g).0) ≤ left
 few_drawn left g some = elim (cases_eq left 1) [
   | inl last ↦ rw (eq-eqb left 1 last) (omega arith)
   | inr more ↦ rw (ne_eqb left 1 more) (group_few left (draw_of 4 g).0 (draw_of 4 (draw_of 4 g).1).0 (draw_of 4 (draw_of 4 g).1).1 (omega (arith, some, more)))
@@ -120,11 +120,11 @@ all_requests clients (suc n) count left turn g some counted = elim (cases_Bool (
       (let group = (group_of left g).0 in
       all_append (IsRequest four_sets clients) (requests_of (turn % count) group) _
       (group_requests clients (turn % count) group (omega (arith, mod-lt turn some, counted)) (set_drawn left g))
-      (all_requests clients n count (left - length (commands_of group)) (turn + 1) (group_of left g).1 some counted))
+      (all_requests clients n count (left - length (group_commands group)) (turn + 1) (group_of left g).1 some counted))
 ]
 
 -- a drawn mode is one of the five
-mode_five : (k : ℕ) → is_of_five (mode_at k) ≡ true
+mode_five : (k : ℕ) → is_of_five (nth_mode k) ≡ true
 mode_five k = elim (cases_Bool (k == 0)) [
   | inl zeroth ↦ rw zeroth refl
   | inr other ↦ rw other (elim (cases_Bool (k == 1)) [
@@ -173,7 +173,7 @@ all_modes (suc n) count left turn g = elim (cases_Bool (left == 0)) [
       rw more
       (let group = (group_of left g).0 in
       all_append HasFiveModes (requests_of (turn % count) group) _ (group_modes (turn % count) group (five_drawn left g))
-      (all_modes n count (left - length (commands_of group)) (turn + 1) (group_of left g).1))
+      (all_modes n count (left - length (group_commands group)) (turn + 1) (group_of left g).1))
 ]
 
 -- as many turns as commands are left make exactly these
@@ -185,8 +185,8 @@ exact_requests (suc n) count left turn g enough = elim (cases_eq left 0) [
   | inr more ↦
       rw (ne_eqb left 0 more)
       (let group = (group_of left g).0 in
-      let later = requests_in n count (left - length (commands_of group)) (turn + 1) (group_of left g).1 in
-      let rest : length later ≡ left - length (commands_of group) = exact_requests n count (left - length (commands_of group)) (turn + 1) (group_of left g).1 (omega (arith, enough, some_commands group)) in
+      let later = requests_in n count (left - length (group_commands group)) (turn + 1) (group_of left g).1 in
+      let rest : length later ≡ left - length (group_commands group) = exact_requests n count (left - length (group_commands group)) (turn + 1) (group_of left g).1 (omega (arith, enough, some_commands group)) in
       omega (arith, length-append (requests_of (turn % count) group) later, requests_counted (turn % count) group, few_drawn left g more, rest))
 ]
 

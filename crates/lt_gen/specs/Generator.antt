@@ -7,7 +7,7 @@ use Rattle.lt_modes.specs.Script.{ScriptData, SetData, ClientData}
 use Rattle.lt_script.specs.declared.limits.TheConstants.{MAX_NODES_OF_FIRST, MAX_CLIENTS_OF_FIRST, MAX_CLIENTS_OF_NODE, MAX_COMMANDS}
 use Rattle.lt_gen.specs.declared.group.Group.{Group}
 use Rattle.lt_gen.specs.Draws.{seeded}
-use Rattle.lt_gen.specs.Groups.{group_of, commands_of, requests_of}
+use Rattle.lt_gen.specs.Groups.{group_of, group_commands, requests_of}
 
 -- `s0` to `s3`, each in a family of its own
 abbrev pub four_sets : List SetData
@@ -19,11 +19,11 @@ four_sets =
     ∷ []
 
 -- `c0`, `c1` and so on
-abbrev pub client_name : ℕ → List ℕ
-client_name client = codes "c" ++ decimal client
+abbrev pub drawn_client : ℕ → List ℕ
+drawn_client client = codes "c" ++ decimal client
 
 abbrev pub client_at : ℕ → ℕ → ClientData
-client_at nodes client = record { name = client_name client; node = client % nodes }
+client_at nodes client = record { name = drawn_client client; node = client % nodes }
 
 -- the first so many clients, which go round the nodes
 unfoldable pub clients_of : ℕ → ℕ → List ClientData
@@ -32,7 +32,7 @@ clients_of nodes (suc n) = clients_of nodes n ++ client_at nodes n ∷ []
 
 -- a group of the client whose turn it is, and the commands of the later turns
 abbrev pub turn_and : (ℕ → Lcg → List (ℕ × Command)) → ℕ → ℕ → Group × Lcg → List (ℕ × Command)
-turn_and later client left drawn = requests_of client drawn.0 ++ later (left - length (commands_of drawn.0)) drawn.1
+turn_and later client left drawn = requests_of client drawn.0 ++ later (left - length (group_commands drawn.0)) drawn.1
 
 -- the commands of at most so many turns from this one on, where so many are left to be made: the clients take turns
 unfoldable pub requests_in : ℕ → ℕ → ℕ → ℕ → Lcg → List (ℕ × Command)

@@ -1,6 +1,6 @@
 ghost use Rattle.std.specs.Prelude.{◌≡◌, ◌<◌, ◌≤◌, ◌+◌, ◌++◌, length, OnOk};
 ghost use Rattle.lt_script.specs.declared.limits.TheConstants.{MAX_COMMANDS};
-ghost use Rattle.lt_gen.specs.Groups.{drawn_mode, group_of, set_of, commands_of, requests_of};
+ghost use Rattle.lt_gen.specs.Groups.{drawn_mode, group_of, set_of, group_commands, requests_of};
 
 use crate::draws::Draws;
 use lt_modes::{Command, Mode};
@@ -28,7 +28,7 @@ impl Group {
     pub fn drawn(draws: &mut Draws, left: u32) -> Group
         ensures value { (result, draws.new) ≡ group_of left draws.old }
         ensures set { set_of result < SETS }
-        ensures few { 0 < left → length (commands_of result) ≤ left }
+        ensures few { 0 < left → length (group_commands result) ≤ left }
     {
         if left == 1 {
             return Group::Last;
@@ -50,7 +50,7 @@ impl Group {
 
     /// The number of commands.
     pub fn len(self) -> u32
-        ensures { result ≡ length (commands_of self) }
+        ensures { result ≡ length (group_commands self) }
     {
         match self {
             Group::Last => 1,
@@ -64,7 +64,7 @@ impl Group {
         requires client { client < length script.old.clients }
         requires sets { SETS ≤ length script.old.sets }
         requires set { set_of self < SETS }
-        requires room { length script.old.commands + length (commands_of self) ≤ MAX_COMMANDS }
+        requires room { length script.old.commands + length (group_commands self) ≤ MAX_COMMANDS }
         ensures { OnOk result (script.new
             ≡ record script.old { commands = script.old.commands ++ requests_of client self }) }
     {

@@ -1,7 +1,7 @@
 ghost use Rattle.std.specs.Prelude.{◌≡◌, ◌<◌, ◌≤◌, ◌*◌, ◌++◌, ◌∷◌, [], length, IfOk, OnOk};
 ghost use Rattle.lt_script.specs.Script.{IsScript};
 ghost use Rattle.lt_script.specs.declared.limits.TheConstants.{MAX_NODES_OF_FIRST, MAX_CLIENTS_OF_FIRST, MAX_CLIENTS_OF_NODE, MAX_COMMANDS};
-ghost use Rattle.lt_gen.specs.Generator.{four_sets, client_name, clients_of, requests_in, script_of, HasSizes};
+ghost use Rattle.lt_gen.specs.Generator.{four_sets, drawn_client, clients_of, requests_in, script_of, HasSizes};
 
 use crate::draws::Draws;
 use crate::group::Group;
@@ -63,7 +63,7 @@ fn add_clients(alloc: Global, script: &mut Script, clients: u16) -> Result<(), A
 }
 
 fn client_name(alloc: Global, client: u16) -> Result<Vec<u8>, AllocError>
-    ensures { IfOk result (λ name. name.items ≡ client_name client) }
+    ensures { IfOk result (λ name. name.items ≡ drawn_client client) }
 {
     let mut name = Vec::from_slice(alloc, b"c")?;
     push_number(&mut name, u32::from(client))?;

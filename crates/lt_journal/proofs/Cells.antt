@@ -1,7 +1,7 @@
 -- What one change of the table does to what it counts.
 use Rattle.std.proofs.Common.{◌≡◌, ◌≢◌, ℕ, ◌-◌, ◌*◌, ◌<◌, ◌≤◌, cond, Bool, true, false, List, length, get_or, set, refl, sym, ap, subst, ◌∙◌, arith, length-set, get_or-set_same, get_or-set_other}
 use Rattle.lt_modes.specs.Script.{ScriptData}
-use Rattle.lt_spec.specs.Holdings.{Holding, same_holding, without_one, count_of}
+use Rattle.lt_spec.specs.Holdings.{Holding, same_holding, without_one, times_held}
 use Rattle.lt_journal.specs.LockTable.{cell_of, HasCell, Counts}
 use Rattle.lt_journal.proofs.Counting.{same_holding-equal, count_of-without}
 
@@ -11,13 +11,13 @@ cell_of-apart a b few_a few_b e = grind arith
 pub cell_of-inside : (script : ScriptData) (lock : Holding) → length script.sets ≤ 8 → HasCell script lock → cell_of lock < length script.clients * 48
 cell_of-inside script lock few has = grind arith
 
-without_same : (lock : Holding) (held : List Holding) (other : Holding) → same_holding lock other ≡ true → count_of (without_one held lock) other ≡ count_of held other - 1
+without_same : (lock : Holding) (held : List Holding) (other : Holding) → same_holding lock other ≡ true → times_held (without_one held lock) other ≡ times_held held other - 1
 without_same lock held other e =
-    count_of-without lock other held ∙ ap (λ (b : Bool). cond b (count_of held other - 1) (count_of held other)) e
+    count_of-without lock other held ∙ ap (λ (b : Bool). cond b (times_held held other - 1) (times_held held other)) e
 
-without_other : (lock : Holding) (held : List Holding) (other : Holding) → same_holding lock other ≡ false → count_of (without_one held lock) other ≡ count_of held other
+without_other : (lock : Holding) (held : List Holding) (other : Holding) → same_holding lock other ≡ false → times_held (without_one held lock) other ≡ times_held held other
 without_other lock held other e =
-    count_of-without lock other held ∙ ap (λ (b : Bool). cond b (count_of held other - 1) (count_of held other)) e
+    count_of-without lock other held ∙ ap (λ (b : Bool). cond b (times_held held other - 1) (times_held held other)) e
 
 -- one less in the lock's cell
 pub less_in_cell : (script : ScriptData) (cells : List ℕ) (held : List Holding) (lock : Holding) → length script.sets ≤ 8 → HasCell script lock
@@ -28,7 +28,7 @@ less_in_cell script cells held lock few has counts = record {
 }
   where
     by_test : (other : Holding) → HasCell script other → (b : Bool) → same_holding lock other ≡ b
-        → get_or (set cells (cell_of lock) (get_or cells (cell_of lock) 0 - 1)) (cell_of other) 0 ≡ count_of (without_one held lock) other
+        → get_or (set cells (cell_of lock) (get_or cells (cell_of lock) 0 - 1)) (cell_of other) 0 ≡ times_held (without_one held lock) other
     by_test other has_other true e =
         let alike : cell_of other ≡ cell_of lock = ap cell_of (sym (same_holding-equal lock other e)) in
         let inside : cell_of lock < length cells = omega (arith, cell_of-inside script lock few has, counts.room) in
@@ -52,7 +52,7 @@ less_elsewhere script cells held lock none counts = record {
 }
   where
     by_test : (other : Holding) → HasCell script other → (b : Bool) → same_holding lock other ≡ b
-        → get_or cells (cell_of other) 0 ≡ count_of (without_one held lock) other
+        → get_or cells (cell_of other) 0 ≡ times_held (without_one held lock) other
     by_test other has_other true e =
         absurd (none (subst (λ (x : Holding). HasCell script x) (sym (same_holding-equal lock other e)) has_other))
     by_test other has_other false e = counts.count other has_other ∙ sym (without_other lock held other e)

@@ -8,7 +8,7 @@ use Rattle.std.proofs.lemmas.List.Sums.{sum_by-cons}
 use Rattle.lt_modes.specs.declared.mode.Mode.{Mode}
 use Rattle.lt_modes.specs.Modes.{same_mode}
 use Rattle.lt_modes.specs.Script.{ScriptData}
-use Rattle.lt_spec.specs.Holdings.{Holding, same_holding, without_one, without_at, is_dropped, count_of}
+use Rattle.lt_spec.specs.Holdings.{Holding, same_holding, without_one, without_holding, is_dropped, times_held}
 
 same_mode-equal : (a b : Mode) → same_mode a b ≡ true → a ≡ b
 same_mode-equal a b e = grind arith
@@ -36,19 +36,19 @@ same_holding-apart a b e = by_test (same_holding b a) refl
 
 -- the locks but for the first that passes the test
 without_first : (Holding → Bool) → List Holding → List Holding
-without_first test held = without_at held (position test held)
+without_first test held = without_holding held (position test held)
 
 next_below : (a b : ℕ) → nat_lt (suc a) (suc b) ≡ nat_lt a b
 next_below a b = grind (arith, nat_tests)
 
-at_next : (x : Holding) (xs : List Holding) (place : ℕ) → without_at (x ∷ xs) (cond (nat_lt (1 + place) (suc (length xs))) (Some (1 + place)) None) ≡ x ∷ without_at xs (cond (nat_lt place (length xs)) (Some place) None)
+at_next : (x : Holding) (xs : List Holding) (place : ℕ) → without_holding (x ∷ xs) (cond (nat_lt (1 + place) (suc (length xs))) (Some (1 + place)) None) ≡ x ∷ without_holding xs (cond (nat_lt place (length xs)) (Some place) None)
 at_next x xs place =
     let one : 1 + place ≡ suc place = omega arith in
-    ap (λ (k : ℕ). without_at (x ∷ xs) (cond (nat_lt k (suc (length xs))) (Some k) None)) one
-    ∙ (ap (λ (b : Bool). without_at (x ∷ xs) (cond b (Some (suc place)) None)) (next_below place (length xs))
+    ap (λ (k : ℕ). without_holding (x ∷ xs) (cond (nat_lt k (suc (length xs))) (Some k) None)) one
+    ∙ (ap (λ (b : Bool). without_holding (x ∷ xs) (cond b (Some (suc place)) None)) (next_below place (length xs))
     ∙ by_test (nat_lt place (length xs)))
   where
-    by_test : (b : Bool) → without_at (x ∷ xs) (cond b (Some (suc place)) None) ≡ x ∷ without_at xs (cond b (Some place) None)
+    by_test : (b : Bool) → without_holding (x ∷ xs) (cond b (Some (suc place)) None) ≡ x ∷ without_holding xs (cond b (Some place) None)
     by_test true = refl
     by_test false = refl
 
@@ -100,20 +100,20 @@ count_same test other (x ∷ xs) apart = by_test (test x) refl (count_same test 
         omega arith
 
 -- one such lock less, and as many others as before
-pub count_of-without : (lock other : Holding) (held : List Holding) → count_of (without_one held lock) other ≡ cond (same_holding lock other) (count_of held other - 1) (count_of held other)
+pub count_of-without : (lock other : Holding) (held : List Holding) → times_held (without_one held lock) other ≡ cond (same_holding lock other) (times_held held other - 1) (times_held held other)
 unfolding without_first
 count_of-without lock other held = by_test (same_holding lock other) refl
   where
-    by_test : (b : Bool) → same_holding lock other ≡ b → count_of (without_one held lock) other ≡ cond b (count_of held other - 1) (count_of held other)
+    by_test : (b : Bool) → same_holding lock other ≡ b → times_held (without_one held lock) other ≡ cond b (times_held held other - 1) (times_held held other)
     by_test true e =
-        subst (λ (x : Holding). count_of (without_one held lock) x ≡ count_of held x - 1) (same_holding-equal lock other e)
+        subst (λ (x : Holding). times_held (without_one held lock) x ≡ times_held held x - 1) (same_holding-equal lock other e)
         (count_less (same_holding lock) held)
     by_test false e =
         count_same (same_holding lock) (same_holding other) held
         (λ x same. ap (λ (y : Holding). same_holding other y) (sym (same_holding-equal lock x same)) ∙ same_holding-apart lock other e)
 
 -- a filter keeps all such locks, or none
-count_filtered : (test : Holding → Bool) (other : Holding) (held : List Holding) → count_of (filter test held) other ≡ cond (test other) (count_of held other) 0
+count_filtered : (test : Holding → Bool) (other : Holding) (held : List Holding) → times_held (filter test held) other ≡ cond (test other) (times_held held other) 0
 count_filtered test other [] = both (test other)
   where
     both : (b : Bool) → ◌≡◌ {A = ℕ} 0 (cond b 0 0)
@@ -121,18 +121,18 @@ count_filtered test other [] = both (test other)
     both false = refl
 count_filtered test other (x ∷ xs) = by_test (same_holding other x) (test x) refl refl (count_filtered test other xs)
   where
-    by_test : (same kept : Bool) → same_holding other x ≡ same → test x ≡ kept → count_of (filter test xs) other ≡ cond (test other) (count_of xs other) 0
-        → count_of (cond kept (x ∷ filter test xs) (filter test xs)) other ≡ cond (test other) (count_of (x ∷ xs) other) 0
+    by_test : (same kept : Bool) → same_holding other x ≡ same → test x ≡ kept → times_held (filter test xs) other ≡ cond (test other) (times_held xs other) 0
+        → times_held (cond kept (x ∷ filter test xs) (filter test xs)) other ≡ cond (test other) (times_held (x ∷ xs) other) 0
     by_test true true e f later =
         let kept : test other ≡ true = ap test (same_holding-equal other x e) ∙ f in
-        let count : count_of (filter test xs) other ≡ count_of xs other = later ∙ ap (λ (b : Bool). cond b (count_of xs other) 0) kept in
+        let count : times_held (filter test xs) other ≡ times_held xs other = later ∙ ap (λ (b : Bool). cond b (times_held xs other) 0) kept in
         count_yes (same_holding other) x (filter test xs) e
         ∙ (ap (λ (n : ℕ). 1 + n) count
         ∙ (sym (count_yes (same_holding other) x xs e)
-        ∙ sym (ap (λ (b : Bool). cond b (count_of (x ∷ xs) other) 0) kept)))
+        ∙ sym (ap (λ (b : Bool). cond b (times_held (x ∷ xs) other) 0) kept)))
     by_test true false e f later =
         let kept : test other ≡ false = ap test (same_holding-equal other x e) ∙ f in
-        later ∙ (ap (λ (b : Bool). cond b (count_of xs other) 0) kept ∙ sym (ap (λ (b : Bool). cond b (count_of (x ∷ xs) other) 0) kept))
+        later ∙ (ap (λ (b : Bool). cond b (times_held xs other) 0) kept ∙ sym (ap (λ (b : Bool). cond b (times_held (x ∷ xs) other) 0) kept))
     by_test false true e f later =
         count_no (same_holding other) x (filter test xs) e
         ∙ (later ∙ ap (λ (n : ℕ). cond (test other) n 0) (sym (count_no (same_holding other) x xs e)))
@@ -141,5 +141,5 @@ count_filtered test other (x ∷ xs) = by_test (same_holding other x) (test x) r
 
 -- all such locks stay, or none
 pub count_of-kept : (script : ScriptData) (client lock_set : ℕ) (other : Holding) (held : List Holding)
-    → count_of (filter (λ lock. not (is_dropped script client lock_set lock)) held) other ≡ cond (not (is_dropped script client lock_set other)) (count_of held other) 0
+    → times_held (filter (λ lock. not (is_dropped script client lock_set lock)) held) other ≡ cond (not (is_dropped script client lock_set other)) (times_held held other) 0
 count_of-kept script client lock_set other held = count_filtered (λ lock. not (is_dropped script client lock_set lock)) other held

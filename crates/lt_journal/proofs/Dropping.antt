@@ -7,13 +7,13 @@ use Rattle.std.proofs.lemmas.List.{get_or_past}
 use Rattle.lt_modes.specs.declared.mode.Mode.{Mode}
 use Rattle.lt_modes.specs.Script.{ScriptData}
 use Rattle.lt_spec.specs.Families.{is_related}
-use Rattle.lt_spec.specs.Holdings.{Holding, is_dropped, count_of}
-use Rattle.lt_journal.specs.LockTable.{place_of, cell_of, HasCell, Counts}
+use Rattle.lt_spec.specs.Holdings.{Holding, is_dropped, times_held}
+use Rattle.lt_journal.specs.LockTable.{mode_place, cell_of, HasCell, Counts}
 use Rattle.lt_journal.proofs.Counting.{count_of-kept}
 
 -- the place of a lock's cell among those of its client
 abbrev pub place_in : Holding → ℕ
-place_in lock = lock.set * 6 + place_of lock.mode
+place_in lock = lock.set * 6 + mode_place lock.mode
 
 -- of the client's cells, those before this one are cleared where their set is of the family, and no others are
 pub record Cleared (script : ScriptData) (client lock_set cell : ℕ) (old now : List ℕ) : Type 0 where
@@ -22,7 +22,7 @@ pub record Cleared (script : ScriptData) (client lock_set cell : ℕ) (old now :
   pub unrelated : (lock : Holding) → lock.set < length script.sets → is_related script lock.set lock_set ≡ false → get_or now (cell_of lock) 0 ≡ get_or old (cell_of lock) 0
   pub others : (lock : Holding) → lock.set < length script.sets → lock.client ≢ client → get_or now (cell_of lock) 0 ≡ get_or old (cell_of lock) 0
 
-place_of-few : (mode : Mode) → place_of mode < 6
+place_of-few : (mode : Mode) → mode_place mode < 6
 place_of-few mode = grind arith
 
 get_or-cleared : (cells : List ℕ) (place : ℕ) → get_or (set cells place 0) place 0 ≡ 0
@@ -85,9 +85,9 @@ one_more_left script client lock_set cell old now unrelated so_far = record {
 }
 
 kept_when : (script : ScriptData) (client lock_set : ℕ) (held : List Holding) (lock : Holding) (kept : Bool) → not (is_dropped script client lock_set lock) ≡ kept
-    → count_of (filter (λ lock. not (is_dropped script client lock_set lock)) held) lock ≡ cond kept (count_of held lock) 0
+    → times_held (filter (λ lock. not (is_dropped script client lock_set lock)) held) lock ≡ cond kept (times_held held lock) 0
 kept_when script client lock_set held lock kept e =
-    count_of-kept script client lock_set lock held ∙ ap (λ (b : Bool). cond b (count_of held lock) 0) e
+    count_of-kept script client lock_set lock held ∙ ap (λ (b : Bool). cond b (times_held held lock) 0) e
 
 pub all_cleared : (script : ScriptData) (client lock_set : ℕ) (old now : List ℕ) (held : List Holding)
     → Cleared script client lock_set (length script.sets * 6) old now → Counts script old held
@@ -98,7 +98,7 @@ all_cleared script client lock_set old now held cleared counts = record {
 }
   where
     by_test : (lock : Holding) → HasCell script lock → (same related : Bool) → lock.client == client ≡ same → is_related script lock.set lock_set ≡ related
-        → get_or now (cell_of lock) 0 ≡ count_of (filter (λ lock. not (is_dropped script client lock_set lock)) held) lock
+        → get_or now (cell_of lock) 0 ≡ times_held (filter (λ lock. not (is_dropped script client lock_set lock)) held) lock
     by_test lock has true true e f =
         let few_modes = place_of-few lock.mode in
         let gone : not (is_dropped script client lock_set lock) ≡ false = rw (e, f) refl in

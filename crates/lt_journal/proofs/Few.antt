@@ -6,12 +6,12 @@ use Rattle.lt_modes.specs.declared.event.Event.{Event}
 use Rattle.lt_modes.specs.declared.event.Event.TheVariants.{Grant, Try, Unlock, Change, DropAll}
 use Rattle.lt_modes.specs.Script.{ScriptData}
 use Rattle.lt_spec.specs.Log.{Logged}
-use Rattle.lt_spec.specs.Holdings.{Holding, holding, without_one, without_at, is_dropped, same_holding, after_line, holdings, lines_of}
+use Rattle.lt_spec.specs.Holdings.{Holding, holding, without_one, without_holding, is_dropped, same_holding, after_line, holdings, lines_of}
 use Rattle.lt_merge.specs.Run.{events_at}
 use Rattle.std.specs.Prelude.{not, position, Result, Ok, Err, OnErr}
 use Rattle.lt_journal.proofs.Steps.{lines_of-more}
 
-length-without_at : (held : List Holding) (place : Option ℕ) → length (without_at held place) ≤ length held
+length-without_at : (held : List Holding) (place : Option ℕ) → length (without_holding held place) ≤ length held
 length-without_at held None = omega arith
 length-without_at held (Some k) = omega (arith, length-append {A = Holding}, length-take k held, length-drop (suc k) held)
 

@@ -9,7 +9,7 @@ use Rattle.lt_modes.specs.declared.event.Event.TheVariants.{Grant, Wait, Try, Un
 use Rattle.lt_modes.specs.Script.{ScriptData}
 use Rattle.lt_spec.specs.Log.{Logged}
 use Rattle.lt_modes.specs.declared.parts.Link.{Link}
-use Rattle.lt_spec.specs.Holdings.{Holding, holding, holdings, same_holding, count_of, wanted, wanted_after, owner_of, owner_after, lines_of}
+use Rattle.lt_spec.specs.Holdings.{Holding, holding, holdings, same_holding, times_held, wanted, wanted_after, owner_of, owner_after, lines_of}
 use Rattle.lt_journal.specs.declared.line.Line.{Line}
 use Rattle.lt_journal.specs.declared.line.Line.TheVariants.{Version, Held}
 use Rattle.lt_journal.specs.Words.{all_modes}
@@ -109,7 +109,7 @@ held_modes_fit script held client lock_set [] few has_client has_set = tt
 held_modes_fit script held client lock_set (mode ∷ modes) few has_client has_set =
     let lock = holding client lock_set mode in
     append_fits (FitsLine script) (held_in_mode held client lock_set mode) (flat_map (held_in_mode held client lock_set) modes)
-    (held_line_fits script lock (count_of held lock) has_client has_set (omega (arith, count_by-le-length (same_holding lock) held)))
+    (held_line_fits script lock (times_held held lock) has_client has_set (omega (arith, count_by-le-length (same_holding lock) held)))
     (held_modes_fit script held client lock_set modes few has_client has_set)
 
 held_fits : (script : ScriptData) (held : List Holding) → IsNumber (length held) → AllByRecursion (FitsLine script) (held_lines script held)

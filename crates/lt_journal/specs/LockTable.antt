@@ -5,20 +5,20 @@ use Rattle.lt_modes.specs.declared.mode.Mode.TheVariants.{IntentionRead, Read, U
 use Rattle.lt_modes.specs.Script.{ScriptData}
 use Rattle.lt_modes.specs.declared.event.Event.{Event}
 use Rattle.lt_modes.specs.declared.parts.Link.{Link}
-use Rattle.lt_spec.specs.Holdings.{Holding, holdings, count_of, wanted, owner_of}
+use Rattle.lt_spec.specs.Holdings.{Holding, holdings, times_held, wanted, owner_of}
 
 -- the place of a mode among all modes
-abbrev pub place_of : Mode → ℕ
-place_of IntentionRead = 0
-place_of Read = 1
-place_of Upgrade = 2
-place_of IntentionWrite = 3
-place_of ReadIntentionWrite = 4
-place_of Write = 5
+abbrev pub mode_place : Mode → ℕ
+mode_place IntentionRead = 0
+mode_place Read = 1
+mode_place Upgrade = 2
+mode_place IntentionWrite = 3
+mode_place ReadIntentionWrite = 4
+mode_place Write = 5
 
 -- the place of a lock's cell: a client has six cells for each of eight sets
 abbrev pub cell_of : Holding → ℕ
-cell_of lock = lock.client * 48 + (lock.set * 6 + place_of lock.mode)
+cell_of lock = lock.client * 48 + (lock.set * 6 + mode_place lock.mode)
 
 -- the script has the lock's client and its set
 abbrev pub HasCell : ScriptData → Holding → Type 0
@@ -27,7 +27,7 @@ HasCell script lock = (lock.client < length script.clients) × (lock.set < lengt
 -- the table counts the locks: each cell has the number of the locks of its client, set and mode
 pub record Counts (script : ScriptData) (cells : List ℕ) (held : List Holding) : Type 0 where
   pub room : length cells ≡ length script.clients * 48
-  pub count : (lock : Holding) → HasCell script lock → slice_index cells (cell_of lock) ≡ count_of held lock
+  pub count : (lock : Holding) → HasCell script lock → slice_index cells (cell_of lock) ≡ times_held held lock
 
 -- the locks counted, what each client waits for, and where each set's token went last
 pub record Tally : Type 0 where

@@ -8,7 +8,7 @@ use Rattle.lt_modes.specs.FiveModes.{shown_in}
 use Rattle.lt_modes.specs.declared.parts.Link.{Link}
 use Rattle.lt_modes.specs.Script.{ScriptData}
 use Rattle.lt_spec.specs.Log.{Logged}
-use Rattle.lt_spec.specs.Holdings.{Holding, holding, holdings, count_of, wanted, owner_of, lines_of}
+use Rattle.lt_spec.specs.Holdings.{Holding, holding, holdings, times_held, wanted, owner_of, lines_of}
 use Rattle.lt_journal.specs.Words.{all_modes}
 use Rattle.lt_journal.specs.declared.line.Line.{Line}
 use Rattle.lt_journal.specs.declared.line.Line.TheVariants.{Version, Move as MoveLine, Event as EventLine, Held, Waiting, Owner, End, Cut}
@@ -49,7 +49,7 @@ held_line lock count = if count == 0 then [] else Held lock.client lock.set lock
 
 -- the line of the client's locks of one mode in a set, if it has some
 abbrev pub held_in_mode : List Holding → ℕ → ℕ → Mode → List Line
-held_in_mode held client set mode = held_line (holding client set mode) (count_of held (holding client set mode))
+held_in_mode held client set mode = held_line (holding client set mode) (times_held held (holding client set mode))
 
 -- the lines of the client's locks in a set, by mode
 abbrev pub held_in_set : List Holding → ℕ → ℕ → List Line

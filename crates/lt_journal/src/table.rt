@@ -1,6 +1,6 @@
 ghost use Rattle.std.specs.Prelude.{◌≡◌, ◌+◌, ◌^◌, OnErr, ◌↔◌, ◌≤◌, ◌++◌, ◌∷◌, [], List, not, IsTrue, IfOk, OnOk, length, filter, slice_index, slice_set};
 ghost use Rattle.lt_spec.specs.Holdings.{Holding as AnyHolding, without_one, is_dropped};
-ghost use Rattle.lt_journal.specs.LockTable.{place_of, cell_of, HasCell, Counts};
+ghost use Rattle.lt_journal.specs.LockTable.{mode_place, cell_of, HasCell, Counts};
 
 use crate::names::is_related;
 use lt_modes::Mode;
@@ -139,7 +139,7 @@ fn cell_of(lock: Holding) -> usize
 
 // The place of the mode among all modes.
 fn place_of(mode: Mode) -> usize
-    ensures { result ≡ place_of mode }
+    ensures { result ≡ mode_place mode }
 {
     match mode {
         Mode::IntentionRead => 0,

@@ -13,9 +13,9 @@ use Rattle.lt_modes.specs.Records.{record_of, still_owed, modes_of_owed}
 use Rattle.lt_modes.specs.Serving.{answered}
 use Rattle.lt_modes.specs.Sound.{ChargeKept}
 use Rattle.lt_modes.proofs.ModeAlgebra.{conflicts-sym, union_bars_both}
-use Rattle.lt_law_accounts.specs.Account.{Account, AccountKept, ClocksKept, AsksKnown, CopiesOwed, Covers, IsBelow, own_of, owed_and_waiting, now_modes, left_after, IsFresh}
+use Rattle.lt_law_accounts.specs.Account.{Account, AccountKept, ClocksKept, AsksKnown, CopiesOwed, Covers, IsBelow, own_of, owed_and_waiting, now_modes, left_after, IsFreshTell}
 use Rattle.lt_law_accounts.specs.AccountSteps.{IsLoss, MayAnswer, answering, MayDeliver, delivering}
-use Rattle.lt_law_accounts.specs.AccountLaws.{Answers, Delivers}
+use Rattle.lt_law_accounts.specs.AccountLaws.{AnswersKeep, Delivers}
 use Rattle.lt_law_accounts.proofs.AccountFacts.{same_by_stamp, still_owed-which, still_owed-at, bars_not, below_by_members, copy_is_waiting, held_below_charge}
 use Rattle.lt_law_accounts.proofs.ModeMembers.{has-union, has-left, has-right, has-kept, has-added, has-with_mode, mode_which, mode_at}
 use Rattle.lt_law_accounts.proofs.AccountRows.{charge_in_move, below_one_more, clear_one_more, counts_less, counts_one_more}
@@ -119,7 +119,7 @@ answers_account a others ask h may = record {
         (x.mode, conflicts-sym ask.mode x.mode ∙ e, has-right x.mode (other_modes a.held ask.client) (owed_and_waiting a) (copy_is_waiting a h.owed x c)))
 
 -- the desk here answers it
-pub answers_kept : Answers
+pub answers_kept : AnswersKeep
 answers_kept a others ask h may = (
   answers_account a others ask h may,
   counts_one_more others ask.mode a.here (own_of a) (record_of a.entry) (own_of (answering ask a))
@@ -181,9 +181,9 @@ cover_delivered a ask copies h came loss = record {
     only : IsBelow (union (with_mode a.charge ask.mode) (modes_of_asks copies)) (now_modes a.charge a.copies)
     only = now_only a ask copies came loss
 
-    still : IsBelow (record_of a.entry) (now_modes a.charge a.copies) ⊎ ((tell : Tell) × IsFresh a.entry a.tells tell × IsBelow (left_after a.entry tell) (now_modes a.charge a.copies))
+    still : IsBelow (record_of a.entry) (now_modes a.charge a.copies) ⊎ ((tell : Tell) × IsFreshTell a.entry a.tells tell × IsBelow (left_after a.entry tell) (now_modes a.charge a.copies))
         → IsBelow (record_of a.entry) (union (with_mode a.charge ask.mode) (modes_of_asks copies))
-        ⊎ ((tell : Tell) × IsFresh a.entry a.tells tell × IsBelow (left_after a.entry tell) (union (with_mode a.charge ask.mode) (modes_of_asks copies)))
+        ⊎ ((tell : Tell) × IsFreshTell a.entry a.tells tell × IsBelow (left_after a.entry tell) (union (with_mode a.charge ask.mode) (modes_of_asks copies)))
     still (inl below) = inl (λ m bar. now_kept a ask copies loss m (below m bar))
     still (inr found) = inr (found.0, found.1, λ m bar. now_kept a ask copies loss m (found.2 m bar))
 

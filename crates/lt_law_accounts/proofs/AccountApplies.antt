@@ -10,7 +10,7 @@ use Rattle.lt_modes.specs.State.{Entry, Tell}
 use Rattle.lt_modes.specs.Held.{held_modes}
 use Rattle.lt_modes.specs.Records.{record_of, modes_of_owed, still_owed}
 use Rattle.lt_modes.specs.Tells.{is_newer, is_open, left_owed, told}
-use Rattle.lt_law_accounts.specs.Account.{Account, AccountKept, AsksKnown, Covers, IsBelow, IsFresh, left_after, now_modes, own_of}
+use Rattle.lt_law_accounts.specs.Account.{Account, AccountKept, AsksKnown, Covers, IsBelow, IsFreshTell, left_after, now_modes, own_of}
 use Rattle.lt_law_accounts.specs.AccountSteps.{IsLoss, MayApply}
 use Rattle.lt_law_accounts.specs.AccountLaws.{Applies, CountsLess}
 use Rattle.lt_law_accounts.proofs.AccountFacts.{owed_mode-which, owed_mode-at, still_owed-which, still_owed-at, left_owed-which, left_owed-at, newer_in_turn, newer_one_way, open-cases, open_later}
@@ -84,15 +84,15 @@ covers_applied charge pending entry tells left copies tell known c came newer lo
   ];
 }
   where
-    was : (u : Tell) → IsFresh (newly tell entry) left u → IsFresh entry tells u
+    was : (u : Tell) → IsFreshTell (newly tell entry) left u → IsFreshTell entry tells u
     was u n = (loss.only u n.0, newer_in_turn u.stamp tell.stamp entry.told_at n.1 newer)
 
-    more : (u : Tell) → IsFresh (newly tell entry) left u → IsBelow (left_after entry u) (left_after (newly tell entry) u)
+    more : (u : Tell) → IsFreshTell (newly tell entry) left u → IsBelow (left_after entry u) (left_after (newly tell entry) u)
     more u n = twice_more u tell entry n.1 (known.lists u tell (loss.only u n.0) came n.1)
 
-    by_order : (u : Tell) → Contains left u → IsFresh entry tells u → IsBelow (left_after entry u) (now_modes charge copies) → (t : Bool) → is_newer u.stamp tell.stamp ≡ t
+    by_order : (u : Tell) → Contains left u → IsFreshTell entry tells u → IsBelow (left_after entry u) (now_modes charge copies) → (t : Bool) → is_newer u.stamp tell.stamp ≡ t
         → IsBelow (record_of (newly tell entry)) (now_modes charge copies)
-        ⊎ ((v : Tell) × IsFresh (newly tell entry) left v × IsBelow (left_after (newly tell entry) v) (now_modes charge copies))
+        ⊎ ((v : Tell) × IsFreshTell (newly tell entry) left v × IsBelow (left_after (newly tell entry) v) (now_modes charge copies))
     by_order u still news below true after = inr (u, (still, after), λ mode bar. below mode (twice_less u tell entry mode bar))
     by_order u still news below false before = inl (λ mode bar. below mode (c.left_shrinks tell u (came, newer) news before mode bar))
 

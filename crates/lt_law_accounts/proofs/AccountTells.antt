@@ -16,7 +16,7 @@ use Rattle.lt_modes.specs.HandingOver.{stamps_of}
 use Rattle.lt_modes.proofs.ModeAlgebra.{union_bars_both}
 use Rattle.lt_law_accounts.specs.Account.{Account, AccountKept, Covers, IsBelow, left_after, now_modes, counted}
 use Rattle.lt_law_accounts.specs.AccountSteps.{MayApply, tell_by}
-use Rattle.lt_law_accounts.specs.AccountLaws.{AppliesStale, Tells}
+use Rattle.lt_law_accounts.specs.AccountLaws.{AppliesStale, TellsKeep}
 use Rattle.lt_law_accounts.proofs.ModeMembers.{has-union, has-left, has-right}
 use Rattle.lt_lists.proofs.Members.{contains_map, contains_mapped}
 use Rattle.lt_law_accounts.proofs.AccountFacts.{owed_mode-which, owed_mode-at, left_owed-which, left_owed-at, below_by_members, held_below_charge, no_later_at_all, before_in_move, newer_by_clock, newer_not_before, open-cases, open_listed, not_after_itself, asks_which, asks_at}
@@ -98,7 +98,7 @@ now_is_left a stamp h = below_by_members (now_modes (held_modes a.held) a.copies
           (open_listed (stamps_of a.pending) stamp found.0.stamp (contains_map (λ (x : Ask). x.stamp) a.pending found.0 (h.owed.waits found.0 found.1))))))
     ])
 
-pub tells_kept : Tells
+pub tells_kept : TellsKeep
 tells_kept a stamp tells h may = (
   record {
     clocks = record {

@@ -6,10 +6,10 @@ use Rattle.lt_modes.specs.Modes.{has_none}
 use Rattle.lt_modes.proofs.ModeAlgebra.{same_modes-true}
 use Rattle.lt_law_accounts.specs.News.{News, Notice, NewsKept}
 use Rattle.lt_law_accounts.specs.NewsSteps.{MayTake}
-use Rattle.lt_law_accounts.specs.NewsLaws.{Begins, Changes, Sends, Spares, Keeps, Takes, Leaves, Arrives, Reorders, FrozenAtRest}
+use Rattle.lt_law_accounts.specs.NewsLaws.{BeginsKeep, Changes, Sends, Spares, Keeps, TakesKeep, Leaves, Arrives, Reorders, FrozenAtRest}
 use Rattle.lt_lists.proofs.Members.{none_in}
 
-pub begins_kept : Begins
+pub begins_kept : BeginsKeep
 begins_kept n h = record {
   kept = h.kept;
   sent = h.sent;
@@ -123,7 +123,7 @@ taken_older n notice coming h may older = record {
   told = h.told;
 }
 
-pub takes_kept : Takes
+pub takes_kept : TakesKeep
 takes_kept n notice coming h may = by_test (nat_lt n.number notice.number) refl
   where
     by_test : (newer : Bool) → nat_lt n.number notice.number ≡ newer

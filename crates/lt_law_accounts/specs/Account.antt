@@ -61,8 +61,8 @@ abbrev pub left_after : Entry → Tell → Modes
 left_after entry tell = union tell.modes (modes_of_owed (left_owed tell entry.owed))
 
 -- the tell is one of these, and newer than the entry, so that it would change it
-abbrev pub IsFresh : Entry → List Tell → Tell → Type 0
-IsFresh entry tells tell = Contains tells tell × IsTrue (is_newer tell.stamp entry.told_at)
+abbrev pub IsFreshTell : Entry → List Tell → Tell → Type 0
+IsFreshTell entry tells tell = Contains tells tell × IsTrue (is_newer tell.stamp entry.told_at)
 
 -- nothing that the node has asked or said is later than its clock, its asks have different stamps, and tells of one stamp are one
 pub record ClocksKept (moving : Bool) (clock : ℕ) (pending : List Ask) (entry : Entry) (tells : List Tell) : Type 0 where
@@ -81,7 +81,7 @@ pub record AsksKnown (pending : List Ask) (entry : Entry) (tells : List Tell) : 
   pub lists : (later older : Tell) → Contains tells later → Contains tells older
       → IsTrue (is_newer later.stamp older.stamp)
       → (stamp : Stamp) → Contains later.pending stamp → IsTrue (is_open older.pending older.stamp stamp)
-  pub entry_list : (tell : Tell) → IsFresh entry tells tell
+  pub entry_list : (tell : Tell) → IsFreshTell entry tells tell
       → (stamp : Stamp) → Contains tell.pending stamp → IsTrue (is_open entry.pending entry.told_at stamp)
 
 -- a copy on its way answers an unanswered ask, and it is owed; and an owed ask that is unanswered has a copy on its way,
@@ -97,12 +97,12 @@ pub record CopiesOwed (pending : List Ask) (entry : Entry) (copies : List Ask) :
 -- a later one bars no more than an older one; and one of them bars no more than charge and copies
 pub record Covers (charge : Modes) (entry : Entry) (tells : List Tell) (copies : List Ask) : Type 0 where
   pub record_bound : IsBelow (now_modes charge copies) (record_of entry)
-  pub left_bound : (tell : Tell) → IsFresh entry tells tell → IsBelow (now_modes charge copies) (left_after entry tell)
-  pub record_shrinks : (tell : Tell) → IsFresh entry tells tell → IsBelow (left_after entry tell) (record_of entry)
-  pub left_shrinks : (later older : Tell) → IsFresh entry tells later → IsFresh entry tells older
+  pub left_bound : (tell : Tell) → IsFreshTell entry tells tell → IsBelow (now_modes charge copies) (left_after entry tell)
+  pub record_shrinks : (tell : Tell) → IsFreshTell entry tells tell → IsBelow (left_after entry tell) (record_of entry)
+  pub left_shrinks : (later older : Tell) → IsFreshTell entry tells later → IsFreshTell entry tells older
       → IsFalse (is_newer older.stamp later.stamp) → IsBelow (left_after entry later) (left_after entry older)
   pub exact : IsBelow (record_of entry) (now_modes charge copies)
-      ⊎ ((tell : Tell) × IsFresh entry tells tell × IsBelow (left_after entry tell) (now_modes charge copies))
+      ⊎ ((tell : Tell) × IsFreshTell entry tells tell × IsBelow (left_after entry tell) (now_modes charge copies))
 
 -- copies on their way to the node conflict neither with each other nor with what is held there,
 -- and no two clients of the node conflict

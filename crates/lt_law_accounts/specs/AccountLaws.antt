@@ -48,8 +48,8 @@ abbrev pub Drops : Type 0
 Drops = (a : Account) (client : ℕ) → AccountKept a → a.moving ≡ true
     → AccountKept (dropping client a) × CountsLess a (dropping client a)
 
-abbrev pub Answers : Type 0
-Answers = (a : Account) (others : Modes) (ask : Ask) → AccountKept a → MayAnswer others ask a
+abbrev pub AnswersKeep : Type 0
+AnswersKeep = (a : Account) (others : Modes) (ask : Ask) → AccountKept a → MayAnswer others ask a
     → AccountKept (answering ask a) × CountsOneMore others ask.mode a (answering ask a)
 
 abbrev pub Owes : Type 0
@@ -70,8 +70,8 @@ AppliesStale = (a : Account) (tell : Tell) (tells : List Tell) → AccountKept a
     → IsFalse (is_newer tell.stamp a.entry.told_at)
     → AccountKept (applying tell tells a) × CountsSame a (applying tell tells a)
 
-abbrev pub Tells : Type 0
-Tells = (a : Account) (stamp : Stamp) (tells : List Tell) → AccountKept a → MayTell stamp tells a
+abbrev pub TellsKeep : Type 0
+TellsKeep = (a : Account) (stamp : Stamp) (tells : List Tell) → AccountKept a → MayTell stamp tells a
     → AccountKept (telling tells a) × CountsSame a (telling tells a)
 
 abbrev pub Settles : Type 0

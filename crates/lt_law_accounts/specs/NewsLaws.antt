@@ -2,11 +2,11 @@
 use Rattle.std.specs.Prelude.{◌≡◌, ◌⊎◌, true, false, ℕ, List, [], IsFalse}
 use Rattle.lt_modes.specs.Modes.{Modes, has_none}
 use Rattle.lt_law_accounts.specs.News.{News, Notice, NewsKept}
-use Rattle.lt_law_accounts.specs.NewsSteps.{beginning, changing, MaySend, sending, MaySpare, sparing, MayKeep, keeping, MayTake, taking, MayLeave, leaving, arriving}
+use Rattle.lt_law_accounts.specs.NewsSteps.{beginning, changing, MaySend, sending, MaySpare, sparing, MayKeep, keeping, MayTake, taking, MayLeave, news_leaving, arriving}
 use Rattle.lt_law_accounts.specs.AccountSteps.{HaveSame}
 
-abbrev pub Begins : Type 0
-Begins = (n : News) → NewsKept n → NewsKept (beginning n)
+abbrev pub BeginsKeep : Type 0
+BeginsKeep = (n : News) → NewsKept n → NewsKept (beginning n)
 
 abbrev pub Changes : Type 0
 Changes = (n : News) (recorded wanted : Modes) → NewsKept n → n.serving ≡ true → NewsKept (changing recorded wanted n)
@@ -20,11 +20,11 @@ Spares = (n : News) (last : ℕ) → NewsKept n → MaySpare last n → NewsKept
 abbrev pub Keeps : Type 0
 Keeps = (n : News) (last : ℕ) → NewsKept n → MayKeep last n → NewsKept (keeping last n)
 
-abbrev pub Takes : Type 0
-Takes = (n : News) (notice : Notice) (coming : List Notice) → NewsKept n → MayTake notice coming n → NewsKept (taking notice coming n)
+abbrev pub TakesKeep : Type 0
+TakesKeep = (n : News) (notice : Notice) (coming : List Notice) → NewsKept n → MayTake notice coming n → NewsKept (taking notice coming n)
 
 abbrev pub Leaves : Type 0
-Leaves = (n : News) (recorded : Modes) → NewsKept n → MayLeave n → NewsKept (leaving recorded n)
+Leaves = (n : News) (recorded : Modes) → NewsKept n → MayLeave n → NewsKept (news_leaving recorded n)
 
 abbrev pub Arrives : Type 0
 Arrives = (n : News) → NewsKept n → NewsKept (arriving n)

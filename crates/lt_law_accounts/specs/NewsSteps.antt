@@ -51,8 +51,8 @@ pub record MayTake (notice : Notice) (coming : List Notice) (n : News) : Type 0 
   pub left : IsLoss notice n.coming coming
 
 -- leave: the desk leaves, after freezing, with this record of the node
-abbrev pub leaving : Modes → News → News
-leaving recorded n = record n { recorded = recorded; here = false }
+abbrev pub news_leaving : Modes → News → News
+news_leaving recorded n = record n { recorded = recorded; here = false }
 
 pub record MayLeave (n : News) : Type 0 where
   pub here : n.here ≡ true

@@ -1,7 +1,7 @@
-ghost use Rattle.lt_law_accounts.specs.AccountLaws.{Ticks, Ages, Asks, Grants, Unlocks, Drops, Answers, Owes, Delivers, Applies, AppliesStale, Tells, Settles, Arrives, Rests, Freezes, Reorders, HoldClear};
+ghost use Rattle.lt_law_accounts.specs.AccountLaws.{Ticks, Ages, Asks, Grants, Unlocks, Drops, AnswersKeep, Owes, Delivers, Applies, AppliesStale, TellsKeep, Settles, Arrives, Rests, Freezes, Reorders, HoldClear};
 ghost use Rattle.lt_law_accounts.specs.AccountFacts.{OwedAreOnWay, OnWayAreOwed, TellKeepsWaiting, TwiceIsOnce, RecordBoundsHeld};
 ghost use Rattle.lt_law_accounts.specs.AccountPlay.{ClearStays, FirstAccounts, AnyOrder, FromTheStart};
-ghost use Rattle.lt_law_accounts.specs.NewsLaws.{Begins, Changes, Sends, Spares, Keeps, Takes, Leaves, Arrives as NewsArrive, Reorders as NewsReorder, FrozenAtRest};
+ghost use Rattle.lt_law_accounts.specs.NewsLaws.{BeginsKeep, Changes, Sends, Spares, Keeps, TakesKeep, Leaves, Arrives as NewsArrive, Reorders as NewsReorder, FrozenAtRest};
 
 /// What can happen to the account of a node keeps it. What counts of the node then bars the same, or less, or one mode
 /// more, which no other node bars.
@@ -12,12 +12,12 @@ pub fn law_account()
     ensures grants { Grants }
     ensures unlocks { Unlocks }
     ensures drops { Drops }
-    ensures answers { Answers }
+    ensures answers { AnswersKeep }
     ensures owes { Owes }
     ensures delivers { Delivers }
     ensures applies { Applies }
     ensures stale { AppliesStale }
-    ensures tells { Tells }
+    ensures tells { TellsKeep }
     ensures settles { Settles }
     ensures arrives { Arrives }
     ensures rests { Rests }
@@ -47,12 +47,12 @@ pub fn law_accounts()
 
 /// What can happen to the news of frozen modes of a node keeps it, and what the news are at rest.
 pub fn law_news()
-    ensures begins { Begins }
+    ensures begins { BeginsKeep }
     ensures changes { Changes }
     ensures sends { Sends }
     ensures spares { Spares }
     ensures keeps { Keeps }
-    ensures takes { Takes }
+    ensures takes { TakesKeep }
     ensures leaves { Leaves }
     ensures arrives { NewsArrive }
     ensures reorders { NewsReorder }

@@ -17,8 +17,8 @@ use Rattle.lt_journal.specs.RunLines.{first_lines, event_lines, entry_lines, mov
 use Rattle.lt_journal.proofs.Named.{named, few_nodes}
 use Rattle.lt_journal.proofs.Written.{line_back}
 use Rattle.lt_limits.specs.declared.moves.TheConstants.{MAX_MOVES}
-use Rattle.lt_law_checking.specs.Checking.{first_reader, Place, Reader, written, closing_at_rest, first_place, moved, is_next, may_move, by_move, by_due, after, read_on, reader_after, led_to, verdict, verdict_at, checked}
-use Rattle.lt_law_checking.specs.Journals.{HasFewMoves, IsFinished, journal_lines, lines_so_far, Begins}
+use Rattle.lt_law_checking.specs.Checking.{first_reader, Place, Reader, written, closing_at_rest, first_place, moved, is_next, has_moves_left, by_move, by_due, place_after, read_on, reader_after, led_to, verdict, verdict_at, checked}
+use Rattle.lt_law_checking.specs.Journals.{HasFewMoves, IsFinished, journal_lines, lines_so_far, BeginsWith}
 use Rattle.lt_law_checking.proofs.Fitting.{all_fit, fit_left, fit_right, journal_written}
 use Rattle.lt_law_checking.proofs.Places.{not_at_rest, first_begins, begins_after}
 
@@ -31,21 +31,21 @@ stays_bad script n [] = refl
 stays_bad script n (line ∷ ls) = stays_bad script n ls
 
 -- the place of a reader has the lines that it read
-pub begins_all : (script : ScriptData) (read : List (List ℕ)) (place : Place) (n : ℕ) (ls : List (List ℕ)) (last : Place) → Begins script read place
-    → (fold (read_on script) (at_place place n) ls).place ≡ Some last → Begins script (read ++ ls) last
+pub begins_all : (script : ScriptData) (read : List (List ℕ)) (place : Place) (n : ℕ) (ls : List (List ℕ)) (last : Place) → BeginsWith script read place
+    → (fold (read_on script) (at_place place n) ls).place ≡ Some last → BeginsWith script (read ++ ls) last
 begins_all script read place n [] last b e =
     let is : place ≡ last = cc in
-    subst (λ (r : List (List ℕ)). Begins script r last) (sym (append-nil read)) (subst (λ (p : Place). Begins script read p) is b)
+    subst (λ (r : List (List ℕ)). BeginsWith script r last) (sym (append-nil read)) (subst (λ (p : Place). BeginsWith script read p) is b)
 begins_all script read place n (line ∷ ls) last b e =
-    by_next (after script place line) refl
+    by_next (place_after script place line) refl
     (λ next came rest. begins_all script (read ++ line ∷ []) next (suc n) ls last (begins_after script read place line next b came) rest) e
   where
-    by_next : (next : Option Place) → after script place line ≡ next
-        → ((next : Place) → after script place line ≡ Some next → (fold (read_on script) (at_place next (suc n)) ls).place ≡ Some last → Begins script ((read ++ line ∷ []) ++ ls) last)
-        → (fold (read_on script) (led_to (at_place place n) next) ls).place ≡ Some last → Begins script (read ++ line ∷ ls) last
+    by_next : (next : Option Place) → place_after script place line ≡ next
+        → ((next : Place) → place_after script place line ≡ Some next → (fold (read_on script) (at_place next (suc n)) ls).place ≡ Some last → BeginsWith script ((read ++ line ∷ []) ++ ls) last)
+        → (fold (read_on script) (led_to (at_place place n) next) ls).place ≡ Some last → BeginsWith script (read ++ line ∷ ls) last
     by_next None came again e = absurd (let bad = ap (λ (r : Reader). r.place) (stays_bad script n ls) in cc)
     by_next (Some next) came again e =
-        subst (λ (r : List (List ℕ)). Begins script r last) (append_assoc read (line ∷ []) ls) (again next came e)
+        subst (λ (r : List (List ℕ)). BeginsWith script r last) (append_assoc read (line ∷ []) ls) (again next came e)
 
 -- what a verdict says of the place
 pub record IsAtEnd (script : ScriptData) (reader : Reader) (run : List Logged) : Type 0 where
@@ -105,7 +105,7 @@ reads_due script run (x ∷ xs) ys n more =
       omega (arith, rest.2),
     )
 
-count_within : (run later : List Logged) (entry : Logged) → HasFewMoves (run ++ entry ∷ later) → may_move run entry.made.stamp.node ≡ true
+count_within : (run later : List Logged) (entry : Logged) → HasFewMoves (run ++ entry ∷ later) → has_moves_left run entry.made.stamp.node ≡ true
 count_within run later entry few =
     let node = entry.made.stamp.node in
     lt-ltb (count_by (is_of_node node) run) MAX_MOVES
@@ -126,8 +126,8 @@ after_move script run later entry is_script move few fits =
     let q = entry.made.stamp.node in
     let clock : entry.made.stamp.clock ≡ (move_stamp w q entry.made.step).clock = ap (λ (l : Logged). l.made.stamp.clock) move.made in
     let next : is_next script run entry.made.stamp.clock q entry.made.step ≡ true =
-    and_from (is_enabled script w q entry.made.step) ((entry.made.stamp.clock == (move_stamp w q entry.made.step).clock) && may_move run q) move.enabled
-    (and_from (entry.made.stamp.clock == (move_stamp w q entry.made.step).clock) (may_move run q) (eq-eqb _ _ clock) (count_within run later entry few)) in
+    and_from (is_enabled script w q entry.made.step) ((entry.made.stamp.clock == (move_stamp w q entry.made.step).clock) && has_moves_left run q) move.enabled
+    (and_from (entry.made.stamp.clock == (move_stamp w q entry.made.step).clock) (has_moves_left run q) (eq-eqb _ _ clock) (count_within run later entry few)) in
     ap (by_move script run) (line_back script (MoveLine entry.made.stamp.clock q entry.made.step) (named script is_script) (few_nodes script is_script) fits)
     ∙ (ap (λ (b : Bool). cond b (Some (moved script run (logged script w q entry.made.step))) None) next
     ∙ ap (λ (l : Logged). Some (moved script run l)) (sym move.made))
@@ -193,7 +193,7 @@ pub none_is_some : {A : Type 0} (place : Place) → None ≡ Some place → A
 none_is_some place e = absurd (cc)
 
 -- where lines begin those of a run, none is bad
-pub begun : (script : ScriptData) (read : List (List ℕ)) (place : Place) → IsScript script → Begins script read place → (here : Place) × ((reader_after script read).place ≡ Some here)
+pub begun : (script : ScriptData) (read : List (List ℕ)) (place : Place) → IsScript script → BeginsWith script read place → (here : Place) × ((reader_after script read).place ≡ Some here)
 begun script read place is_script b = by_place (reader_after script read).place refl
   where
     all : map (written script) (lines_so_far script place.run) ≡ read ++ map (written script) place.due

@@ -6,8 +6,8 @@ use Rattle.std.proofs.lemmas.List.Quantifiers.{position-Some}
 use Rattle.std.proofs.lemmas.Iterator.Adapters.{position_from-zero}
 use Rattle.lt_text.specs.Text.{lines, is_line_end}
 use Rattle.lt_journal.specs.declared.splitting.Parts.{Parts}
-use Rattle.lt_journal.specs.Split.{is_journal_line, after_line, after_lines, parts_at, parts_of}
-use Rattle.lt_law_checking.specs.Input.{IsWhole, EndsLine, HasJournal, IsSettled}
+use Rattle.lt_journal.specs.Split.{is_journal_line, after_first_line, after_lines, parts_at, input_parts}
+use Rattle.lt_law_checking.specs.Input.{EndsInLineFeed, EndsLine, HasJournal, IsSettled}
 use Rattle.lt_law_checking.proofs.Inputs.{no_lines, lines_after, lines_split}
 
 -- what is found stays the first one, whatever comes after
@@ -57,16 +57,16 @@ journal_after before bytes (inr whole) has =
     )
 
 -- the first line ends where it did
-after_whole : (front more : List ℕ) → after_line ((front ++ 10 ∷ []) ++ more) ≡ after_line (front ++ 10 ∷ []) ++ more
-unfolding after_line
+after_whole : (front more : List ℕ) → after_first_line ((front ++ 10 ∷ []) ++ more) ≡ after_first_line (front ++ 10 ∷ []) ++ more
+unfolding after_first_line
 after_whole [] more = refl
 after_whole (byte ∷ front) more = elim (cases_Bool (is_line_end byte)) [
   | inl here ↦ rw here refl
   | inr other ↦ rw other (after_whole front more)
 ]
 
-after_first : (front : List ℕ) → EndsLine (after_line (front ++ 10 ∷ []))
-unfolding after_line
+after_first : (front : List ℕ) → EndsLine (after_first_line (front ++ 10 ∷ []))
+unfolding after_first_line
 after_first [] = inl refl
 after_first (byte ∷ front) = elim (cases_Bool (is_line_end byte)) [
   | inl here ↦ rw here (inr (front, refl))
@@ -78,7 +78,7 @@ record Passes (k : ℕ) (front more : List ℕ) : Type 0 where
   goes_on : after_lines k (front ++ more) ≡ after_lines k front ++ more
   ends : EndsLine (after_lines k front)
 
-passes : (k : ℕ) (front more : List ℕ) → IsWhole front → k ≤ length (lines front) → Passes k front more
+passes : (k : ℕ) (front more : List ℕ) → EndsInLineFeed front → k ≤ length (lines front) → Passes k front more
 passes zero front more whole within = record { goes_on = refl; ends = inr whole }
 passes (suc k) front more whole within =
     let before = passes k front more whole (omega (arith, within)) in
@@ -90,13 +90,13 @@ passes (suc k) front more whole within =
         ap (λ (ls : List (List ℕ)). length ls) (sym (lines_after k front (omega (arith, within))) ∙ (ap lines none ∙ no_lines)),
       ))
       | inr last ↦ record {
-        goes_on = ap after_line (before.goes_on ∙ ap (λ (t : List ℕ). t ++ more) last.1)
-            ∙ (after_whole last.0 more ∙ ap (λ (t : List ℕ). after_line t ++ more) (sym last.1));
-        ends = subst (λ (t : List ℕ). EndsLine (after_line t)) (sym last.1) (after_first last.0);
+        goes_on = ap after_first_line (before.goes_on ∙ ap (λ (t : List ℕ). t ++ more) last.1)
+            ∙ (after_whole last.0 more ∙ ap (λ (t : List ℕ). after_first_line t ++ more) (sym last.1));
+        ends = subst (λ (t : List ℕ). EndsLine (after_first_line t)) (sym last.1) (after_first last.0);
       }
     ]
 
-same_place : (k : ℕ) (front more : List ℕ) → IsWhole front → k ≤ length (lines front)
+same_place : (k : ℕ) (front more : List ℕ) → EndsInLineFeed front → k ≤ length (lines front)
     → length (front ++ more) - length (after_lines k (front ++ more)) ≡ length front - length (after_lines k front)
 same_place k front more whole within =
     let rest = after_lines k front in
@@ -108,7 +108,7 @@ same_place k front more whole within =
     )
 
 -- the parts are told by the bytes up to the line `journal`
-whole_parts : (front more : List ℕ) → IsWhole front → HasJournal front → parts_of (front ++ more) ≡ parts_of front
+whole_parts : (front more : List ℕ) → EndsInLineFeed front → HasJournal front → input_parts (front ++ more) ≡ input_parts front
 whole_parts front more whole has =
     let k = has.0 in
     let all : List (List ℕ) = lines front ++ lines more in
@@ -121,10 +121,10 @@ whole_parts front more whole has =
     let parts : parts_at (front ++ more) (Some k) ≡ parts_at front (Some k) = λ i. record { script = script i; journal = journal i; lines = k + 1 } in
     ap (parts_at (front ++ more)) at ∙ (parts ∙ sym (ap (parts_at front) has.1))
 
-pub settled : (before line rest : List ℕ) → EndsLine before → IsWhole line → HasJournal line → IsSettled ((before ++ line) ++ rest)
+pub settled : (before line rest : List ℕ) → EndsLine before → EndsInLineFeed line → HasJournal line → IsSettled ((before ++ line) ++ rest)
 settled before line rest begins whole has more =
     let front = before ++ line in
     let has_all = journal_after before line begins has in
-    let whole_all : IsWhole front = (before ++ whole.0, ap (λ (t : List ℕ). before ++ t) whole.1 ∙ sym (append_assoc before whole.0 (10 ∷ []))) in
-    ap parts_of (append_assoc front rest more)
+    let whole_all : EndsInLineFeed front = (before ++ whole.0, ap (λ (t : List ℕ). before ++ t) whole.1 ∙ sym (append_assoc before whole.0 (10 ∷ []))) in
+    ap input_parts (append_assoc front rest more)
     ∙ (whole_parts front (rest ++ more) whole_all has_all ∙ sym (whole_parts front rest whole_all has_all))

@@ -13,8 +13,8 @@ use Rattle.lt_text.proofs.TextLemmas.{cut_piece, cut_last}
 use Rattle.lt_journal.specs.declared.line.Line.{Line}
 use Rattle.lt_journal.specs.LineFits.{FitsLine}
 use Rattle.lt_journal.specs.RunLines.{first_lines, moves_lines, closing_lines}
-use Rattle.lt_law_checking.specs.Checking.{Place, Reader, written, first_place, after, read_on, led_to, verdict, checked}
-use Rattle.lt_law_checking.specs.Journals.{Begins, HasCome, lines_so_far}
+use Rattle.lt_law_checking.specs.Checking.{Place, Reader, written, first_place, place_after, read_on, led_to, verdict, checked}
+use Rattle.lt_law_checking.specs.Journals.{BeginsWith, HasCome, lines_so_far}
 use Rattle.lt_law_checking.specs.Feeding.{Feed, new_feed, line_ended, fed, fed_piece, ended}
 use Rattle.lt_law_checking.proofs.Fitting.{all_fit, fit_left}
 use Rattle.lt_law_checking.proofs.Places.{first_begins, begins_after}
@@ -25,16 +25,16 @@ abbrev pub IsSound : ScriptData → Option Place → Type 0
 IsSound script None = Unit {0}
 IsSound script (Some place) = HasCome script place
 
-pub sound_next : (script : ScriptData) (place : Place) (line : List ℕ) (n : ℕ) (next : Option Place) → HasCome script place → after script place line ≡ next
+pub sound_next : (script : ScriptData) (place : Place) (line : List ℕ) (n : ℕ) (next : Option Place) → HasCome script place → place_after script place line ≡ next
     → IsSound script (led_to (record { place = Some place; good = n }) next).place
 sound_next script place line n None come e = tt
 sound_next script place line n (Some next) come e = (come.0 ++ line ∷ [], begins_after script come.0 place line next come.1 e)
 
 sound_on : (script : ScriptData) (place : Option Place) (n : ℕ) (line : List ℕ) → IsSound script place → IsSound script (read_on script (record { place = place; good = n }) line).place
 sound_on script None n line sound = tt
-sound_on script (Some place) n line sound = sound_next script place line n (after script place line) sound refl
+sound_on script (Some place) n line sound = sound_next script place line n (place_after script place line) sound refl
 
-pub all_so_far : (script : ScriptData) (read : List (List ℕ)) (place : Place) → IsScript script → Begins script read place → AllByRecursion (FitsLine script) (lines_so_far script place.run)
+pub all_so_far : (script : ScriptData) (read : List (List ℕ)) (place : Place) → IsScript script → BeginsWith script read place → AllByRecursion (FitsLine script) (lines_so_far script place.run)
 all_so_far script read place is_script b =
     let fits = all_fit script place.run is_script b.is_run b.few in
     let first = first_lines script.version in
@@ -62,16 +62,16 @@ all_short script [] is_script fits = tt
 all_short script (x ∷ xs) is_script fits = (short_line script x is_script fits.0, all_short script xs is_script fits.1)
 
 -- a line that isn't bad is short
-short_after : (script : ScriptData) (place : Place) (line : List ℕ) (next : Place) → IsScript script → HasCome script place → after script place line ≡ Some next → length line < 200
+short_after : (script : ScriptData) (place : Place) (line : List ℕ) (next : Place) → IsScript script → HasCome script place → place_after script place line ≡ Some next → length line < 200
 short_after script place line next is_script come e =
     let b = begins_after script come.0 place line next come.1 e in
     let fits = fit_left (FitsLine script) b.told next.due (subst (AllByRecursion (FitsLine script)) (sym b.parts) (all_so_far script (come.0 ++ line ∷ []) next is_script b)) in
     last_of (λ (l : List ℕ). length l < 200) (written script) come.0 line b.told b.lines (all_short script b.told is_script fits)
 
-bad_after : (script : ScriptData) (place : Place) (line : List ℕ) → IsScript script → HasCome script place → 200 ≤ length line → after script place line ≡ None
-bad_after script place line is_script come long = by_next (after script place line) refl
+bad_after : (script : ScriptData) (place : Place) (line : List ℕ) → IsScript script → HasCome script place → 200 ≤ length line → place_after script place line ≡ None
+bad_after script place line is_script come long = by_next (place_after script place line) refl
   where
-    by_next : (next : Option Place) → after script place line ≡ next → after script place line ≡ None
+    by_next : (next : Option Place) → place_after script place line ≡ next → place_after script place line ≡ None
     by_next None e = e
     by_next (Some next) e = absurd (omega (arith, long, short_after script place line next is_script come e))
 

@@ -13,8 +13,8 @@ use Rattle.lt_script.specs.Script.{IsScript}
 use Rattle.lt_journal.specs.declared.line.Line.{Line}
 use Rattle.lt_journal.specs.Grammar.{read_line}
 use Rattle.lt_journal.specs.RunLines.{first_lines, entry_lines, moves_lines, closing_lines, run_lines}
-use Rattle.lt_law_checking.specs.Checking.{Place, Reader, written, closing_at_rest, first_place, by_due, after, first_reader, read_on, reader_after, led_to, verdict, verdict_at, checked}
-use Rattle.lt_law_checking.specs.Journals.{IsFinished, IsFirstBad, IsContinued, Begins}
+use Rattle.lt_law_checking.specs.Checking.{Place, Reader, written, closing_at_rest, first_place, by_due, place_after, first_reader, read_on, reader_after, led_to, verdict, verdict_at, checked}
+use Rattle.lt_law_checking.specs.Journals.{IsFinished, IsFirstBad, IsContinued, BeginsWith}
 use Rattle.lt_law_checking.proofs.Fitting.{journal_written}
 use Rattle.lt_law_checking.proofs.Places.{not_bad, next_move, not_at_rest, first_begins}
 use Rattle.lt_law_checking.proofs.Accepting.{at_place, stays_bad, begins_all, accepted_at, all_lines, means, accepts, begun, none_is_some}
@@ -51,9 +51,9 @@ met script place n [] k e = record {
     before_end : (j : ℕ) → j ≤ 0 → (q : Place) × ((fold (read_on script) (at_place place n) (take j [])).place ≡ Some q)
     before_end zero le = (place, refl)
     before_end (suc j) le = absurd (omega (arith, le))
-met script place n (line ∷ ls) k e = by_next (after script place line) refl (λ next rest. met script next (suc n) ls k rest) e
+met script place n (line ∷ ls) k e = by_next (place_after script place line) refl (λ next rest. met script next (suc n) ls k rest) e
   where
-    by_next : (next : Option Place) → after script place line ≡ next
+    by_next : (next : Option Place) → place_after script place line ≡ next
         → ((next : Place) → verdict script (fold (read_on script) (at_place next (suc n)) ls) ≡ Err k → Met script next (suc n) ls k)
         → verdict script (fold (read_on script) (led_to (at_place place n) next) ls) ≡ Err k → Met script place n (line ∷ ls) k
     by_next None came again e =
@@ -133,9 +133,9 @@ grows : (script : ScriptData) (place : Place) (n : ℕ) (ls : List (List ℕ)) (
 grows script place n [] last e =
     let is : place ≡ last = cc in
     ([], ap (λ (p : Place). p.run) (sym is) ∙ sym (append-nil place.run))
-grows script place n (line ∷ ls) last e = by_next (after script place line) refl (λ next rest. grows script next (suc n) ls last rest) e
+grows script place n (line ∷ ls) last e = by_next (place_after script place line) refl (λ next rest. grows script next (suc n) ls last rest) e
   where
-    by_next : (next : Option Place) → after script place line ≡ next
+    by_next : (next : Option Place) → place_after script place line ≡ next
         → ((next : Place) → (fold (read_on script) (at_place next (suc n)) ls).place ≡ Some last → (later : List Logged) × (last.run ≡ next.run ++ later))
         → (fold (read_on script) (led_to (at_place place n) next) ls).place ≡ Some last
         → (later : List Logged) × (last.run ≡ place.run ++ later)
@@ -155,7 +155,7 @@ run_from script w (entry ∷ first) later h = run_from script (world.after scrip
 pub continued : (script : ScriptData) (read : List (List ℕ)) (place : Place) → IsScript script → (reader_after script read).place ≡ Some place → IsContinued script read place
 continued script read place is_script e = record { only = only; each = each }
   where
-    b : Begins script read place
+    b : BeginsWith script read place
     b = begins_all script [] (first_place script) 0 read place (first_begins script) e
 
     only : (more : List (List ℕ)) (run : List Logged) → checked script (read ++ more) ≡ Ok run → IsFinished script run × ((later : List Logged) × (run ≡ place.run ++ later))

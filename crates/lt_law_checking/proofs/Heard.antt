@@ -15,7 +15,7 @@ use Rattle.lt_journal.specs.LineFits.{FitsLine}
 use Rattle.lt_journal.proofs.Found.{as_written}
 use Rattle.lt_journal.proofs.Named.{named, few_nodes}
 use Rattle.lt_journal.proofs.Written.{line_back}
-use Rattle.lt_law_checking.specs.Checking.{reader_after, Place, written, first_place, by_move, by_due, after, read_on, led_to, verdict, checked}
+use Rattle.lt_law_checking.specs.Checking.{reader_after, Place, written, first_place, by_move, by_due, place_after, read_on, led_to, verdict, checked}
 use Rattle.lt_law_checking.specs.Said.{checked_said}
 use Rattle.lt_law_checking.proofs.Fitting.{fit_right}
 use Rattle.lt_law_checking.proofs.Places.{first_begins, begins_after, begins_moved, next_move}
@@ -68,7 +68,7 @@ reads_as script line x is_script fits = (
   λ is. sym (same_test script line x is_script fits) ∙ (bytes_eq-Decides (written script (read_line script line)) (written script x)).1 (ap (written script) is),
 )
 
--- after a line that is due, and after what says a next move, a reader has come to a place
+-- place_after a line that is due, and place_after what says a next move, a reader has come to a place
 pub come_due : (script : ScriptData) (run : List Logged) (x : Line) (due : List Line) → HasCome script (record { run = run; due = x ∷ due }) → HasCome script (record { run = run; due = due })
 come_due script run x due come =
     (come.0 ++ written script x ∷ [], begins_after script come.0 (record { run = run; due = x ∷ due }) (written script x) (record { run = run; due = due }) come.1 (after_due script run x due))
@@ -88,7 +88,7 @@ heard_all script [] place n is_script come = refl
 heard_all script (line ∷ ls) place n is_script come =
     ap (λ (o : Option Place). fold (read_on script) (led_to (record { place = Some place; good = n }) o) (map (written script) (map (read_line script) ls)))
     (same_place script place.run place.due line is_script (due_fits script place is_script come))
-    ∙ by_next (after script place line) (sound_next script place line n (after script place line) come refl) (λ next m came. heard_all script ls next m is_script came)
+    ∙ by_next (place_after script place line) (sound_next script place line n (place_after script place line) come refl) (λ next m came. heard_all script ls next m is_script came)
   where
     by_next : (next : Option Place) → IsSound script (led_to (record { place = Some place; good = n }) next).place
         → ((next : Place) (m : ℕ) → HasCome script next → fold (read_on script) (record { place = Some next; good = m }) (map (written script) (map (read_line script) ls)) ≡ fold (read_on script) (record { place = Some next; good = m }) ls)

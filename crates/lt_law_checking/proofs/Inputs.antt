@@ -4,16 +4,16 @@ use Rattle.std.proofs.lemmas.Bool.{cases_Bool, eqb-true}
 use Rattle.std.proofs.lemmas.List.{drop_at, map-append}
 use Rattle.std.proofs.lemmas.List.Quantifiers.{position-Some}
 use Rattle.lt_text.specs.Text.{lines, cut_at, put_front, without_return, is_line_end}
-use Rattle.lt_journal.specs.Split.{is_journal_line, after_line, after_lines, parts_at, parts_of}
+use Rattle.lt_journal.specs.Split.{is_journal_line, after_first_line, after_lines, parts_at, input_parts}
 use Rattle.lt_journal.proofs.Lines.{first_line}
-use Rattle.lt_law_checking.specs.Input.{before_place, script_in, after_place, journal_in, count_before, lines_before, IsWhole}
+use Rattle.lt_law_checking.specs.Input.{before_place, script_in, after_place, journal_in, count_before, lines_before, EndsInLineFeed}
 
 -- the one is the end of the other
 abbrev IsEndOf : List ℕ → List ℕ → Type 0
 IsEndOf rest bytes = (front : List ℕ) × (bytes ≡ front ++ rest)
 
-after_line_end : (bytes : List ℕ) → IsEndOf (after_line bytes) bytes
-unfolding after_line
+after_line_end : (bytes : List ℕ) → IsEndOf (after_first_line bytes) bytes
+unfolding after_first_line
 after_line_end [] = ([], refl)
 after_line_end (byte ∷ bytes) = elim (cases_Bool (is_line_end byte)) [
   | inl here ↦ rw here (byte ∷ [], refl)
@@ -27,7 +27,7 @@ after_lines_end zero bytes = ([], refl)
 after_lines_end (suc k) bytes =
     let first = after_lines_end k bytes in
     let next = after_line_end (after_lines k bytes) in
-    (first.0 ++ next.0, first.1 ∙ (ap (λ (t : List ℕ). first.0 ++ t) next.1 ∙ sym (append_assoc first.0 next.0 (after_line (after_lines k bytes)))))
+    (first.0 ++ next.0, first.1 ∙ (ap (λ (t : List ℕ). first.0 ++ t) next.1 ∙ sym (append_assoc first.0 next.0 (after_first_line (after_lines k bytes)))))
 
 end_dropped : (rest bytes : List ℕ) → IsEndOf rest bytes → drop (length bytes - length rest) bytes ≡ rest
 end_dropped rest bytes is_end =
@@ -55,24 +55,24 @@ at_place bytes (Some k) e =
     let inside = (position-Some is_journal_line (lines bytes) k [] e).0 in
     ap lines (end_dropped (after_lines (k + 1) bytes) bytes (after_lines_end (k + 1) bytes)) ∙ lines_after (k + 1) bytes (omega (arith, inside))
 
-pub journal_part : (bytes : List ℕ) → lines (drop (parts_of bytes).journal bytes) ≡ journal_in (lines bytes)
+pub journal_part : (bytes : List ℕ) → lines (drop (input_parts bytes).journal bytes) ≡ journal_in (lines bytes)
 journal_part bytes = at_place bytes (position is_journal_line (lines bytes)) refl
 
 count_at : (bytes : List ℕ) (o : Option ℕ) → (parts_at bytes o).lines ≡ count_before (lines bytes) o
 count_at bytes None = refl
 count_at bytes (Some k) = refl
 
-pub lines_counted : (bytes : List ℕ) → (parts_of bytes).lines ≡ lines_before (lines bytes)
+pub lines_counted : (bytes : List ℕ) → (input_parts bytes).lines ≡ lines_before (lines bytes)
 lines_counted bytes = count_at bytes (position is_journal_line (lines bytes))
 
 -- the first line with its line end, and what stands after it
 record FirstPart (bytes : List ℕ) : Type 0 where
   front : List ℕ
-  parts : bytes ≡ front ++ after_line bytes
-  whole : (after_line bytes ≡ []) ⊎ IsWhole front
+  parts : bytes ≡ front ++ after_first_line bytes
+  whole : (after_first_line bytes ≡ []) ⊎ EndsInLineFeed front
 
 first_part : (bytes : List ℕ) → FirstPart bytes
-unfolding after_line
+unfolding after_first_line
 first_part [] = record { front = []; parts = refl; whole = inl refl }
 first_part (byte ∷ bytes) = elim (cases_Bool (is_line_end byte)) [
   | inl here ↦ record {
@@ -117,7 +117,7 @@ cut_split (byte ∷ front) rest = elim (cases_Bool (is_line_end byte)) [
       ∙ put_append byte (cut_at is_line_end (front ++ 10 ∷ [])) (cut_at is_line_end rest) (some_cut front))
 ]
 
-pub lines_split : (front rest : List ℕ) → IsWhole front → lines (front ++ rest) ≡ lines front ++ lines rest
+pub lines_split : (front rest : List ℕ) → EndsInLineFeed front → lines (front ++ rest) ≡ lines front ++ lines rest
 unfolding lines
 lines_split front rest whole =
     ap (λ (t : List ℕ). lines (t ++ rest)) whole.1
@@ -144,7 +144,7 @@ script_at bytes (suc k) inside =
     let front = first.0 ++ next.front in
     let parts : bytes ≡ front ++ rest = first.1 ∙ (ap (λ (t : List ℕ). first.0 ++ t) next.parts ∙ sym (append_assoc first.0 next.front rest)) in
     let later = lines_after (suc k) bytes (omega (arith, inside)) in
-    let whole : IsWhole front = elim next.whole [
+    let whole : EndsInLineFeed front = elim next.whole [
       | inl none ↦ absurd (some_left (lines bytes) (suc k) inside (sym later ∙ (ap lines none ∙ no_lines)))
       | inr ends ↦ (first.0 ++ ends.0, ap (λ (t : List ℕ). first.0 ++ t) ends.1 ∙ sym (append_assoc first.0 ends.0 (10 ∷ [])))
     ] in (
@@ -162,5 +162,5 @@ before_at bytes (Some k) e =
     let count : length part.0 ≡ length bytes - length rest = omega (arith, length-append part.0 rest, ap (λ (t : List ℕ). length t) part.1) in
     ap lines (ap (take (length bytes - length rest)) part.1 ∙ take_at part.0 rest (length bytes - length rest) count) ∙ part.2
 
-pub script_part : (bytes : List ℕ) → lines (take (parts_of bytes).script bytes) ≡ script_in (lines bytes)
+pub script_part : (bytes : List ℕ) → lines (take (input_parts bytes).script bytes) ≡ script_in (lines bytes)
 script_part bytes = before_at bytes (position is_journal_line (lines bytes)) refl

@@ -22,8 +22,8 @@ use Rattle.lt_journal.specs.Text.{IsAsWritten}
 use Rattle.lt_journal.specs.RunLines.{first_lines, event_lines, entry_lines, moves_lines}
 use Rattle.lt_journal.proofs.Found.{as_written}
 use Rattle.lt_limits.specs.declared.moves.TheConstants.{MAX_MOVES}
-use Rattle.lt_law_checking.specs.Checking.{Place, written, closing_at_rest, first_place, moved, is_next, may_move, by_move, by_due, after}
-use Rattle.lt_law_checking.specs.Journals.{HasFewMoves, lines_so_far, Begins}
+use Rattle.lt_law_checking.specs.Checking.{Place, written, closing_at_rest, first_place, moved, is_next, has_moves_left, by_move, by_due, place_after}
+use Rattle.lt_law_checking.specs.Journals.{HasFewMoves, lines_so_far, BeginsWith}
 
 any_below_at : (n k : ℕ) (test : ℕ → Bool) → k < n → test k ≡ true → any_below n test ≡ true
 any_below_at zero k test inside e = absurd (omega (arith, inside))
@@ -81,7 +81,7 @@ at_most_one : (b : Bool) → cond b 1 0 ≤ 1
 at_most_one true = omega arith
 at_most_one false = omega arith
 
-pub few_push : (run : List Logged) (entry : Logged) (q : ℕ) → HasFewMoves run → entry.made.stamp.node ≡ q → may_move run q ≡ true → HasFewMoves (run ++ entry ∷ [])
+pub few_push : (run : List Logged) (entry : Logged) (q : ℕ) → HasFewMoves run → entry.made.stamp.node ≡ q → has_moves_left run q ≡ true → HasFewMoves (run ++ entry ∷ [])
 few_push run entry q few is_q may node = elim (cases_eq entry.made.stamp.node node) [
   | inl e ↦ omega (
     arith,
@@ -92,7 +92,7 @@ few_push run entry q few is_q may node = elim (cases_eq entry.made.stamp.node no
   | inr d ↦ omega (arith, count_push run entry node, few node, ap {B = ℕ} (λ (b : Bool). cond b 1 0) (ne_eqb entry.made.stamp.node node d))
 ]
 
-pub first_begins : (script : ScriptData) → Begins script [] (first_place script)
+pub first_begins : (script : ScriptData) → BeginsWith script [] (first_place script)
 first_begins script = record { is_run = tt; few = λ node. omega arith; told = []; parts = refl; lines = refl }
 
 -- the line of a next move
@@ -100,7 +100,7 @@ pub record IsNextMove (script : ScriptData) (run : List Logged) (line : List ℕ
   pub node : ℕ
   pub step : Step
   pub enabled : is_enabled script (world_after script run) node step ≡ true
-  pub may : may_move run node ≡ true
+  pub may : has_moves_left run node ≡ true
   pub place_is : place ≡ moved script run (logged script (world_after script run) node step)
   pub line_is : line ≡ written script (MoveLine (move_stamp (world_after script run) node step).clock node step)
 
@@ -116,8 +116,8 @@ pub next_move : (script : ScriptData) (run : List Logged) (line : List ℕ) (pla
 next_move script run line place (MoveLine clock node step) same e = elim (cases_Bool (is_next script run clock node step)) [
   | inl next ↦
       let w = world_after script run in
-      let parts = and_parts (is_enabled script w node step) ((clock == (move_stamp w node step).clock) && may_move run node) next in
-      let more = and_parts (clock == (move_stamp w node step).clock) (may_move run node) parts.1 in
+      let parts = and_parts (is_enabled script w node step) ((clock == (move_stamp w node step).clock) && has_moves_left run node) next in
+      let more = and_parts (clock == (move_stamp w node step).clock) (has_moves_left run node) parts.1 in
       let e' : Some (moved script run (logged script w node step)) ≡ Some place = sym (ap (λ (b : Bool). cond b (Some (moved script run (logged script w node step))) None) next) ∙ e in
       record {
         node = node;
@@ -145,8 +145,8 @@ push_lines : (v : ℕ) (run : List Logged) (entry : Logged) → moves_lines v (r
 push_lines v run entry = flat_map-append (entry_lines v) run (entry ∷ []) ∙ ap (λ (t : List Line). moves_lines v run ++ t) (append-nil (entry_lines v entry))
 
 -- a line more was read and isn't bad
-pub begins_moved : (script : ScriptData) (read : List (List ℕ)) (run : List Logged) (line : List ℕ) (place : Place) → Begins script read (record { run = run; due = [] }) → IsNextMove script run line place
-    → Begins script (read ++ line ∷ []) place
+pub begins_moved : (script : ScriptData) (read : List (List ℕ)) (run : List Logged) (line : List ℕ) (place : Place) → BeginsWith script read (record { run = run; due = [] }) → IsNextMove script run line place
+    → BeginsWith script (read ++ line ∷ []) place
 begins_moved script read run line place b m =
     let w = world_after script run in
     let entry = logged script w m.node m.step in
@@ -164,33 +164,33 @@ begins_moved script read run line place b m =
     ∙ (sym (append_assoc b.told (x ∷ events) closing)
     ∙ (ap (λ (t : List Line). t ++ closing) (ap₂ (λ (s t : List Line). s ++ t) told_is (sym head) ∙ (append_assoc first before (entry_lines v entry) ∙ ap (λ (t : List Line). first ++ t) (sym (push_lines v run entry))))
     ∙ append_assoc first (moves_lines v (run ++ entry ∷ [])) closing)) in
-    let at : Begins script (read ++ line ∷ []) (moved script run entry) = record {
+    let at : BeginsWith script (read ++ line ∷ []) (moved script run entry) = record {
       is_run = IsRunFrom-push script (start script) run entry b.is_run (is_logged script w m.node m.step m.enabled);
       few = few_push run entry m.node b.few (stamp_node w m.node m.step) m.may;
       told = b.told ++ x ∷ [];
       parts = moves;
       lines = ap₂ (λ (s : List (List ℕ)) (t : List ℕ). s ++ t ∷ []) b.lines m.line_is ∙ sym (map-append (written script) b.told (x ∷ []));
     } in
-    subst (λ (p : Place). Begins script (read ++ line ∷ []) p) (sym m.place_is) at
+    subst (λ (p : Place). BeginsWith script (read ++ line ∷ []) p) (sym m.place_is) at
 
-begins_due : (script : ScriptData) (read : List (List ℕ)) (run : List Logged) (due : List Line) (line : List ℕ) (place : Place) → Begins script read (record { run = run; due = due })
-    → by_due script run due line ≡ Some place → Begins script (read ++ line ∷ []) place
+begins_due : (script : ScriptData) (read : List (List ℕ)) (run : List Logged) (due : List Line) (line : List ℕ) (place : Place) → BeginsWith script read (record { run = run; due = due })
+    → by_due script run due line ≡ Some place → BeginsWith script (read ++ line ∷ []) place
 begins_due script read run [] line place b e = begins_moved script read run line place b (next_move script run line place (read_line script line) (not_bad script line) e)
 begins_due script read run (x ∷ due) line place b e = elim (cases_Bool (bytes_eq line (written script x))) [
   | inl same ↦
       let e' : Some (record { run = run; due = due }) ≡ Some place = sym (ap (λ (b : Bool). cond b (Some (record { run = run; due = due })) None) same) ∙ e in
       let is : record { run = run; due = due } ≡ place = cc in
-      let at : Begins script (read ++ line ∷ []) (record { run = run; due = due }) = record {
+      let at : BeginsWith script (read ++ line ∷ []) (record { run = run; due = due }) = record {
         is_run = b.is_run;
         few = b.few;
         told = b.told ++ x ∷ [];
         parts = append_assoc b.told (x ∷ []) due ∙ b.parts;
         lines = ap₂ (λ (s : List (List ℕ)) (t : List ℕ). s ++ t ∷ []) b.lines ((bytes_eq-Decides line (written script x)).0 same) ∙ sym (map-append (written script) b.told (x ∷ []));
       } in
-      subst (λ (p : Place). Begins script (read ++ line ∷ []) p) is at
+      subst (λ (p : Place). BeginsWith script (read ++ line ∷ []) p) is at
   | inr other ↦ absurd (let e' : None ≡ Some place = sym (ap (λ (b : Bool). cond b (Some (record { run = run; due = due })) None) other) ∙ e in cc)
 ]
 
-pub begins_after : (script : ScriptData) (read : List (List ℕ)) (place : Place) (line : List ℕ) (next : Place) → Begins script read place → after script place line ≡ Some next
-    → Begins script (read ++ line ∷ []) next
+pub begins_after : (script : ScriptData) (read : List (List ℕ)) (place : Place) (line : List ℕ) (next : Place) → BeginsWith script read place → place_after script place line ≡ Some next
+    → BeginsWith script (read ++ line ∷ []) next
 begins_after script read place line next b e = begins_due script read place.run place.due line next b e

@@ -3,7 +3,7 @@ use Rattle.std.specs.Prelude.{◌≡◌, ◌⊎◌, ℕ, ◌+◌, List, [], ◌�
 use Rattle.lt_modes.specs.Script.{ScriptData}
 use Rattle.lt_spec.specs.Log.{Logged}
 use Rattle.lt_text.specs.Text.{lines}
-use Rattle.lt_journal.specs.Split.{is_journal_line, parts_of}
+use Rattle.lt_journal.specs.Split.{is_journal_line, input_parts}
 use Rattle.lt_law_checking.specs.Checking.{checked}
 
 abbrev pub before_place : List (List ℕ) → Option ℕ → List (List ℕ)
@@ -40,12 +40,12 @@ abbrev pub checked_input : ScriptData → List (List ℕ) → Result (List Logge
 checked_input script all = counted_from (lines_before all) (checked script (journal_in all))
 
 -- a line feed is the last byte
-abbrev pub IsWhole : List ℕ → Type 0
-IsWhole bytes = (front : List ℕ) × (bytes ≡ front ++ 10 ∷ [])
+abbrev pub EndsInLineFeed : List ℕ → Type 0
+EndsInLineFeed bytes = (front : List ℕ) × (bytes ≡ front ++ 10 ∷ [])
 
 -- a new line begins after these bytes
 abbrev pub EndsLine : List ℕ → Type 0
-EndsLine bytes = (bytes ≡ []) ⊎ IsWhole bytes
+EndsLine bytes = (bytes ≡ []) ⊎ EndsInLineFeed bytes
 
 -- one of the lines is `journal`
 abbrev pub HasJournal : List ℕ → Type 0
@@ -53,4 +53,4 @@ HasJournal bytes = (k : ℕ) × (position is_journal_line (lines bytes) ≡ Some
 
 -- an input that begins with these bytes is cut where they are, whatever comes after them
 abbrev pub IsSettled : List ℕ → Type 0
-IsSettled bytes = (more : List ℕ) → parts_of (bytes ++ more) ≡ parts_of bytes
+IsSettled bytes = (more : List ℕ) → input_parts (bytes ++ more) ≡ input_parts bytes

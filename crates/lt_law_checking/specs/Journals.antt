@@ -29,7 +29,7 @@ abbrev pub lines_so_far : ScriptData → List Logged → List Line
 lines_so_far script run = first_lines script.version ++ (moves_lines script.version run ++ closing_at_rest script run)
 
 -- the place is that of a reader who has read these lines: its run is one of the script, and its lines are those that were read and then those that are due
-pub record Begins (script : ScriptData) (read : List (List ℕ)) (place : Place) : Type 0 where
+pub record BeginsWith (script : ScriptData) (read : List (List ℕ)) (place : Place) : Type 0 where
   pub is_run : IsRun script place.run
   pub few : HasFewMoves place.run
   pub told : List Line
@@ -38,11 +38,11 @@ pub record Begins (script : ScriptData) (read : List (List ℕ)) (place : Place)
 
 -- the place is one that a reader has come to
 abbrev pub HasCome : ScriptData → Place → Type 0
-HasCome script place = (read : List (List ℕ)) × Begins script read place
+HasCome script place = (read : List (List ℕ)) × BeginsWith script read place
 
 -- the lines are the first ones of those of a run's moves, and of the closing lines where it is at rest
 abbrev pub IsBeginning : ScriptData → List (List ℕ) → Type 0
-IsBeginning script read = (place : Place) × Begins script read place
+IsBeginning script read = (place : Place) × BeginsWith script read place
 
 -- line k, counted from 1, is the first bad one
 pub record IsFirstBad (script : ScriptData) (all : List (List ℕ)) (k : ℕ) : Type 0 where

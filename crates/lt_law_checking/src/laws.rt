@@ -11,10 +11,10 @@ ghost use Rattle.lt_law_checking.specs.Checking.{Place, written, reader_after, c
 ghost use Rattle.lt_law_checking.specs.Feeding.{Feed, new_feed, fed_piece, ended};
 ghost use Rattle.lt_law_checking.specs.Rows.{EmptyRows, ShortRows};
 ghost use Rattle.lt_law_checking.specs.Said.{checked_said};
-ghost use Rattle.lt_law_checking.specs.Input.{script_in, journal_in, lines_before, counted_from, checked_input, IsWhole, EndsLine, HasJournal, IsSettled};
+ghost use Rattle.lt_law_checking.specs.Input.{script_in, journal_in, lines_before, counted_from, checked_input, EndsInLineFeed, EndsLine, HasJournal, IsSettled};
 ghost use Rattle.lt_journal.specs.Grammar.{read_line};
-ghost use Rattle.lt_journal.specs.Split.{parts_of};
-ghost use Rattle.lt_law_checking.specs.Journals.{IsFinished, Begins, IsBeginning, IsFirstBad, IsContinued, journal_lines};
+ghost use Rattle.lt_journal.specs.Split.{input_parts};
+ghost use Rattle.lt_law_checking.specs.Journals.{IsFinished, BeginsWith, IsBeginning, IsFirstBad, IsContinued, journal_lines};
 
 /// The journal of a finished run is accepted, as that of this run.
 pub fn law_accepts()
@@ -73,17 +73,17 @@ pub fn law_said()
 /// An input is split into the lines before its first line `journal` and those after it, and the lines before the journal are counted.
 /// The journal's bytes are fed, and the bad line is named by its number in the whole input.
 pub fn law_input()
-    ensures script { (bytes : List ℕ) → lines (take (parts_of bytes).script bytes) ≡ script_in (lines bytes) }
-    ensures journal { (bytes : List ℕ) → lines (drop (parts_of bytes).journal bytes) ≡ journal_in (lines bytes) }
-    ensures before { (bytes : List ℕ) → (parts_of bytes).lines ≡ lines_before (lines bytes) }
+    ensures script { (bytes : List ℕ) → lines (take (input_parts bytes).script bytes) ≡ script_in (lines bytes) }
+    ensures journal { (bytes : List ℕ) → lines (drop (input_parts bytes).journal bytes) ≡ journal_in (lines bytes) }
+    ensures before { (bytes : List ℕ) → (input_parts bytes).lines ≡ lines_before (lines bytes) }
     ensures answer { (script : ScriptData) → (bytes : List ℕ) → IsScript script
-        → counted_from (parts_of bytes).lines (ended script (fed_piece script (new_feed script) (drop (parts_of bytes).journal bytes)))
+        → counted_from (input_parts bytes).lines (ended script (fed_piece script (new_feed script) (drop (input_parts bytes).journal bytes)))
         ≡ checked_input script (lines bytes) }
 {}
 
 /// Once the line `journal` has come with its line end, an input is cut where it is, whatever comes after.
 pub fn law_settled()
-    ensures { (before : List ℕ) → (line : List ℕ) → (rest : List ℕ) → EndsLine before → IsWhole line
+    ensures { (before : List ℕ) → (line : List ℕ) → (rest : List ℕ) → EndsLine before → EndsInLineFeed line
         → HasJournal line → IsSettled ((before ++ line) ++ rest) }
 {}
 
@@ -96,7 +96,7 @@ pub fn law_one_run()
 /// None of some lines is bad exactly where they are the first ones of a run.
 pub fn law_beginning()
     ensures read { (script : ScriptData) → (read : List (List ℕ)) → (place : Place) → IsScript script
-        → (reader_after script read).place ≡ Some place → Begins script read place }
+        → (reader_after script read).place ≡ Some place → BeginsWith script read place }
     ensures begun { (script : ScriptData) → (read : List (List ℕ)) → IsScript script
         → IsBeginning script read → (place : Place) × ((reader_after script read).place ≡ Some place) }
 {}

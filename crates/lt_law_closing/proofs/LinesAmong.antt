@@ -10,7 +10,7 @@ use Rattle.lt_modes.specs.declared.event.Event.{Event}
 use Rattle.lt_modes.specs.declared.parts.Link.{Link}
 use Rattle.lt_modes.specs.Script.{ScriptData}
 use Rattle.lt_lists.proofs.Members.{contains_first, contains_cases}
-use Rattle.lt_spec.specs.Holdings.{Holding, holding, holdings, count_of, wanted, owner_of}
+use Rattle.lt_spec.specs.Holdings.{Holding, holding, holdings, times_held, wanted, owner_of}
 use Rattle.lt_journal.specs.declared.line.Line.{Line}
 use Rattle.lt_journal.specs.declared.line.Line.TheVariants.{Held, Waiting, Owner, End}
 use Rattle.lt_journal.specs.Words.{all_modes}
@@ -91,19 +91,19 @@ held_line-which lock n x h = by_none (n == 0) refl h
     by_none false e found = (eqb-false n 0 e, only_one (Held lock.client lock.set lock.mode n) x found)
 
 held_which : (script : ScriptData) (held : List Holding) (client s : ℕ) (mode : Mode) (count : ℕ) → Contains (held_lines script held) (Held client s mode count)
-    → (0 < count) × (count_of held (holding client s mode) ≡ count)
+    → (0 < count) × (times_held held (holding client s mode) ≡ count)
 held_which script held client s mode count h =
     let line = Held client s mode count in
     let at_client = below_which (length script.clients) (held_by script held) line h in
     let at_set = below_which (length script.sets) (held_in_set held at_client.0) line at_client.2 in
     let at_mode = modes_which (held_in_mode held at_client.0 at_set.0) all_modes line at_set.2 in
     let lock = holding at_client.0 at_set.0 at_mode.0 in
-    let found = held_line-which lock (count_of held lock) line at_mode.1 in
-    let same : count_of held lock ≡ count = ap count_in found.1 in
-    (omega (arith, found.0, same), ap (λ (k : Holding). count_of held k) (sym (ap lock_in found.1)) ∙ same)
+    let found = held_line-which lock (times_held held lock) line at_mode.1 in
+    let same : times_held held lock ≡ count = ap count_in found.1 in
+    (omega (arith, found.0, same), ap (λ (k : Holding). times_held held k) (sym (ap lock_in found.1)) ∙ same)
 
 held_at : (script : ScriptData) (held : List Holding) (client s : ℕ) (mode : Mode) (count : ℕ) → client < length script.clients → s < length script.sets
-    → 0 < count → count_of held (holding client s mode) ≡ count → Contains (held_lines script held) (Held client s mode count)
+    → 0 < count → times_held held (holding client s mode) ≡ count → Contains (held_lines script held) (Held client s mode count)
 held_at script held client s mode count known below some same =
     below_at (length script.clients) (held_by script held) (Held client s mode count) client known
     (below_at (length script.sets) (held_in_set held client) (Held client s mode count) s below
@@ -128,7 +128,7 @@ held_kind script held x h =
     let at_set = below_which (length script.sets) (held_in_set held at_client.0) x at_client.2 in
     let at_mode = modes_which (held_in_mode held at_client.0 at_set.0) all_modes x at_set.2 in
     let lock = holding at_client.0 at_set.0 at_mode.0 in
-    ap kind_of (sym (held_line-which lock (count_of held lock) x at_mode.1).1)
+    ap kind_of (sym (held_line-which lock (times_held held lock) x at_mode.1).1)
 
 waiting_kind : (script : ScriptData) (waits_for : ℕ → Option Holding) → AreOf 1 (waiting_lines script waits_for)
 waiting_kind script waits_for x h =
@@ -165,7 +165,7 @@ parts script events moves x h = elim (Contains-append_cases ((held ++ waiting) +
     owners = owner_lines script (λ set. owner_of set events)
 
 pub held_among : (script : ScriptData) (events : List Event) (moves client s : ℕ) (mode : Mode) (count : ℕ) → Contains (rest_lines script events moves) (Held client s mode count)
-    → (0 < count) × (count_of (holdings script events) (holding client s mode) ≡ count)
+    → (0 < count) × (times_held (holdings script events) (holding client s mode) ≡ count)
 held_among script events moves client s mode count h = elim (parts script events moves (Held client s mode count) h) [
   | inl found ↦ held_which script (holdings script events) client s mode count found
   | inr others ↦ elim others [
@@ -178,7 +178,7 @@ held_among script events moves client s mode count h = elim (parts script events
 ]
 
 pub among_held : (script : ScriptData) (events : List Event) (moves client s : ℕ) (mode : Mode) (count : ℕ) → client < length script.clients → s < length script.sets
-    → 0 < count → count_of (holdings script events) (holding client s mode) ≡ count → Contains (rest_lines script events moves) (Held client s mode count)
+    → 0 < count → times_held (holdings script events) (holding client s mode) ≡ count → Contains (rest_lines script events moves) (Held client s mode count)
 among_held script events moves client s mode count known below some same =
     Contains-append_left _ (End moves ∷ []) _ (Contains-append_left _ (owner_lines script (λ set. owner_of set events)) _
     (Contains-append_left _ (waiting_lines script (λ c. wanted c events)) _ (held_at script (holdings script events) client s mode count known below some same)))

@@ -10,7 +10,7 @@ use Rattle.lt_modes.specs.Modes.{Modes, no_modes, has, union, bars, with_mode, c
 use Rattle.lt_modes.specs.State.{SetState, Desk}
 use Rattle.lt_modes.specs.Queue.{no_ask, modes_of_asks}
 use Rattle.lt_modes.specs.Records.{others, modes_at}
-use Rattle.lt_modes.specs.Serving.{is_free, is_clear_at_home, may_draw, move_from, move_at}
+use Rattle.lt_modes.specs.Serving.{is_free, is_clear_at_home, may_draw, draw_from, move_at}
 use Rattle.lt_modes.proofs.ModeAlgebra.{bars_by_table}
 use Rattle.lt_law_accounts.proofs.ModeMembers.{has-union, has-left, has-right, mode_which, mode_at}
 use Rattle.lt_law_enabled.specs.RuleLaws.{AgreesWith, MayDraw, DrawsAt, IsFirstDrawing, DrawnByFirst}
@@ -66,14 +66,14 @@ at_place (x ∷ done) rest ask zero e = absurd (omega arith)
 at_place (x ∷ done) rest ask (suc k) e = at_place done rest ask k (omega arith)
 
 walk : (me : ℕ) (s : SetState) (desk : Desk) (done rest : List Ask) (k : ℕ) (before : Modes) → desk.queue ≡ done ++ rest → length done ≡ k → before ≡ modes_of_asks done
-    → ((i : ℕ) → i < k → DrawsAt me s desk i → ⊥) → IsFirstDrawing me s desk (move_from me s desk before k rest)
+    → ((i : ℕ) → i < k → DrawsAt me s desk i → ⊥) → IsFirstDrawing me s desk (draw_from me s desk before k rest)
 walk me s desk done [] k before is_queue is_k is_before none = λ i inside draw. none i (omega (arith, inside, ap length (is_queue ∙ append-nil done), is_k)) draw
 walk me s desk done (ask ∷ rest) k before is_queue is_k is_before none =
     let is_ask : slice_index_or desk.queue k no_ask ≡ ask = ap (λ l. slice_index_or l k no_ask) is_queue ∙ at_place done rest ask k is_k in
     let are_earlier : take k desk.queue ≡ done = ap (λ l. take k l) is_queue ∙ take_at done (ask ∷ rest) k is_k in
     let inside : k < length desk.queue = subst (λ (n : ℕ). k < n) (sym (ap length is_queue ∙ length-append done (ask ∷ rest))) (omega (arith, is_k)) in
     elim (may_draw me s desk before k ask) as (λ t. may_draw me s desk before k ask ≡ t
-    → IsFirstDrawing me s desk (if t then Some k else move_from me s desk (with_mode before ask.mode) (k + 1) rest)) [
+    → IsFirstDrawing me s desk (if t then Some k else draw_from me s desk (with_mode before ask.mode) (k + 1) rest)) [
       | true ↦ λ e. (
         inside,
         subst (λ (a : Ask). MayDraw me s desk k (take k desk.queue) a) (sym is_ask) (subst (λ (l : List Ask). MayDraw me s desk k l ask) (sym are_earlier)

@@ -4,7 +4,7 @@ use Rattle.std.specs.Prelude.{if◌then◌else◌, ◌==◌, ◌&&◌, ◌⊎◌
 use Rattle.std.proofs.lemmas.Bool.{and_parts, and_from, eqb-true, eq-eqb, lt-ltb, ltb-true, false_from_ne_true}
 use Rattle.lt_modes.specs.declared.ask.Ask.{Ask}
 use Rattle.lt_modes.specs.declared.parts.Hoped.{Hoped}
-use Rattle.lt_modes.specs.Modes.{is_taking}
+use Rattle.lt_modes.specs.Modes.{excludes_itself}
 use Rattle.lt_modes.specs.State.{SetState, Parked, ParkedAsk, ParkedTell}
 use Rattle.lt_modes.specs.Routing.{Parks, Goes, way, way_onward, hoped_way, is_behind}
 use Rattle.lt_modes.specs.Tells.{is_newer}
@@ -12,17 +12,17 @@ use Rattle.lt_lists.proofs.Members.{list_any-at, list_any-which}
 use Rattle.lt_law_enabled.specs.RuleLaws.{IsBehindTaking, IsMarkedBehind, ParksBehindTakingAsk, KeepsFreezeOfSameNumber, TakesLaterFreeze}
 
 is_older : Ask → Ask → Bool
-is_older ask own = is_taking own.mode && is_newer ask.stamp own.stamp
+is_older ask own = excludes_itself own.mode && is_newer ask.stamp own.stamp
 
 behind_which : (s : SetState) (ask : Ask) → is_behind s.pending ask ≡ true → IsBehindTaking s ask
 behind_which s ask e =
-    let found = list_any-which (λ (own : Ask). is_taking own.mode && is_newer ask.stamp own.stamp) s.pending e in
-    let parts = and_parts (is_taking found.0.mode) (is_newer ask.stamp found.0.stamp) found.2 in
+    let found = list_any-which (λ (own : Ask). excludes_itself own.mode && is_newer ask.stamp own.stamp) s.pending e in
+    let parts = and_parts (excludes_itself found.0.mode) (is_newer ask.stamp found.0.stamp) found.2 in
     (found.0, found.1, parts.0, parts.1)
 
 behind_at : (s : SetState) (ask : Ask) → IsBehindTaking s ask → is_behind s.pending ask ≡ true
 behind_at s ask (own, known, taking, newer) =
-    list_any-at (λ (own : Ask). is_taking own.mode && is_newer ask.stamp own.stamp) s.pending own known (and_from (is_taking own.mode) (is_newer ask.stamp own.stamp) taking newer)
+    list_any-at (λ (own : Ask). excludes_itself own.mode && is_newer ask.stamp own.stamp) s.pending own known (and_from (excludes_itself own.mode) (is_newer ask.stamp own.stamp) taking newer)
 
 never_parks : (hoped : Option Hoped) (firm : ℕ) (ask : Ask) → hoped_way hoped firm ask ≡ Parks → ⊥
 never_parks None firm ask e = absurd (cc)

@@ -3,12 +3,12 @@ use Rattle.std.specs.Prelude.{◌≡◌, ◌≢◌, ◌<◌, ◌≤◌, ◌⊎�
 use Rattle.std.specs.List.{AllByRecursion}
 use Rattle.lt_modes.specs.declared.mode.Mode.{Mode}
 use Rattle.lt_modes.specs.declared.ask.Ask.{Ask}
-use Rattle.lt_modes.specs.Modes.{Modes, has, conflicts, is_taking}
+use Rattle.lt_modes.specs.Modes.{Modes, has, conflicts, excludes_itself}
 use Rattle.lt_modes.specs.State.{SetState, Desk, Parked, ParkedAsk}
 use Rattle.lt_modes.specs.Queue.{no_ask, entered}
 use Rattle.lt_modes.specs.Records.{others, modes_at}
 use Rattle.lt_modes.specs.Routing.{Parks, way}
-use Rattle.lt_modes.specs.Serving.{next_move}
+use Rattle.lt_modes.specs.Serving.{next_draw}
 use Rattle.lt_modes.specs.Taking.{take_freeze}
 use Rattle.lt_modes.specs.Tells.{is_newer}
 
@@ -34,7 +34,7 @@ IsFirstDrawing me s desk (Some k) = (k < length desk.queue) × DrawsAt me s desk
 
 -- the first ask that may draw the desk draws it
 abbrev pub DrawnByFirst : Type 0
-DrawnByFirst = (me : ℕ) (s : SetState) (desk : Desk) → s.desk ≡ Some desk → IsFirstDrawing me s desk (next_move me s)
+DrawnByFirst = (me : ℕ) (s : SetState) (desk : Desk) → s.desk ≡ Some desk → IsFirstDrawing me s desk (next_draw me s)
 
 -- there are no asks, or the last of them is a holder's
 abbrev pub EndsWithHolder : List Ask → Type 0
@@ -59,7 +59,7 @@ OthersEnterLast = (queue : List Ask) (ask : Ask) → IsFalse ask.holder → ente
 
 -- an older taking ask of the node's own clients is unanswered
 abbrev pub IsBehindTaking : SetState → Ask → Type 0
-IsBehindTaking s ask = (own : Ask) × Contains s.pending own × IsTrue (is_taking own.mode) × IsTrue (is_newer ask.stamp own.stamp)
+IsBehindTaking s ask = (own : Ask) × Contains s.pending own × IsTrue (excludes_itself own.mode) × IsTrue (is_newer ask.stamp own.stamp)
 
 -- the item is an ask that came by a hoped link, behind an older taking ask of the node
 abbrev pub IsMarkedBehind : Bool → Parked → SetState → Type 0

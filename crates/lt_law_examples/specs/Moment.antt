@@ -18,7 +18,7 @@ use Rattle.lt_spec.specs.FixedOrder.{Turn, pick, count_turns}
 use Rattle.lt_law_examples.specs.Worked.{Worked}
 
 -- a node: its clock, how many commands each client of the script has made at it, and its sets
-pub record NodeData : Type 0 where
+pub record NodeSnapshot : Type 0 where
   pub clock : ℕ
   pub made : List ℕ
   pub sets : List SetState
@@ -32,10 +32,10 @@ pub record MailData : Type 0 where
 -- after this many moves of the run: the nodes by number; the letters of each pair of nodes that has some;
 -- for each set the nodes that had its token; the enabled moves in the fixed order; the clients that wait;
 -- and whether the world is at rest
-pub record Moment : Type 0 where
+pub record Snapshot : Type 0 where
   pub row : Worked
   pub moves : ℕ
-  pub nodes : List NodeData
+  pub nodes : List NodeSnapshot
   pub mail : List MailData
   pub went : List (List ℕ)
   pub turns : List Turn
@@ -56,8 +56,8 @@ blank = record {
 }
 
 -- what a node without the desk keeps for a set that nothing has touched there
-abbrev pub untouched : SetState
-untouched = record {
+abbrev pub untouched_set : SetState
+untouched_set = record {
   held = [];
   charge = no_modes;
   frozen = no_modes;
@@ -116,7 +116,7 @@ turn node step = record { node = node; step = step }
 abbrev pub at_each : {X : Type 0} → ℕ → (ℕ → X) → List X
 at_each n f = map f (range_with_len 0 n)
 
-abbrev pub node_data : ScriptData → NodeState → NodeData
+abbrev pub node_data : ScriptData → NodeState → NodeSnapshot
 node_data script node = record {
   clock = node.clock;
   made = at_each (length script.clients) node.made;
@@ -153,7 +153,7 @@ each_turn script test =
     (λ q. at_each (script.nodes + 1) (λ p. test q (Take p)) ++ at_each (length script.clients + 1) (λ c. test q (Act c)))
 
 -- the world is the one of the moment, at each number of the script; after the last enabled move the order has none
-pub record IsWorldAt (script : ScriptData) (w : World) (m : Moment) : Type 0 where
+pub record IsWorldAt (script : ScriptData) (w : World) (m : Snapshot) : Type 0 where
   pub nodes : at_each script.nodes (λ q. node_data script (w.node q)) ≡ m.nodes
   pub mail : at_each script.nodes (λ p. at_each script.nodes (w.mail p))
       ≡ at_each script.nodes (λ p. at_each script.nodes (listed_mail m.mail p))
@@ -166,5 +166,5 @@ pub record IsWorldAt (script : ScriptData) (w : World) (m : Moment) : Type 0 whe
   pub rest : is_at_rest script w ≡ m.rest
 
 -- so the world stands at the moment of the run
-abbrev pub StandsSo : Moment → Type 0
+abbrev pub StandsSo : Snapshot → Type 0
 StandsSo m = IsWorldAt m.row.script (world_after m.row.script (take m.moves m.row.run)) m

@@ -12,7 +12,7 @@ use Rattle.lt_modes.specs.Script.{ScriptData, SetData, ClientData}
 use Rattle.lt_spec.specs.Log.{Logged}
 use Rattle.lt_spec.specs.World.{World, world_after, is_at_rest, anyone_waits}
 use Rattle.lt_spec.specs.FixedOrder.{first_run, turns_of, made_in_turn}
-use Rattle.lt_spec.specs.Holdings.{Holding, holding, holdings, count_of, wanted, owner_of, lines_of}
+use Rattle.lt_spec.specs.Holdings.{Holding, holding, holdings, times_held, wanted, owner_of, lines_of}
 
 -- a lock, and how often it is held
 pub record Count : Type 0 where
@@ -28,11 +28,11 @@ pub record Worked : Type 0 where
   pub waiting : List Holding
   pub owners : List Link
 
-abbrev pub set_of : List ℕ → ℕ → SetData
-set_of name family = record { name = name; family = family }
+abbrev pub declared_set : List ℕ → ℕ → SetData
+declared_set name family = record { name = name; family = family }
 
-abbrev pub client_of : List ℕ → ℕ → ClientData
-client_of name node = record { name = name; node = node }
+abbrev pub declared_client : List ℕ → ℕ → ClientData
+declared_client name node = record { name = name; node = node }
 
 -- at this clock the node makes the next command of the client
 abbrev pub act : ℕ → ℕ → ℕ → List Event → Logged
@@ -40,8 +40,8 @@ act clock node client events =
     record { made = record { stamp = record { clock = clock; node = node }; step = Act client }; events = events }
 
 -- at this clock the node takes the front letter of the sender
-abbrev pub take : ℕ → ℕ → ℕ → List Event → Logged
-take clock node from events =
+abbrev pub taken_at : ℕ → ℕ → ℕ → List Event → Logged
+taken_at clock node from events =
     record { made = record { stamp = record { clock = clock; node = node }; step = Take from }; events = events }
 
 abbrev pub holds : ℕ → ℕ → Mode → ℕ → Count
@@ -55,8 +55,8 @@ is_none_of [] = true
 is_none_of (lock ∷ rest) = false
 
 -- how often the lines of the run leave the lock held
-abbrev pub counted : Worked → Count → Count
-counted row held = record held { count = count_of (holdings row.script (lines_of row.run)) held.lock }
+abbrev pub count_in : Worked → Count → Count
+count_in row held = record held { count = times_held (holdings row.script (lines_of row.run)) held.lock }
 
 -- what the clients wait for after the run, in order
 abbrev pub all_wanted : Worked → List Holding
@@ -69,7 +69,7 @@ all_owners row = map (λ s. owner_of s (lines_of row.run)) (range_with_len 0 (le
 -- after the run no move is enabled, and all is held, wanted and owned as the example says
 pub record EndsSo (row : Worked) : Type 0 where
   pub rest : is_at_rest row.script (world_after row.script row.run) ≡ true
-  pub held : map (counted row) row.held ≡ row.held
+  pub held : map (count_in row) row.held ≡ row.held
   pub all_held : length (holdings row.script (lines_of row.run)) ≡ sum_by (λ (held : Count). held.count) row.held
   pub waiting : all_wanted row ≡ row.waiting
   pub waits : anyone_waits row.script (world_after row.script row.run) ≡ not (is_none_of row.waiting)
@@ -86,13 +86,13 @@ IsWholeRun row = (made_in_turn row.script (turns_of row.run) ≡ row.run) × End
 abbrev pub end_of : Worked → World
 end_of row = world_after row.script row.run
 
-abbrev pub clients_of : List Ask → List ℕ
-clients_of asks = map (λ (ask : Ask). ask.client) asks
+abbrev pub ask_clients : List Ask → List ℕ
+ask_clients asks = map (λ (ask : Ask). ask.client) asks
 
 -- the clients whose asks are in the queue of the set's desk at node q
 abbrev pub queued_clients : World → ℕ → ℕ → List ℕ
-queued_clients w s q = clients_of (queue_of ((w.node q).set s))
+queued_clients w s q = ask_clients (queue_of ((w.node q).set s))
 
 -- the clients whose asks are parked at node q
 abbrev pub parked_clients : World → ℕ → ℕ → List ℕ
-parked_clients w s q = clients_of (parked_asks ((w.node q).set s))
+parked_clients w s q = ask_clients (parked_asks ((w.node q).set s))

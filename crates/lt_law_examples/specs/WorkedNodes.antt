@@ -5,7 +5,7 @@ use Rattle.lt_modes.specs.declared.command.Command.TheVariants.{Lock, Try, Unloc
 use Rattle.lt_modes.specs.declared.event.Event.TheVariants.{Grant, Wait, Try as Tried, Unlock as Unlocked, NotHeld, Change as Changed, DropAll as Dropped, Copy, Freeze, Token}
 use Rattle.lt_modes.specs.Modes.{no_modes, all_modes}
 use Rattle.lt_spec.specs.Holdings.{holding}
-use Rattle.lt_law_examples.specs.Worked.{Worked, end_of, queued_clients, parked_clients, set_of, client_of, act, take, holds, owner}
+use Rattle.lt_law_examples.specs.Worked.{Worked, end_of, queued_clients, parked_clients, declared_set, declared_client, act, taken_at, holds, owner}
 
 -- Three nodes read: the desk sends copies.
 abbrev pub read_everywhere : Worked
@@ -13,8 +13,8 @@ read_everywhere = record {
   script = record {
     version = 1;
     nodes = 3;
-    sets = set_of (codes "s") 0 ∷ [];
-    clients = client_of (codes "a") 0 ∷ client_of (codes "b") 1 ∷ client_of (codes "c") 2 ∷ [];
+    sets = declared_set (codes "s") 0 ∷ [];
+    clients = declared_client (codes "a") 0 ∷ declared_client (codes "b") 1 ∷ declared_client (codes "c") 2 ∷ [];
     commands =
         (0, Lock 0 Read) ∷
         (1, Lock 0 Read) ∷
@@ -24,11 +24,11 @@ read_everywhere = record {
   run =
       act 1 0 0 (Grant 0 0 Read ∷ []) ∷
       act 1 1 1 (Wait 1 0 Read ∷ []) ∷
-      take 2 0 1 (Copy 0 1 1 Read ∷ []) ∷
-      take 3 1 0 (Grant 1 0 Read ∷ []) ∷
+      taken_at 2 0 1 (Copy 0 1 1 Read ∷ []) ∷
+      taken_at 3 1 0 (Grant 1 0 Read ∷ []) ∷
       act 1 2 2 (Wait 2 0 Read ∷ []) ∷
-      take 3 0 2 (Copy 0 2 2 Read ∷ []) ∷
-      take 4 2 0 (Grant 2 0 Read ∷ []) ∷
+      taken_at 3 0 2 (Copy 0 2 2 Read ∷ []) ∷
+      taken_at 4 2 0 (Grant 2 0 Read ∷ []) ∷
       [];
   held = holds 0 0 Read 1 ∷ holds 1 0 Read 1 ∷ holds 2 0 Read 1 ∷ [];
   waiting = [];
@@ -41,8 +41,8 @@ reader_draws_desk = record {
   script = record {
     version = 1;
     nodes = 2;
-    sets = set_of (codes "s") 0 ∷ [];
-    clients = client_of (codes "a") 0 ∷ client_of (codes "b") 1 ∷ [];
+    sets = declared_set (codes "s") 0 ∷ [];
+    clients = declared_client (codes "a") 0 ∷ declared_client (codes "b") 1 ∷ [];
     commands =
         (0, Lock 0 IntentionRead) ∷
         (1, Lock 0 Read) ∷
@@ -51,9 +51,9 @@ reader_draws_desk = record {
   run =
       act 1 0 0 (Grant 0 0 IntentionRead ∷ []) ∷
       act 1 1 1 (Wait 1 0 Read ∷ []) ∷
-      take 2 0 1 (Token 0 1 1 ∷ []) ∷
-      take 3 1 0 (Grant 1 0 Read ∷ Freeze 0 0 1 no_modes ∷ []) ∷
-      take 4 0 1 [] ∷
+      taken_at 2 0 1 (Token 0 1 1 ∷ []) ∷
+      taken_at 3 1 0 (Grant 1 0 Read ∷ Freeze 0 0 1 no_modes ∷ []) ∷
+      taken_at 4 0 1 [] ∷
       [];
   held = holds 0 0 IntentionRead 1 ∷ holds 1 0 Read 1 ∷ [];
   waiting = [];
@@ -66,8 +66,8 @@ token_to_writer = record {
   script = record {
     version = 1;
     nodes = 2;
-    sets = set_of (codes "s") 0 ∷ [];
-    clients = client_of (codes "a") 0 ∷ client_of (codes "b") 1 ∷ [];
+    sets = declared_set (codes "s") 0 ∷ [];
+    clients = declared_client (codes "a") 0 ∷ declared_client (codes "b") 1 ∷ [];
     commands =
         (0, Lock 0 Write) ∷
         (0, Unlock 0 Write) ∷
@@ -77,9 +77,9 @@ token_to_writer = record {
   run =
       act 1 0 0 (Grant 0 0 Write ∷ []) ∷
       act 1 1 1 (Wait 1 0 Write ∷ []) ∷
-      take 2 0 1 [] ∷
+      taken_at 2 0 1 [] ∷
       act 3 0 0 (Unlocked 0 0 Write ∷ Token 0 1 1 ∷ []) ∷
-      take 4 1 0 (Grant 1 0 Write ∷ []) ∷
+      taken_at 4 1 0 (Grant 1 0 Write ∷ []) ∷
       [];
   held = holds 1 0 Write 1 ∷ [];
   waiting = [];
@@ -92,12 +92,12 @@ frozen_read = record {
   script = record {
     version = 1;
     nodes = 2;
-    sets = set_of (codes "s") 0 ∷ [];
+    sets = declared_set (codes "s") 0 ∷ [];
     clients =
-        client_of (codes "a") 0 ∷
-        client_of (codes "c") 1 ∷
-        client_of (codes "b") 0 ∷
-        client_of (codes "d") 1 ∷
+        declared_client (codes "a") 0 ∷
+        declared_client (codes "c") 1 ∷
+        declared_client (codes "b") 0 ∷
+        declared_client (codes "d") 1 ∷
         [];
     commands =
         (0, Lock 0 Read) ∷
@@ -109,12 +109,12 @@ frozen_read = record {
   run =
       act 1 0 0 (Grant 0 0 Read ∷ []) ∷
       act 1 1 1 (Wait 1 0 Read ∷ []) ∷
-      take 2 0 1 (Copy 0 1 1 Read ∷ []) ∷
-      take 3 1 0 (Grant 1 0 Read ∷ []) ∷
+      taken_at 2 0 1 (Copy 0 1 1 Read ∷ []) ∷
+      taken_at 3 1 0 (Grant 1 0 Read ∷ []) ∷
       act 3 0 2 (Wait 2 0 Write ∷ Freeze 0 1 1 all_modes ∷ []) ∷
-      take 4 1 0 [] ∷
+      taken_at 4 1 0 [] ∷
       act 5 1 3 (Wait 3 0 Read ∷ []) ∷
-      take 6 0 1 [] ∷
+      taken_at 6 0 1 [] ∷
       [];
   held = holds 0 0 Read 1 ∷ holds 1 0 Read 1 ∷ [];
   waiting = holding 2 0 Write ∷ holding 3 0 Read ∷ [];
@@ -127,12 +127,12 @@ try_at_home = record {
   script = record {
     version = 1;
     nodes = 2;
-    sets = set_of (codes "s") 0 ∷ [];
+    sets = declared_set (codes "s") 0 ∷ [];
     clients =
-        client_of (codes "d") 1 ∷
-        client_of (codes "a") 0 ∷
-        client_of (codes "c") 1 ∷
-        client_of (codes "b") 0 ∷
+        declared_client (codes "d") 1 ∷
+        declared_client (codes "a") 0 ∷
+        declared_client (codes "c") 1 ∷
+        declared_client (codes "b") 0 ∷
         [];
     commands =
         (0, Try 0 Read) ∷
@@ -149,12 +149,12 @@ try_at_home = record {
       act 1 1 0 (Tried 0 0 Read false ∷ []) ∷
       act 1 0 1 (Grant 1 0 Read ∷ []) ∷
       act 2 1 2 (Wait 2 0 Read ∷ []) ∷
-      take 3 0 1 (Copy 0 1 2 Read ∷ []) ∷
-      take 4 1 0 (Grant 2 0 Read ∷ []) ∷
+      taken_at 3 0 1 (Copy 0 1 2 Read ∷ []) ∷
+      taken_at 4 1 0 (Grant 2 0 Read ∷ []) ∷
       act 4 0 3 (Tried 3 0 Write false ∷ []) ∷
       act 5 1 0 (Tried 0 0 Read true ∷ []) ∷
       act 5 0 3 (Wait 3 0 Write ∷ Freeze 0 1 1 all_modes ∷ []) ∷
-      take 6 1 0 [] ∷
+      taken_at 6 1 0 [] ∷
       act 7 1 0 (Unlocked 0 0 Read ∷ []) ∷
       act 8 1 0 (Tried 0 0 Read false ∷ []) ∷
       [];
@@ -169,8 +169,8 @@ change_after_reader = record {
   script = record {
     version = 1;
     nodes = 2;
-    sets = set_of (codes "s") 0 ∷ [];
-    clients = client_of (codes "a") 0 ∷ client_of (codes "b") 1 ∷ [];
+    sets = declared_set (codes "s") 0 ∷ [];
+    clients = declared_client (codes "a") 0 ∷ declared_client (codes "b") 1 ∷ [];
     commands =
         (0, Lock 0 Upgrade) ∷
         (0, Change 0 Upgrade Write) ∷
@@ -181,12 +181,12 @@ change_after_reader = record {
   run =
       act 1 0 0 (Grant 0 0 Upgrade ∷ []) ∷
       act 1 1 1 (Wait 1 0 Read ∷ []) ∷
-      take 2 0 1 (Copy 0 1 1 Read ∷ []) ∷
-      take 3 1 0 (Grant 1 0 Read ∷ []) ∷
+      taken_at 2 0 1 (Copy 0 1 1 Read ∷ []) ∷
+      taken_at 3 1 0 (Grant 1 0 Read ∷ []) ∷
       act 3 0 0 (Wait 0 0 Write ∷ Freeze 0 1 1 all_modes ∷ []) ∷
-      take 4 1 0 [] ∷
+      taken_at 4 1 0 [] ∷
       act 5 1 1 (Unlocked 1 0 Read ∷ []) ∷
-      take 6 0 1 (Changed 0 0 Upgrade Write ∷ []) ∷
+      taken_at 6 0 1 (Changed 0 0 Upgrade Write ∷ []) ∷
       [];
   held = holds 0 0 Write 1 ∷ [];
   waiting = [];
@@ -199,8 +199,8 @@ changes_from_two_nodes = record {
   script = record {
     version = 1;
     nodes = 2;
-    sets = set_of (codes "s") 0 ∷ [];
-    clients = client_of (codes "a") 0 ∷ client_of (codes "b") 1 ∷ [];
+    sets = declared_set (codes "s") 0 ∷ [];
+    clients = declared_client (codes "a") 0 ∷ declared_client (codes "b") 1 ∷ [];
     commands =
         (0, Lock 0 Read) ∷
         (0, Change 0 Read Write) ∷
@@ -211,12 +211,12 @@ changes_from_two_nodes = record {
   run =
       act 1 0 0 (Grant 0 0 Read ∷ []) ∷
       act 1 1 1 (Wait 1 0 Read ∷ []) ∷
-      take 2 0 1 (Copy 0 1 1 Read ∷ []) ∷
-      take 3 1 0 (Grant 1 0 Read ∷ []) ∷
+      taken_at 2 0 1 (Copy 0 1 1 Read ∷ []) ∷
+      taken_at 3 1 0 (Grant 1 0 Read ∷ []) ∷
       act 3 0 0 (Wait 0 0 Write ∷ Freeze 0 1 1 all_modes ∷ []) ∷
-      take 4 1 0 [] ∷
+      taken_at 4 1 0 [] ∷
       act 5 1 1 (Wait 1 0 Write ∷ []) ∷
-      take 6 0 1 [] ∷
+      taken_at 6 0 1 [] ∷
       [];
   held = holds 0 0 Read 1 ∷ holds 1 0 Read 1 ∷ [];
   waiting = holding 0 0 Write ∷ holding 1 0 Write ∷ [];
@@ -229,12 +229,12 @@ asks_park_behind = record {
   script = record {
     version = 1;
     nodes = 4;
-    sets = set_of (codes "s") 0 ∷ [];
+    sets = declared_set (codes "s") 0 ∷ [];
     clients =
-        client_of (codes "b") 1 ∷
-        client_of (codes "c") 2 ∷
-        client_of (codes "d") 3 ∷
-        client_of (codes "a") 0 ∷
+        declared_client (codes "b") 1 ∷
+        declared_client (codes "c") 2 ∷
+        declared_client (codes "d") 3 ∷
+        declared_client (codes "a") 0 ∷
         [];
     commands =
         (0, Lock 0 Write) ∷
@@ -245,16 +245,16 @@ asks_park_behind = record {
   };
   run =
       act 1 1 0 (Wait 0 0 Write ∷ []) ∷
-      take 2 0 1 (Token 0 1 1 ∷ []) ∷
-      take 3 1 0 (Grant 0 0 Write ∷ []) ∷
+      taken_at 2 0 1 (Token 0 1 1 ∷ []) ∷
+      taken_at 3 1 0 (Grant 0 0 Write ∷ []) ∷
       act 1 2 1 (Wait 1 0 Write ∷ []) ∷
-      take 3 0 2 [] ∷
-      take 4 1 0 [] ∷
+      taken_at 3 0 2 [] ∷
+      taken_at 4 1 0 [] ∷
       act 1 3 2 (Wait 2 0 Write ∷ []) ∷
-      take 4 0 3 [] ∷
-      take 5 2 0 [] ∷
+      taken_at 4 0 3 [] ∷
+      taken_at 5 2 0 [] ∷
       act 5 0 3 (Wait 3 0 Write ∷ []) ∷
-      take 6 3 0 [] ∷
+      taken_at 6 3 0 [] ∷
       [];
   held = holds 0 0 Write 1 ∷ [];
   waiting = holding 1 0 Write ∷ holding 2 0 Write ∷ holding 3 0 Write ∷ [];
@@ -274,13 +274,13 @@ marked_ask_parks = record {
   script = record {
     version = 1;
     nodes = 4;
-    sets = set_of (codes "s") 0 ∷ [];
+    sets = declared_set (codes "s") 0 ∷ [];
     clients =
-        client_of (codes "a") 0 ∷
-        client_of (codes "b") 2 ∷
-        client_of (codes "c") 3 ∷
-        client_of (codes "d") 3 ∷
-        client_of (codes "e") 1 ∷
+        declared_client (codes "a") 0 ∷
+        declared_client (codes "b") 2 ∷
+        declared_client (codes "c") 3 ∷
+        declared_client (codes "d") 3 ∷
+        declared_client (codes "e") 1 ∷
         [];
     commands =
         (0, Lock 0 IntentionRead) ∷
@@ -297,22 +297,22 @@ marked_ask_parks = record {
   run =
       act 1 0 0 (Grant 0 0 IntentionRead ∷ []) ∷
       act 1 2 1 (Wait 1 0 Read ∷ []) ∷
-      take 2 0 2 (Token 0 2 1 ∷ []) ∷
-      take 3 2 0 (Grant 1 0 Read ∷ Freeze 0 0 1 no_modes ∷ []) ∷
-      take 4 0 2 [] ∷
+      taken_at 2 0 2 (Token 0 2 1 ∷ []) ∷
+      taken_at 3 2 0 (Grant 1 0 Read ∷ Freeze 0 0 1 no_modes ∷ []) ∷
+      taken_at 4 0 2 [] ∷
       act 1 3 2 (Tried 2 0 Upgrade false ∷ []) ∷
       act 2 3 3 (Wait 3 0 Write ∷ []) ∷
-      take 5 0 3 [] ∷
-      take 6 2 0 (Freeze 0 0 2 all_modes ∷ []) ∷
-      take 7 0 2 [] ∷
+      taken_at 5 0 3 [] ∷
+      taken_at 6 2 0 (Freeze 0 0 2 all_modes ∷ []) ∷
+      taken_at 7 0 2 [] ∷
       act 1 1 4 (Wait 4 0 Read ∷ []) ∷
-      take 8 0 1 [] ∷
-      take 9 2 0 [] ∷
+      taken_at 8 0 1 [] ∷
+      taken_at 9 2 0 [] ∷
       act 9 0 0 (Wait 0 0 Read ∷ []) ∷
-      take 10 3 0 [] ∷
+      taken_at 10 3 0 [] ∷
       act 10 2 1 (Unlocked 1 0 Read ∷ []) ∷
       act 11 3 2 (Wait 2 0 Read ∷ []) ∷
-      take 12 2 3 [] ∷
+      taken_at 12 2 3 [] ∷
       [];
   held = holds 0 0 IntentionRead 1 ∷ [];
   waiting = holding 0 0 Read ∷ holding 2 0 Read ∷ holding 3 0 Write ∷ holding 4 0 Read ∷ [];
@@ -325,12 +325,12 @@ upgrade_with_readers = record {
   script = record {
     version = 1;
     nodes = 2;
-    sets = set_of (codes "s") 0 ∷ [];
+    sets = declared_set (codes "s") 0 ∷ [];
     clients =
-        client_of (codes "a") 1 ∷
-        client_of (codes "b") 0 ∷
-        client_of (codes "c") 1 ∷
-        client_of (codes "d") 0 ∷
+        declared_client (codes "a") 1 ∷
+        declared_client (codes "b") 0 ∷
+        declared_client (codes "c") 1 ∷
+        declared_client (codes "d") 0 ∷
         [];
     commands =
         (0, Lock 0 Upgrade) ∷
@@ -349,18 +349,18 @@ upgrade_with_readers = record {
   };
   run =
       act 1 1 0 (Wait 0 0 Upgrade ∷ []) ∷
-      take 2 0 1 (Token 0 1 1 ∷ []) ∷
-      take 3 1 0 (Grant 0 0 Upgrade ∷ []) ∷
+      taken_at 2 0 1 (Token 0 1 1 ∷ []) ∷
+      taken_at 3 1 0 (Grant 0 0 Upgrade ∷ []) ∷
       act 3 0 1 (Wait 1 0 Read ∷ []) ∷
-      take 4 1 0 (Copy 0 0 1 Read ∷ Freeze 0 0 1 no_modes ∷ []) ∷
-      take 5 0 1 (Grant 1 0 Read ∷ []) ∷
-      take 6 0 1 [] ∷
+      taken_at 4 1 0 (Copy 0 0 1 Read ∷ Freeze 0 0 1 no_modes ∷ []) ∷
+      taken_at 5 0 1 (Grant 1 0 Read ∷ []) ∷
+      taken_at 6 0 1 [] ∷
       act 5 1 2 (Wait 2 0 Write ∷ Freeze 0 0 2 all_modes ∷ []) ∷
-      take 7 0 1 [] ∷
+      taken_at 7 0 1 [] ∷
       act 8 0 3 (Tried 3 0 IntentionRead false ∷ []) ∷
       act 6 1 0 (Wait 0 0 Write ∷ []) ∷
       act 9 0 1 (Unlocked 1 0 Read ∷ []) ∷
-      take 10 1 0 (Grant 0 0 Write ∷ []) ∷
+      taken_at 10 1 0 (Grant 0 0 Write ∷ []) ∷
       act 10 0 3 (NotHeld 3 0 IntentionRead ∷ []) ∷
       act 11 0 1 (Tried 1 0 Upgrade false ∷ []) ∷
       act 12 0 3 (Tried 3 0 IntentionRead false ∷ []) ∷
@@ -378,12 +378,12 @@ change_before_writer = record {
   script = record {
     version = 1;
     nodes = 3;
-    sets = set_of (codes "s") 0 ∷ [];
+    sets = declared_set (codes "s") 0 ∷ [];
     clients =
-        client_of (codes "a") 1 ∷
-        client_of (codes "b") 1 ∷
-        client_of (codes "c") 2 ∷
-        client_of (codes "d") 2 ∷
+        declared_client (codes "a") 1 ∷
+        declared_client (codes "b") 1 ∷
+        declared_client (codes "c") 2 ∷
+        declared_client (codes "d") 2 ∷
         [];
     commands =
         (0, Lock 0 IntentionRead) ∷
@@ -396,16 +396,16 @@ change_before_writer = record {
   };
   run =
       act 1 1 0 (Wait 0 0 IntentionRead ∷ []) ∷
-      take 2 0 1 (Token 0 1 1 ∷ []) ∷
-      take 3 1 0 (Grant 0 0 IntentionRead ∷ []) ∷
+      taken_at 2 0 1 (Token 0 1 1 ∷ []) ∷
+      taken_at 3 1 0 (Grant 0 0 IntentionRead ∷ []) ∷
       act 1 2 2 (Tried 2 0 Write false ∷ []) ∷
       act 2 2 3 (Wait 3 0 Write ∷ []) ∷
-      take 3 0 2 [] ∷
-      take 4 1 0 [] ∷
+      taken_at 3 0 2 [] ∷
+      taken_at 4 1 0 [] ∷
       act 5 1 0 (Changed 0 0 IntentionRead Read ∷ []) ∷
       act 3 2 2 (Wait 2 0 Read ∷ []) ∷
-      take 4 0 2 [] ∷
-      take 5 2 0 [] ∷
+      taken_at 4 0 2 [] ∷
+      taken_at 5 2 0 [] ∷
       [];
   held = holds 0 0 Read 1 ∷ [];
   waiting = holding 2 0 Read ∷ holding 3 0 Write ∷ [];
@@ -418,8 +418,8 @@ drop_without_waiting = record {
   script = record {
     version = 1;
     nodes = 3;
-    sets = set_of (codes "s") 0 ∷ set_of (codes "t") 0 ∷ [];
-    clients = client_of (codes "a") 2 ∷ client_of (codes "b") 0 ∷ [];
+    sets = declared_set (codes "s") 0 ∷ declared_set (codes "t") 0 ∷ [];
+    clients = declared_client (codes "a") 2 ∷ declared_client (codes "b") 0 ∷ [];
     commands =
         (1, Try 1 Read) ∷
         (1, DropAll 1 0) ∷
@@ -429,8 +429,8 @@ drop_without_waiting = record {
   };
   run =
       act 1 2 0 (Wait 0 0 Read ∷ []) ∷
-      take 2 0 2 (Token 0 2 1 ∷ []) ∷
-      take 3 2 0 (Grant 0 0 Read ∷ []) ∷
+      taken_at 2 0 2 (Token 0 2 1 ∷ []) ∷
+      taken_at 3 2 0 (Grant 0 0 Read ∷ []) ∷
       act 3 0 1 (Tried 1 1 Read true ∷ []) ∷
       act 4 0 1 (Dropped 1 1 0 1 ∷ []) ∷
       act 5 0 1 (NotHeld 1 1 Read ∷ []) ∷
@@ -446,14 +446,14 @@ shared_with_upgrade = record {
   script = record {
     version = 1;
     nodes = 2;
-    sets = set_of (codes "s") 0 ∷ [];
+    sets = declared_set (codes "s") 0 ∷ [];
     clients =
-        client_of (codes "a") 0 ∷
-        client_of (codes "b") 1 ∷
-        client_of (codes "c") 1 ∷
-        client_of (codes "d") 0 ∷
-        client_of (codes "e") 1 ∷
-        client_of (codes "f") 0 ∷
+        declared_client (codes "a") 0 ∷
+        declared_client (codes "b") 1 ∷
+        declared_client (codes "c") 1 ∷
+        declared_client (codes "d") 0 ∷
+        declared_client (codes "e") 1 ∷
+        declared_client (codes "f") 0 ∷
         [];
     commands =
         (0, Try 0 Read) ∷
@@ -465,9 +465,9 @@ shared_with_upgrade = record {
   run =
       act 1 0 0 (Tried 0 0 Read true ∷ []) ∷
       act 1 1 1 (Wait 1 0 Upgrade ∷ []) ∷
-      take 2 0 1 (Token 0 1 1 ∷ []) ∷
-      take 3 1 0 (Grant 1 0 Upgrade ∷ Freeze 0 0 1 no_modes ∷ []) ∷
-      take 4 0 1 [] ∷
+      taken_at 2 0 1 (Token 0 1 1 ∷ []) ∷
+      taken_at 3 1 0 (Grant 1 0 Upgrade ∷ Freeze 0 0 1 no_modes ∷ []) ∷
+      taken_at 4 0 1 [] ∷
       act 4 1 2 (Grant 2 0 IntentionRead ∷ []) ∷
       act 5 0 3 (Grant 3 0 IntentionRead ∷ []) ∷
       [];

@@ -4,7 +4,7 @@ use Rattle.lt_modes.specs.declared.mode.Mode.TheVariants.{IntentionRead, Read, U
 use Rattle.lt_modes.specs.declared.command.Command.TheVariants.{Lock, Try, Unlock, Change, DropAll}
 use Rattle.lt_modes.specs.declared.event.Event.TheVariants.{Grant, Wait, Try as Tried, Unlock as Unlocked, NotHeld, Change as Changed, DropAll as Dropped, Busy}
 use Rattle.lt_spec.specs.Holdings.{holding}
-use Rattle.lt_law_examples.specs.Worked.{Worked, set_of, client_of, act, holds, owner}
+use Rattle.lt_law_examples.specs.Worked.{Worked, declared_set, declared_client, act, holds, owner}
 
 -- A client locks and unlocks.
 abbrev pub lock_then_unlock : Worked
@@ -12,8 +12,8 @@ lock_then_unlock = record {
   script = record {
     version = 1;
     nodes = 1;
-    sets = set_of (codes "s") 0 ∷ [];
-    clients = client_of (codes "a") 0 ∷ [];
+    sets = declared_set (codes "s") 0 ∷ [];
+    clients = declared_client (codes "a") 0 ∷ [];
     commands =
         (0, Lock 0 Write) ∷
         (0, Unlock 0 Write) ∷
@@ -34,8 +34,8 @@ write_in_turn = record {
   script = record {
     version = 1;
     nodes = 1;
-    sets = set_of (codes "s") 0 ∷ [];
-    clients = client_of (codes "a") 0 ∷ client_of (codes "b") 0 ∷ [];
+    sets = declared_set (codes "s") 0 ∷ [];
+    clients = declared_client (codes "a") 0 ∷ declared_client (codes "b") 0 ∷ [];
     commands =
         (0, Lock 0 Write) ∷
         (0, Unlock 0 Write) ∷
@@ -60,8 +60,8 @@ write_kept = record {
   script = record {
     version = 1;
     nodes = 1;
-    sets = set_of (codes "s") 0 ∷ [];
-    clients = client_of (codes "a") 0 ∷ client_of (codes "b") 0 ∷ [];
+    sets = declared_set (codes "s") 0 ∷ [];
+    clients = declared_client (codes "a") 0 ∷ declared_client (codes "b") 0 ∷ [];
     commands =
         (0, Lock 0 Write) ∷
         (1, Lock 0 Write) ∷
@@ -82,8 +82,8 @@ many_locks = record {
   script = record {
     version = 1;
     nodes = 1;
-    sets = set_of (codes "s") 0 ∷ [];
-    clients = client_of (codes "a") 0 ∷ client_of (codes "b") 0 ∷ [];
+    sets = declared_set (codes "s") 0 ∷ [];
+    clients = declared_client (codes "a") 0 ∷ declared_client (codes "b") 0 ∷ [];
     commands =
         (0, Lock 0 Read) ∷
         (0, Lock 0 Read) ∷
@@ -116,8 +116,8 @@ never_held = record {
   script = record {
     version = 1;
     nodes = 1;
-    sets = set_of (codes "s") 0 ∷ [];
-    clients = client_of (codes "a") 0 ∷ [];
+    sets = declared_set (codes "s") 0 ∷ [];
+    clients = declared_client (codes "a") 0 ∷ [];
     commands =
         (0, Unlock 0 Read) ∷
         (0, Change 0 Read Write) ∷
@@ -138,8 +138,8 @@ drop_in_family = record {
   script = record {
     version = 1;
     nodes = 1;
-    sets = set_of (codes "s") 0 ∷ set_of (codes "r") 0 ∷ [];
-    clients = client_of (codes "b") 0 ∷ client_of (codes "c") 0 ∷ client_of (codes "a") 0 ∷ [];
+    sets = declared_set (codes "s") 0 ∷ declared_set (codes "r") 0 ∷ [];
+    clients = declared_client (codes "b") 0 ∷ declared_client (codes "c") 0 ∷ declared_client (codes "a") 0 ∷ [];
     commands =
         (0, Lock 0 Write) ∷
         (0, Lock 1 Read) ∷
@@ -166,8 +166,8 @@ holder_first = record {
   script = record {
     version = 1;
     nodes = 1;
-    sets = set_of (codes "s") 0 ∷ [];
-    clients = client_of (codes "c") 0 ∷ client_of (codes "d") 0 ∷ [];
+    sets = declared_set (codes "s") 0 ∷ [];
+    clients = declared_client (codes "c") 0 ∷ declared_client (codes "d") 0 ∷ [];
     commands =
         (0, Lock 0 Read) ∷
         (1, Lock 0 Write) ∷
@@ -190,8 +190,8 @@ change_down = record {
   script = record {
     version = 1;
     nodes = 1;
-    sets = set_of (codes "s") 0 ∷ [];
-    clients = client_of (codes "a") 0 ∷ [];
+    sets = declared_set (codes "s") 0 ∷ [];
+    clients = declared_client (codes "a") 0 ∷ [];
     commands =
         (0, Lock 0 Write) ∷
         (0, Change 0 Write Write) ∷
@@ -214,8 +214,8 @@ changes_wait = record {
   script = record {
     version = 1;
     nodes = 1;
-    sets = set_of (codes "s") 0 ∷ [];
-    clients = client_of (codes "a") 0 ∷ client_of (codes "b") 0 ∷ [];
+    sets = declared_set (codes "s") 0 ∷ [];
+    clients = declared_client (codes "a") 0 ∷ declared_client (codes "b") 0 ∷ [];
     commands =
         (0, Try 0 Upgrade) ∷
         (0, Lock 0 IntentionRead) ∷

@@ -5,7 +5,7 @@ use Rattle.lt_modes.specs.declared.command.Command.TheVariants.{Lock, Try, Unloc
 use Rattle.lt_modes.specs.declared.event.Event.TheVariants.{Grant, Wait, Try as Tried, Unlock as Unlocked, NotHeld, Change as Changed, DropAll as Dropped, Copy, Freeze, Token}
 use Rattle.lt_modes.specs.Modes.{no_modes, all_modes, modes_in}
 use Rattle.lt_spec.specs.Holdings.{holding}
-use Rattle.lt_law_examples.specs.Worked.{Worked, set_of, client_of, act, take, holds, owner}
+use Rattle.lt_law_examples.specs.Worked.{Worked, declared_set, declared_client, act, taken_at, holds, owner}
 
 -- A copy of the first desk is taken after the token came by another way, and a write waits for it.
 abbrev pub late_copy : Worked
@@ -13,12 +13,12 @@ late_copy = record {
   script = record {
     version = 1;
     nodes = 3;
-    sets = set_of (codes "s") 0 ∷ [];
+    sets = declared_set (codes "s") 0 ∷ [];
     clients =
-        client_of (codes "a") 0 ∷
-        client_of (codes "b") 1 ∷
-        client_of (codes "c") 2 ∷
-        client_of (codes "d") 2 ∷
+        declared_client (codes "a") 0 ∷
+        declared_client (codes "b") 1 ∷
+        declared_client (codes "c") 2 ∷
+        declared_client (codes "d") 2 ∷
         [];
     commands =
         (0, Lock 0 Read) ∷
@@ -33,22 +33,22 @@ late_copy = record {
   run =
       act 1 0 0 (Grant 0 0 Read ∷ []) ∷
       act 1 2 2 (Wait 2 0 Read ∷ []) ∷
-      take 2 0 2 (Copy 0 2 2 Read ∷ []) ∷
+      taken_at 2 0 2 (Copy 0 2 2 Read ∷ []) ∷
       act 1 1 1 (Wait 1 0 Upgrade ∷ []) ∷
-      take 3 0 1 (Freeze 0 2 1 (modes_in (Upgrade ∷ IntentionWrite ∷ ReadIntentionWrite ∷ Write ∷ [])) ∷ Token 0 1 1 ∷ []) ∷
-      take 4 1 0 (Grant 1 0 Upgrade ∷ Freeze 0 0 2 no_modes ∷ Freeze 0 2 2 no_modes ∷ []) ∷
+      taken_at 3 0 1 (Freeze 0 2 1 (modes_in (Upgrade ∷ IntentionWrite ∷ ReadIntentionWrite ∷ Write ∷ [])) ∷ Token 0 1 1 ∷ []) ∷
+      taken_at 4 1 0 (Grant 1 0 Upgrade ∷ Freeze 0 0 2 no_modes ∷ Freeze 0 2 2 no_modes ∷ []) ∷
       act 4 0 0 (Unlocked 0 0 Read ∷ []) ∷
-      take 5 1 0 [] ∷
+      taken_at 5 1 0 [] ∷
       act 6 1 1 (Unlocked 1 0 Upgrade ∷ []) ∷
       act 2 2 3 (Wait 3 0 Write ∷ []) ∷
-      take 5 0 2 [] ∷
-      take 7 1 0 (Freeze 0 2 3 all_modes ∷ Token 0 2 2 ∷ []) ∷
-      take 5 2 1 [] ∷
-      take 8 2 1 [] ∷
-      take 9 2 1 [] ∷
-      take 10 2 0 (Grant 2 0 Read ∷ []) ∷
-      take 11 2 0 [] ∷
-      take 6 0 1 [] ∷
+      taken_at 5 0 2 [] ∷
+      taken_at 7 1 0 (Freeze 0 2 3 all_modes ∷ Token 0 2 2 ∷ []) ∷
+      taken_at 5 2 1 [] ∷
+      taken_at 8 2 1 [] ∷
+      taken_at 9 2 1 [] ∷
+      taken_at 10 2 0 (Grant 2 0 Read ∷ []) ∷
+      taken_at 11 2 0 [] ∷
+      taken_at 6 0 1 [] ∷
       act 12 2 2 (Unlocked 2 0 Read ∷ Grant 3 0 Write ∷ []) ∷
       [];
   held = holds 3 0 Write 1 ∷ [];
@@ -62,8 +62,8 @@ overtaking_tells = record {
   script = record {
     version = 1;
     nodes = 3;
-    sets = set_of (codes "s") 0 ∷ [];
-    clients = client_of (codes "a") 0 ∷ client_of (codes "b") 1 ∷ client_of (codes "c") 2 ∷ [];
+    sets = declared_set (codes "s") 0 ∷ [];
+    clients = declared_client (codes "a") 0 ∷ declared_client (codes "b") 1 ∷ declared_client (codes "c") 2 ∷ [];
     commands =
         (0, Lock 0 Read) ∷
         (0, Unlock 0 Read) ∷
@@ -78,23 +78,23 @@ overtaking_tells = record {
   run =
       act 1 0 0 (Grant 0 0 Read ∷ []) ∷
       act 1 2 2 (Wait 2 0 Read ∷ []) ∷
-      take 2 0 2 (Copy 0 2 2 Read ∷ []) ∷
-      take 3 2 0 (Grant 2 0 Read ∷ []) ∷
+      taken_at 2 0 2 (Copy 0 2 2 Read ∷ []) ∷
+      taken_at 3 2 0 (Grant 2 0 Read ∷ []) ∷
       act 4 2 2 (Grant 2 0 IntentionRead ∷ []) ∷
       act 1 1 1 (Wait 1 0 Upgrade ∷ []) ∷
-      take 3 0 1 (Freeze 0 2 1 (modes_in (Upgrade ∷ IntentionWrite ∷ ReadIntentionWrite ∷ Write ∷ [])) ∷ Token 0 1 1 ∷ []) ∷
+      taken_at 3 0 1 (Freeze 0 2 1 (modes_in (Upgrade ∷ IntentionWrite ∷ ReadIntentionWrite ∷ Write ∷ [])) ∷ Token 0 1 1 ∷ []) ∷
       act 5 2 2 (Unlocked 2 0 Read ∷ []) ∷
-      take 4 1 0 (Grant 1 0 Upgrade ∷ Freeze 0 0 2 no_modes ∷ Freeze 0 2 2 no_modes ∷ []) ∷
-      take 6 2 1 [] ∷
+      taken_at 4 1 0 (Grant 1 0 Upgrade ∷ Freeze 0 0 2 no_modes ∷ Freeze 0 2 2 no_modes ∷ []) ∷
+      taken_at 6 2 1 [] ∷
       act 7 2 2 (Unlocked 2 0 IntentionRead ∷ []) ∷
-      take 8 1 2 [] ∷
-      take 6 0 2 [] ∷
-      take 9 1 0 [] ∷
+      taken_at 8 1 2 [] ∷
+      taken_at 6 0 2 [] ∷
+      taken_at 9 1 0 [] ∷
       act 7 0 0 (Unlocked 0 0 Read ∷ []) ∷
-      take 10 1 0 [] ∷
+      taken_at 10 1 0 [] ∷
       act 11 1 1 (Changed 1 0 Upgrade Write ∷ []) ∷
-      take 8 2 0 [] ∷
-      take 8 0 1 [] ∷
+      taken_at 8 2 0 [] ∷
+      taken_at 8 0 1 [] ∷
       [];
   held = holds 1 0 Write 1 ∷ [];
   waiting = [];
@@ -107,8 +107,8 @@ drop_at_desk = record {
   script = record {
     version = 1;
     nodes = 2;
-    sets = set_of (codes "s") 0 ∷ [];
-    clients = client_of (codes "a") 0 ∷ client_of (codes "b") 1 ∷ client_of (codes "c") 1 ∷ [];
+    sets = declared_set (codes "s") 0 ∷ [];
+    clients = declared_client (codes "a") 0 ∷ declared_client (codes "b") 1 ∷ declared_client (codes "c") 1 ∷ [];
     commands =
         (0, Lock 0 IntentionWrite) ∷
         (1, Lock 0 IntentionWrite) ∷
@@ -128,21 +128,21 @@ drop_at_desk = record {
       act 1 1 2 (Tried 2 0 IntentionRead false ∷ []) ∷
       act 2 1 2 (Wait 2 0 IntentionWrite ∷ []) ∷
       act 1 0 0 (Grant 0 0 IntentionWrite ∷ []) ∷
-      take 3 0 1 (Copy 0 1 2 IntentionWrite ∷ []) ∷
-      take 4 1 0 (Grant 2 0 IntentionWrite ∷ []) ∷
+      taken_at 3 0 1 (Copy 0 1 2 IntentionWrite ∷ []) ∷
+      taken_at 4 1 0 (Grant 2 0 IntentionWrite ∷ []) ∷
       act 5 1 1 (Grant 1 0 IntentionWrite ∷ []) ∷
       act 6 1 2 (Unlocked 2 0 IntentionWrite ∷ []) ∷
       act 7 1 1 (Wait 1 0 Write ∷ []) ∷
       act 8 1 2 (NotHeld 2 0 IntentionRead ∷ []) ∷
-      take 8 0 1 (Freeze 0 1 1 all_modes ∷ []) ∷
-      take 9 1 0 [] ∷
+      taken_at 8 0 1 (Freeze 0 1 1 all_modes ∷ []) ∷
+      taken_at 9 1 0 [] ∷
       act 9 0 0 (Unlocked 0 0 IntentionWrite ∷ Token 0 1 1 ∷ []) ∷
       act 10 1 2 (Tried 2 0 Read false ∷ []) ∷
       act 10 0 0 (Wait 0 0 IntentionWrite ∷ []) ∷
-      take 11 1 0 (Grant 1 0 Write ∷ []) ∷
+      taken_at 11 1 0 (Grant 1 0 Write ∷ []) ∷
       act 12 1 1 (Dropped 1 1 0 2 ∷ []) ∷
-      take 13 1 0 (Token 0 0 2 ∷ []) ∷
-      take 14 0 1 (Grant 0 0 IntentionWrite ∷ []) ∷
+      taken_at 13 1 0 (Token 0 0 2 ∷ []) ∷
+      taken_at 14 0 1 (Grant 0 0 IntentionWrite ∷ []) ∷
       act 15 0 0 (Changed 0 0 IntentionWrite Read ∷ []) ∷
       [];
   held = holds 0 0 Read 1 ∷ [];
@@ -156,8 +156,8 @@ several_copies = record {
   script = record {
     version = 1;
     nodes = 4;
-    sets = set_of (codes "s") 0 ∷ [];
-    clients = client_of (codes "a") 2 ∷ client_of (codes "b") 2 ∷ client_of (codes "c") 3 ∷ [];
+    sets = declared_set (codes "s") 0 ∷ [];
+    clients = declared_client (codes "a") 2 ∷ declared_client (codes "b") 2 ∷ declared_client (codes "c") 3 ∷ [];
     commands =
         (0, Try 0 Read) ∷
         (1, Lock 0 IntentionRead) ∷
@@ -174,23 +174,23 @@ several_copies = record {
       act 1 3 2 (Tried 2 0 IntentionRead false ∷ []) ∷
       act 2 3 2 (Wait 2 0 IntentionWrite ∷ []) ∷
       act 1 2 0 (Tried 0 0 Read false ∷ []) ∷
-      take 3 0 3 (Token 0 3 1 ∷ []) ∷
-      take 4 3 0 (Grant 2 0 IntentionWrite ∷ []) ∷
+      taken_at 3 0 3 (Token 0 3 1 ∷ []) ∷
+      taken_at 4 3 0 (Grant 2 0 IntentionWrite ∷ []) ∷
       act 2 2 1 (Wait 1 0 IntentionRead ∷ []) ∷
       act 5 3 2 (Grant 2 0 IntentionWrite ∷ []) ∷
-      take 4 0 2 [] ∷
+      taken_at 4 0 2 [] ∷
       act 3 2 0 (Wait 0 0 IntentionRead ∷ []) ∷
-      take 5 0 2 [] ∷
-      take 6 3 0 (Copy 0 2 1 IntentionRead ∷ []) ∷
-      take 7 2 3 (Grant 1 0 IntentionRead ∷ []) ∷
-      take 7 3 0 (Copy 0 2 0 IntentionRead ∷ []) ∷
+      taken_at 5 0 2 [] ∷
+      taken_at 6 3 0 (Copy 0 2 1 IntentionRead ∷ []) ∷
+      taken_at 7 2 3 (Grant 1 0 IntentionRead ∷ []) ∷
+      taken_at 7 3 0 (Copy 0 2 0 IntentionRead ∷ []) ∷
       act 8 2 1 (Unlocked 1 0 IntentionRead ∷ []) ∷
-      take 9 3 2 [] ∷
+      taken_at 9 3 2 [] ∷
       act 9 2 1 (Wait 1 0 Read ∷ []) ∷
-      take 10 2 3 (Grant 0 0 IntentionRead ∷ []) ∷
-      take 10 3 2 (Freeze 0 2 1 (modes_in (IntentionWrite ∷ ReadIntentionWrite ∷ Write ∷ [])) ∷ []) ∷
+      taken_at 10 2 3 (Grant 0 0 IntentionRead ∷ []) ∷
+      taken_at 10 3 2 (Freeze 0 2 1 (modes_in (IntentionWrite ∷ ReadIntentionWrite ∷ Write ∷ [])) ∷ []) ∷
       act 11 2 0 (NotHeld 0 0 Read ∷ []) ∷
-      take 12 2 3 [] ∷
+      taken_at 12 2 3 [] ∷
       [];
   held = holds 0 0 IntentionRead 1 ∷ holds 2 0 IntentionWrite 2 ∷ [];
   waiting = holding 1 0 Read ∷ [];
@@ -203,12 +203,12 @@ copy_and_freeze = record {
   script = record {
     version = 1;
     nodes = 2;
-    sets = set_of (codes "s0") 0 ∷ [];
+    sets = declared_set (codes "s0") 0 ∷ [];
     clients =
-        client_of (codes "c2") 1 ∷
-        client_of (codes "c4") 0 ∷
-        client_of (codes "c5") 0 ∷
-        client_of (codes "c7") 1 ∷
+        declared_client (codes "c2") 1 ∷
+        declared_client (codes "c4") 0 ∷
+        declared_client (codes "c5") 0 ∷
+        declared_client (codes "c7") 1 ∷
         [];
     commands =
         (0, Lock 0 Read) ∷
@@ -221,13 +221,13 @@ copy_and_freeze = record {
   run =
       act 1 1 3 (Wait 3 0 IntentionWrite ∷ []) ∷
       act 1 0 1 (Grant 1 0 IntentionWrite ∷ []) ∷
-      take 2 0 1 (Copy 0 1 3 IntentionWrite ∷ []) ∷
+      taken_at 2 0 1 (Copy 0 1 3 IntentionWrite ∷ []) ∷
       act 2 1 0 (Wait 0 0 Read ∷ []) ∷
-      take 3 1 0 (Grant 3 0 IntentionWrite ∷ []) ∷
+      taken_at 3 1 0 (Grant 3 0 IntentionWrite ∷ []) ∷
       act 3 0 2 (Wait 2 0 Read ∷ Freeze 0 1 1 (modes_in (IntentionWrite ∷ ReadIntentionWrite ∷ Write ∷ [])) ∷ []) ∷
-      take 4 1 0 [] ∷
+      taken_at 4 1 0 [] ∷
       act 4 0 1 (Unlocked 1 0 IntentionWrite ∷ []) ∷
-      take 5 0 1 [] ∷
+      taken_at 5 0 1 [] ∷
       [];
   held = holds 3 0 IntentionWrite 1 ∷ [];
   waiting = holding 0 0 Read ∷ holding 2 0 Read ∷ [];
@@ -240,8 +240,8 @@ desk_with_copy_out = record {
   script = record {
     version = 1;
     nodes = 4;
-    sets = set_of (codes "s0") 0 ∷ [];
-    clients = client_of (codes "c0") 3 ∷ client_of (codes "c2") 2 ∷ client_of (codes "c4") 3 ∷ [];
+    sets = declared_set (codes "s0") 0 ∷ [];
+    clients = declared_client (codes "c0") 3 ∷ declared_client (codes "c2") 2 ∷ declared_client (codes "c4") 3 ∷ [];
     commands =
         (0, Lock 0 Read) ∷
         (1, Lock 0 Read) ∷
@@ -253,16 +253,16 @@ desk_with_copy_out = record {
       act 1 2 1 (Wait 1 0 Read ∷ []) ∷
       act 1 3 0 (Wait 0 0 Read ∷ []) ∷
       act 2 3 2 (Wait 2 0 Read ∷ []) ∷
-      take 2 0 2 (Token 0 2 1 ∷ []) ∷
-      take 3 0 3 [] ∷
-      take 4 0 3 [] ∷
-      take 3 2 0 (Grant 1 0 Read ∷ []) ∷
-      take 4 2 0 (Copy 0 3 0 Read ∷ []) ∷
+      taken_at 2 0 2 (Token 0 2 1 ∷ []) ∷
+      taken_at 3 0 3 [] ∷
+      taken_at 4 0 3 [] ∷
+      taken_at 3 2 0 (Grant 1 0 Read ∷ []) ∷
+      taken_at 4 2 0 (Copy 0 3 0 Read ∷ []) ∷
       act 5 2 1 (Unlocked 1 0 Read ∷ []) ∷
-      take 6 2 0 (Freeze 0 3 1 (modes_in (IntentionWrite ∷ ReadIntentionWrite ∷ Write ∷ [])) ∷ Token 0 3 2 ∷ []) ∷
-      take 5 3 2 (Grant 0 0 Read ∷ []) ∷
-      take 7 3 2 [] ∷
-      take 8 3 2 (Grant 2 0 Read ∷ []) ∷
+      taken_at 6 2 0 (Freeze 0 3 1 (modes_in (IntentionWrite ∷ ReadIntentionWrite ∷ Write ∷ [])) ∷ Token 0 3 2 ∷ []) ∷
+      taken_at 5 3 2 (Grant 0 0 Read ∷ []) ∷
+      taken_at 7 3 2 [] ∷
+      taken_at 8 3 2 (Grant 2 0 Read ∷ []) ∷
       [];
   held = holds 0 0 Read 1 ∷ holds 2 0 Read 1 ∷ [];
   waiting = [];
@@ -275,13 +275,13 @@ second_ask_bars = record {
   script = record {
     version = 1;
     nodes = 2;
-    sets = set_of (codes "s0") 0 ∷ [];
+    sets = declared_set (codes "s0") 0 ∷ [];
     clients =
-        client_of (codes "c1") 1 ∷
-        client_of (codes "c2") 0 ∷
-        client_of (codes "c3") 0 ∷
-        client_of (codes "c4") 0 ∷
-        client_of (codes "c5") 1 ∷
+        declared_client (codes "c1") 1 ∷
+        declared_client (codes "c2") 0 ∷
+        declared_client (codes "c3") 0 ∷
+        declared_client (codes "c4") 0 ∷
+        declared_client (codes "c5") 1 ∷
         [];
     commands =
         (0, Lock 0 Upgrade) ∷
@@ -301,12 +301,12 @@ second_ask_bars = record {
       act 1 1 0 (Wait 0 0 Upgrade ∷ []) ∷
       act 4 0 3 (Grant 3 0 Upgrade ∷ []) ∷
       act 2 1 4 (Wait 4 0 Write ∷ []) ∷
-      take 5 0 1 [] ∷
-      take 6 0 1 [] ∷
+      taken_at 5 0 1 [] ∷
+      taken_at 6 0 1 [] ∷
       act 7 0 3 (Unlocked 3 0 Upgrade ∷ Token 0 1 1 ∷ []) ∷
-      take 8 1 0 (Grant 0 0 Upgrade ∷ []) ∷
+      taken_at 8 1 0 (Grant 0 0 Upgrade ∷ []) ∷
       act 8 0 3 (Wait 3 0 Read ∷ []) ∷
-      take 9 1 0 [] ∷
+      taken_at 9 1 0 [] ∷
       [];
   held = holds 0 0 Upgrade 1 ∷ holds 1 0 Read 1 ∷ [];
   waiting = holding 3 0 Read ∷ holding 4 0 Write ∷ [];
@@ -319,12 +319,12 @@ token_meets_parked = record {
   script = record {
     version = 1;
     nodes = 3;
-    sets = set_of (codes "s0") 0 ∷ [];
+    sets = declared_set (codes "s0") 0 ∷ [];
     clients =
-        client_of (codes "c1") 2 ∷
-        client_of (codes "c2") 1 ∷
-        client_of (codes "c3") 1 ∷
-        client_of (codes "c4") 0 ∷
+        declared_client (codes "c1") 2 ∷
+        declared_client (codes "c2") 1 ∷
+        declared_client (codes "c3") 1 ∷
+        declared_client (codes "c4") 0 ∷
         [];
     commands =
         (0, Lock 0 Upgrade) ∷
@@ -337,18 +337,18 @@ token_meets_parked = record {
   };
   run =
       act 1 2 0 (Wait 0 0 Upgrade ∷ []) ∷
-      take 2 0 2 (Token 0 2 1 ∷ []) ∷
-      take 3 2 0 (Grant 0 0 Upgrade ∷ []) ∷
+      taken_at 2 0 2 (Token 0 2 1 ∷ []) ∷
+      taken_at 3 2 0 (Grant 0 0 Upgrade ∷ []) ∷
       act 1 1 2 (Wait 2 0 Write ∷ []) ∷
-      take 3 0 1 [] ∷
-      take 4 2 0 [] ∷
+      taken_at 3 0 1 [] ∷
+      taken_at 4 2 0 [] ∷
       act 2 1 1 (Wait 1 0 Read ∷ []) ∷
-      take 4 0 1 [] ∷
-      take 5 1 0 [] ∷
+      taken_at 4 0 1 [] ∷
+      taken_at 5 1 0 [] ∷
       act 5 0 3 (Wait 3 0 Write ∷ []) ∷
-      take 6 1 0 [] ∷
+      taken_at 6 1 0 [] ∷
       act 5 2 0 (Unlocked 0 0 Upgrade ∷ Token 0 1 2 ∷ []) ∷
-      take 7 1 2 (Grant 2 0 Write ∷ []) ∷
+      taken_at 7 1 2 (Grant 2 0 Write ∷ []) ∷
       act 8 1 2 (Unlocked 2 0 Write ∷ Grant 1 0 Read ∷ []) ∷
       [];
   held = holds 1 0 Read 1 ∷ [];
@@ -362,12 +362,12 @@ upgrades_in_turn = record {
   script = record {
     version = 1;
     nodes = 2;
-    sets = set_of (codes "s0") 0 ∷ set_of (codes "s1") 0 ∷ [];
+    sets = declared_set (codes "s0") 0 ∷ declared_set (codes "s1") 0 ∷ [];
     clients =
-        client_of (codes "c0") 0 ∷
-        client_of (codes "c2") 1 ∷
-        client_of (codes "c3") 1 ∷
-        client_of (codes "c5") 1 ∷
+        declared_client (codes "c0") 0 ∷
+        declared_client (codes "c2") 1 ∷
+        declared_client (codes "c3") 1 ∷
+        declared_client (codes "c5") 1 ∷
         [];
     commands =
         (0, Lock 0 Upgrade) ∷
@@ -382,18 +382,18 @@ upgrades_in_turn = record {
       act 1 1 3 (Wait 3 0 Upgrade ∷ []) ∷
       act 2 1 1 (Wait 1 0 Upgrade ∷ []) ∷
       act 3 1 2 (Wait 2 0 Upgrade ∷ []) ∷
-      take 2 0 1 (Token 0 1 1 ∷ []) ∷
-      take 3 0 1 [] ∷
-      take 4 1 0 (Grant 3 0 Upgrade ∷ []) ∷
+      taken_at 2 0 1 (Token 0 1 1 ∷ []) ∷
+      taken_at 3 0 1 [] ∷
+      taken_at 4 1 0 (Grant 3 0 Upgrade ∷ []) ∷
       act 4 0 0 (Wait 0 0 Upgrade ∷ []) ∷
       act 5 1 3 (Unlocked 3 0 Upgrade ∷ []) ∷
-      take 6 1 0 (Grant 1 0 Upgrade ∷ []) ∷
-      take 7 1 0 [] ∷
+      taken_at 6 1 0 (Grant 1 0 Upgrade ∷ []) ∷
+      taken_at 7 1 0 [] ∷
       act 8 1 1 (Unlocked 1 0 Upgrade ∷ Token 0 0 2 ∷ []) ∷
-      take 5 0 1 [] ∷
-      take 9 1 0 [] ∷
-      take 9 0 1 (Grant 0 0 Upgrade ∷ []) ∷
-      take 10 0 1 [] ∷
+      taken_at 5 0 1 [] ∷
+      taken_at 9 1 0 [] ∷
+      taken_at 9 0 1 (Grant 0 0 Upgrade ∷ []) ∷
+      taken_at 10 0 1 [] ∷
       [];
   held = holds 0 0 Upgrade 1 ∷ [];
   waiting = holding 2 0 Upgrade ∷ [];
@@ -406,12 +406,12 @@ copy_after_move = record {
   script = record {
     version = 1;
     nodes = 4;
-    sets = set_of (codes "s0") 0 ∷ [];
+    sets = declared_set (codes "s0") 0 ∷ [];
     clients =
-        client_of (codes "c0") 3 ∷
-        client_of (codes "c1") 2 ∷
-        client_of (codes "c2") 0 ∷
-        client_of (codes "c5") 1 ∷
+        declared_client (codes "c0") 3 ∷
+        declared_client (codes "c1") 2 ∷
+        declared_client (codes "c2") 0 ∷
+        declared_client (codes "c5") 1 ∷
         [];
     commands =
         (0, Lock 0 Write) ∷
@@ -424,21 +424,21 @@ copy_after_move = record {
   };
   run =
       act 1 1 3 (Wait 3 0 Write ∷ []) ∷
-      take 2 0 1 (Token 0 1 1 ∷ []) ∷
+      taken_at 2 0 1 (Token 0 1 1 ∷ []) ∷
       act 1 2 1 (Wait 1 0 Read ∷ []) ∷
-      take 3 0 2 [] ∷
+      taken_at 3 0 2 [] ∷
       act 4 0 2 (Wait 2 0 Read ∷ []) ∷
       act 1 3 0 (Wait 0 0 Write ∷ []) ∷
-      take 5 0 3 [] ∷
-      take 3 1 0 (Grant 3 0 Write ∷ []) ∷
-      take 4 1 0 [] ∷
-      take 5 1 0 [] ∷
-      take 6 1 0 [] ∷
+      taken_at 5 0 3 [] ∷
+      taken_at 3 1 0 (Grant 3 0 Write ∷ []) ∷
+      taken_at 4 1 0 [] ∷
+      taken_at 5 1 0 [] ∷
+      taken_at 6 1 0 [] ∷
       act 7 1 3 (Unlocked 3 0 Write ∷ Token 0 2 2 ∷ []) ∷
-      take 8 2 1 (Grant 1 0 Read ∷ Copy 0 0 2 Read ∷ []) ∷
-      take 9 0 2 (Grant 2 0 Read ∷ []) ∷
+      taken_at 8 2 1 (Grant 1 0 Read ∷ Copy 0 0 2 Read ∷ []) ∷
+      taken_at 9 0 2 (Grant 2 0 Read ∷ []) ∷
       act 10 0 2 (Wait 2 0 Write ∷ []) ∷
-      take 11 2 0 [] ∷
+      taken_at 11 2 0 [] ∷
       [];
   held = holds 1 0 Read 1 ∷ holds 2 0 Read 1 ∷ [];
   waiting = holding 0 0 Write ∷ holding 2 0 Write ∷ [];
@@ -451,13 +451,13 @@ change_to_write = record {
   script = record {
     version = 1;
     nodes = 2;
-    sets = set_of (codes "s0") 0 ∷ [];
+    sets = declared_set (codes "s0") 0 ∷ [];
     clients =
-        client_of (codes "c0") 1 ∷
-        client_of (codes "c1") 0 ∷
-        client_of (codes "c2") 1 ∷
-        client_of (codes "c3") 0 ∷
-        client_of (codes "c4") 1 ∷
+        declared_client (codes "c0") 1 ∷
+        declared_client (codes "c1") 0 ∷
+        declared_client (codes "c2") 1 ∷
+        declared_client (codes "c3") 0 ∷
+        declared_client (codes "c4") 1 ∷
         [];
     commands =
         (0, Lock 0 Write) ∷
@@ -474,22 +474,22 @@ change_to_write = record {
       act 1 1 4 (Wait 4 0 Read ∷ []) ∷
       act 2 1 0 (Wait 0 0 Write ∷ []) ∷
       act 3 1 2 (Wait 2 0 IntentionWrite ∷ []) ∷
-      take 2 0 1 (Token 0 1 1 ∷ []) ∷
-      take 3 0 1 [] ∷
-      take 4 1 0 (Grant 4 0 Read ∷ []) ∷
-      take 5 1 0 [] ∷
+      taken_at 2 0 1 (Token 0 1 1 ∷ []) ∷
+      taken_at 3 0 1 [] ∷
+      taken_at 4 1 0 (Grant 4 0 Read ∷ []) ∷
+      taken_at 5 1 0 [] ∷
       act 6 1 4 (Changed 4 0 Read Write ∷ []) ∷
       act 4 0 1 (Wait 1 0 Write ∷ []) ∷
       act 7 1 4 (Unlocked 4 0 Write ∷ Grant 0 0 Write ∷ []) ∷
       act 8 1 0 (Unlocked 0 0 Write ∷ []) ∷
-      take 9 1 0 (Token 0 0 2 ∷ []) ∷
+      taken_at 9 1 0 (Token 0 0 2 ∷ []) ∷
       act 5 0 3 (Wait 3 0 Upgrade ∷ []) ∷
-      take 10 1 0 [] ∷
-      take 6 0 1 [] ∷
-      take 11 1 0 [] ∷
-      take 10 0 1 (Grant 1 0 Write ∷ []) ∷
-      take 11 0 1 [] ∷
-      take 12 0 1 [] ∷
+      taken_at 10 1 0 [] ∷
+      taken_at 6 0 1 [] ∷
+      taken_at 11 1 0 [] ∷
+      taken_at 10 0 1 (Grant 1 0 Write ∷ []) ∷
+      taken_at 11 0 1 [] ∷
+      taken_at 12 0 1 [] ∷
       [];
   held = holds 1 0 Write 1 ∷ [];
   waiting = holding 2 0 IntentionWrite ∷ holding 3 0 Upgrade ∷ [];
@@ -502,12 +502,12 @@ old_freeze = record {
   script = record {
     version = 1;
     nodes = 3;
-    sets = set_of (codes "s0") 0 ∷ [];
+    sets = declared_set (codes "s0") 0 ∷ [];
     clients =
-        client_of (codes "c0") 2 ∷
-        client_of (codes "c1") 2 ∷
-        client_of (codes "c3") 1 ∷
-        client_of (codes "c5") 0 ∷
+        declared_client (codes "c0") 2 ∷
+        declared_client (codes "c1") 2 ∷
+        declared_client (codes "c3") 1 ∷
+        declared_client (codes "c5") 0 ∷
         [];
     commands =
         (0, Lock 0 Write) ∷
@@ -522,20 +522,20 @@ old_freeze = record {
       act 1 0 3 (Grant 3 0 Read ∷ []) ∷
       act 1 2 1 (Wait 1 0 Read ∷ []) ∷
       act 1 1 2 (Wait 2 0 Upgrade ∷ []) ∷
-      take 2 0 2 (Copy 0 2 1 Read ∷ []) ∷
-      take 3 0 1 (Freeze 0 2 1 (modes_in (Upgrade ∷ IntentionWrite ∷ ReadIntentionWrite ∷ Write ∷ [])) ∷ Token 0 1 1 ∷ []) ∷
+      taken_at 2 0 2 (Copy 0 2 1 Read ∷ []) ∷
+      taken_at 3 0 1 (Freeze 0 2 1 (modes_in (Upgrade ∷ IntentionWrite ∷ ReadIntentionWrite ∷ Write ∷ [])) ∷ Token 0 1 1 ∷ []) ∷
       act 4 0 3 (Unlocked 3 0 Read ∷ []) ∷
-      take 4 1 0 (Grant 2 0 Upgrade ∷ Freeze 0 0 2 no_modes ∷ Freeze 0 2 2 no_modes ∷ []) ∷
-      take 5 1 0 [] ∷
-      take 5 2 1 [] ∷
+      taken_at 4 1 0 (Grant 2 0 Upgrade ∷ Freeze 0 0 2 no_modes ∷ Freeze 0 2 2 no_modes ∷ []) ∷
+      taken_at 5 1 0 [] ∷
+      taken_at 5 2 1 [] ∷
       act 6 1 2 (Unlocked 2 0 Upgrade ∷ []) ∷
       act 6 2 0 (Wait 0 0 Write ∷ []) ∷
-      take 7 1 2 (Freeze 0 2 3 all_modes ∷ Token 0 2 2 ∷ []) ∷
-      take 5 0 1 [] ∷
-      take 8 2 1 [] ∷
-      take 9 2 1 [] ∷
-      take 10 2 0 (Grant 1 0 Read ∷ []) ∷
-      take 11 2 0 [] ∷
+      taken_at 7 1 2 (Freeze 0 2 3 all_modes ∷ Token 0 2 2 ∷ []) ∷
+      taken_at 5 0 1 [] ∷
+      taken_at 8 2 1 [] ∷
+      taken_at 9 2 1 [] ∷
+      taken_at 10 2 0 (Grant 1 0 Read ∷ []) ∷
+      taken_at 11 2 0 [] ∷
       [];
   held = holds 1 0 Read 1 ∷ [];
   waiting = holding 0 0 Write ∷ [];
@@ -548,13 +548,13 @@ old_tell = record {
   script = record {
     version = 1;
     nodes = 4;
-    sets = set_of (codes "s0") 0 ∷ [];
+    sets = declared_set (codes "s0") 0 ∷ [];
     clients =
-        client_of (codes "c0") 1 ∷
-        client_of (codes "c1") 2 ∷
-        client_of (codes "c2") 1 ∷
-        client_of (codes "c3") 1 ∷
-        client_of (codes "c7") 3 ∷
+        declared_client (codes "c0") 1 ∷
+        declared_client (codes "c1") 2 ∷
+        declared_client (codes "c2") 1 ∷
+        declared_client (codes "c3") 1 ∷
+        declared_client (codes "c7") 3 ∷
         [];
     commands =
         (0, Lock 0 IntentionRead) ∷
@@ -569,30 +569,30 @@ old_tell = record {
   run =
       act 1 1 2 (Wait 2 0 Read ∷ []) ∷
       act 1 2 1 (Wait 1 0 Read ∷ []) ∷
-      take 2 0 2 (Token 0 2 1 ∷ []) ∷
-      take 3 2 0 (Grant 1 0 Read ∷ []) ∷
+      taken_at 2 0 2 (Token 0 2 1 ∷ []) ∷
+      taken_at 3 2 0 (Grant 1 0 Read ∷ []) ∷
       act 1 3 4 (Wait 4 0 Upgrade ∷ []) ∷
-      take 3 0 1 [] ∷
+      taken_at 3 0 1 [] ∷
       act 2 1 0 (Wait 0 0 IntentionRead ∷ []) ∷
-      take 4 0 1 [] ∷
-      take 5 0 3 [] ∷
-      take 4 2 0 (Copy 0 1 2 Read ∷ []) ∷
+      taken_at 4 0 1 [] ∷
+      taken_at 5 0 3 [] ∷
+      taken_at 4 2 0 (Copy 0 1 2 Read ∷ []) ∷
       act 5 2 1 (Unlocked 1 0 Read ∷ []) ∷
-      take 6 2 0 (Freeze 0 1 1 (modes_in (Write ∷ [])) ∷ Token 0 1 2 ∷ []) ∷
-      take 7 2 0 [] ∷
-      take 5 1 2 (Grant 2 0 Read ∷ []) ∷
+      taken_at 6 2 0 (Freeze 0 1 1 (modes_in (Write ∷ [])) ∷ Token 0 1 2 ∷ []) ∷
+      taken_at 7 2 0 [] ∷
+      taken_at 5 1 2 (Grant 2 0 Read ∷ []) ∷
       act 6 1 2 (Unlocked 2 0 Read ∷ []) ∷
-      take 7 1 2 [] ∷
-      take 8 1 2 (Grant 0 0 IntentionRead ∷ []) ∷
-      take 9 1 2 (Token 0 3 3 ∷ []) ∷
-      take 8 2 1 [] ∷
-      take 10 1 2 [] ∷
-      take 10 3 1 (Grant 4 0 Upgrade ∷ Freeze 0 1 2 no_modes ∷ []) ∷
-      take 11 1 3 [] ∷
+      taken_at 7 1 2 [] ∷
+      taken_at 8 1 2 (Grant 0 0 IntentionRead ∷ []) ∷
+      taken_at 9 1 2 (Token 0 3 3 ∷ []) ∷
+      taken_at 8 2 1 [] ∷
+      taken_at 10 1 2 [] ∷
+      taken_at 10 3 1 (Grant 4 0 Upgrade ∷ Freeze 0 1 2 no_modes ∷ []) ∷
+      taken_at 11 1 3 [] ∷
       act 12 1 3 (Wait 3 0 IntentionWrite ∷ []) ∷
-      take 11 3 1 [] ∷
-      take 13 3 1 (Freeze 0 1 3 (modes_in (Read ∷ Upgrade ∷ ReadIntentionWrite ∷ Write ∷ [])) ∷ []) ∷
-      take 14 1 3 [] ∷
+      taken_at 11 3 1 [] ∷
+      taken_at 13 3 1 (Freeze 0 1 3 (modes_in (Read ∷ Upgrade ∷ ReadIntentionWrite ∷ Write ∷ [])) ∷ []) ∷
+      taken_at 14 1 3 [] ∷
       [];
   held = holds 0 0 IntentionRead 1 ∷ holds 4 0 Upgrade 1 ∷ [];
   waiting = holding 3 0 IntentionWrite ∷ [];

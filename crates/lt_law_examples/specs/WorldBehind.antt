@@ -7,8 +7,8 @@ use Rattle.lt_modes.specs.declared.moves.Step.TheVariants.{Take}
 use Rattle.lt_modes.specs.Modes.{no_modes, all_modes, modes_in}
 use Rattle.lt_modes.specs.State.{AskBody, TokenBody}
 use Rattle.lt_spec.specs.Holdings.{holding}
-use Rattle.lt_law_examples.specs.Worked.{Worked, set_of, client_of, act, take, holds, owner}
-use Rattle.lt_law_examples.specs.Moment.{Moment, blank, untouched, stamp, hoped, entry, new_ask, turn}
+use Rattle.lt_law_examples.specs.Worked.{Worked, declared_set, declared_client, act, taken_at, holds, owner}
+use Rattle.lt_law_examples.specs.Moment.{Snapshot, blank, untouched_set, stamp, hoped, entry, new_ask, turn}
 
 -- Asks follow the token to its new node, and by a hoped link.
 abbrev pub asks_behind_token : Worked
@@ -16,15 +16,15 @@ asks_behind_token = record {
   script = record {
     version = 1;
     nodes = 4;
-    sets = set_of (codes "s0") 0 ∷ [];
+    sets = declared_set (codes "s0") 0 ∷ [];
     clients =
-        client_of (codes "c0") 1 ∷
-        client_of (codes "c1") 0 ∷
-        client_of (codes "c2") 1 ∷
-        client_of (codes "c3") 1 ∷
-        client_of (codes "c4") 2 ∷
-        client_of (codes "c5") 2 ∷
-        client_of (codes "c6") 2 ∷
+        declared_client (codes "c0") 1 ∷
+        declared_client (codes "c1") 0 ∷
+        declared_client (codes "c2") 1 ∷
+        declared_client (codes "c3") 1 ∷
+        declared_client (codes "c4") 2 ∷
+        declared_client (codes "c5") 2 ∷
+        declared_client (codes "c6") 2 ∷
         [];
     commands =
         (3, Lock 0 Write) ∷
@@ -53,46 +53,46 @@ asks_behind_token = record {
   run =
       act 1 1 3 (Wait 3 0 Write ∷ []) ∷
       act 1 2 5 (Wait 5 0 Read ∷ []) ∷
-      take 2 0 2 (Token 0 2 1 ∷ []) ∷
+      taken_at 2 0 2 (Token 0 2 1 ∷ []) ∷
       act 2 1 0 (Wait 0 0 IntentionRead ∷ []) ∷
       act 2 2 6 (Wait 6 0 Read ∷ []) ∷
       act 3 1 2 (Wait 2 0 Write ∷ []) ∷
-      take 3 0 1 [] ∷
-      take 3 2 0 (Grant 5 0 Read ∷ []) ∷
+      taken_at 3 0 1 [] ∷
+      taken_at 3 2 0 (Grant 5 0 Read ∷ []) ∷
       act 4 2 4 (Grant 4 0 Upgrade ∷ []) ∷
-      take 4 0 1 [] ∷
+      taken_at 4 0 1 [] ∷
       act 5 2 5 (Changed 5 0 Read Read ∷ []) ∷
-      take 6 2 0 [] ∷
+      taken_at 6 2 0 [] ∷
       act 5 0 1 (Wait 1 0 Read ∷ []) ∷
       act 7 2 4 (Unlocked 4 0 Upgrade ∷ []) ∷
       act 8 2 5 (Unlocked 5 0 Read ∷ Token 0 1 2 ∷ []) ∷
       act 9 2 5 (Wait 5 0 Upgrade ∷ []) ∷
       act 10 2 4 (Wait 4 0 Read ∷ []) ∷
-      take 9 1 2 (Grant 3 0 Write ∷ []) ∷
+      taken_at 9 1 2 (Grant 3 0 Write ∷ []) ∷
       act 10 1 3 (Unlocked 3 0 Write ∷ []) ∷
       act 11 1 3 (Grant 3 0 Upgrade ∷ []) ∷
       act 12 1 3 (Unlocked 3 0 Upgrade ∷ []) ∷
-      take 6 0 1 [] ∷
+      taken_at 6 0 1 [] ∷
       act 13 1 3 (Grant 3 0 Read ∷ []) ∷
       act 14 1 3 (Unlocked 3 0 Read ∷ []) ∷
       act 15 1 3 (Grant 3 0 Write ∷ []) ∷
       act 16 1 3 (Unlocked 3 0 Write ∷ []) ∷
       act 17 1 3 (Grant 3 0 Read ∷ []) ∷
       act 18 1 3 (Unlocked 3 0 Read ∷ []) ∷
-      take 19 1 2 (Token 0 2 3 ∷ []) ∷
-      take 20 2 1 (Grant 5 0 Upgrade ∷ []) ∷
-      take 20 1 2 [] ∷
-      take 21 2 1 (Grant 4 0 Read ∷ []) ∷
-      take 7 0 2 [] ∷
-      take 22 2 0 (Grant 6 0 Read ∷ []) ∷
-      take 21 1 0 [] ∷
-      take 23 2 1 (Copy 0 1 0 IntentionRead ∷ Freeze 0 1 1 no_modes ∷ []) ∷
-      take 24 1 2 (Grant 0 0 IntentionRead ∷ []) ∷
-      take 25 1 2 [] ∷
-      take 26 1 0 [] ∷
-      take 27 1 0 [] ∷
-      take 28 2 1 (Freeze 0 1 2 all_modes ∷ []) ∷
-      take 29 1 2 [] ∷
+      taken_at 19 1 2 (Token 0 2 3 ∷ []) ∷
+      taken_at 20 2 1 (Grant 5 0 Upgrade ∷ []) ∷
+      taken_at 20 1 2 [] ∷
+      taken_at 21 2 1 (Grant 4 0 Read ∷ []) ∷
+      taken_at 7 0 2 [] ∷
+      taken_at 22 2 0 (Grant 6 0 Read ∷ []) ∷
+      taken_at 21 1 0 [] ∷
+      taken_at 23 2 1 (Copy 0 1 0 IntentionRead ∷ Freeze 0 1 1 no_modes ∷ []) ∷
+      taken_at 24 1 2 (Grant 0 0 IntentionRead ∷ []) ∷
+      taken_at 25 1 2 [] ∷
+      taken_at 26 1 0 [] ∷
+      taken_at 27 1 0 [] ∷
+      taken_at 28 2 1 (Freeze 0 1 2 all_modes ∷ []) ∷
+      taken_at 29 1 2 [] ∷
       [];
   held = holds 0 0 IntentionRead 1 ∷ holds 4 0 Read 1 ∷ holds 5 0 Upgrade 1 ∷ holds 6 0 Read 1 ∷ [];
   waiting = holding 1 0 Read ∷ holding 2 0 Write ∷ [];
@@ -100,7 +100,7 @@ asks_behind_token = record {
 }
 
 -- The world after 17 of its moves.
-abbrev pub asks_behind_token_after_17 : Moment
+abbrev pub asks_behind_token_after_17 : Snapshot
 asks_behind_token_after_17 = record {
   row = asks_behind_token;
   moves = 17;
@@ -168,7 +168,7 @@ asks_behind_token_after_17 = record {
         clock = 0;
         made = 0 ∷ 0 ∷ 0 ∷ 0 ∷ 0 ∷ 0 ∷ 0 ∷ [];
         sets =
-            untouched ∷
+            untouched_set ∷
             [];
       } ∷
       [];

@@ -7,8 +7,8 @@ use Rattle.lt_modes.specs.declared.moves.Step.TheVariants.{Act, Take}
 use Rattle.lt_modes.specs.Modes.{no_modes, all_modes, modes_in}
 use Rattle.lt_modes.specs.State.{AskBody, TellBody, CopyBody, FreezeBody}
 use Rattle.lt_spec.specs.Holdings.{holding}
-use Rattle.lt_law_examples.specs.Worked.{Worked, set_of, client_of, act, take, holds, owner}
-use Rattle.lt_law_examples.specs.Moment.{Moment, blank, untouched, stamp, held_row, hoped, owed, entry, new_ask, turn}
+use Rattle.lt_law_examples.specs.Worked.{Worked, declared_set, declared_client, act, taken_at, holds, owner}
+use Rattle.lt_law_examples.specs.Moment.{Snapshot, blank, untouched_set, stamp, held_row, hoped, owed, entry, new_ask, turn}
 
 -- A client that waits in another family is busy.
 abbrev pub busy_in_another_set : Worked
@@ -16,16 +16,16 @@ busy_in_another_set = record {
   script = record {
     version = 1;
     nodes = 3;
-    sets = set_of (codes "s0") 0 ∷ set_of (codes "s1") 1 ∷ set_of (codes "s2") 2 ∷ [];
+    sets = declared_set (codes "s0") 0 ∷ declared_set (codes "s1") 1 ∷ declared_set (codes "s2") 2 ∷ [];
     clients =
-        client_of (codes "c0") 2 ∷
-        client_of (codes "c1") 2 ∷
-        client_of (codes "c2") 1 ∷
-        client_of (codes "c3") 1 ∷
-        client_of (codes "c4") 0 ∷
-        client_of (codes "c5") 0 ∷
-        client_of (codes "c6") 2 ∷
-        client_of (codes "c7") 1 ∷
+        declared_client (codes "c0") 2 ∷
+        declared_client (codes "c1") 2 ∷
+        declared_client (codes "c2") 1 ∷
+        declared_client (codes "c3") 1 ∷
+        declared_client (codes "c4") 0 ∷
+        declared_client (codes "c5") 0 ∷
+        declared_client (codes "c6") 2 ∷
+        declared_client (codes "c7") 1 ∷
         [];
     commands =
         (3, Lock 0 Upgrade) ∷
@@ -61,63 +61,63 @@ busy_in_another_set = record {
       act 1 1 3 (Wait 3 0 Upgrade ∷ []) ∷
       act 2 1 7 (Wait 7 2 Write ∷ []) ∷
       act 1 2 1 (Wait 1 0 IntentionRead ∷ []) ∷
-      take 2 0 1 (Token 0 1 1 ∷ []) ∷
+      taken_at 2 0 1 (Token 0 1 1 ∷ []) ∷
       act 2 2 6 (Wait 6 2 Upgrade ∷ []) ∷
       act 3 2 0 (Wait 0 0 Upgrade ∷ []) ∷
       act 3 0 4 (Wait 4 0 Upgrade ∷ []) ∷
-      take 3 1 0 (Grant 3 0 Upgrade ∷ []) ∷
+      taken_at 3 1 0 (Grant 3 0 Upgrade ∷ []) ∷
       act 4 1 3 (Wait 3 1 Write ∷ []) ∷
-      take 5 1 0 [] ∷
-      take 4 0 1 (Token 2 1 1 ∷ []) ∷
-      take 5 0 1 (Token 1 1 1 ∷ []) ∷
+      taken_at 5 1 0 [] ∷
+      taken_at 4 0 1 (Token 2 1 1 ∷ []) ∷
+      taken_at 5 0 1 (Token 1 1 1 ∷ []) ∷
       act 6 0 5 (Wait 5 2 Write ∷ []) ∷
-      take 6 1 0 (Grant 7 2 Write ∷ []) ∷
+      taken_at 6 1 0 (Grant 7 2 Write ∷ []) ∷
       act 7 1 7 (Unlocked 7 2 Write ∷ []) ∷
-      take 7 0 2 [] ∷
+      taken_at 7 0 2 [] ∷
       act 8 1 7 (Wait 7 1 Write ∷ []) ∷
-      take 9 0 1 [] ∷
+      taken_at 9 0 1 [] ∷
       act 9 1 2 (Grant 2 2 Write ∷ []) ∷
-      take 10 1 0 (Grant 3 1 Write ∷ []) ∷
+      taken_at 10 1 0 (Grant 3 1 Write ∷ []) ∷
       act 11 1 3 (Unlocked 3 0 Upgrade ∷ Token 0 0 2 ∷ []) ∷
       act 12 1 3 (Wait 3 0 Read ∷ []) ∷
-      take 12 0 1 (Grant 4 0 Upgrade ∷ []) ∷
+      taken_at 12 0 1 (Grant 4 0 Upgrade ∷ []) ∷
       act 13 0 4 (Dropped 4 4 1 0 ∷ []) ∷
-      take 14 0 1 (Copy 0 1 3 Read ∷ Freeze 0 1 1 no_modes ∷ []) ∷
+      taken_at 14 0 1 (Copy 0 1 3 Read ∷ Freeze 0 1 1 no_modes ∷ []) ∷
       act 15 0 4 (Unlocked 4 0 Upgrade ∷ []) ∷
       act 16 0 4 (Wait 4 0 IntentionWrite ∷ Freeze 0 1 2 (modes_in (Read ∷ Upgrade ∷ ReadIntentionWrite ∷ Write ∷ [])) ∷ []) ∷
-      take 13 1 0 [] ∷
-      take 14 1 0 [] ∷
-      take 17 0 1 (Copy 0 2 1 IntentionRead ∷ Freeze 0 2 3 (modes_in (Read ∷ Upgrade ∷ ReadIntentionWrite ∷ Write ∷ [])) ∷ []) ∷
-      take 18 0 2 [] ∷
-      take 15 1 0 [] ∷
-      take 16 1 0 (Grant 3 0 Read ∷ []) ∷
+      taken_at 13 1 0 [] ∷
+      taken_at 14 1 0 [] ∷
+      taken_at 17 0 1 (Copy 0 2 1 IntentionRead ∷ Freeze 0 2 3 (modes_in (Read ∷ Upgrade ∷ ReadIntentionWrite ∷ Write ∷ [])) ∷ []) ∷
+      taken_at 18 0 2 [] ∷
+      taken_at 15 1 0 [] ∷
+      taken_at 16 1 0 (Grant 3 0 Read ∷ []) ∷
       act 17 1 3 (Dropped 3 3 0 1 ∷ []) ∷
       act 18 1 3 (Unlocked 3 1 Write ∷ Grant 7 1 Write ∷ []) ∷
       act 19 1 3 (Wait 3 1 Upgrade ∷ []) ∷
       act 20 1 7 (Grant 7 1 IntentionRead ∷ []) ∷
       act 21 1 7 (Wait 7 0 Upgrade ∷ []) ∷
-      take 22 1 0 [] ∷
-      take 19 0 1 (Grant 4 0 IntentionWrite ∷ Freeze 0 2 4 no_modes ∷ []) ∷
+      taken_at 22 1 0 [] ∷
+      taken_at 19 0 1 (Grant 4 0 IntentionWrite ∷ Freeze 0 2 4 no_modes ∷ []) ∷
       act 20 0 4 (Unlocked 4 0 IntentionWrite ∷ []) ∷
-      take 22 0 1 (Freeze 0 2 5 (modes_in (Upgrade ∷ IntentionWrite ∷ ReadIntentionWrite ∷ Write ∷ [])) ∷ Token 0 1 3 ∷ []) ∷
+      taken_at 22 0 1 (Freeze 0 2 5 (modes_in (Upgrade ∷ IntentionWrite ∷ ReadIntentionWrite ∷ Write ∷ [])) ∷ Token 0 1 3 ∷ []) ∷
       act 23 0 4 (Wait 4 1 Upgrade ∷ []) ∷
-      take 24 0 2 [] ∷
-      take 23 1 0 [] ∷
+      taken_at 24 0 2 [] ∷
+      taken_at 23 1 0 [] ∷
       act 24 1 2 (Busy 2 7 2 ∷ []) ∷
-      take 25 1 0 [] ∷
+      taken_at 25 1 0 [] ∷
       act 26 1 2 (Dropped 2 2 0 0 ∷ []) ∷
-      take 27 1 0 (Grant 7 0 Upgrade ∷ Freeze 0 2 6 no_modes ∷ []) ∷
-      take 28 1 0 [] ∷
+      taken_at 27 1 0 (Grant 7 0 Upgrade ∷ Freeze 0 2 6 no_modes ∷ []) ∷
+      taken_at 28 1 0 [] ∷
       act 29 1 7 (Unlocked 7 1 IntentionRead ∷ []) ∷
       act 30 1 7 (Unlocked 7 0 Upgrade ∷ []) ∷
-      take 31 1 0 (Freeze 0 2 7 (modes_in (Upgrade ∷ IntentionWrite ∷ ReadIntentionWrite ∷ Write ∷ [])) ∷ Token 0 2 4 ∷ []) ∷
-      take 28 2 1 [] ∷
-      take 32 2 1 [] ∷
-      take 33 2 1 (Grant 0 0 Upgrade ∷ []) ∷
-      take 34 2 0 (Grant 1 0 IntentionRead ∷ []) ∷
-      take 35 2 0 [] ∷
-      take 36 2 0 [] ∷
-      take 37 2 0 [] ∷
+      taken_at 31 1 0 (Freeze 0 2 7 (modes_in (Upgrade ∷ IntentionWrite ∷ ReadIntentionWrite ∷ Write ∷ [])) ∷ Token 0 2 4 ∷ []) ∷
+      taken_at 28 2 1 [] ∷
+      taken_at 32 2 1 [] ∷
+      taken_at 33 2 1 (Grant 0 0 Upgrade ∷ []) ∷
+      taken_at 34 2 0 (Grant 1 0 IntentionRead ∷ []) ∷
+      taken_at 35 2 0 [] ∷
+      taken_at 36 2 0 [] ∷
+      taken_at 37 2 0 [] ∷
       [];
   held = holds 0 0 Upgrade 1 ∷ holds 1 0 IntentionRead 1 ∷ holds 2 2 Write 1 ∷ holds 7 1 Write 1 ∷ [];
   waiting = holding 3 1 Upgrade ∷ holding 4 1 Upgrade ∷ holding 5 2 Write ∷ holding 6 2 Upgrade ∷ [];
@@ -125,7 +125,7 @@ busy_in_another_set = record {
 }
 
 -- The world after 38 of its moves.
-abbrev pub busy_in_another_set_after_38 : Moment
+abbrev pub busy_in_another_set_after_38 : Snapshot
 busy_in_another_set_after_38 = record {
   row = busy_in_another_set;
   moves = 38;
@@ -250,7 +250,7 @@ busy_in_another_set_after_38 = record {
               parked = [];
               desk = None;
             } ∷
-            untouched ∷
+            untouched_set ∷
             record {
               held = [];
               charge = no_modes;

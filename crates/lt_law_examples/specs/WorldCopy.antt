@@ -6,8 +6,8 @@ use Rattle.lt_modes.specs.declared.event.Event.TheVariants.{Grant, Wait, Try as 
 use Rattle.lt_modes.specs.declared.moves.Step.TheVariants.{Act, Take}
 use Rattle.lt_modes.specs.Modes.{no_modes, modes_in}
 use Rattle.lt_modes.specs.State.{AskBody, CopyBody, FreezeBody}
-use Rattle.lt_law_examples.specs.Worked.{Worked, set_of, client_of, act, take, holds, owner}
-use Rattle.lt_law_examples.specs.Moment.{Moment, blank, stamp, owed, entry, new_ask, turn}
+use Rattle.lt_law_examples.specs.Worked.{Worked, declared_set, declared_client, act, taken_at, holds, owner}
+use Rattle.lt_law_examples.specs.Moment.{Snapshot, blank, stamp, owed, entry, new_ask, turn}
 
 -- A copy is out, and the token comes another way: a grant at the desk does not forget the copy.
 abbrev pub copy_before_token : Worked
@@ -15,13 +15,13 @@ copy_before_token = record {
   script = record {
     version = 1;
     nodes = 3;
-    sets = set_of (codes "s") 0 ∷ [];
+    sets = declared_set (codes "s") 0 ∷ [];
     clients =
-        client_of (codes "a") 0 ∷
-        client_of (codes "b") 1 ∷
-        client_of (codes "c") 2 ∷
-        client_of (codes "d") 2 ∷
-        client_of (codes "e") 2 ∷
+        declared_client (codes "a") 0 ∷
+        declared_client (codes "b") 1 ∷
+        declared_client (codes "c") 2 ∷
+        declared_client (codes "d") 2 ∷
+        declared_client (codes "e") 2 ∷
         [];
     commands =
         (0, Lock 0 Read) ∷
@@ -37,23 +37,23 @@ copy_before_token = record {
   run =
       act 1 0 0 (Grant 0 0 Read ∷ []) ∷
       act 1 2 2 (Wait 2 0 Read ∷ []) ∷
-      take 2 0 2 (Copy 0 2 2 Read ∷ []) ∷
+      taken_at 2 0 2 (Copy 0 2 2 Read ∷ []) ∷
       act 1 1 1 (Wait 1 0 Upgrade ∷ []) ∷
-      take 3 0 1 (Freeze 0 2 1 (modes_in (Upgrade ∷ IntentionWrite ∷ ReadIntentionWrite ∷ Write ∷ [])) ∷ Token 0 1 1 ∷ []) ∷
-      take 4 1 0 (Grant 1 0 Upgrade ∷ Freeze 0 0 2 no_modes ∷ Freeze 0 2 2 no_modes ∷ []) ∷
+      taken_at 3 0 1 (Freeze 0 2 1 (modes_in (Upgrade ∷ IntentionWrite ∷ ReadIntentionWrite ∷ Write ∷ [])) ∷ Token 0 1 1 ∷ []) ∷
+      taken_at 4 1 0 (Grant 1 0 Upgrade ∷ Freeze 0 0 2 no_modes ∷ Freeze 0 2 2 no_modes ∷ []) ∷
       act 4 0 0 (Unlocked 0 0 Read ∷ []) ∷
-      take 5 1 0 [] ∷
+      taken_at 5 1 0 [] ∷
       act 6 1 1 (Unlocked 1 0 Upgrade ∷ []) ∷
       act 2 2 3 (Wait 3 0 IntentionRead ∷ []) ∷
-      take 5 0 2 [] ∷
-      take 6 0 1 [] ∷
-      take 7 1 0 (Freeze 0 2 3 (modes_in (Write ∷ [])) ∷ Token 0 2 2 ∷ []) ∷
-      take 5 2 1 [] ∷
-      take 8 2 1 [] ∷
-      take 9 2 1 (Grant 3 0 IntentionRead ∷ []) ∷
+      taken_at 5 0 2 [] ∷
+      taken_at 6 0 1 [] ∷
+      taken_at 7 1 0 (Freeze 0 2 3 (modes_in (Write ∷ [])) ∷ Token 0 2 2 ∷ []) ∷
+      taken_at 5 2 1 [] ∷
+      taken_at 8 2 1 [] ∷
+      taken_at 9 2 1 (Grant 3 0 IntentionRead ∷ []) ∷
       act 10 2 4 (Tried 4 0 IntentionWrite false ∷ []) ∷
-      take 11 2 0 (Grant 2 0 Read ∷ []) ∷
-      take 12 2 0 [] ∷
+      taken_at 11 2 0 (Grant 2 0 Read ∷ []) ∷
+      taken_at 12 2 0 [] ∷
       act 13 2 4 (Tried 4 0 IntentionWrite false ∷ []) ∷
       [];
   held = holds 2 0 Read 1 ∷ holds 3 0 IntentionRead 1 ∷ [];
@@ -62,7 +62,7 @@ copy_before_token = record {
 }
 
 -- The world after 10 of its moves.
-abbrev pub copy_before_token_after_10 : Moment
+abbrev pub copy_before_token_after_10 : Snapshot
 copy_before_token_after_10 = record {
   row = copy_before_token;
   moves = 10;

@@ -5,8 +5,8 @@ use Rattle.lt_modes.specs.declared.command.Command.TheVariants.{Lock, Unlock, Dr
 use Rattle.lt_modes.specs.declared.event.Event.TheVariants.{Grant, Wait, Unlock as Unlocked, NotHeld, DropAll as Dropped, Busy, Copy, Token}
 use Rattle.lt_modes.specs.declared.moves.Step.TheVariants.{Act}
 use Rattle.lt_modes.specs.Modes.{no_modes, modes_in}
-use Rattle.lt_law_examples.specs.Worked.{Worked, set_of, client_of, act, take, holds, owner}
-use Rattle.lt_law_examples.specs.Moment.{Moment, blank, untouched, stamp, held_row, entry, new_ask, turn}
+use Rattle.lt_law_examples.specs.Worked.{Worked, declared_set, declared_client, act, taken_at, holds, owner}
+use Rattle.lt_law_examples.specs.Moment.{Snapshot, blank, untouched_set, stamp, held_row, entry, new_ask, turn}
 
 -- A drop counts locks, and not rows.
 abbrev pub drop_counts_locks : Worked
@@ -14,16 +14,16 @@ drop_counts_locks = record {
   script = record {
     version = 1;
     nodes = 2;
-    sets = set_of (codes "s0") 0 ∷ set_of (codes "s1") 0 ∷ set_of (codes "s2") 0 ∷ [];
+    sets = declared_set (codes "s0") 0 ∷ declared_set (codes "s1") 0 ∷ declared_set (codes "s2") 0 ∷ [];
     clients =
-        client_of (codes "c0") 1 ∷
-        client_of (codes "c1") 0 ∷
-        client_of (codes "c2") 1 ∷
-        client_of (codes "c3") 0 ∷
-        client_of (codes "c4") 0 ∷
-        client_of (codes "c5") 0 ∷
-        client_of (codes "c6") 1 ∷
-        client_of (codes "c7") 0 ∷
+        declared_client (codes "c0") 1 ∷
+        declared_client (codes "c1") 0 ∷
+        declared_client (codes "c2") 1 ∷
+        declared_client (codes "c3") 0 ∷
+        declared_client (codes "c4") 0 ∷
+        declared_client (codes "c5") 0 ∷
+        declared_client (codes "c6") 1 ∷
+        declared_client (codes "c7") 0 ∷
         [];
     commands =
         (4, Lock 2 Read) ∷
@@ -71,10 +71,10 @@ drop_counts_locks = record {
       act 2 0 3 (Grant 3 0 Upgrade ∷ []) ∷
       act 3 0 3 (Grant 3 0 Upgrade ∷ []) ∷
       act 1 1 6 (Wait 6 0 Upgrade ∷ []) ∷
-      take 4 0 1 [] ∷
+      taken_at 4 0 1 [] ∷
       act 5 0 1 (Grant 1 2 Read ∷ []) ∷
       act 2 1 2 (Wait 2 0 IntentionWrite ∷ []) ∷
-      take 6 0 1 [] ∷
+      taken_at 6 0 1 [] ∷
       act 7 0 4 (Unlocked 4 2 Read ∷ []) ∷
       act 8 0 3 (Unlocked 3 0 Upgrade ∷ []) ∷
       act 9 0 1 (Unlocked 1 2 Read ∷ []) ∷
@@ -83,26 +83,26 @@ drop_counts_locks = record {
       act 12 0 1 (Grant 1 1 Read ∷ []) ∷
       act 13 0 5 (Grant 5 1 Upgrade ∷ []) ∷
       act 14 0 3 (Unlocked 3 0 Upgrade ∷ Token 0 1 1 ∷ []) ∷
-      take 15 1 0 (Grant 6 0 Upgrade ∷ []) ∷
+      taken_at 15 1 0 (Grant 6 0 Upgrade ∷ []) ∷
       act 16 1 6 (Dropped 6 6 2 1 ∷ Grant 2 0 IntentionWrite ∷ []) ∷
       act 15 0 3 (Dropped 3 3 1 0 ∷ []) ∷
       act 16 0 4 (Wait 4 0 Read ∷ []) ∷
-      take 17 1 0 [] ∷
+      taken_at 17 1 0 [] ∷
       act 17 0 3 (Wait 3 0 Read ∷ []) ∷
-      take 18 1 0 [] ∷
+      taken_at 18 1 0 [] ∷
       act 19 1 6 (Wait 6 0 Upgrade ∷ []) ∷
       act 18 0 1 (Grant 1 1 Read ∷ []) ∷
       act 19 0 5 (Grant 5 1 Upgrade ∷ []) ∷
       act 20 0 1 (Unlocked 1 1 Read ∷ []) ∷
       act 21 0 1 (Unlocked 1 1 Read ∷ []) ∷
       act 20 1 2 (Dropped 2 2 2 1 ∷ Token 0 0 2 ∷ []) ∷
-      take 22 0 1 (Grant 7 0 Upgrade ∷ Grant 4 0 Read ∷ Grant 3 0 Read ∷ []) ∷
+      taken_at 22 0 1 (Grant 7 0 Upgrade ∷ Grant 4 0 Read ∷ Grant 3 0 Read ∷ []) ∷
       act 23 0 3 (Unlocked 3 0 Read ∷ []) ∷
       act 21 1 0 (Wait 0 1 Read ∷ []) ∷
-      take 24 0 1 (Copy 1 1 0 Read ∷ []) ∷
+      taken_at 24 0 1 (Copy 1 1 0 Read ∷ []) ∷
       act 25 0 4 (Wait 4 0 Upgrade ∷ []) ∷
       act 26 0 1 (Dropped 1 1 2 0 ∷ []) ∷
-      take 25 1 0 (Grant 0 1 Read ∷ []) ∷
+      taken_at 25 1 0 (Grant 0 1 Read ∷ []) ∷
       act 27 0 1 (Grant 1 0 IntentionRead ∷ []) ∷
       act 28 0 5 (Grant 5 2 IntentionWrite ∷ []) ∷
       act 29 0 7 (Unlocked 7 0 Upgrade ∷ Grant 4 0 Upgrade ∷ []) ∷
@@ -112,9 +112,9 @@ drop_counts_locks = record {
       act 31 0 3 (Dropped 3 7 2 0 ∷ []) ∷
       act 32 0 7 (Dropped 7 5 2 3 ∷ []) ∷
       act 28 1 0 (Dropped 0 0 1 1 ∷ []) ∷
-      take 33 0 1 [] ∷
+      taken_at 33 0 1 [] ∷
       act 34 0 4 (Dropped 4 4 1 2 ∷ Token 0 1 3 ∷ []) ∷
-      take 35 1 0 (Grant 6 0 Upgrade ∷ []) ∷
+      taken_at 35 1 0 (Grant 6 0 Upgrade ∷ []) ∷
       [];
   held = holds 6 0 Upgrade 1 ∷ [];
   waiting = [];
@@ -122,7 +122,7 @@ drop_counts_locks = record {
 }
 
 -- The world after 24 of its moves.
-abbrev pub drop_counts_locks_after_24 : Moment
+abbrev pub drop_counts_locks_after_24 : Snapshot
 drop_counts_locks_after_24 = record {
   row = drop_counts_locks;
   moves = 24;
@@ -162,7 +162,7 @@ drop_counts_locks_after_24 = record {
                 entries = blank ∷ blank ∷ [];
               });
             } ∷
-            record untouched {
+            record untouched_set {
               desk = Some (record {
                 epoch = 0;
                 number = 0;
@@ -200,8 +200,8 @@ drop_counts_locks_after_24 = record {
                     [];
               });
             } ∷
-            untouched ∷
-            untouched ∷
+            untouched_set ∷
+            untouched_set ∷
             [];
       } ∷
       [];

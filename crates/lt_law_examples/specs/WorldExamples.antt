@@ -7,10 +7,10 @@ use Rattle.lt_modes.specs.State.{TellBody, TokenBody, FreezeBody}
 use Rattle.lt_law_examples.specs.Worked.{owner}
 use Rattle.lt_law_examples.specs.WorkedLong.{copies_and_freezes, token_comes_back}
 use Rattle.lt_law_examples.specs.WorkedOrders.{old_freeze}
-use Rattle.lt_law_examples.specs.Moment.{Moment, blank, untouched, stamp, held_row, owed, entry, new_ask, turn}
+use Rattle.lt_law_examples.specs.Moment.{Snapshot, blank, untouched_set, stamp, held_row, owed, entry, new_ask, turn}
 
 -- The world after 19 of its moves.
-abbrev pub copies_and_freezes_after_19 : Moment
+abbrev pub copies_and_freezes_after_19 : Snapshot
 copies_and_freezes_after_19 = record {
   row = copies_and_freezes;
   moves = 19;
@@ -36,7 +36,7 @@ copies_and_freezes_after_19 = record {
         clock = 0;
         made = 0 ∷ 0 ∷ 0 ∷ [];
         sets =
-            untouched ∷
+            untouched_set ∷
             [];
       } ∷
       record {
@@ -105,7 +105,7 @@ copies_and_freezes_after_19 = record {
 }
 
 -- The world after 13 of its moves.
-abbrev pub token_comes_back_after_13 : Moment
+abbrev pub token_comes_back_after_13 : Snapshot
 token_comes_back_after_13 = record {
   row = token_comes_back;
   moves = 13;
@@ -186,7 +186,7 @@ token_comes_back_after_13 = record {
 }
 
 -- The world after 16 of its moves.
-abbrev pub old_freeze_after_16 : Moment
+abbrev pub old_freeze_after_16 : Snapshot
 old_freeze_after_16 = record {
   row = old_freeze;
   moves = 16;

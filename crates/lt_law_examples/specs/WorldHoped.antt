@@ -7,8 +7,8 @@ use Rattle.lt_modes.specs.declared.moves.Step.TheVariants.{Take}
 use Rattle.lt_modes.specs.Modes.{no_modes, all_modes, modes_in}
 use Rattle.lt_modes.specs.State.{AskBody, TokenBody}
 use Rattle.lt_spec.specs.Holdings.{holding}
-use Rattle.lt_law_examples.specs.Worked.{Worked, set_of, client_of, act, take, holds, owner}
-use Rattle.lt_law_examples.specs.Moment.{Moment, blank, untouched, stamp, hoped, entry, new_ask, turn}
+use Rattle.lt_law_examples.specs.Worked.{Worked, declared_set, declared_client, act, taken_at, holds, owner}
+use Rattle.lt_law_examples.specs.Moment.{Snapshot, blank, untouched_set, stamp, hoped, entry, new_ask, turn}
 
 -- Asks go by hoped links while the token of their set is on its way.
 abbrev pub asks_by_hoped_links : Worked
@@ -16,14 +16,14 @@ asks_by_hoped_links = record {
   script = record {
     version = 1;
     nodes = 3;
-    sets = set_of (codes "s0") 0 ∷ set_of (codes "s1") 0 ∷ [];
+    sets = declared_set (codes "s0") 0 ∷ declared_set (codes "s1") 0 ∷ [];
     clients =
-        client_of (codes "c0") 0 ∷
-        client_of (codes "c1") 1 ∷
-        client_of (codes "c2") 2 ∷
-        client_of (codes "c3") 2 ∷
-        client_of (codes "c4") 0 ∷
-        client_of (codes "c5") 1 ∷
+        declared_client (codes "c0") 0 ∷
+        declared_client (codes "c1") 1 ∷
+        declared_client (codes "c2") 2 ∷
+        declared_client (codes "c3") 2 ∷
+        declared_client (codes "c4") 0 ∷
+        declared_client (codes "c5") 1 ∷
         [];
     commands =
         (3, Lock 0 Upgrade) ∷
@@ -45,36 +45,36 @@ asks_by_hoped_links = record {
   };
   run =
       act 1 2 3 (Wait 3 0 Upgrade ∷ []) ∷
-      take 2 0 2 (Token 0 2 1 ∷ []) ∷
-      take 3 2 0 (Grant 3 0 Upgrade ∷ []) ∷
+      taken_at 2 0 2 (Token 0 2 1 ∷ []) ∷
+      taken_at 3 2 0 (Grant 3 0 Upgrade ∷ []) ∷
       act 1 1 1 (Wait 1 0 Write ∷ []) ∷
-      take 3 0 1 [] ∷
-      take 4 2 0 [] ∷
+      taken_at 3 0 1 [] ∷
+      taken_at 4 2 0 [] ∷
       act 5 2 3 (Unlocked 3 0 Upgrade ∷ Token 0 1 2 ∷ []) ∷
       act 6 2 3 (Dropped 3 3 0 0 ∷ []) ∷
       act 2 1 5 (Wait 5 0 IntentionRead ∷ []) ∷
       act 7 2 3 (Wait 3 0 Read ∷ []) ∷
       act 4 0 0 (Grant 0 1 Write ∷ []) ∷
-      take 6 1 2 (Grant 1 0 Write ∷ []) ∷
+      taken_at 6 1 2 (Grant 1 0 Write ∷ []) ∷
       act 7 1 1 (Unlocked 1 0 Write ∷ []) ∷
       act 5 0 0 (Changed 0 1 Write IntentionWrite ∷ []) ∷
       act 6 0 0 (Changed 0 1 IntentionWrite Upgrade ∷ []) ∷
       act 8 1 1 (Wait 1 1 Read ∷ []) ∷
       act 7 0 0 (Unlocked 0 1 Upgrade ∷ []) ∷
       act 8 0 0 (Wait 0 0 Upgrade ∷ []) ∷
-      take 9 1 2 (Token 0 2 3 ∷ []) ∷
+      taken_at 9 1 2 (Token 0 2 3 ∷ []) ∷
       act 8 2 2 (Wait 2 0 Write ∷ []) ∷
-      take 10 1 2 [] ∷
-      take 9 0 1 [] ∷
-      take 10 2 1 (Grant 3 0 Read ∷ []) ∷
-      take 11 2 1 [] ∷
-      take 11 1 0 [] ∷
-      take 12 2 1 [] ∷
+      taken_at 10 1 2 [] ∷
+      taken_at 9 0 1 [] ∷
+      taken_at 10 2 1 (Grant 3 0 Read ∷ []) ∷
+      taken_at 11 2 1 [] ∷
+      taken_at 11 1 0 [] ∷
+      taken_at 12 2 1 [] ∷
       act 13 2 3 (Unlocked 3 0 Read ∷ Grant 2 0 Write ∷ []) ∷
-      take 12 1 0 [] ∷
-      take 10 0 1 (Token 1 1 1 ∷ []) ∷
-      take 14 2 1 [] ∷
-      take 13 1 0 (Grant 1 1 Read ∷ []) ∷
+      taken_at 12 1 0 [] ∷
+      taken_at 10 0 1 (Token 1 1 1 ∷ []) ∷
+      taken_at 14 2 1 [] ∷
+      taken_at 13 1 0 (Grant 1 1 Read ∷ []) ∷
       [];
   held = holds 1 1 Read 1 ∷ holds 2 0 Write 1 ∷ [];
   waiting = holding 0 0 Upgrade ∷ holding 5 0 IntentionRead ∷ [];
@@ -82,7 +82,7 @@ asks_by_hoped_links = record {
 }
 
 -- The world after 21 of its moves.
-abbrev pub asks_by_hoped_links_after_21 : Moment
+abbrev pub asks_by_hoped_links_after_21 : Snapshot
 asks_by_hoped_links_after_21 = record {
   row = asks_by_hoped_links;
   moves = 21;
@@ -102,7 +102,7 @@ asks_by_hoped_links_after_21 = record {
               parked = [];
               desk = None;
             } ∷
-            record untouched {
+            record untouched_set {
               desk = Some (record {
                 epoch = 0;
                 number = 0;
@@ -155,7 +155,7 @@ asks_by_hoped_links_after_21 = record {
               parked = [];
               desk = None;
             } ∷
-            untouched ∷
+            untouched_set ∷
             [];
       } ∷
       [];

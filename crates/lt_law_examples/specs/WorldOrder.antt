@@ -7,8 +7,8 @@ use Rattle.lt_modes.specs.declared.moves.Step.TheVariants.{Act, Take}
 use Rattle.lt_modes.specs.Modes.{no_modes, all_modes, modes_in}
 use Rattle.lt_modes.specs.State.{TellBody, CopyBody}
 use Rattle.lt_spec.specs.Holdings.{holding}
-use Rattle.lt_law_examples.specs.Worked.{Worked, set_of, client_of, act, take, holds, owner}
-use Rattle.lt_law_examples.specs.Moment.{Moment, blank, untouched, stamp, held_row, owed, entry, new_ask, turn}
+use Rattle.lt_law_examples.specs.Worked.{Worked, declared_set, declared_client, act, taken_at, holds, owner}
+use Rattle.lt_law_examples.specs.Moment.{Snapshot, blank, untouched_set, stamp, held_row, owed, entry, new_ask, turn}
 
 -- A drop goes through its sets in order.
 abbrev pub drop_in_order : Worked
@@ -16,12 +16,12 @@ drop_in_order = record {
   script = record {
     version = 1;
     nodes = 3;
-    sets = set_of (codes "s0") 0 ∷ set_of (codes "s1") 0 ∷ [];
+    sets = declared_set (codes "s0") 0 ∷ declared_set (codes "s1") 0 ∷ [];
     clients =
-        client_of (codes "c0") 2 ∷
-        client_of (codes "c1") 2 ∷
-        client_of (codes "c2") 0 ∷
-        client_of (codes "c3") 1 ∷
+        declared_client (codes "c0") 2 ∷
+        declared_client (codes "c1") 2 ∷
+        declared_client (codes "c2") 0 ∷
+        declared_client (codes "c3") 1 ∷
         [];
     commands =
         (2, Lock 0 Upgrade) ∷
@@ -66,38 +66,38 @@ drop_in_order = record {
       act 3 0 2 (Unlocked 2 0 Write ∷ []) ∷
       act 3 1 3 (Wait 3 0 Upgrade ∷ []) ∷
       act 1 2 1 (Wait 1 0 Write ∷ []) ∷
-      take 4 0 1 [] ∷
-      take 5 0 2 [] ∷
+      taken_at 4 0 1 [] ∷
+      taken_at 5 0 2 [] ∷
       act 6 0 2 (Changed 2 0 Upgrade Upgrade ∷ []) ∷
       act 7 0 2 (Grant 2 1 Upgrade ∷ []) ∷
       act 8 0 2 (Grant 2 1 Write ∷ []) ∷
       act 2 2 0 (Wait 0 1 Read ∷ []) ∷
       act 9 0 2 (Grant 2 0 Upgrade ∷ []) ∷
       act 10 0 2 (Unlocked 2 1 Write ∷ []) ∷
-      take 11 0 2 (Copy 1 2 0 Read ∷ []) ∷
+      taken_at 11 0 2 (Copy 1 2 0 Read ∷ []) ∷
       act 12 0 2 (Dropped 2 2 1 3 ∷ Token 0 1 1 ∷ []) ∷
-      take 13 1 0 (Grant 3 0 Upgrade ∷ []) ∷
+      taken_at 13 1 0 (Grant 3 0 Upgrade ∷ []) ∷
       act 14 1 3 (Wait 3 1 IntentionRead ∷ []) ∷
       act 13 0 2 (Dropped 2 2 1 0 ∷ []) ∷
-      take 12 2 0 (Grant 0 1 Read ∷ []) ∷
+      taken_at 12 2 0 (Grant 0 1 Read ∷ []) ∷
       act 13 2 0 (Busy 0 1 1 ∷ []) ∷
-      take 15 0 1 (Copy 1 1 3 IntentionRead ∷ []) ∷
+      taken_at 15 0 1 (Copy 1 1 3 IntentionRead ∷ []) ∷
       act 14 2 0 (Unlocked 0 1 Read ∷ []) ∷
-      take 16 1 0 (Grant 3 1 IntentionRead ∷ []) ∷
+      taken_at 16 1 0 (Grant 3 1 IntentionRead ∷ []) ∷
       act 17 1 3 (Tried 3 0 Upgrade true ∷ []) ∷
-      take 16 0 2 [] ∷
+      taken_at 16 0 2 [] ∷
       act 15 2 0 (Dropped 0 0 0 0 ∷ []) ∷
       act 18 1 3 (Wait 3 1 Read ∷ []) ∷
-      take 19 0 1 (Freeze 1 1 1 (modes_in (IntentionWrite ∷ ReadIntentionWrite ∷ Write ∷ [])) ∷ Token 1 1 1 ∷ []) ∷
+      taken_at 19 0 1 (Freeze 1 1 1 (modes_in (IntentionWrite ∷ ReadIntentionWrite ∷ Write ∷ [])) ∷ Token 1 1 1 ∷ []) ∷
       act 20 0 2 (Wait 2 0 Upgrade ∷ []) ∷
-      take 20 1 0 [] ∷
+      taken_at 20 1 0 [] ∷
       act 16 2 0 (Wait 0 1 Write ∷ []) ∷
-      take 21 1 0 (Changed 3 1 IntentionRead Read ∷ []) ∷
-      take 21 0 2 [] ∷
+      taken_at 21 1 0 (Changed 3 1 IntentionRead Read ∷ []) ∷
+      taken_at 21 0 2 [] ∷
       act 22 1 3 (Grant 3 1 Upgrade ∷ []) ∷
       act 23 1 3 (Unlocked 3 0 Upgrade ∷ []) ∷
-      take 24 1 0 [] ∷
-      take 25 1 0 [] ∷
+      taken_at 24 1 0 [] ∷
+      taken_at 25 1 0 [] ∷
       act 26 1 3 (Grant 3 0 Write ∷ []) ∷
       act 27 1 3 (Tried 3 1 Upgrade true ∷ []) ∷
       act 28 1 3 (Unlocked 3 0 Write ∷ []) ∷
@@ -105,8 +105,8 @@ drop_in_order = record {
       act 30 1 3 (Unlocked 3 1 Upgrade ∷ []) ∷
       act 31 1 3 (Dropped 3 3 1 2 ∷ Token 0 2 2 ∷ Token 1 2 2 ∷ []) ∷
       act 32 1 3 (Dropped 3 3 1 0 ∷ []) ∷
-      take 32 2 1 (Grant 1 0 Write ∷ []) ∷
-      take 33 2 1 (Grant 0 1 Write ∷ []) ∷
+      taken_at 32 2 1 (Grant 1 0 Write ∷ []) ∷
+      taken_at 33 2 1 (Grant 0 1 Write ∷ []) ∷
       [];
   held = holds 0 1 Write 1 ∷ holds 1 0 Write 1 ∷ [];
   waiting = holding 2 0 Upgrade ∷ [];
@@ -114,7 +114,7 @@ drop_in_order = record {
 }
 
 -- The world after 24 of its moves.
-abbrev pub drop_in_order_after_24 : Moment
+abbrev pub drop_in_order_after_24 : Snapshot
 drop_in_order_after_24 = record {
   row = drop_in_order;
   moves = 24;
@@ -134,7 +134,7 @@ drop_in_order_after_24 = record {
               parked = [];
               desk = None;
             } ∷
-            record untouched {
+            record untouched_set {
               desk = Some (record {
                 epoch = 0;
                 number = 0;
@@ -200,7 +200,7 @@ drop_in_order_after_24 = record {
               parked = [];
               desk = None;
             } ∷
-            untouched ∷
+            untouched_set ∷
             [];
       } ∷
       [];

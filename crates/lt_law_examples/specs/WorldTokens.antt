@@ -7,8 +7,8 @@ use Rattle.lt_modes.specs.declared.moves.Step.TheVariants.{Act, Take}
 use Rattle.lt_modes.specs.Modes.{no_modes, modes_in}
 use Rattle.lt_modes.specs.State.{AskBody, TellBody, TokenBody}
 use Rattle.lt_spec.specs.Holdings.{holding}
-use Rattle.lt_law_examples.specs.Worked.{Worked, set_of, client_of, act, take, holds, owner}
-use Rattle.lt_law_examples.specs.Moment.{Moment, blank, untouched, stamp, entry, new_ask, turn}
+use Rattle.lt_law_examples.specs.Worked.{Worked, declared_set, declared_client, act, taken_at, holds, owner}
+use Rattle.lt_law_examples.specs.Moment.{Snapshot, blank, untouched_set, stamp, entry, new_ask, turn}
 
 -- Two tokens and a tell go from one node to another, and asks are behind them.
 abbrev pub tokens_on_way : Worked
@@ -16,13 +16,13 @@ tokens_on_way = record {
   script = record {
     version = 1;
     nodes = 4;
-    sets = set_of (codes "s0") 0 ∷ set_of (codes "s1") 1 ∷ set_of (codes "s2") 1 ∷ [];
+    sets = declared_set (codes "s0") 0 ∷ declared_set (codes "s1") 1 ∷ declared_set (codes "s2") 1 ∷ [];
     clients =
-        client_of (codes "c0") 1 ∷
-        client_of (codes "c1") 2 ∷
-        client_of (codes "c2") 0 ∷
-        client_of (codes "c3") 2 ∷
-        client_of (codes "c4") 1 ∷
+        declared_client (codes "c0") 1 ∷
+        declared_client (codes "c1") 2 ∷
+        declared_client (codes "c2") 0 ∷
+        declared_client (codes "c3") 2 ∷
+        declared_client (codes "c4") 1 ∷
         [];
     commands =
         (0, Try 0 Upgrade) ∷
@@ -51,30 +51,30 @@ tokens_on_way = record {
       act 3 1 0 (Wait 0 2 Upgrade ∷ []) ∷
       act 1 2 3 (Dropped 3 3 0 0 ∷ []) ∷
       act 1 0 2 (Grant 2 2 Read ∷ []) ∷
-      take 3 0 1 (Token 1 1 1 ∷ []) ∷
+      taken_at 3 0 1 (Token 1 1 1 ∷ []) ∷
       act 2 2 1 (Wait 1 1 Upgrade ∷ []) ∷
-      take 4 0 1 (Token 2 1 1 ∷ []) ∷
+      taken_at 4 0 1 (Token 2 1 1 ∷ []) ∷
       act 5 0 2 (NotHeld 2 1 IntentionWrite ∷ []) ∷
       act 3 2 3 (Wait 3 2 IntentionWrite ∷ []) ∷
       act 6 0 2 (Unlocked 2 2 Read ∷ []) ∷
       act 7 0 2 (Dropped 2 2 0 0 ∷ []) ∷
-      take 4 1 0 (Grant 4 1 Upgrade ∷ []) ∷
+      taken_at 4 1 0 (Grant 4 1 Upgrade ∷ []) ∷
       act 5 1 4 (NotHeld 4 1 Read ∷ []) ∷
-      take 8 0 2 [] ∷
+      taken_at 8 0 2 [] ∷
       act 6 1 4 (Dropped 4 4 1 1 ∷ []) ∷
       act 7 1 4 (Dropped 4 4 1 0 ∷ []) ∷
       act 8 1 4 (Tried 4 1 Upgrade true ∷ []) ∷
       act 9 0 2 (NotHeld 2 2 Read ∷ []) ∷
-      take 10 0 2 [] ∷
-      take 9 1 0 (Grant 0 2 Upgrade ∷ Freeze 2 0 1 no_modes ∷ []) ∷
-      take 11 0 1 [] ∷
+      taken_at 10 0 2 [] ∷
+      taken_at 9 1 0 (Grant 0 2 Upgrade ∷ Freeze 2 0 1 no_modes ∷ []) ∷
+      taken_at 11 0 1 [] ∷
       act 10 1 4 (Grant 4 1 Upgrade ∷ []) ∷
       act 11 1 4 (Changed 4 1 Upgrade Upgrade ∷ []) ∷
-      take 12 1 0 [] ∷
+      taken_at 12 1 0 [] ∷
       act 13 1 0 (Unlocked 0 2 Upgrade ∷ []) ∷
-      take 14 1 0 [] ∷
-      take 15 1 0 (Token 2 2 2 ∷ []) ∷
-      take 16 2 1 (Grant 3 2 IntentionWrite ∷ []) ∷
+      taken_at 14 1 0 [] ∷
+      taken_at 15 1 0 (Token 2 2 2 ∷ []) ∷
+      taken_at 16 2 1 (Grant 3 2 IntentionWrite ∷ []) ∷
       [];
   held = holds 3 2 IntentionWrite 1 ∷ holds 4 1 Upgrade 2 ∷ [];
   waiting = holding 1 1 Upgrade ∷ [];
@@ -82,7 +82,7 @@ tokens_on_way = record {
 }
 
 -- The world after 11 of its moves.
-abbrev pub tokens_on_way_after_11 : Moment
+abbrev pub tokens_on_way_after_11 : Snapshot
 tokens_on_way_after_11 = record {
   row = tokens_on_way;
   moves = 11;
@@ -91,7 +91,7 @@ tokens_on_way_after_11 = record {
         clock = 6;
         made = 0 ∷ 0 ∷ 3 ∷ 0 ∷ 0 ∷ [];
         sets =
-            record untouched {
+            record untouched_set {
               desk = Some (record {
                 epoch = 0;
                 number = 0;
@@ -127,7 +127,7 @@ tokens_on_way_after_11 = record {
         clock = 3;
         made = 2 ∷ 0 ∷ 0 ∷ 0 ∷ 1 ∷ [];
         sets =
-            untouched ∷
+            untouched_set ∷
             record {
               held = [];
               charge = no_modes;
@@ -156,7 +156,7 @@ tokens_on_way_after_11 = record {
         clock = 3;
         made = 0 ∷ 1 ∷ 0 ∷ 2 ∷ 0 ∷ [];
         sets =
-            untouched ∷
+            untouched_set ∷
             record {
               held = [];
               charge = no_modes;
@@ -185,9 +185,9 @@ tokens_on_way_after_11 = record {
         clock = 0;
         made = 0 ∷ 0 ∷ 0 ∷ 0 ∷ 0 ∷ [];
         sets =
-            untouched ∷
-            untouched ∷
-            untouched ∷
+            untouched_set ∷
+            untouched_set ∷
+            untouched_set ∷
             [];
       } ∷
       [];

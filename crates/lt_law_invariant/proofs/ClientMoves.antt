@@ -17,9 +17,9 @@ use Rattle.lt_modes.specs.Telling.{finish}
 use Rattle.lt_modes.specs.SetMove.{locked, tried, unlocked, changed, dropped, lock, try, unlock, change, drop}
 use Rattle.lt_lists.specs.Below.{put}
 use Rattle.lt_spec.specs.Families.{related}
-use Rattle.lt_model.specs.Homes.{IsWhole, HasTargets}
+use Rattle.lt_model.specs.Homes.{IsWhole, HasTargetsAt}
 use Rattle.lt_spec.specs.NodeMove.{NodeState, node_waits, act_stamp, at_clock, one_made, touched, drop_all, obey}
-use Rattle.lt_model.specs.SoundNode.{asks_of, new_asks_of, locks_in_all, ClientsKept}
+use Rattle.lt_model.specs.SoundNode.{unanswered_asks, new_asks_of, locks_in_all, ClientsKept}
 use Rattle.lt_spec.specs.World.{World}
 use Rattle.lt_model.specs.Standing.{AsksStand}
 use Rattle.lt_lists.proofs.Members.{list_any-at}
@@ -50,7 +50,7 @@ bonus_at touched bonus s c = if s == touched then bonus c else 0
 -- the node after its move
 pub node_after : (script : ScriptData) (n later : NodeState) (touched : ℕ) (bonus : ℕ → ℕ) → SoundClients script n
     → ((s : ℕ) → s < length script.sets → Clients (bonus_at touched bonus s) (n.set s) (later.set s))
-    → ((c : ℕ) → n.made c + bonus c ≤ later.made c) → ((c : ℕ) → (bonus c ≡ 0) ⊎ ((bonus c ≤ 1) × (asks_of script n c ≡ 0))) → SoundClients script later
+    → ((c : ℕ) → n.made c + bonus c ≤ later.made c) → ((c : ℕ) → (bonus c ≡ 0) ⊎ ((bonus c ≤ 1) × (unanswered_asks script n c ≡ 0))) → SoundClients script later
 node_after script n later touched bonus h each made free = record {
   kept = record {
     one_ask = λ c. elim (free c) [
@@ -66,7 +66,7 @@ node_after script n later touched bonus h each made free = record {
     sets : ℕ
     sets = length script.sets
 
-    asks : (c : ℕ) → asks_of script later c ≤ asks_of script n c + bonus c
+    asks : (c : ℕ) → unanswered_asks script later c ≤ unanswered_asks script n c + bonus c
     asks c = omega (
       arith,
       sum_below-most sets (λ s. count_by (is_asks c) (later.set s).pending) (λ s. count_by (is_asks c) (n.set s).pending + bonus_at touched bonus s c)
@@ -118,7 +118,7 @@ idle_of_set s client first t posts more others h = h
 -- a command of a client that waits for nothing
 pub act_clients : (script : ScriptData) (w : World) (q client : ℕ) (command : Command) → IsWhole script
     → ((s : ℕ) → s < length script.sets → AsksStand script w s) → q < script.nodes → SoundClients script (w.node q)
-    → node_waits script (w.node q) client ≡ false → HasTargets script client command
+    → node_waits script (w.node q) client ≡ false → HasTargetsAt script client command
     → (touched : ℕ) × ((s : ℕ) → s < length script.sets → Clients (bonus_at touched (one_for client) s) ((w.node q).set s)
     ((obey script (act_stamp q (w.node q)) client (Some command) (one_made client (at_clock ((w.node q).clock + 1) (w.node q)))).node.set s))
 act_clients script w q client command whole stood below h waits_not targets = by_command command targets
@@ -181,7 +181,7 @@ act_clients script w q client command whole stood below h waits_not targets = by
     begun : (s : ℕ) → s < length script.sets → both (before_move s) (idle client (n.set s)) (n.set s) []
     begun s under = (standing s under, (first s under, idle_in script n client waits_not s under))
 
-    by_command : (command : Command) → HasTargets script client command
+    by_command : (command : Command) → HasTargetsAt script client command
         → (touched : ℕ) × ((s : ℕ) → s < length script.sets → Clients (bonus_at touched (one_for client) s) (n.set s)
         ((obey script stamp client (Some command) begins).node.set s))
     by_command (Lock set mode) t = (

@@ -25,9 +25,9 @@ use Rattle.lt_lists.specs.Below.{put}
 use Rattle.lt_spec.specs.Families.{home, related}
 use Rattle.lt_model.specs.Standing.{AsksStand}
 use Rattle.lt_model.specs.Homes.{IsWhole}
-use Rattle.lt_model.specs.Invariant.{Kept}
+use Rattle.lt_model.specs.Invariant.{WorldInvariant}
 use Rattle.lt_spec.specs.NodeMove.{NodeState, node_waits, next_command, act_stamp, take_stamp, at_clock, one_made, node_take, touched, each_touched, drop_all, obey}
-use Rattle.lt_model.specs.SoundNode.{asks_of, numbers_of}
+use Rattle.lt_model.specs.SoundNode.{unanswered_asks, numbers_of}
 use Rattle.lt_spec.specs.World.{World, is_enabled, is_waiting, is_some_letter, put_mail, take_front, node_move}
 use Rattle.lt_spec.specs.Facts.{state_at}
 use Rattle.lt_lists.proofs.Sums.{sum_below-none}
@@ -82,7 +82,7 @@ each_made rule [] n c = refl
 each_made rule (s ∷ rest) n c = each_made rule rest (touched n s (rule s (n.set s))).node c
 
 -- what clients hold and wait for in a world that is kept
-pub sound_clients : (script : ScriptData) (w : World) (x : ℕ) → Kept script w → x < script.nodes → SoundClients script (w.node x)
+pub sound_clients : (script : ScriptData) (w : World) (x : ℕ) → WorldInvariant script w → x < script.nodes → SoundClients script (w.node x)
 sound_clients script w x h below = record {
   kept = h.clients x below;
   gives =
@@ -98,7 +98,7 @@ sound_clients script w x h below = record {
     given rows (Some mode) client held = omega (arith, held, count_within rows client mode)
 
 -- the mover's clients after its move
-pub clients_kept : (script : ScriptData) (w : World) → IsWhole script → Kept script w → (q : ℕ) (step : Step) → IsTrue (is_enabled script w q step)
+pub clients_kept : (script : ScriptData) (w : World) → IsWhole script → WorldInvariant script w → (q : ℕ) (step : Step) → IsTrue (is_enabled script w q step)
     → SoundClients script (node_move script w q step).node
 clients_kept script w whole h q (Act client) enabled = by_command (next_command script n client) refl
   where
@@ -122,7 +122,7 @@ clients_kept script w whole h q (Act client) enabled = by_command (next_command 
         let third = and_parts (not (is_waiting script w client)) _ second.1 in
         ap (λ (x : ℕ). node_waits script (w.node x) client) (sym own.own) ∙ not_true (is_waiting script w client) third.0
 
-    no_asks_at : asks_of script n client ≡ 0
+    no_asks_at : unanswered_asks script n client ≡ 0
     no_asks_at =
         sum_below-none (length script.sets) (λ s. count_by (λ (ask : Ask). ask.client == client) (n.set s).pending)
         (λ s under. idle_in script n client waits_not s under)
@@ -137,11 +137,11 @@ clients_kept script w whole h q (Act client) enabled = by_command (next_command 
           omega (arith, none, put-other n.made client (n.made client + 1) c d)
     ]
 
-    free : (c : ℕ) → (one_for client c ≡ 0) ⊎ ((one_for client c ≤ 1) × (asks_of script n c ≡ 0))
+    free : (c : ℕ) → (one_for client c ≡ 0) ⊎ ((one_for client c ≤ 1) × (unanswered_asks script n c ≡ 0))
     free c = elim (cases_eq client c) [
       | inl e ↦
           let one : ◌≡◌ {A = ℕ} (if client == c then 1 else 0) 1 = ap (λ (b : Bool). if b then 1 else 0) (eq-eqb client c e) in
-          inr (omega (arith, one), subst (λ (x : ℕ). asks_of script n x ≡ 0) e no_asks_at)
+          inr (omega (arith, one), subst (λ (x : ℕ). unanswered_asks script n x ≡ 0) e no_asks_at)
       | inr d ↦ inl (ap (λ (b : Bool). if b then 1 else 0) (ne_eqb client c d))
     ]
 

@@ -18,7 +18,7 @@ use Rattle.lt_model.specs.Moments.{Between}
 use Rattle.lt_model.specs.OnWay.{OnWay}
 use Rattle.lt_model.specs.Paths.{LetterOnPath, BodyOnPath}
 use Rattle.lt_model.specs.SoundNode.{numbers_of}
-use Rattle.lt_model.specs.Invariant.{BodyKept, LetterKept, SetKept, Kept}
+use Rattle.lt_model.specs.Invariant.{BodyKept, LetterKept, SetKept, WorldInvariant}
 use Rattle.lt_law_accounts.proofs.Asks.{times_in-some, same_ask-itself}
 use Rattle.lt_model.proofs.HomesSound.{sound_ask}
 use Rattle.lt_model.proofs.Letters.{mail_weight-at}
@@ -35,7 +35,7 @@ use Rattle.lt_law_invariant.proofs.KeptHomes.{kept_homes}
 use Rattle.lt_law_invariant.proofs.KeptParked.{not_both}
 
 -- the asks of a set of a world that is kept
-pub kept_asks : (script : ScriptData) (w : World) (s : ℕ) → Kept script w → s < length script.sets → OwnAsks script w s
+pub kept_asks : (script : ScriptData) (w : World) (s : ℕ) → WorldInvariant script w → s < length script.sets → OwnAsks script w s
 kept_asks script w s h under = record {
   stood = kept_stands script w s (h.sets s under);
   own = λ x below. ((kept_homes script w h).states x s below under).pending;

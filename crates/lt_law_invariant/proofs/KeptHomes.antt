@@ -24,7 +24,7 @@ use Rattle.lt_spec.specs.Facts.{state_at, times_parked, places_in_state, places_
 use Rattle.lt_model.specs.SoundNode.{numbers_of}
 use Rattle.lt_model.specs.Moments.{Between}
 use Rattle.lt_model.specs.OnWay.{OnWay}
-use Rattle.lt_model.specs.Invariant.{BodyKept, SetKept, Kept}
+use Rattle.lt_model.specs.Invariant.{BodyKept, SetKept, WorldInvariant}
 use Rattle.lt_law_accounts.proofs.Asks.{times_in-some, same_ask-itself}
 use Rattle.lt_model.proofs.HomesSound.{home_among}
 use Rattle.lt_model.proofs.HomesMove.{IsMoveAtHome, drop_count, act_home, letter_home, maker}
@@ -121,7 +121,7 @@ letter_at_home script w p q letter h in_sets hp hq among = record { set = in_set
     by_body (TokenBody desk) says = all_of (IsAskAtHome script) desk.queue (λ ask there. alone (TokenBody desk) says ask (times_in-some ask desk.queue there))
     by_body (FreezeBody number modes) says = tt
 
-pub kept_homes : (script : ScriptData) (w : World) → Kept script w → HomesWithin script w
+pub kept_homes : (script : ScriptData) (w : World) → WorldInvariant script w → HomesWithin script w
 kept_homes script w h = record {
   states = λ x s below under. state_at_home script w s x (h.sets s under) below;
   letters = λ p q letter hp hq among.

@@ -4,7 +4,7 @@ use Rattle.lt_modes.specs.Script.{ScriptData}
 use Rattle.lt_spec.specs.Log.{Logged}
 use Rattle.lt_spec.specs.World.{World, start, after, after_run, world_after, IsRunFrom}
 use Rattle.lt_model.specs.Homes.{IsWhole}
-use Rattle.lt_model.specs.Invariant.{Kept}
+use Rattle.lt_model.specs.Invariant.{WorldInvariant}
 use Rattle.lt_model.proofs.ClocksGrow.{clocks_in_runs}
 use Rattle.lt_model.proofs.StartKept.{start_kept}
 use Rattle.lt_law_rest.proofs.FirstWaiter.{first_waiter_conflicts}
@@ -15,8 +15,8 @@ use Rattle.lt_law_ledgers.proofs.EachMove.{locks_agree}
 use Rattle.lt_law_invariant.proofs.KeptMoves.{kept_stays}
 use Rattle.lt_law_invariant.proofs.FittingLetters.{letters_fit}
 
-run_kept : (script : ScriptData) (run : List Logged) (w : World) → IsWhole script → Kept script w → IsRunFrom script w run → (k : ℕ)
-    → Kept script (after_run script w (take k run))
+run_kept : (script : ScriptData) (run : List Logged) (w : World) → IsWhole script → WorldInvariant script w → IsRunFrom script w run → (k : ℕ)
+    → WorldInvariant script (after_run script w (take k run))
 run_kept script run w whole h is_run zero = h
 run_kept script [] w whole h is_run (suc k) = h
 run_kept script (entry ∷ rest) w whole h is_run (suc k) =

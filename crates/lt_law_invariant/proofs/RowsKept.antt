@@ -25,7 +25,7 @@ use Rattle.lt_spec.specs.NodeMove.{NodeState, node_waits, next_command, act_stam
 use Rattle.lt_spec.specs.World.{World, is_enabled, take_front, node_move, after}
 use Rattle.lt_spec.specs.Facts.{state_at}
 use Rattle.lt_model.specs.Homes.{IsWhole}
-use Rattle.lt_model.specs.Invariant.{Kept}
+use Rattle.lt_model.specs.Invariant.{WorldInvariant}
 use Rattle.lt_model.proofs.PathsMove.{has_mail_parts}
 use Rattle.lt_law_invariant.proofs.ScriptSets.{clipped, act_alike, take_alike}
 use Rattle.std.proofs.lemmas.List.Elements.{All-contains}
@@ -168,7 +168,7 @@ move_single script w q (Take p) whole in_sets h enabled s below =
         (single_take (take_stamp q n letter) letter (n.set letter.set) (clipped_single script (w.node q) h letter.set)) s)
 
 -- rows of one client and mode stay one row
-pub rows_stay_apart : (script : ScriptData) (w : World) (q : ℕ) (step : Step) → IsWhole script → Kept script w → IsTrue (is_enabled script w q step)
+pub rows_stay_apart : (script : ScriptData) (w : World) (q : ℕ) (step : Step) → IsWhole script → WorldInvariant script w → IsTrue (is_enabled script w q step)
     → (x s : ℕ) → x < script.nodes → s < length script.sets
     → AllPairs (λ (a b : Row). (a.client ≢ b.client) ⊎ (a.mode ≢ b.mode)) (state_at (after script w q step) s x).held
 rows_stay_apart script w q step whole h enabled x s below under =

@@ -13,7 +13,7 @@ use Rattle.lt_modes.specs.Serving.{waits}
 use Rattle.lt_modes.specs.Telling.{finish}
 use Rattle.lt_modes.specs.SetMove.{lock, try, unlock, change, drop, take}
 use Rattle.lt_spec.specs.Families.{related}
-use Rattle.lt_model.specs.Homes.{IsWhole, HasTargets}
+use Rattle.lt_model.specs.Homes.{IsWhole, HasTargetsAt}
 use Rattle.lt_spec.specs.NodeMove.{NodeState, NodeMade, node_waits, next_command, act_stamp, take_stamp, at_clock, one_made, touched, each_touched, drop_all, obey, node_act, node_take}
 use Rattle.lt_lists.proofs.Searches.{any_below_same}
 use Rattle.lt_model.proofs.HomesMove.{related_below, next_targets}
@@ -54,7 +54,7 @@ each_alike script rule (set ∷ rest) in_sets n m alike =
     let later = each_alike script rule rest in_sets.1 (touched n set (rule set (n.set set))).node (touched m set (rule set (m.set set))).node first.node in
     record { node = later.node; posts = λ i. first.posts i ++ later.posts i }
 
-obey_alike : (script : ScriptData) (stamp : Stamp) (client : ℕ) (command : Command) (n m : NodeState) → HasTargets script client command → AreAlike script n m
+obey_alike : (script : ScriptData) (stamp : Stamp) (client : ℕ) (command : Command) (n m : NodeState) → HasTargetsAt script client command → AreAlike script n m
     → MadeAlike script (obey script stamp client (Some command) n) (obey script stamp client (Some command) m)
 obey_alike script stamp client (Lock s mode) n m targets alike = touched_alike script n m s (λ k t. lock k stamp client mode t) targets alike
 obey_alike script stamp client (Try s mode) n m targets alike = touched_alike script n m s (λ k t. try k stamp client mode t) targets alike

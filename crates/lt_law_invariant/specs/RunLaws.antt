@@ -13,13 +13,13 @@ use Rattle.lt_spec.specs.Facts.{state_at, IsFirstWaiter, IsLedToQueue}
 use Rattle.lt_model.specs.Homes.{IsWhole}
 use Rattle.lt_model.specs.OnWay.{DeskIs}
 use Rattle.lt_model.specs.SoundNode.{numbers_of}
-use Rattle.lt_model.specs.Invariant.{Kept}
+use Rattle.lt_model.specs.Invariant.{WorldInvariant}
 use Rattle.lt_law_rest.specs.RestLaws.{IsBarred}
 
 -- the world has the invariant
 abbrev pub KeptInRuns : Type 0
 KeptInRuns = (script : ScriptData) (run : List Logged) → IsWhole script → IsRun script run → (k : ℕ)
-    → Kept script (world_after script (take k run))
+    → WorldInvariant script (world_after script (take k run))
 
 -- no two locks of different clients conflict, be they of one node or of two
 abbrev pub LocksNeverConflict : Type 0

@@ -28,7 +28,7 @@ use Rattle.lt_model.proofs.NodeEffects.{once_or_aside}
 use Rattle.lt_model.proofs.BeginsMove.{desk_same, ledger_goes}
 use Rattle.lt_model.proofs.KeptSets.{kept_stands}
 use Rattle.lt_law_accounts.proofs.AccountPlay.{any_order}
-use Rattle.lt_law_ledgers.specs.LedgerLaws.{LedgersKept, MovesKeepLedgers, LocksAgree}
+use Rattle.lt_law_ledgers.specs.LedgerLaws.{LedgersKept, MovesKeepLedgers, AllLocksAgree}
 use Rattle.lt_law_ledgers.proofs.Seen.{all_kept}
 use Rattle.lt_law_ledgers.proofs.Ledgers.{Ended}
 use Rattle.lt_law_ledgers.proofs.OneDesk.{one_desk}
@@ -88,7 +88,7 @@ moves_keep_ledgers script w s q (Take p) whole h enabled =
     ]
 
 -- where a set is kept its locks agree
-pub locks_agree : LocksAgree
+pub locks_agree : AllLocksAgree
 locks_agree script w s h x y a b hx hy here there differ =
     let found = desk_somewhere script w s h.paths in
     let kept = h.known found.0 found.1 found.2 in

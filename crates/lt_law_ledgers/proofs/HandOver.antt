@@ -16,7 +16,7 @@ use Rattle.lt_law_accounts.specs.Account.{Account}
 use Rattle.lt_law_accounts.specs.AccountSteps.{settling}
 use Rattle.lt_law_accounts.specs.AccountPlay.{Settle}
 use Rattle.lt_law_accounts.specs.News.{News, NewsKept}
-use Rattle.lt_law_accounts.specs.NewsSteps.{leaving as leaving_news}
+use Rattle.lt_law_accounts.specs.NewsSteps.{news_leaving as leaving_news}
 use Rattle.lt_law_accounts.proofs.AllKept.{one_changes}
 use Rattle.lt_model.proofs.AccountRules.{handing_over_settles}
 use Rattle.lt_model.proofs.NewsRules.{desks_come_and_go}

@@ -6,7 +6,7 @@ use Rattle.std.proofs.lemmas.List.Elements.{All-from_recursion}
 use Rattle.lt_modes.specs.declared.ask.Ask.{Ask}
 use Rattle.lt_modes.specs.declared.moves.Step.{Step}
 use Rattle.lt_modes.specs.declared.moves.Step.TheVariants.{Act, Take}
-use Rattle.lt_modes.specs.Modes.{is_taking}
+use Rattle.lt_modes.specs.Modes.{excludes_itself}
 use Rattle.lt_modes.specs.Script.{ScriptData}
 use Rattle.lt_modes.specs.State.{SetState, Desk, CopyBody, Letter}
 use Rattle.lt_modes.specs.Queue.{without}
@@ -42,7 +42,7 @@ other_state script w s q (Take p) x d = ap (λ (k : NodeState). k.set s) (put-ot
 
 -- no copy is for a taking mode
 copy_not_taking : (script : ScriptData) (w : World) (s q : ℕ) (ask : Ask) → Paths script w s → LedgersKept script w s → q < script.nodes
-    → IsCopyTo script w s q ask → is_taking ask.mode ≡ false
+    → IsCopyTo script w s q ask → excludes_itself ask.mode ≡ false
 copy_not_taking script w s q ask paths known below comes =
     let found = desk_somewhere script w s paths in
     let copy = (copies_are_on_way script w s q ask).1 comes in
@@ -101,7 +101,7 @@ moves_hold_up script w s q (Take p) whole h held enabled =
 
     stays : (letter : Letter) → OnWay w s p q letter → p < script.nodes → q < script.nodes → (ask : Ask) → letter.body ≡ CopyBody ask
         → (older : Ask) → Contains (n.set s).pending older
-        → IsTrue (is_taking older.mode) → Contains (without (n.set s).pending ask.stamp) older
+        → IsTrue (excludes_itself older.mode) → Contains (without (n.set s).pending ask.stamp) older
     stays letter on from below ask says older c taking =
         let comes : IsCopyTo script w s q ask = (p, letter, from, on, says) in
         let not_taking = copy_not_taking script w s q ask h.paths h.known below comes in
@@ -110,8 +110,8 @@ moves_hold_up script w s q (Take p) whole h held enabled =
         without_kept (n.set s).pending ask.stamp older c (λ e. different ask older not_taking taking
         (same_by_stamp (n.set s).pending older ask ((h.known found.0 found.1 found.2).accounts q below).clocks.apart c waits e))
       where
-        different : (a b : Ask) → is_taking a.mode ≡ false → is_taking b.mode ≡ true → b ≡ a → ⊥
-        different a b gentle takes same = false≢true (sym gentle ∙ ap (λ (k : Ask). is_taking k.mode) (sym same) ∙ takes)
+        different : (a b : Ask) → excludes_itself a.mode ≡ false → excludes_itself b.mode ≡ true → b ≡ a → ⊥
+        different a b gentle takes same = false≢true (sym gentle ∙ ap (λ (k : Ask). excludes_itself k.mode) (sym same) ∙ takes)
 
     taken : (letter : Letter) (rest : List Letter) → w.mail p q ≡ letter ∷ rest → letter.set ≡ s → p < script.nodes → q < script.nodes
         → HeldUp q ((node_take q letter n).node.set s)

@@ -6,13 +6,13 @@ use Rattle.std.proofs.lemmas.List.Elements.{All-nil, All-push, All-weaker, Conta
 use Rattle.lt_modes.specs.declared.stamp.Stamp.{Stamp}
 use Rattle.lt_modes.specs.declared.ask.Ask.{Ask}
 use Rattle.lt_modes.specs.declared.parts.Hoped.{Hoped}
-use Rattle.lt_modes.specs.Modes.{is_taking}
+use Rattle.lt_modes.specs.Modes.{excludes_itself}
 use Rattle.lt_modes.specs.State.{SetState, Desk, Body, AskBody, TellBody, CopyBody, TokenBody, FreezeBody, Letter, Parked, ParkedAsk, ParkedTell}
 use Rattle.lt_modes.specs.Made.{Made}
 use Rattle.lt_modes.specs.Held.{held_modes}
 use Rattle.lt_modes.specs.Queue.{without}
 use Rattle.lt_modes.specs.Tells.{is_newer}
-use Rattle.lt_modes.specs.Serving.{ask_at, next_service, next_at, next_move, move_at, serve_one, serve_local, serve_copy}
+use Rattle.lt_modes.specs.Serving.{ask_at, next_service, next_at, next_draw, move_at, serve_one, serve_local, serve_copy}
 use Rattle.lt_modes.specs.Freezing.{freeze, freeze_at}
 use Rattle.lt_modes.specs.HandingOver.{hand_over_to}
 use Rattle.lt_modes.specs.Routing.{Way, Parks, Goes, is_behind, ask_way, hoped_way, way, way_onward, reversed, sent_on, route, learn}
@@ -80,8 +80,8 @@ parks_held x marked item t e = by_own (t.firm.node == x) refl e
                 → IsHeldUp x t (ParkedAsk ask)
             by_behind false b h = cc
             by_behind true b h =
-                let older = list_any-which (λ (own : Ask). is_taking own.mode && is_newer ask.stamp own.stamp) t.pending b in
-                let tests = and_parts (is_taking older.0.mode) (is_newer ask.stamp older.0.stamp) older.2 in
+                let older = list_any-which (λ (own : Ask). excludes_itself own.mode && is_newer ask.stamp own.stamp) t.pending b in
+                let tests = and_parts (excludes_itself older.0.mode) (is_newer ask.stamp older.0.stamp) older.2 in
                 inr (older.0, older.1, tests.0, tests.1)
 
     named : (i : Parked) → t.firm.node ≡ x → IsHeldUp x t i
@@ -104,7 +104,7 @@ route_held set stamp marked item t h = route_ways (λ (m : Made). HeldUp stamp.n
 
     by_item : (i : Parked) → SameHolds t (reversed stamp.node i t)
     by_item (ParkedTell tell) = record { desk = refl; parked = refl; firm = refl; pending = λ ask c. c }
-    by_item (ParkedAsk ask) = turned (is_taking ask.mode && not (ask.node == stamp.node)) (Some (record { node = ask.node; stamp = ask.stamp }))
+    by_item (ParkedAsk ask) = turned (excludes_itself ask.mode && not (ask.node == stamp.node)) (Some (record { node = ask.node; stamp = ask.stamp }))
 
     no_desk : {A : Type 0} (o : Option Desk) → o ≡ None → IsTrue (is_some o) → A
     no_desk None e here = cc
@@ -130,7 +130,7 @@ some_service me k t e = by_desk t.desk e
     by_desk None f = cc
     by_desk (Some desk) f = refl
 
-some_move : (me k : ℕ) (t : SetState) → next_move me t ≡ Some k → IsTrue (is_some t.desk)
+some_move : (me k : ℕ) (t : SetState) → next_draw me t ≡ Some k → IsTrue (is_some t.desk)
 some_move me k t e = by_desk t.desk e
   where
     by_desk : (o : Option Desk) → move_at me t o ≡ Some k → IsTrue (is_some o)
@@ -183,7 +183,7 @@ held_moves s stamp = acts_by_effects s stamp (held_up stamp.node) (held_up stamp
 -- a letter arrives; the link isn't newer where the firm link names this node, and the ask of a copy isn't taking
 pub arrive_held : (stamp : Stamp) (letter : Letter) (t : SetState)
     → (t.firm.node ≡ stamp.node → IsTrue (is_some t.desk) ⊎ (nat_lt t.firm.epoch letter.link.epoch ≡ false))
-    → ((ask : Ask) → letter.body ≡ CopyBody ask → (older : Ask) → Contains t.pending older → IsTrue (is_taking older.mode) → Contains (without t.pending ask.stamp) older)
+    → ((ask : Ask) → letter.body ≡ CopyBody ask → (older : Ask) → Contains t.pending older → IsTrue (excludes_itself older.mode) → Contains (without t.pending ask.stamp) older)
     → HeldUp stamp.node t → HeldUp stamp.node (arrive stamp letter t).state
 arrive_held stamp letter t settled stays h = by_body letter.body refl
   where

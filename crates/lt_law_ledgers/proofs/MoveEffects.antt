@@ -7,14 +7,14 @@ use Rattle.lt_modes.specs.declared.mode.Mode.{Mode}
 use Rattle.lt_modes.specs.declared.stamp.Stamp.{Stamp}
 use Rattle.lt_modes.specs.declared.ask.Ask.{Ask}
 use Rattle.lt_modes.specs.declared.parts.Hoped.{Hoped}
-use Rattle.lt_modes.specs.Modes.{Modes, bars, same_modes, is_taking, with_mode}
+use Rattle.lt_modes.specs.Modes.{Modes, bars, same_modes, excludes_itself, with_mode}
 use Rattle.lt_modes.specs.Script.{ScriptData}
 use Rattle.lt_modes.specs.State.{SetState, Desk, Parked, ParkedAsk, ParkedTell}
 use Rattle.lt_modes.specs.Made.{Made, Post, silent}
 use Rattle.lt_modes.specs.Held.{held_modes, take_lock}
 use Rattle.lt_modes.specs.Queue.{no_ask}
 use Rattle.lt_modes.specs.Granting.{can_grant}
-use Rattle.lt_modes.specs.Serving.{ask_at, queue_of, queue_of_desk, next_service, next_move, move_from, move_at, may_draw, serve_one, serve_local, serve_copy}
+use Rattle.lt_modes.specs.Serving.{ask_at, queue_of, queue_of_desk, next_service, next_draw, draw_from, move_at, may_draw, serve_one, serve_local, serve_copy}
 use Rattle.lt_modes.specs.Freezing.{freeze}
 use Rattle.lt_modes.specs.HandingOver.{hand_over_to}
 use Rattle.lt_modes.specs.Routing.{Way, Parks, Goes, reversed, sent_on, route}
@@ -36,18 +36,18 @@ use Rattle.lt_law_ledgers.proofs.MidMove.{made_of, world_of, leads, at_now, Scen
 
 -- the place of the ask that draws the desk is one of the queue
 move_within : (me : ℕ) (s : SetState) (desk : Desk) (before : Modes) (place : ℕ) (queue : List Ask) (k : ℕ)
-    → move_from me s desk before place queue ≡ Some k → k < place + length queue
+    → draw_from me s desk before place queue ≡ Some k → k < place + length queue
 move_within me s desk before place [] k e = cc
 move_within me s desk before place (ask ∷ rest) k e =
     by_test (λ f. move_within me s desk (with_mode before ask.mode) (place + 1) rest k f) (may_draw me s desk before place ask) e
   where
-    by_test : (move_from me s desk (with_mode before ask.mode) (place + 1) rest ≡ Some k → k < place + 1 + length rest)
-        → (here : Bool) → (if here then Some place else move_from me s desk (with_mode before ask.mode) (place + 1) rest) ≡ Some k
+    by_test : (draw_from me s desk (with_mode before ask.mode) (place + 1) rest ≡ Some k → k < place + 1 + length rest)
+        → (here : Bool) → (if here then Some place else draw_from me s desk (with_mode before ask.mode) (place + 1) rest) ≡ Some k
         → k < place + length (ask ∷ rest)
     by_test again true f = let same : place ≡ k = cc in omega (arith, same)
     by_test again false f = omega (arith, again f)
 
-next_move-within : (me : ℕ) (s : SetState) (k : ℕ) → next_move me s ≡ Some k → k < length (queue_of s)
+next_move-within : (me : ℕ) (s : SetState) (k : ℕ) → next_draw me s ≡ Some k → k < length (queue_of s)
 next_move-within me s k e = by_desk s.desk e
   where
     by_desk : (desk : Option Desk) → move_at me s desk ≡ Some k → k < length (queue_of_desk desk)
@@ -64,7 +64,7 @@ route_firm set stamp marked item t = route_ways (λ (m : Made). m.state.firm ≡
 
     by_item : (i : Parked) → (reversed stamp.node i t).firm ≡ t.firm
     by_item (ParkedTell tell) = refl
-    by_item (ParkedAsk ask) = turned (is_taking ask.mode && not (ask.node == stamp.node)) (Some (record { node = ask.node; stamp = ask.stamp }))
+    by_item (ParkedAsk ask) = turned (excludes_itself ask.mode && not (ask.node == stamp.node)) (Some (record { node = ask.node; stamp = ask.stamp }))
 
     by_way : (w : Way) → (sent_on set stamp item t w).state.firm ≡ t.firm
     by_way Parks = refl

@@ -9,7 +9,7 @@ use Rattle.lt_modes.specs.declared.mode.Mode.{Mode}
 use Rattle.lt_modes.specs.declared.stamp.Stamp.{Stamp}
 use Rattle.lt_modes.specs.declared.ask.Ask.{Ask}
 use Rattle.lt_modes.specs.declared.parts.Hoped.{Hoped}
-use Rattle.lt_modes.specs.Modes.{Modes, is_taking, has, bars}
+use Rattle.lt_modes.specs.Modes.{Modes, excludes_itself, has, bars}
 use Rattle.lt_modes.specs.Script.{ScriptData}
 use Rattle.lt_modes.specs.State.{SetState, Desk, Parked, ParkedAsk, ParkedTell}
 use Rattle.lt_modes.specs.Made.{Made, silent}
@@ -137,7 +137,7 @@ ask_quiet set stamp marked ask t = route_ways (QuietMade t) set stamp marked (Pa
     }
     by_way (Goes to mark) = record {
       posts = ((λ x. refl, refl, refl), tt);
-      parked = λ x. turned x (is_taking ask.mode && not (ask.node == stamp.node)) (Some (record { node = ask.node; stamp = ask.stamp }));
+      parked = λ x. turned x (excludes_itself ask.mode && not (ask.node == stamp.node)) (Some (record { node = ask.node; stamp = ask.stamp }));
     }
 
 -- and changes nothing that they keep
@@ -153,7 +153,7 @@ route_same set stamp marked item t = route_ways (λ (m : Made). SameFrozen t m.s
 
     by_item : (i : Parked) → SameFrozen t (reversed stamp.node i t) × SameOwn t (reversed stamp.node i t)
     by_item (ParkedTell tell) = (record { number = refl; frozen = refl }, record { held = refl; charge = refl; pending = refl })
-    by_item (ParkedAsk ask) = turned (is_taking ask.mode && not (ask.node == stamp.node)) (Some (record { node = ask.node; stamp = ask.stamp }))
+    by_item (ParkedAsk ask) = turned (excludes_itself ask.mode && not (ask.node == stamp.node)) (Some (record { node = ask.node; stamp = ask.stamp }))
 
     by_way : (w : Way) → SameFrozen t (sent_on set stamp item t w).state × SameOwn t (sent_on set stamp item t w).state
     by_way Parks = (record { number = refl; frozen = refl }, record { held = refl; charge = refl; pending = refl })

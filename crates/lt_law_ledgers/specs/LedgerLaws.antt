@@ -32,8 +32,8 @@ MovesKeepLedgers = (script : ScriptData) (w : World) (s q : ℕ) (step : Step) �
     → IsTrue (is_enabled script w q step) → LedgersKept script (after script w q step) s
 
 -- in any world in which the set is kept, no two locks of different clients on it conflict, be they of one node or of two
-abbrev pub LocksAgree : Type 0
-LocksAgree = (script : ScriptData) (w : World) (s : ℕ) → SetKept script Between w s
+abbrev pub AllLocksAgree : Type 0
+AllLocksAgree = (script : ScriptData) (w : World) (s : ℕ) → SetKept script Between w s
     → (x y : ℕ) (a b : Row) → x < script.nodes → y < script.nodes
     → Contains (state_at w s x).held a → Contains (state_at w s y).held b
     → (x ≢ y) ⊎ (a.client ≢ b.client) → IsFalse (conflicts a.mode b.mode)

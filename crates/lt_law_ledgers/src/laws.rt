@@ -1,4 +1,4 @@
-ghost use Rattle.lt_law_ledgers.specs.LedgerLaws.{CopyServiceKeeps, HandOverKeeps, LocksAgree, MovesHoldUp, MovesKeepLedgers};
+ghost use Rattle.lt_law_ledgers.specs.LedgerLaws.{CopyServiceKeeps, HandOverKeeps, AllLocksAgree, MovesHoldUp, MovesKeepLedgers};
 
 /// Each enabled move keeps the ledgers of a set: the accounts and the news of its nodes, wherever its desk is.
 pub fn law_ledgers()
@@ -14,7 +14,7 @@ pub fn law_ledger_effects()
 
 /// Where a set is kept no two clients hold locks that conflict, whatever nodes they are on.
 pub fn law_locks()
-    ensures { LocksAgree }
+    ensures { AllLocksAgree }
 {}
 
 /// What a node has parked stays held up as the node moves: the token is on its way there, or an older taking ask of the

@@ -18,8 +18,8 @@ use Rattle.lt_spec.specs.Families.{home}
 use Rattle.lt_spec.specs.Log.{Logged}
 use Rattle.lt_spec.specs.NodeMove.{node_waits}
 use Rattle.lt_spec.specs.World.{world_after, IsRun}
-use Rattle.lt_model.specs.Homes.{IsWhole, HasTargets, Homes}
-use Rattle.lt_model.specs.Invariant.{Kept}
+use Rattle.lt_model.specs.Homes.{IsWhole, HasTargetsAt, Homes}
+use Rattle.lt_model.specs.Invariant.{WorldInvariant}
 use Rattle.lt_model.specs.SoundNode.{numbers_of}
 use Rattle.lt_model.proofs.HomesMove.{homes_in_runs}
 use Rattle.lt_law_invariant.proofs.KeptRuns.{kept_in_runs}
@@ -30,7 +30,7 @@ use Rattle.lt_law_limits.proofs.FewLocks.{few_locks}
 use Rattle.lt_law_limits.proofs.FewAsks.{few_here, few_pending}
 
 targets : (script : ScriptData) (client : ℕ) (request : Command) → of_script.HasTargets script.sets script.clients client request
-    → HasTargets script client request
+    → HasTargetsAt script client request
 targets script client (command.Lock set mode) h = h
 targets script client (command.Try set mode) h = h
 targets script client (command.Unlock set mode) h = h
@@ -42,7 +42,7 @@ pub whole : (script : ScriptData) → IsScript script → IsWhole script
 whole script is_script = record {
   some_node = is_script.some_node;
   homes = is_script.homes;
-  commands = All-weaker (IsRequest script.sets script.clients) (λ (request : ℕ × Command). HasTargets script request.0 request.1)
+  commands = All-weaker (IsRequest script.sets script.clients) (λ (request : ℕ × Command). HasTargetsAt script request.0 request.1)
       (λ request h. targets script request.0 request.1 h.1) script.commands is_script.requests;
 }
 
@@ -63,9 +63,9 @@ desk_is_within script clock t (Some desk) h =
     and_from _ _ (le-leb _ _ epoch) (le-leb _ _ number)
 
 -- the world after the whole run
-kept_after : (script : ScriptData) (run : List Logged) → IsScript script → IsRun script run → Kept script (world_after script run)
+kept_after : (script : ScriptData) (run : List Logged) → IsScript script → IsRun script run → WorldInvariant script (world_after script run)
 kept_after script run is_script is_run =
-    subst (λ (moves : List Logged). Kept script (world_after script moves)) (take_all (length run) run (omega arith))
+    subst (λ (moves : List Logged). WorldInvariant script (world_after script moves)) (take_all (length run) run (omega arith))
     (kept_in_runs script run (whole script is_script) is_run (length run))
 
 homes_after : (script : ScriptData) (run : List Logged) → IsScript script → IsRun script run → Homes script (world_after script run)

@@ -9,18 +9,18 @@ use Rattle.lt_spec.specs.Holdings.{lines_of}
 use Rattle.lt_spec.specs.Log.{Logged}
 use Rattle.lt_spec.specs.World.{World, start, is_enabled, node_move, after, after_run, world_after, IsRunFrom, IsRun}
 use Rattle.lt_model.specs.Homes.{IsWhole, Homes}
-use Rattle.lt_model.specs.Invariant.{Kept}
+use Rattle.lt_model.specs.Invariant.{WorldInvariant}
 use Rattle.lt_model.proofs.HomesMove.{homes_kept, homes_start}
 use Rattle.lt_model.proofs.StartKept.{start_kept}
 use Rattle.lt_law_invariant.proofs.KeptMoves.{kept_stays}
 
 -- a move keeps it, with its lines after those so far
 abbrev pub EachMoveKeeps : ScriptData → (List Event → World → Type 0) → Type 0
-EachMoveKeeps script P = (w : World) (lines : List Event) (q : ℕ) (step : Step) → Kept script w → Homes script w → IsTrue (is_enabled script w q step)
+EachMoveKeeps script P = (w : World) (lines : List Event) (q : ℕ) (step : Step) → WorldInvariant script w → Homes script w → IsTrue (is_enabled script w q step)
     → P lines w → P (lines ++ (node_move script w q step).events) (after script w q step)
 
 along : (script : ScriptData) (P : List Event → World → Type 0) → IsWhole script → EachMoveKeeps script P → (run : List Logged) (w : World) (lines : List Event)
-    → Kept script w → Homes script w → P lines w → IsRunFrom script w run → (k : ℕ) → P (lines ++ lines_of (take k run)) (after_run script w (take k run))
+    → WorldInvariant script w → Homes script w → P lines w → IsRunFrom script w run → (k : ℕ) → P (lines ++ lines_of (take k run)) (after_run script w (take k run))
 along script P whole keeps run w lines kept homes h is_run zero = subst (λ (l : List Event). P l w) (sym (append-nil lines)) h
 along script P whole keeps [] w lines kept homes h is_run (suc k) = subst (λ (l : List Event). P l w) (sym (append-nil lines)) h
 along script P whole keeps (entry ∷ rest) w lines kept homes h is_run (suc k) =

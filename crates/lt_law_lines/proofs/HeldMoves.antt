@@ -20,7 +20,7 @@ use Rattle.lt_modes.specs.SetMove.{lock, try, unlock, change, drop, dropped, tak
 use Rattle.lt_lists.specs.Below.{put}
 use Rattle.lt_spec.specs.Families.{home, family, is_related, related}
 use Rattle.lt_spec.specs.Holdings.{Holding, holding, is_dropped}
-use Rattle.lt_model.specs.Homes.{IsWhole, Homes, HasTargets, IsStateAtHome, IsRowAtHome, IsBodyAtHome}
+use Rattle.lt_model.specs.Homes.{IsWhole, Homes, HasTargetsAt, IsStateAtHome, IsRowAtHome, IsBodyAtHome}
 use Rattle.lt_spec.specs.NodeMove.{NodeState, NodeMade, no_move, node_waits, next_command, act_stamp, take_stamp, at_clock, one_made, node_act, node_take, touched, each_touched, drop_all, obey}
 use Rattle.lt_spec.specs.World.{World, is_enabled, is_some_letter, take_front, node_move}
 use Rattle.lt_lists.proofs.Puts.{put-same, put-other}
@@ -233,7 +233,7 @@ dropped_home script q other set t h = record {
 }
 
 obey_follows : (script : ScriptData) (stamp : Stamp) (client : ℕ) (command : Command) (n : NodeState) → client < length script.clients → home script client ≡ stamp.node → stamp.node < script.nodes
-    → HasTargets script client command → AtHome script stamp.node n → NodeFollows script stamp.node n (obey script stamp client (Some command) n)
+    → HasTargetsAt script client command → AtHome script stamp.node n → NodeFollows script stamp.node n (obey script stamp client (Some command) n)
 obey_follows script stamp client (Lock s mode) n known own in_nodes targets h =
     touched_follows script stamp.node s n (lock s stamp client mode (n.set s)) targets h ((command_rules s stamp client _ (line_acts script s stamp client targets known own in_nodes)).locks mode (n.set s))
 obey_follows script stamp client (Try s mode) n known own in_nodes targets h =

@@ -7,7 +7,7 @@ use Rattle.lt_modes.specs.declared.event.Event.{Event}
 use Rattle.lt_modes.specs.declared.moves.Step.{Step}
 use Rattle.lt_modes.specs.Script.{ScriptData}
 use Rattle.lt_spec.specs.Families.{home}
-use Rattle.lt_spec.specs.Holdings.{Holding, after_line, holdings, lines_of, count_of}
+use Rattle.lt_spec.specs.Holdings.{Holding, after_line, holdings, lines_of, times_held}
 use Rattle.lt_model.specs.Homes.{IsWhole, Homes}
 use Rattle.lt_spec.specs.Log.{Logged}
 use Rattle.lt_spec.specs.NodeMove.{NodeState, NodeMade}
@@ -20,8 +20,8 @@ use Rattle.lt_law_lines.proofs.LineCounts.{count_after, lines_count}
 
 -- the lines so far tell what is held
 pub record LinesHold (script : ScriptData) (lines : List Event) (w : World) : Type 0 where
-  pub own : (k : Holding) → k.set < length script.sets → count_of (holdings script lines) k ≡ held_at (w.node (home script k.client)) k
-  pub beyond : (k : Holding) → length script.sets ≤ k.set → count_of (holdings script lines) k ≡ 0
+  pub own : (k : Holding) → k.set < length script.sets → times_held (holdings script lines) k ≡ held_at (w.node (home script k.client)) k
+  pub beyond : (k : Holding) → length script.sets ≤ k.set → times_held (holdings script lines) k ≡ 0
 
 lines_after : (script : ScriptData) (w : World) (lines : List Event) (q : ℕ) (step : Step) → IsWhole script → Homes script w → IsTrue (is_enabled script w q step) → LinesHold script lines w
     → LinesHold script (lines ++ (node_move script w q step).events) (after script w q step)
@@ -36,8 +36,8 @@ lines_after script w lines q step whole homes enabled h = record {
     follow : NodeFollows script q (w.node q) made
     follow = step_follows script w q step whole homes enabled
 
-    more : (k : Holding) → count_of (holdings script (lines ++ made.events)) k ≡ fold (count_after script k) (count_of (holdings script lines) k) made.events
-    more k = ap (λ (l : List Holding). count_of l k) (fold-append (after_line script) [] lines made.events) ∙ lines_count script k (holdings script lines) made.events
+    more : (k : Holding) → times_held (holdings script (lines ++ made.events)) k ≡ fold (count_after script k) (times_held (holdings script lines) k) made.events
+    more k = ap (λ (l : List Holding). times_held l k) (fold-append (after_line script) [] lines made.events) ∙ lines_count script k (holdings script lines) made.events
 
     by_home : (k : Holding) → k.set < length script.sets → (home script k.client ≡ q) ⊎ (home script k.client ≢ q)
         → fold (count_after script k) (held_at (w.node (home script k.client)) k) made.events ≡ held_at ((after script w q step).node (home script k.client)) k

@@ -10,7 +10,7 @@ use Rattle.lt_modes.specs.Modes.{conflicts, same_mode}
 use Rattle.lt_modes.specs.Held.{is_row_of, no_row, row_place, count_at, count_of as count_in}
 use Rattle.lt_modes.specs.SetMove.{lock}
 use Rattle.lt_spec.specs.Families.{home}
-use Rattle.lt_spec.specs.Holdings.{Holding, holding, same_holding, holdings, lines_of, agree, count_of}
+use Rattle.lt_spec.specs.Holdings.{Holding, holding, same_holding, holdings, lines_of, agree, times_held}
 use Rattle.lt_model.specs.Homes.{Homes, IsRowAtHome}
 use Rattle.lt_spec.specs.World.{World, world_after}
 use Rattle.lt_law_accounts.proofs.Asks.{same_mode-true}
@@ -40,7 +40,7 @@ row_of (row ∷ rest) client mode h = by_test (is_row_of client mode row) refl (
         let found = again (omega (arith, h, none, sum_by-cons (row_count client mode) row rest)) in
         (found.0, (suc found.1.0, omega (arith, found.1.1), found.1.2), found.2, found.3)
 
-counts_itself : (held : List Holding) (i : ℕ) (d : Holding) → i < length held → 1 ≤ count_of held (slice_index_or held i d)
+counts_itself : (held : List Holding) (i : ℕ) (d : Holding) → i < length held → 1 ≤ times_held held (slice_index_or held i d)
 counts_itself held i d within =
     let lock = slice_index_or held i d in
     let part = get_or-le-sum_by (λ (x : Holding). if same_holding lock x then 1 else 0) held i d within in
@@ -62,7 +62,7 @@ holdings_are_lawful script run whole is_run k i j d before within = agreed (slic
     homes : Homes script w
     homes = homes_in_runs script run whole is_run k
 
-    agreed : (a b : Holding) → 1 ≤ count_of held a → 1 ≤ count_of held b → agree a b ≡ true
+    agreed : (a b : Holding) → 1 ≤ times_held held a → 1 ≤ times_held held b → agree a b ≡ true
     agreed a b ha hb = by_sets (a.set == b.set) refl
       where
         clear : (a.set == b.set) ≡ true → (a.client == b.client) ≡ false → conflicts a.mode b.mode ≡ false
@@ -137,7 +137,7 @@ lines_tell_held script run whole is_run k client s mode known below =
 
 pub lines_kept_in_runs : LinesKeptInRuns
 lines_kept_in_runs script run whole is_run k = record {
-  named = λ lock there. named lock (subst (λ (x : Holding). 1 ≤ count_of held x) there.2 (counts_itself held there.0 lock there.1));
+  named = λ lock there. named lock (subst (λ (x : Holding). 1 ≤ times_held held x) there.2 (counts_itself held there.0 lock there.1));
   held = λ client s mode known below. lines_tell_held script run whole is_run k client s mode known below;
   waits = λ client s mode known below. (
     λ e. ((told client known).says (holding client s mode) e).2,
@@ -157,7 +157,7 @@ lines_kept_in_runs script run whole is_run k = record {
     told : WaitsTold script (lines_of (take k run)) w
     told = waits_in_runs script run whole is_run k
 
-    named : (lock : Holding) → 1 ≤ count_of held lock → (lock.client < length script.clients) × (lock.set < length script.sets)
+    named : (lock : Holding) → 1 ≤ times_held held lock → (lock.client < length script.clients) × (lock.set < length script.sets)
     named lock some = elim (cases_lt lock.set (length script.sets)) [
       | inr above ↦ absurd (omega (arith, some, hold.beyond lock above))
       | inl below ↦

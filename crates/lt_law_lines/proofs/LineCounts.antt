@@ -8,7 +8,7 @@ use Rattle.lt_modes.specs.declared.event.Event.{Event}
 use Rattle.lt_modes.specs.declared.event.Event.TheVariants.{Grant, Wait, Try, Unlock, NotHeld, Change, DropAll, Busy, Copy, Freeze, Token}
 use Rattle.lt_modes.specs.Script.{ScriptData}
 use Rattle.lt_modes.proofs.ModeAlgebra.{has-itself}
-use Rattle.lt_spec.specs.Holdings.{Holding, holding, same_holding, without_at, without_one, is_dropped, after_line, count_of}
+use Rattle.lt_spec.specs.Holdings.{Holding, holding, same_holding, without_holding, without_one, is_dropped, after_line, times_held}
 use Rattle.lt_lists.proofs.Sums.{none_found, sum_by-zero}
 use Rattle.lt_law_accounts.proofs.Asks.{same_mode-true}
 
@@ -39,28 +39,28 @@ same_holding-true a b e =
 pub same_holding-itself : (a : Holding) → same_holding a a ≡ true
 same_holding-itself a = and_from _ _ (eq-eqb a.client a.client refl) (and_from _ _ (eq-eqb a.set a.set refl) (has-itself a.mode))
 
-added_one : (k lock : Holding) (held : List Holding) → count_of (held ++ lock ∷ []) k ≡ (if same_holding k lock then count_of held k + 1 else count_of held k)
+added_one : (k lock : Holding) (held : List Holding) → times_held (held ++ lock ∷ []) k ≡ (if same_holding k lock then times_held held k + 1 else times_held held k)
 added_one k lock held = sum_by_push (λ (x : Holding). if same_holding k x then 1 else 0) held lock ∙ by_test (same_holding k lock)
   where
-    by_test : (same : Bool) → count_of held k + (if same then 1 else 0) ≡ (if same then count_of held k + 1 else count_of held k)
+    by_test : (same : Bool) → times_held held k + (if same then 1 else 0) ≡ (if same then times_held held k + 1 else times_held held k)
     by_test true = refl
     by_test false = omega arith
 
-taken_one : (k lock : Holding) (held : List Holding) → count_of (without_one held lock) k ≡ (if same_holding k lock then count_of held k - 1 else count_of held k)
+taken_one : (k lock : Holding) (held : List Holding) → times_held (without_one held lock) k ≡ (if same_holding k lock then times_held held k - 1 else times_held held k)
 taken_one k lock held = by_place (position (same_holding lock) held) refl
   where
     f : Holding → ℕ
     f x = if same_holding k x then 1 else 0
 
     by_test : (same : Bool) → same_holding k lock ≡ same → ((i : ℕ) (d : Holding) → i < length held → same_holding lock (slice_index_or held i d) ≡ false)
-        → count_of held k ≡ (if same then count_of held k - 1 else count_of held k)
+        → times_held held k ≡ (if same then times_held held k - 1 else times_held held k)
     by_test false e none = refl
     by_test true e none =
         let nothing = sum_by-zero f held (λ i d within. ap (λ (x : Holding). if same_holding x (slice_index_or held i d) then 1 else 0) (same_holding-true k lock e)
         ∙ ap (λ (b : Bool). if b then 1 else 0) (none i d within)) in
         omega (arith, nothing)
 
-    by_place : (o : Option ℕ) → position (same_holding lock) held ≡ o → count_of (without_at held o) k ≡ (if same_holding k lock then count_of held k - 1 else count_of held k)
+    by_place : (o : Option ℕ) → position (same_holding lock) held ≡ o → times_held (without_holding held o) k ≡ (if same_holding k lock then times_held held k - 1 else times_held held k)
     by_place None e = by_test (same_holding k lock) refl (none_found (same_holding lock) held e)
     by_place (Some i) e =
         let found = position-Some (same_holding lock) held i lock e in
@@ -68,12 +68,12 @@ taken_one k lock held = by_place (position (same_holding lock) held) refl
         let gone = sum_by-remove f held i lock found.0 in
         by_same (same_holding k lock) refl (omega (arith, gone, ap f (sym is)))
       where
-        by_same : (same : Bool) → same_holding k lock ≡ same → count_of (remove held i) k + f lock ≡ count_of held k → count_of (remove held i) k ≡ (if same then count_of held k - 1 else count_of held k)
+        by_same : (same : Bool) → same_holding k lock ≡ same → times_held (remove held i) k + f lock ≡ times_held held k → times_held (remove held i) k ≡ (if same then times_held held k - 1 else times_held held k)
         by_same true g h = let one : f lock ≡ 1 = ap (λ (b : Bool). if b then 1 else 0) g in omega (arith, h, one)
         by_same false g h = let none : f lock ≡ 0 = ap (λ (b : Bool). if b then 1 else 0) g in omega (arith, h, none)
 
 dropped_all : (script : ScriptData) (k : Holding) (other set : ℕ) (held : List Holding)
-    → count_of (filter (λ lock. not (is_dropped script other set lock)) held) k ≡ (if is_dropped script other set k then 0 else count_of held k)
+    → times_held (filter (λ lock. not (is_dropped script other set lock)) held) k ≡ (if is_dropped script other set k then 0 else times_held held k)
 dropped_all script k other set [] = by_test (is_dropped script other set k)
   where
     by_test : (drop : Bool) → ◌≡◌ {A = ℕ} 0 (if drop then 0 else 0)
@@ -88,7 +88,7 @@ dropped_all script k other set (x ∷ rest) = by_tests (same_holding k x) (is_dr
     kept = filter (λ lock. not (is_dropped script other set lock)) rest
 
     by_tests : (same gone own : Bool) → same_holding k x ≡ same → is_dropped script other set x ≡ gone → is_dropped script other set k ≡ own
-        → count_of kept k ≡ (if own then 0 else count_of rest k)
+        → times_held kept k ≡ (if own then 0 else times_held rest k)
         → sum_by f (if not gone then x ∷ kept else kept) ≡ (if own then 0 else sum_by f (x ∷ rest))
     by_tests same true true s g o again = again
     by_tests true true false s g o again = absurd (false≢true (sym o ∙ ap (is_dropped script other set) (same_holding-true k x s) ∙ g))
@@ -100,12 +100,12 @@ dropped_all script k other set (x ∷ rest) = by_tests (same_holding k x) (is_dr
     by_tests same false false s g o again = omega (arith, again, sum_by-cons f x kept, sum_by-cons f x rest)
 
 -- a line counts as it says
-pub line_counts : (script : ScriptData) (k : Holding) (held : List Holding) (line : Event) → count_of (after_line script held line) k ≡ count_after script k (count_of held k) line
+pub line_counts : (script : ScriptData) (k : Holding) (held : List Holding) (line : Event) → times_held (after_line script held line) k ≡ count_after script k (times_held held k) line
 line_counts script k held (Grant client set mode) = added_one k (holding client set mode) held
 line_counts script k held (Try client set mode got) = by_got got
   where
-    by_got : (got : Bool) → count_of (if got then held ++ holding client set mode ∷ [] else held) k
-        ≡ (if got then (if same_holding k (holding client set mode) then count_of held k + 1 else count_of held k) else count_of held k)
+    by_got : (got : Bool) → times_held (if got then held ++ holding client set mode ∷ [] else held) k
+        ≡ (if got then (if same_holding k (holding client set mode) then times_held held k + 1 else times_held held k) else times_held held k)
     by_got true = added_one k (holding client set mode) held
     by_got false = refl
 line_counts script k held (Unlock client set mode) = taken_one k (holding client set mode) held
@@ -120,6 +120,6 @@ line_counts script k held (Copy set to client mode) = refl
 line_counts script k held (Freeze set to number modes) = refl
 line_counts script k held (Token set to epoch) = refl
 
-pub lines_count : (script : ScriptData) (k : Holding) (held : List Holding) (lines : List Event) → count_of (fold (after_line script) held lines) k ≡ fold (count_after script k) (count_of held k) lines
+pub lines_count : (script : ScriptData) (k : Holding) (held : List Holding) (lines : List Event) → times_held (fold (after_line script) held lines) k ≡ fold (count_after script k) (times_held held k) lines
 lines_count script k held [] = refl
 lines_count script k held (line ∷ rest) = lines_count script k (after_line script held line) rest ∙ ap (λ (n : ℕ). fold (count_after script k) n rest) (line_counts script k held line)

@@ -11,7 +11,7 @@ use Rattle.lt_modes.specs.declared.parts.Row.{Row}
 use Rattle.lt_modes.specs.declared.parts.Hoped.{Hoped}
 use Rattle.lt_modes.specs.declared.event.Event.{Event}
 use Rattle.lt_modes.specs.declared.event.Event.TheVariants.{Grant, Change, Freeze}
-use Rattle.lt_modes.specs.Modes.{Modes, same_mode, is_taking}
+use Rattle.lt_modes.specs.Modes.{Modes, same_mode, excludes_itself}
 use Rattle.lt_modes.specs.Script.{ScriptData}
 use Rattle.lt_modes.specs.State.{SetState, Desk, Body, AskBody, TellBody, CopyBody, TokenBody, FreezeBody, Letter, Parked, ParkedAsk, ParkedTell}
 use Rattle.lt_modes.specs.Held.{no_row, add_lock, take_lock, held_modes}
@@ -128,7 +128,7 @@ route_says set stamp marked item t = route_ways (λ (m : Made). (m.events ≡ []
 
     by_item : (i : Parked) → (reversed stamp.node i t).held ≡ t.held
     by_item (ParkedTell tell) = refl
-    by_item (ParkedAsk ask) = turned (is_taking ask.mode && not (ask.node == stamp.node)) (Some (record { node = ask.node; stamp = ask.stamp }))
+    by_item (ParkedAsk ask) = turned (excludes_itself ask.mode && not (ask.node == stamp.node)) (Some (record { node = ask.node; stamp = ask.stamp }))
 
     by_way : (w : Way) → ((sent_on set stamp item t w).events ≡ []) × ((sent_on set stamp item t w).state.held ≡ t.held)
     by_way Parks = (refl, refl)

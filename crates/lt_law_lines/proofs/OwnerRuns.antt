@@ -22,7 +22,7 @@ use Rattle.lt_spec.specs.Holdings.{owner_of, owner_after}
 use Rattle.lt_spec.specs.NodeMove.{NodeState, NodeMade, node_waits, next_command, act_stamp, take_stamp, at_clock, one_made, touched, each_touched, drop_all, obey}
 use Rattle.lt_spec.specs.World.{World, is_enabled, take_front, node_move, letter_for, token_to, after}
 use Rattle.lt_model.specs.Homes.{IsWhole, Homes}
-use Rattle.lt_model.specs.Invariant.{Kept}
+use Rattle.lt_model.specs.Invariant.{WorldInvariant}
 use Rattle.lt_model.specs.OnWay.{OnWay}
 use Rattle.lt_model.specs.Paths.{BodyOnPath}
 use Rattle.lt_lists.proofs.Members.{filter_map-at}
@@ -98,7 +98,7 @@ went_after script w q (Take p) s = refl
 abbrev pub OwnersTold : ScriptData → List Event → World → Type 0
 OwnersTold script lines w = (s : ℕ) → s < length script.sets → IsLastMove (w.went s) (owner_of s lines)
 
-owners_after : (script : ScriptData) (w : World) (lines : List Event) (q : ℕ) (step : Step) → IsWhole script → Kept script w → Homes script w → IsTrue (is_enabled script w q step)
+owners_after : (script : ScriptData) (w : World) (lines : List Event) (q : ℕ) (step : Step) → IsWhole script → WorldInvariant script w → Homes script w → IsTrue (is_enabled script w q step)
     → OwnersTold script lines w → OwnersTold script (lines ++ (node_move script w q step).events) (after script w q step)
 owners_after script w lines q step whole kept homes enabled h s below =
     subst (IsLastMove ((after script w q step).went s)) (sym (fold-append (owner_after s) (record { node = 0; epoch = 0 }) lines (node_move script w q step).events))

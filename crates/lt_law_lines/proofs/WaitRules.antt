@@ -15,7 +15,7 @@ use Rattle.lt_modes.specs.State.{SetState, Desk, ParkedTell}
 use Rattle.lt_modes.specs.Held.{held_modes}
 use Rattle.lt_modes.specs.Made.{Made, Post, silent, then_do}
 use Rattle.lt_modes.specs.Queue.{no_ask, without}
-use Rattle.lt_modes.specs.Serving.{ask_at, queue_of, next_service, next_move, serve, serve_up_to, serve_step, serve_one, serve_local, serve_copy, answer_by, answer_event}
+use Rattle.lt_modes.specs.Serving.{ask_at, queue_of, next_service, next_draw, serve, serve_up_to, serve_step, serve_one, serve_local, serve_copy, answer_by, answer_event}
 use Rattle.lt_modes.specs.Freezing.{freeze, freeze_at, frozen_by, targets}
 use Rattle.lt_modes.specs.HandingOver.{hand_over, hand_over_for, hand_over_to}
 use Rattle.lt_modes.specs.Telling.{tell_of, make_tell, finish, finish_by}
@@ -203,4 +203,4 @@ finish_answers s stamp elsewhere unanswered bonus first only t posts h = by_desk
         let told = then_do m (freeze s stamp) in
         then_answers t told (hand_over s stamp)
         (then_answers t m (freeze s stamp) (serves (length (queue_of t)) t posts h) (freezes m.state))
-        (leaves told.state (next_move stamp.node told.state))
+        (leaves told.state (next_draw stamp.node told.state))

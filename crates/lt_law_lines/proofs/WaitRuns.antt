@@ -14,7 +14,7 @@ use Rattle.lt_spec.specs.NodeMove.{NodeState}
 use Rattle.lt_spec.specs.World.{World, start, is_enabled, node_move, after, world_after, IsRun}
 use Rattle.lt_spec.specs.Facts.{state_at}
 use Rattle.lt_model.specs.Homes.{IsWhole, Homes, IsAskOf}
-use Rattle.lt_model.specs.Invariant.{Kept}
+use Rattle.lt_model.specs.Invariant.{WorldInvariant}
 use Rattle.lt_lists.proofs.Puts.{put-same, put-other}
 use Rattle.lt_model.proofs.NodeMoves.{after_node}
 use Rattle.lt_law_lines.proofs.AlongRuns.{along_runs}
@@ -31,7 +31,7 @@ foreign_free script w q c homes away s below ask there own =
     let at_home = All-contains (IsAskOf script q) (state_at w s q).pending ask (homes.states q s).pending there in
     away (ap (home script) (sym own) ∙ at_home.0.home ∙ at_home.1)
 
-waits_after : (script : ScriptData) (w : World) (lines : List Event) (q : ℕ) (step : Step) → IsWhole script → Kept script w → Homes script w → IsTrue (is_enabled script w q step)
+waits_after : (script : ScriptData) (w : World) (lines : List Event) (q : ℕ) (step : Step) → IsWhole script → WorldInvariant script w → Homes script w → IsTrue (is_enabled script w q step)
     → WaitsTold script lines w → WaitsTold script (lines ++ (node_move script w q step).events) (after script w q step)
 waits_after script w lines q step whole kept homes enabled h c known =
     subst (Told (length script.sets) ((after script w q step).node (home script c)).set c) (sym (fold-append (wanted_after c) None lines (node_move script w q step).events))

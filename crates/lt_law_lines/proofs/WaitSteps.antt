@@ -21,8 +21,8 @@ use Rattle.lt_spec.specs.Families.{home, related}
 use Rattle.lt_spec.specs.Holdings.{Holding, wanted_after}
 use Rattle.lt_spec.specs.NodeMove.{NodeState, NodeMade, node_waits, next_command, act_stamp, take_stamp, at_clock, one_made, node_act, node_take, touched, drop_all, obey}
 use Rattle.lt_spec.specs.World.{World, is_enabled, is_waiting, is_some_letter, put_mail, take_front, node_move}
-use Rattle.lt_model.specs.Homes.{IsWhole, HasTargets}
-use Rattle.lt_model.specs.Invariant.{Kept}
+use Rattle.lt_model.specs.Homes.{IsWhole, HasTargetsAt}
+use Rattle.lt_model.specs.Invariant.{WorldInvariant}
 use Rattle.lt_model.specs.Standing.{AsksStand}
 use Rattle.lt_lists.proofs.AllLemmas.{all_weaker}
 use Rattle.lt_model.proofs.Effects.{HoldsOf, both}
@@ -51,7 +51,7 @@ record ActTold (script : ScriptData) (n : NodeState) (client : ℕ) (made : Node
   own : (lock : Option Holding) → Told (length script.sets) n.set client lock → Told (length script.sets) made.node.set client (fold (wanted_after client) lock made.events)
 
 act_told : (script : ScriptData) (w : World) (q client : ℕ) (command : Command) → ((s : ℕ) → s < length script.sets → AsksStand script w s) → q < script.nodes
-    → SoundClients script (w.node q) → node_waits script (w.node q) client ≡ false → HasTargets script client command
+    → SoundClients script (w.node q) → node_waits script (w.node q) client ≡ false → HasTargetsAt script client command
     → ActTold script (w.node q) client (obey script (act_stamp q (w.node q)) client (Some command) (one_made client (at_clock ((w.node q).clock + 1) (w.node q))))
 act_told script w q client command stood below h waits_not targets = by_command command targets
   where
@@ -92,7 +92,7 @@ act_told script w q client command stood below h waits_not targets = by_command 
           own = λ lock told. put_told (length script.sets) n.set s _ client under free acts lock told;
         }
 
-    by_command : (command : Command) → HasTargets script client command → ActTold script n client (obey script stamp client (Some command) begins)
+    by_command : (command : Command) → HasTargetsAt script client command → ActTold script n client (obey script stamp client (Some command) begins)
     by_command (Lock s mode) t = on_set s (locked s stamp client mode (n.set s)) t (locked_says client s stamp mode (n.set s))
         (locked_of s stamp client _ _ (clients_acts s n.clock stamp client (elsewhere script w s q w.mail) (unanswered script w s q) (n.set s) refl) mode (n.set s) [] (begun s t))
     by_command (Try s mode) t = on_set s (tried s stamp client mode (n.set s)) t (tried_says client s stamp mode (n.set s))
@@ -157,7 +157,7 @@ pub record MoveTold (script : ScriptData) (q : ℕ) (n : NodeState) (made : Node
   pub told : (c : ℕ) (lock : Option Holding) → Told (length script.sets) n.set c lock → Told (length script.sets) made.node.set c (fold (wanted_after c) lock made.events)
   pub aside : (c : ℕ) → home script c ≢ q → IsFree (length script.sets) n.set c → (lock : Option Holding) → fold (wanted_after c) lock made.events ≡ lock
 
-act_moves : (script : ScriptData) (w : World) (q client : ℕ) → IsWhole script → Kept script w → IsTrue (is_enabled script w q (Act client))
+act_moves : (script : ScriptData) (w : World) (q client : ℕ) → IsWhole script → WorldInvariant script w → IsTrue (is_enabled script w q (Act client))
     → MoveTold script q (w.node q) (node_act script q client (w.node q))
 act_moves script w q client whole h enabled = by_command (next_command script n client) refl
   where
@@ -196,7 +196,7 @@ act_moves script w q client whole h enabled = by_command (next_command script n 
           aside = λ c away free lock. ((acts.others c (λ e. away (ap (home script) e ∙ own.own))).free free).1 lock;
         }
 
-take_moves : (script : ScriptData) (w : World) (p q : ℕ) (letter : Letter) (rest : List Letter) → Kept script w → w.mail p q ≡ letter ∷ rest → p < script.nodes → q < script.nodes
+take_moves : (script : ScriptData) (w : World) (p q : ℕ) (letter : Letter) (rest : List Letter) → WorldInvariant script w → w.mail p q ≡ letter ∷ rest → p < script.nodes → q < script.nodes
     → MoveTold script q (w.node q) (node_take q letter (w.node q))
 take_moves script w p q letter rest h front from below = record {
   told = λ c lock before. (put_follows (length script.sets) n.set letter.set m c in_sets (answers c)).told lock before;
@@ -251,13 +251,13 @@ front_of (letter ∷ rest) there = (letter, rest, refl)
 front_taken : (q : ℕ) (n : NodeState) (letter : Letter) (rest : List Letter) → take_front q n (letter ∷ rest) ≡ node_take q letter n
 front_taken q n letter rest = refl
 
-take_told : (script : ScriptData) (w : World) (p q : ℕ) → Kept script w → IsTrue (is_enabled script w q (Take p)) → MoveTold script q (w.node q) (take_front q (w.node q) (w.mail p q))
+take_told : (script : ScriptData) (w : World) (p q : ℕ) → WorldInvariant script w → IsTrue (is_enabled script w q (Take p)) → MoveTold script q (w.node q) (take_front q (w.node q) (w.mail p q))
 take_told script w p q h enabled =
     let is_there = has_mail_parts script w p q enabled in
     let found = front_of (w.mail p q) is_there.letter in
     subst (λ (made : NodeMade). MoveTold script q (w.node q) made) (sym (ap (λ (l : List Letter). take_front q (w.node q) l) found.2 ∙ front_taken q (w.node q) found.0 found.1))
     (take_moves script w p q found.0 found.1 h found.2 is_there.sender is_there.receiver)
 
-pub move_told : (script : ScriptData) (w : World) (q : ℕ) (step : Step) → IsWhole script → Kept script w → IsTrue (is_enabled script w q step) → MoveTold script q (w.node q) (node_move script w q step)
+pub move_told : (script : ScriptData) (w : World) (q : ℕ) (step : Step) → IsWhole script → WorldInvariant script w → IsTrue (is_enabled script w q step) → MoveTold script q (w.node q) (node_move script w q step)
 move_told script w q (Act client) whole h enabled = act_moves script w q client whole h enabled
 move_told script w q (Take p) whole h enabled = take_told script w p q h enabled

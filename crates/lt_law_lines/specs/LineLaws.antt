@@ -9,7 +9,7 @@ use Rattle.lt_modes.specs.declared.parts.Link.{Link}
 use Rattle.lt_modes.specs.Script.{ScriptData}
 use Rattle.lt_modes.specs.Held.{count_of}
 use Rattle.lt_spec.specs.Families.{home}
-use Rattle.lt_spec.specs.Holdings.{holding, holdings, owner_of, lines_of, IsLawful, count_of as times_held}
+use Rattle.lt_spec.specs.Holdings.{holding, holdings, owner_of, lines_of, IsLawful, times_held}
 use Rattle.lt_spec.specs.Log.{Logged}
 use Rattle.lt_spec.specs.World.{world_after, IsRun, is_at_rest}
 use Rattle.lt_spec.specs.Facts.{state_at, IsFirstWaiter}

@@ -8,7 +8,7 @@ use Rattle.lt_spec.specs.World.{world_after, IsRun}
 use Rattle.lt_merge.specs.Run.{RunData}
 use Rattle.lt_merge.specs.Merging.{IsMerged, AreLogs, Merges}
 use Rattle.lt_law_plays.specs.Merged.{merged}
-use Rattle.lt_law_plays.specs.MergeLaws.{world_of}
+use Rattle.lt_law_plays.specs.MergeLaws.{joined_world}
 use Rattle.lt_law_plays.specs.Parts.{Part, logs_of, Joined}
 
 -- a run, after which each node is as its part left it, and the letters that were sent and not used are on their way
@@ -16,7 +16,7 @@ pub record IsJoinedRun (script : ScriptData) (parts : List Part) (run : List Log
   pub is_merged : IsMerged (logs_of script parts).log run
   pub is_run : IsRun script run
   pub count : length run ≡ sum_below script.nodes (λ x. length ((logs_of script parts).log x))
-  pub world : world_after script run ≡ world_of script (logs_of script parts) run
+  pub world : world_after script run ≡ joined_world script (logs_of script parts) run
   pub node : (q : ℕ) (part : Part) → slice_get parts q ≡ Some part → (world_after script run).node q ≡ part.last
   pub mail : (p q : ℕ) (a b : Part) (rest : List Letter) → slice_get parts p ≡ Some a → slice_get parts q ≡ Some b
       → a.sent q ≡ b.used p ++ rest → (world_after script run).mail p q ≡ rest

@@ -12,7 +12,7 @@ use Rattle.lt_spec.specs.NodeMove.{has_command, node_waits}
 use Rattle.lt_spec.specs.World.{World, start, is_some_letter, is_runnable, world_after}
 use Rattle.lt_model.proofs.ClocksGrow.{clocks_in_runs}
 use Rattle.lt_law_plays.specs.Merged.{merged}
-use Rattle.lt_law_plays.specs.MergeLaws.{world_of, EnabledIsSeen, ClocksAreCounted, ClocksAreLow, LettersAreLow}
+use Rattle.lt_law_plays.specs.MergeLaws.{joined_world, EnabledIsSeen, ClocksAreCounted, ClocksAreLow, LettersAreLow}
 use Rattle.lt_law_plays.proofs.PlayLemmas.{IsSentIn, plays_send_stamped}
 use Rattle.lt_law_plays.proofs.MergedLogs.{merged_exists, merged_has_all}
 use Rattle.lt_law_plays.proofs.MergedRun.{merged_is_run, merged_ends}
@@ -60,7 +60,7 @@ enabled_is_seen script l run h is_merged = (
       (ap (λ (t : Bool). not (p == q) && t) (ap is_some_letter (ap (λ (w : World). w.mail p q) ends ∙ front)) ∙ and_true (not (p == q)))),
 )
   where
-    ends : world_after script run ≡ world_of script l run
+    ends : world_after script run ≡ joined_world script l run
     ends = merged_ends script l run h is_merged
 
     and_true : (t : Bool) → t && true ≡ t

@@ -18,7 +18,7 @@ use Rattle.lt_law_accounts.proofs.AccountFacts.{newer_not_before}
 use Rattle.lt_lists.proofs.Puts.{put-same, put-other}
 use Rattle.lt_lists.proofs.AllLemmas.{all_weaker, all_append}
 use Rattle.lt_lists.proofs.Members.{none_in}
-use Rattle.lt_law_plays.specs.Plays.{Cause, OfClient, OfLetter, can_make, made_of, stamp_of, step_of, entry_of, used_by, letters_for, Begins, Plays}
+use Rattle.lt_law_plays.specs.Plays.{Cause, OfClient, OfLetter, can_make, made_of, stamp_of, cause_step, logged_of, used_by, letters_for, Begins, Plays}
 use Rattle.lt_merge.specs.Merging.{IsBefore, AreRising, IsMerged}
 use Rattle.lt_law_plays.specs.Merged.{Logs, ArePlays, step_made, step_left, token_goes}
 use Rattle.lt_law_plays.specs.MergeLaws.{MergedIsRun, MergedEnds, HandIsFront, SentWereOnWay, OnWayWereSent}
@@ -144,13 +144,13 @@ others_late script w entry run used sent rest last c is_clock before h p d =
 
 -- the state of the node and what its play uses agree with the replay
 same_made : (script : ScriptData) (x : ℕ) (n : NodeState) (cause : Cause) (used left : ℕ → List Letter) → ((a : ℕ) → used a ≡ used_by cause a ++ left a)
-    → step_made script x n (step_of cause) used ≡ made_of script x n cause
+    → step_made script x n (cause_step cause) used ≡ made_of script x n cause
 same_made script x n (OfClient client) used left uses = refl
 same_made script x n (OfLetter p letter) used left uses =
     let first : used p ≡ letter ∷ left p = uses p ∙ ap (λ (t : Bool). (if t then letter ∷ [] else []) ++ left p) (eq-eqb p p refl) in
     subst (λ letters. take_front x n letters ≡ made_of script x n (OfLetter p letter)) (sym first) refl
 
-same_left : (cause : Cause) (used left : ℕ → List Letter) → ((a : ℕ) → used a ≡ used_by cause a ++ left a) → step_left (step_of cause) used ≡ left
+same_left : (cause : Cause) (used left : ℕ → List Letter) → ((a : ℕ) → used a ≡ used_by cause a ++ left a) → step_left (cause_step cause) used ≡ left
 same_left (OfClient client) used left uses = fun_ext (λ a. uses a)
 same_left (OfLetter p letter) used left uses = fun_ext (λ a. at a)
   where
@@ -176,8 +176,8 @@ record Merges (script : ScriptData) (w : World) (run : List Logged) (used sent r
 first_made : (script : ScriptData) (w : World) (q : ℕ) (cause : Cause) (left next : ℕ → List Letter) (run : List Logged) (used sent rest : ℕ → ℕ → List Letter) (last : ℕ → NodeState)
     → ((a : ℕ) → used q a ≡ used_by cause a ++ left a)
     → ((b : ℕ) → sent q b ≡ letters_for b (made_of script q (w.node q) cause).posts ++ next b)
-    → IsStep script w q cause (after script w q (step_of cause)) → Merges script (after script w q (step_of cause)) run (put used q left) (put sent q next) rest last
-    → Merges script w (entry_of script q (w.node q) cause ∷ run) used sent rest last
+    → IsStep script w q cause (after script w q (cause_step cause)) → Merges script (after script w q (cause_step cause)) run (put used q left) (put sent q next) rest last
+    → Merges script w (logged_of script q (w.node q) cause ∷ run) used sent rest last
 first_made script w q cause left next run used sent rest last uses sends step more =
     let made = made_of script q (w.node q) cause in
     let made_same = same_made script q (w.node q) cause (used q) left uses in
@@ -195,9 +195,9 @@ first_made script w q cause left next run used sent rest last uses sends step mo
     }
   where
     later : World
-    later = after script w q (step_of cause)
+    later = after script w q (cause_step cause)
 
-    sent_first : (k a b : ℕ) (letter : Letter) → Contains ((after_run script w (take_first k (entry_of script q (w.node q) cause ∷ run))).mail a b) letter
+    sent_first : (k a b : ℕ) (letter : Letter) → Contains ((after_run script w (take_first k (logged_of script q (w.node q) cause ∷ run))).mail a b) letter
         → Contains (w.mail a b ++ sent a b) letter
     sent_first zero a b letter among = Contains-append_left (w.mail a b) (sent a b) letter among
     sent_first (suc k) a b letter among =
@@ -215,10 +215,10 @@ first_made script w q cause left next run used sent rest last uses sends step mo
               (subst (λ letters. Contains letters letter) (sym new) (Contains-append_right (added q posts a b) (put sent q next a b) letter to_come))
         ]
 
-    goes : (s : ℕ) → step_made script q (w.node q) (step_of cause) (used q) ≡ made_of script q (w.node q) cause
+    goes : (s : ℕ) → step_made script q (w.node q) (cause_step cause) (used q) ≡ made_of script q (w.node q) cause
         → later.went s ++ token_goes script s later.node (put used q left) run
-        ≡ w.went s ++ (filter_map (token_to s) (step_made script q (w.node q) (step_of cause) (used q)).posts
-        ++ token_goes script s (put w.node q (step_made script q (w.node q) (step_of cause) (used q)).node) (put used q (step_left (step_of cause) (used q))) run)
+        ≡ w.went s ++ (filter_map (token_to s) (step_made script q (w.node q) (cause_step cause) (used q)).posts
+        ++ token_goes script s (put w.node q (step_made script q (w.node q) (cause_step cause) (used q)).node) (put used q (step_left (cause_step cause) (used q))) run)
     goes s made_same =
         let made = made_of script q (w.node q) cause in
         ap (λ nodes. nodes ++ token_goes script s later.node (put used q left) run) (step.went s)
@@ -226,7 +226,7 @@ first_made script w q cause left next run used sent rest last uses sends step mo
         ∙ (ap (λ (f : ℕ → NodeState). w.went s ++ (filter_map (token_to s) made.posts ++ token_goes script s f (put used q left) run)) (fun_ext step.node)
         ∙ (ap (λ (l : ℕ → List Letter). w.went s ++ (filter_map (token_to s) made.posts ++ token_goes script s (put w.node q made.node) (put used q l) run))
         (sym (same_left cause (used q) left uses))
-        ∙ ap (λ (m : NodeMade). w.went s ++ (filter_map (token_to s) m.posts ++ token_goes script s (put w.node q m.node) (put used q (step_left (step_of cause) (used q))) run))
+        ∙ ap (λ (m : NodeMade). w.went s ++ (filter_map (token_to s) m.posts ++ token_goes script s (put w.node q m.node) (put used q (step_left (cause_step cause) (used q))) run))
         (sym made_same))))
 
 run_of_plays : (script : ScriptData) (run : List Logged) (w : World) (used sent rest : ℕ → ℕ → List Letter) (last : ℕ → NodeState)
@@ -250,13 +250,13 @@ run_of_plays script (entry ∷ run) w used sent rest last rising h =
     let clock = ap (λ (e : Logged). e.made.stamp.clock) own.logged in
     let step = is_step script w q own.cause own.can (is_front script w q own.cause own.left used sent rest own.can own.uses h.letters
     (λ p d. others_late script w entry run used sent rest last (stamp_of q (w.node q) own.cause).clock clock rising.0 h p d)) in
-    let later = after script w q (step_of own.cause) in
+    let later = after script w q (cause_step own.cause) in
     let made = made_of script q (w.node q) own.cause in
     let more = run_of_plays script run later (put used q own.left) (put sent q own.later) rest last rising.1 (record {
       plays = plays_later script w later entry run used sent rest last h own step.node;
       letters = letters_later script w later q own.cause own.left own.later used sent rest h.letters own.uses own.sends step.mail;
     }) in
-    let here : Merges script w (entry_of script q (w.node q) own.cause ∷ run) used sent rest last = first_made script w q own.cause own.left own.later run used sent rest last own.uses own.sends step more in
+    let here : Merges script w (logged_of script q (w.node q) own.cause ∷ run) used sent rest last = first_made script w q own.cause own.left own.later run used sent rest last own.uses own.sends step more in
     subst (λ (e : Logged). Merges script w (e ∷ run) used sent rest last) (sym own.logged) here
 
 all_merges : (script : ScriptData) (l : Logs) (run : List Logged) → ArePlays script l → IsMerged l.log run → Merges script (start script) run l.used l.sent l.rest l.last

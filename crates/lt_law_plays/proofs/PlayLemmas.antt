@@ -16,7 +16,7 @@ use Rattle.lt_model.proofs.Letters.{letters_to-same, letters_to-other}
 use Rattle.lt_model.proofs.NodeMoves.{obey-stamped}
 use Rattle.lt_lists.proofs.AllLemmas.{all_append, all_weaker}
 use Rattle.lt_model.proofs.SentInMove.{take-sent}
-use Rattle.lt_law_plays.specs.Plays.{Cause, OfClient, OfLetter, can_make, made_of, stamp_of, entry_of, used_by, letters_for, Plays}
+use Rattle.lt_law_plays.specs.Plays.{Cause, OfClient, OfLetter, can_make, made_of, stamp_of, logged_of, used_by, letters_for, Plays}
 use Rattle.lt_merge.specs.Merging.{IsBefore}
 use Rattle.lt_law_plays.specs.PlayLaws.{OneMovePlays, PlaysJoin, PlaysGrow, PlaysRise, PlaysSendStamped, TakesNothingOfItself}
 
@@ -70,7 +70,7 @@ plays_join script x (entry ∷ first) second n mid last used sent used_after sen
 
 pub plays_grow : PlaysGrow
 plays_grow script x log n mid cause used sent used_all sent_all h can all_used all_sent =
-    plays_join script x log (entry_of script x mid cause ∷ []) n mid (made_of script x mid cause).node used sent (used_by cause)
+    plays_join script x log (logged_of script x mid cause ∷ []) n mid (made_of script x mid cause).node used sent (used_by cause)
     (λ b. letters_for b (made_of script x mid cause).posts) used_all sent_all h (one_move_plays script x mid cause can) all_used all_sent
 
 -- the clock after a move is that of its stamp, and its letters have the stamp

@@ -13,7 +13,7 @@ use Rattle.lt_spec.specs.Families.{home}
 use Rattle.lt_spec.specs.NodeMove.{NodeState, has_command, node_waits}
 use Rattle.lt_spec.specs.World.{World, start, is_some_letter, is_enabled, logged, after, after_run, IsRunFrom, is_of_node}
 use Rattle.lt_lists.proofs.Puts.{put-same, put-other}
-use Rattle.lt_law_plays.specs.Plays.{Cause, OfClient, OfLetter, can_make, made_of, step_of, entry_of, used_by, letters_for, Plays}
+use Rattle.lt_law_plays.specs.Plays.{Cause, OfClient, OfLetter, can_make, made_of, cause_step, logged_of, used_by, letters_for, Plays}
 use Rattle.lt_law_plays.specs.MergeLaws.{RunsArePlays}
 use Rattle.lt_law_plays.proofs.PlayLemmas.{plays_same}
 use Rattle.lt_merge.proofs.Filters.{filter_yes, filter_no}
@@ -22,7 +22,7 @@ use Rattle.lt_law_plays.proofs.Steps.{IsFront, gone, added, IsStep, is_step}
 -- an enabled step has a cause
 record HasCause (script : ScriptData) (w : World) (q : ℕ) (step : Step) : Type 0 where
   cause : Cause
-  is_step : step_of cause ≡ step
+  is_step : cause_step cause ≡ step
   can : IsTrue (can_make script q (w.node q) cause)
   front : IsFront w q cause
 
@@ -77,17 +77,17 @@ rejoin u v mid sent used final h =
 
 -- first the move with this cause, and then the others
 parts_first : (script : ScriptData) (w : World) (q : ℕ) (cause : Cause) (run : List Logged) (final : World) → IsTrue (can_make script q (w.node q) cause)
-    → IsStep script w q cause (after script w q (step_of cause)) → HasParts script (after script w q (step_of cause)) run final
-    → HasParts script w (entry_of script q (w.node q) cause ∷ run) final
+    → IsStep script w q cause (after script w q (cause_step cause)) → HasParts script (after script w q (cause_step cause)) run final
+    → HasParts script w (logged_of script q (w.node q) cause ∷ run) final
 parts_first script w q cause run final can step more = record {
   used = in_front more.used q (used_by cause);
   sent = in_front more.sent q (λ b. letters_for b (made_of script q (w.node q) cause).posts);
   plays = λ x. elim (cases_eq x q) [
-    | inl e ↦ subst (λ (y : ℕ). Plays script y (w.node y) (filter (is_of_node y) ((entry_of script q (w.node q) cause) ∷ run)) (in_front more.used q (used_by cause) y)
+    | inl e ↦ subst (λ (y : ℕ). Plays script y (w.node y) (filter (is_of_node y) ((logged_of script q (w.node q) cause) ∷ run)) (in_front more.used q (used_by cause) y)
         (in_front more.sent q (λ b. letters_for b (made_of script q (w.node q) cause).posts) y) (final.node y)) (sym e) own
     | inr d ↦ subst (λ (log : List Logged). Plays script x (w.node x) log (in_front more.used q (used_by cause) x)
         (in_front more.sent q (λ b. letters_for b (made_of script q (w.node q) cause).posts) x) (final.node x))
-        (sym (filter_no (is_of_node x) (entry_of script q (w.node q) cause) run (ne_eqb q x (λ e. d (sym e)))))
+        (sym (filter_no (is_of_node x) (logged_of script q (w.node q) cause) run (ne_eqb q x (λ e. d (sym e)))))
         (plays_same script x (filter (is_of_node x) run) (w.node x) (final.node x) (more.used x) (more.sent x) _ _
         (λ a. ap (λ (g : ℕ → List Letter). g a) (put-other more.used q (λ c. used_by cause c ++ more.used q c) x d))
         (λ b. ap (λ (g : ℕ → List Letter). g b) (put-other more.sent q (λ c. letters_for c (made_of script q (w.node q) cause).posts ++ more.sent q c) x d))
@@ -104,10 +104,10 @@ parts_first script w q cause run final can step more = record {
       ∙ (old ∙ ap (λ letters. letters ++ final.mail a b) (sym (in_front-splits more.used q (used_by cause) b a))));
 }
   where
-    own : Plays script q (w.node q) (filter (is_of_node q) (entry_of script q (w.node q) cause ∷ run)) (in_front more.used q (used_by cause) q)
+    own : Plays script q (w.node q) (filter (is_of_node q) (logged_of script q (w.node q) cause ∷ run)) (in_front more.used q (used_by cause) q)
         (in_front more.sent q (λ b. letters_for b (made_of script q (w.node q) cause).posts) q) (final.node q)
     own =
-        let entry = entry_of script q (w.node q) cause in
+        let entry = logged_of script q (w.node q) cause in
         let made = made_of script q (w.node q) cause in
         subst (λ (log : List Logged). Plays script q (w.node q) log (in_front more.used q (used_by cause) q) (in_front more.sent q (λ b. letters_for b made.posts) q) (final.node q))
         (sym (filter_yes (is_of_node q) entry run (eq-eqb q q refl))) (record {
@@ -133,10 +133,10 @@ parts_in_run script (entry ∷ run) w h =
     let q = entry.made.stamp.node in
     let by = has_cause script w q entry.made.step h.0.enabled in
     let step = is_step script w q by.cause by.can by.front in
-    let later : HasParts script (after script w q (step_of by.cause)) run (after_run script (after script w q entry.made.step) run) =
+    let later : HasParts script (after script w q (cause_step by.cause)) run (after_run script (after script w q entry.made.step) run) =
     subst (λ (s : Step). HasParts script (after script w q s) run (after_run script (after script w q entry.made.step) run)) (sym by.is_step)
     (parts_in_run script run (after script w q entry.made.step) h.1) in
-    let is_entry : entry ≡ entry_of script q (w.node q) by.cause = h.0.made ∙ (ap (λ (s : Step). logged script w q s) (sym by.is_step) ∙ sym step.logged) in
+    let is_entry : entry ≡ logged_of script q (w.node q) by.cause = h.0.made ∙ (ap (λ (s : Step). logged script w q s) (sym by.is_step) ∙ sym step.logged) in
     subst (λ (e : Logged). HasParts script w (e ∷ run) (after_run script (after script w q entry.made.step) run)) (sym is_entry)
     (parts_first script w q by.cause run (after_run script (after script w q entry.made.step) run) by.can step later)
 

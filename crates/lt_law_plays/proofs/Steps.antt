@@ -11,7 +11,7 @@ use Rattle.lt_lists.specs.Below.{put}
 use Rattle.lt_spec.specs.Families.{home}
 use Rattle.lt_spec.specs.NodeMove.{has_command, node_waits}
 use Rattle.lt_spec.specs.World.{World, token_to, is_some_letter, is_enabled, take_front, front_stamp, put_mail, logged, after_made, after}
-use Rattle.lt_law_plays.specs.Plays.{Cause, OfClient, OfLetter, can_make, made_of, step_of, entry_of, used_by, letters_for}
+use Rattle.lt_law_plays.specs.Plays.{Cause, OfClient, OfLetter, can_make, made_of, cause_step, logged_of, used_by, letters_for}
 use Rattle.lt_law_plays.proofs.PlayLemmas.{IsFromOther, from_other}
 
 -- what a move needs of the world: the letter that it takes is in front
@@ -28,8 +28,8 @@ added q posts a b = if a == q then letters_for b posts else []
 
 -- the move of the play is a move of the world
 pub record IsStep (script : ScriptData) (w : World) (q : ℕ) (cause : Cause) (later : World) : Type 0 where
-  pub enabled : IsTrue (is_enabled script w q (step_of cause))
-  pub logged : entry_of script q (w.node q) cause ≡ logged script w q (step_of cause)
+  pub enabled : IsTrue (is_enabled script w q (cause_step cause))
+  pub logged : logged_of script q (w.node q) cause ≡ logged script w q (cause_step cause)
   pub node : (x : ℕ) → later.node x ≡ put w.node q (made_of script q (w.node q) cause).node x
   pub mail : (a b : ℕ) → (mid : List Letter) × (w.mail a b ≡ gone q cause a b ++ mid)
       × (later.mail a b ≡ mid ++ added q (made_of script q (w.node q) cause).posts a b)
@@ -65,7 +65,7 @@ other : (script : ScriptData) (w : World) (q p : ℕ) (letter : Letter) → IsTr
 other script w q p letter can = from_other script p q (w.node q) letter can
 
 pub is_step : (script : ScriptData) (w : World) (q : ℕ) (cause : Cause) → IsTrue (can_make script q (w.node q) cause) → IsFront w q cause
-    → IsStep script w q cause (after script w q (step_of cause))
+    → IsStep script w q cause (after script w q (cause_step cause))
 is_step script w q (OfClient client) can front = record {
   enabled = client_enabled script w q client can;
   logged = refl;
@@ -80,7 +80,7 @@ is_step script w q (OfClient client) can front = record {
 is_step script w q (OfLetter p letter) can front = record {
   enabled = and_from (nat_lt p script.nodes) _ (other script w q p letter can).sender (and_from (nat_lt q script.nodes) _ (other script w q p letter can).receiver
       (and_from (not (p == q)) (is_some_letter (w.mail p q)) (other script w q p letter can).other (subst (λ letters. is_some_letter letters ≡ true) (sym front.1) refl)));
-  logged = subst (λ letters. entry_of script q (w.node q) (OfLetter p letter) ≡ entry_with w q p letters) (sym front.1) refl;
+  logged = subst (λ letters. logged_of script q (w.node q) (OfLetter p letter) ≡ entry_with w q p letters) (sym front.1) refl;
   node = λ x. subst (λ letters. (world_with w q p letters).node x ≡ put w.node q (made_of script q (w.node q) (OfLetter p letter)).node x) (sym front.1) refl;
   mail = λ a b. (
     put_mail w.mail p q front.0 a b,

@@ -18,8 +18,8 @@ abbrev pub MergedIsRun : Type 0
 MergedIsRun = (script : ScriptData) (l : Logs) (run : List Logged) → ArePlays script l → IsMerged l.log run → IsRun script run
 
 -- the world of the plays in this order: the last states, the letters that are left, and where the tokens went, first to node 0
-abbrev pub world_of : ScriptData → Logs → List Logged → World
-world_of script l run = record {
+abbrev pub joined_world : ScriptData → Logs → List Logged → World
+joined_world script l run = record {
   node = l.last;
   mail = l.rest;
   went = λ s. 0 ∷ token_goes script s (start script).node l.used run;
@@ -28,7 +28,7 @@ world_of script l run = record {
 -- and the world after that run is the world of the plays
 abbrev pub MergedEnds : Type 0
 MergedEnds = (script : ScriptData) (l : Logs) (run : List Logged) → ArePlays script l → IsMerged l.log run
-    → world_after script run ≡ world_of script l run
+    → world_after script run ≡ joined_world script l run
 
 -- there is such a list
 abbrev pub MergedExists : Type 0
@@ -103,8 +103,8 @@ HeadsFit = (script : ScriptData) (l : Logs) → IsWhole script → ArePlays scri
     → (p q : ℕ) (letter : Letter) → p < script.nodes → Contains (l.sent p q) letter → IsTrue (head_fits (numbers_of script) (l.last q).clock letter)
 
 -- what nodes log in a run, where they use and send these letters
-abbrev pub parts_of : ScriptData → List Logged → (ℕ → ℕ → List Letter) → (ℕ → ℕ → List Letter) → Logs
-parts_of script run used sent = record {
+abbrev pub logs_of : ScriptData → List Logged → (ℕ → ℕ → List Letter) → (ℕ → ℕ → List Letter) → Logs
+logs_of script run used sent = record {
   log = λ x. filter (is_of_node x) run;
   last = (world_after script run).node;
   used = used;
@@ -116,4 +116,4 @@ parts_of script run used sent = record {
 -- that are on their way
 abbrev pub RunsArePlays : Type 0
 RunsArePlays = (script : ScriptData) (run : List Logged) → IsRun script run → ((x : ℕ) → script.nodes ≤ x → filter (is_of_node x) run ≡ [])
-    → (used sent : ℕ → ℕ → List Letter) × ArePlays script (parts_of script run used sent)
+    → (used sent : ℕ → ℕ → List Letter) × ArePlays script (logs_of script run used sent)

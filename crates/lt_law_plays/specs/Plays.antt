@@ -42,14 +42,14 @@ clock_of n (OfLetter p letter) = max n.clock letter.stamp.clock + 1
 abbrev pub stamp_of : ℕ → NodeState → Cause → Stamp
 stamp_of x n cause = record { clock = clock_of n cause; node = x }
 
-abbrev pub step_of : Cause → Step
-step_of (OfClient client) = Act client
-step_of (OfLetter p letter) = Take p
+abbrev pub cause_step : Cause → Step
+cause_step (OfClient client) = Act client
+cause_step (OfLetter p letter) = Take p
 
 -- the entry of the move in the log
-abbrev pub entry_of : ScriptData → ℕ → NodeState → Cause → Logged
-entry_of script x n cause = record {
-  made = record { stamp = stamp_of x n cause; step = step_of cause };
+abbrev pub logged_of : ScriptData → ℕ → NodeState → Cause → Logged
+logged_of script x n cause = record {
+  made = record { stamp = stamp_of x n cause; step = cause_step cause };
   events = (made_of script x n cause).events;
 }
 
@@ -67,7 +67,7 @@ pub record Begins (script : ScriptData) (x : ℕ) (n : NodeState) (entry : Logge
     (Next : NodeState → (ℕ → List Letter) → (ℕ → List Letter) → Type 0) : Type 0 where
   pub cause : Cause
   pub can : IsTrue (can_make script x n cause)
-  pub logged : entry ≡ entry_of script x n cause
+  pub logged : entry ≡ logged_of script x n cause
   pub left : ℕ → List Letter
   pub later : ℕ → List Letter
   pub uses : (a : ℕ) → used a ≡ used_by cause a ++ left a

@@ -10,7 +10,7 @@ use Rattle.lt_modes.specs.Freezing.{frozen_by}
 use Rattle.lt_modes.specs.Held.{count_of}
 use Rattle.lt_spec.specs.Families.{home}
 use Rattle.lt_spec.specs.Facts.{state_at, token_count, place_count, IsFirstWaiter, IsLedToQueue}
-use Rattle.lt_spec.specs.Holdings.{holding, holdings, lines_of, IsLawful, count_of as times_held}
+use Rattle.lt_spec.specs.Holdings.{holding, holdings, lines_of, IsLawful, times_held}
 use Rattle.lt_spec.specs.Log.{Logged}
 use Rattle.lt_spec.specs.World.{World, world_after, IsRun, is_enabled, is_at_rest, anyone_waits}
 use Rattle.lt_model.specs.Homes.{IsWhole}

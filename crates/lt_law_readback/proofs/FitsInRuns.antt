@@ -10,7 +10,7 @@ use Rattle.lt_modes.specs.declared.event.Event.{Event}
 use Rattle.lt_modes.specs.declared.event.Event.TheVariants.{Grant, Wait, Try, Unlock, NotHeld, Change, DropAll, Busy, Copy, Freeze, Token}
 use Rattle.lt_modes.specs.Script.{ScriptData}
 use Rattle.lt_model.specs.AddedLocks.{adds, added_by}
-use Rattle.lt_model.specs.Homes.{HasTargets, IsWhole, HasMaker, IsLineWithin, IsEntryWithin}
+use Rattle.lt_model.specs.Homes.{HasTargetsAt, IsWhole, HasMaker, IsLineWithin, IsEntryWithin}
 use Rattle.lt_spec.specs.Log.{Logged}
 use Rattle.lt_spec.specs.Holdings.{Holding, holding, without_one, after_line, lines_of}
 use Rattle.lt_spec.specs.World.{IsRun}
@@ -23,7 +23,7 @@ use Rattle.lt_journal.proofs.Few.{length-without, length-kept}
 use Rattle.lt_journal.proofs.Named.{few_nodes}
 
 targets : (script : ScriptData) (client : ℕ) (request : Command) → of_script.HasTargets script.sets script.clients client request
-    → HasTargets script client request
+    → HasTargetsAt script client request
 targets script client (command.Lock set mode) h = h
 targets script client (command.Try set mode) h = h
 targets script client (command.Unlock set mode) h = h
@@ -35,7 +35,7 @@ pub whole : (script : ScriptData) → IsScript script → IsWhole script
 whole script is_script = record {
   some_node = is_script.some_node;
   homes = is_script.homes;
-  commands = All-weaker (IsRequest script.sets script.clients) (λ (request : ℕ × Command). HasTargets script request.0 request.1)
+  commands = All-weaker (IsRequest script.sets script.clients) (λ (request : ℕ × Command). HasTargetsAt script request.0 request.1)
       (λ request h. targets script request.0 request.1 h.1) script.commands is_script.requests;
 }
 

@@ -16,7 +16,7 @@ use Rattle.lt_modes.specs.Places.{cons_if, places_from}
 use Rattle.lt_modes.specs.Made.{Post, post_of}
 use Rattle.lt_modes.specs.Records.{entry_of}
 use Rattle.lt_modes.specs.Queue.{no_ask}
-use Rattle.lt_modes.specs.Serving.{queue_of, queue_of_desk, put_queue, owed_at, owing, ask_at, next_service, next_move, serve_one, serve_local, serve_copy}
+use Rattle.lt_modes.specs.Serving.{queue_of, queue_of_desk, put_queue, owed_at, owing, ask_at, next_service, next_draw, serve_one, serve_local, serve_copy}
 use Rattle.lt_modes.specs.Freezing.{freeze, freeze_at, frozen_by, frozen_entry, is_target, targets, number_after}
 use Rattle.lt_modes.specs.HandingOver.{hand_over_to}
 use Rattle.lt_modes.specs.Telling.{tell_of}
@@ -138,7 +138,7 @@ freezes_named nodes set stamp t posts h = by_desk t.desk refl
               (told_named nodes set stamp t frozen number 0 desk.entries few),
         )
 
-leaves_named : (nodes set : ℕ) (stamp : Stamp) (t : SetState) (posts : List Post) (k : ℕ) → next_move stamp.node t ≡ Some k
+leaves_named : (nodes set : ℕ) (stamp : Stamp) (t : SetState) (posts : List Post) (k : ℕ) → next_draw stamp.node t ≡ Some k
     → named nodes stamp.node t posts → HoldsOf (named nodes stamp.node) posts (hand_over_to set stamp t (ask_at t k).node t.desk)
 leaves_named nodes set stamp t posts k next h = by_desk t.desk refl
   where

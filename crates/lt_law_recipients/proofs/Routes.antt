@@ -10,7 +10,7 @@ use Rattle.lt_modes.specs.declared.stamp.Stamp.{Stamp}
 use Rattle.lt_modes.specs.declared.ask.Ask.{Ask}
 use Rattle.lt_modes.specs.declared.parts.Link.{Link}
 use Rattle.lt_modes.specs.declared.parts.Hoped.{Hoped}
-use Rattle.lt_modes.specs.Modes.{is_taking}
+use Rattle.lt_modes.specs.Modes.{excludes_itself}
 use Rattle.lt_modes.specs.State.{SetState, Desk, Parked, ParkedAsk, ParkedTell}
 use Rattle.lt_modes.specs.Made.{Post}
 use Rattle.lt_modes.specs.Queue.{entered, place}
@@ -97,13 +97,13 @@ is_not false e = refl
 
 reversed_named : (nodes me : ℕ) (item : Parked) (t : SetState) → IsNamedItem nodes item → NamesNodes nodes me t → NamesNodes nodes me (reversed me item t)
 reversed_named nodes me (ParkedTell tell) t own h = h
-reversed_named nodes me (ParkedAsk ask) t own h = by_test (is_taking ask.mode && not (ask.node == me)) refl
+reversed_named nodes me (ParkedAsk ask) t own h = by_test (excludes_itself ask.mode && not (ask.node == me)) refl
   where
-    by_test : (other : Bool) → (is_taking ask.mode && not (ask.node == me)) ≡ other
+    by_test : (other : Bool) → (excludes_itself ask.mode && not (ask.node == me)) ≡ other
         → NamesNodes nodes me (if other then record t { hoped = Some (record { node = ask.node; stamp = ask.stamp }) } else t)
     by_test false e = h
     by_test true e =
-        let away : ask.node ≢ me = eqb-false ask.node me (is_not (ask.node == me) (and_parts (is_taking ask.mode) (not (ask.node == me)) e).1) in
+        let away : ask.node ≢ me = eqb-false ask.node me (is_not (ask.node == me) (and_parts (excludes_itself ask.mode) (not (ask.node == me)) e).1) in
         record { queue = h.queue; parked = h.parked; firm = h.firm; hoped = (own, away); entries = h.entries }
 
 pub post_last : (nodes me : ℕ) (posts : List Post) (post : Post) → AllByRecursion (IsForPeer nodes me) posts → IsForPeer nodes me post

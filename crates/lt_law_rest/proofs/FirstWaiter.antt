@@ -9,7 +9,7 @@ use Rattle.lt_modes.specs.Modes.{Modes, conflicts, has, no_modes, union, bars, w
 use Rattle.lt_modes.specs.State.{SetState, Desk, CopyBody}
 use Rattle.lt_modes.specs.Held.{other_modes}
 use Rattle.lt_modes.specs.Records.{own_owed, others}
-use Rattle.lt_modes.specs.Serving.{queue_of, queue_of_desk, is_free, is_local, is_copy, is_served, may_draw, is_clear_at_home, next_service, next_move, next_at, next_from, move_at, move_from}
+use Rattle.lt_modes.specs.Serving.{queue_of, queue_of_desk, is_free, is_local, is_copy, is_served, may_draw, is_clear_at_home, next_service, next_draw, next_at, next_from, move_at, draw_from}
 use Rattle.lt_spec.specs.Facts.{state_at}
 use Rattle.lt_model.specs.Moments.{Between}
 use Rattle.lt_model.specs.OnWay.{DeskIs, account_of}
@@ -48,7 +48,7 @@ second_false false b e f = cc
 
 -- the tests of the ask at place 0
 first_none : (me : ℕ) (t : SetState) (desk : Desk) (ask : Ask) (rest : List Ask) → next_from me t desk no_modes 0 (ask ∷ rest) ≡ None
-    → move_from me t desk no_modes 0 (ask ∷ rest) ≡ None
+    → draw_from me t desk no_modes 0 (ask ∷ rest) ≡ None
     → (is_served me t desk no_modes ask ≡ false) × (may_draw me t desk no_modes 0 ask ≡ false)
 first_none me t desk ask rest service draw = (by_service (is_served me t desk no_modes ask) refl service, by_draw (may_draw me t desk no_modes 0 ask) refl draw)
   where
@@ -58,7 +58,7 @@ first_none me t desk ask rest service draw = (by_service (is_served me t desk no
     by_service false e f = e
 
     by_draw : (b : Bool) → may_draw me t desk no_modes 0 ask ≡ b
-        → (if b then Some 0 else move_from me t desk (with_mode no_modes ask.mode) (0 + 1) rest) ≡ None → may_draw me t desk no_modes 0 ask ≡ false
+        → (if b then Some 0 else draw_from me t desk (with_mode no_modes ask.mode) (0 + 1) rest) ≡ None → may_draw me t desk no_modes 0 ask ≡ false
     by_draw true e f = cc
     by_draw false e f = e
 
@@ -87,13 +87,13 @@ first_waiter_conflicts script w s ask h rest (q, others_wait, under, queue) = by
         kept : DeskKept script Between w s (Some q) desk
         kept = h.known (Some q) desk there
 
-        served : (next_service q t ≡ None) × (next_move q t ≡ None)
+        served : (next_service q t ≡ None) × (next_draw q t ≡ None)
         served = h.served q desk refl there
 
         tests : (is_served q t desk no_modes ask ≡ false) × (may_draw q t desk no_modes 0 ask ≡ false)
         tests = first_none q t desk ask others_wait
             (ap (next_from q t desk no_modes 0) (sym e) ∙ ap (next_at q t) (sym here) ∙ served.0)
-            (ap (move_from q t desk no_modes 0) (sym e) ∙ ap (move_at q t) (sym here) ∙ served.1)
+            (ap (draw_from q t desk no_modes 0) (sym e) ∙ ap (move_at q t) (sym here) ∙ served.1)
 
         home : slice_index (numbers_of script).homes ask.client ≡ ask.node
         home =

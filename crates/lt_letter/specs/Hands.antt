@@ -24,6 +24,6 @@ abbrev pub places_in : Body → ℕ
 places_in (Token d) = d.room
 places_in body = 0
 
-abbrev pub spare_in : Body → ℕ
-spare_in (Token d) = d.spare
-spare_in body = 0
+abbrev pub body_spare : Body → ℕ
+body_spare (Token d) = d.spare
+body_spare body = 0

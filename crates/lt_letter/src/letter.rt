@@ -1,6 +1,6 @@
 ghost use Rattle.std.specs.Prelude.{◌≡◌, ◌≤◌, OnOk};
 ghost use Rattle.lt_letter.specs.Seen.{letter_seen};
-ghost use Rattle.lt_letter.specs.Hands.{asks_in, RoomIn, places_in, spare_in};
+ghost use Rattle.lt_letter.specs.Hands.{asks_in, RoomIn, places_in, body_spare};
 
 use crate::parked::Tell;
 use lt_desk::Desk;
@@ -60,7 +60,7 @@ impl Letter {
         ensures letter { letter_seen self.new ≡ letter_seen self.old }
         ensures asks { asks_in self.new.body ≡ asks_in self.old.body }
         ensures room { OnOk result (RoomIn asks self.new.body) }
-        ensures kept { (places_in self.old.body ≤ places_in self.new.body) × (spare_in self.old.body ≤ spare_in self.new.body) }
+        ensures kept { (places_in self.old.body ≤ places_in self.new.body) × (body_spare self.old.body ≤ body_spare self.new.body) }
     {
         match &mut self.body {
             Body::Token(desk) => desk.reserve_for(asks),

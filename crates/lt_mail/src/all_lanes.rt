@@ -1,6 +1,6 @@
 // What all lanes of a mail do.
 ghost use Rattle.std.specs.Prelude.{◌≡◌, ◌⊎◌, ℕ, [], OnOk};
-ghost use Rattle.lt_mail.specs.Words.{in_at, sent_to, given_to, waiting_to, IsFullTo, HasRoom, SameEnds};
+ghost use Rattle.lt_mail.specs.Words.{in_at, sent_to, given_to, waiting_to, IsFullTo, HasRoomFor, SameEnds};
 
 use crate::mail::Mail;
 use std::alloc::AllocError;
@@ -11,8 +11,8 @@ impl Mail {
     pub fn reserve(&mut self, letters: u32) -> Result<(), AllocError>
         ensures sent { (node : ℕ) → sent_to self.new node ≡ sent_to self.old node }
         ensures given { (node : ℕ) → given_to self.new node ≡ given_to self.old node }
-        ensures room { OnOk result (HasRoom self.new letters) }
-        ensures kept { (further : ℕ) → HasRoom self.old further → HasRoom self.new further }
+        ensures room { OnOk result (HasRoomFor self.new letters) }
+        ensures kept { (further : ℕ) → HasRoomFor self.old further → HasRoomFor self.new further }
         ensures ins { (node : ℕ) → in_at self.new node ≡ in_at self.old node }
         ensures ends { SameEnds self.old self.new }
     {

@@ -2,7 +2,7 @@
 ghost use Rattle.std.specs.Prelude.{◌≡◌, ◌≢◌, ◌<◌, ◌⊎◌, ℕ, [], ◌++◌, length};
 ghost use mathlib.Core.List.{IsPrefix};
 ghost use Rattle.lt_mail.specs.Words.{out_at, in_at, outs_count, ins_count, sent_to, given_to, waiting_to, taken_from, known_from, SameEnds, Both, IsOpenLink, AreLinked};
-ghost use Rattle.lt_mail.specs.Both.{IsMet, Gives, Sees};
+ghost use Rattle.lt_mail.specs.Both.{IsMet, LaneGives, Sees};
 ghost use Rattle.lt_mail.specs.Changes.{OutChanges, InChanges};
 
 use crate::lanes::look_at_both;
@@ -11,7 +11,7 @@ use crate::mail::Mail;
 fn meet(out: &mut Mail, into: &mut Mail)
     requires link { AreLinked out.old into.old }
     ensures met { Both IsMet (out_at out.new into.old.me) (in_at into.new out.old.me) }
-    ensures out { OutChanges Gives out.old out.new into.old.me }
+    ensures out { OutChanges LaneGives out.old out.new into.old.me }
     ensures into { InChanges Sees into.old into.new out.old.me }
 {
     let sender = &mut out.outs[usize::from(into.me)];

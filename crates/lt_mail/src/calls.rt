@@ -2,7 +2,7 @@
 ghost use Rattle.std.specs.Prelude.{◌≡◌, ◌≢◌, ◌+◌, ◌≤◌, ◌<◌, ◌⊎◌, ℕ, [], ◌∷◌, ◌++◌, length, IfSome, IfNone, OnOk};
 ghost use mathlib.Core.List.{IsPrefix};
 ghost use Rattle.lt_letter.specs.Seen.{letter_seen};
-ghost use Rattle.lt_mail.specs.Words.{out_at, in_at, outs_count, ins_count, sent_to, given_to, waiting_to, taken_from, known_from, if_to, if_from, places_to, IsFullTo, HasRoom, SameEnds};
+ghost use Rattle.lt_mail.specs.Words.{out_at, in_at, outs_count, ins_count, sent_to, given_to, waiting_to, taken_from, known_from, if_to, if_from, places_to, IsFullTo, HasRoomFor, SameEnds};
 
 use crate::mail::Mail;
 use lt_letter::Letter;
@@ -19,10 +19,10 @@ impl Mail {
     /// Puts a letter at the end of the outbox to a node.
     pub fn put(&mut self, to: u8, letter: Letter)
         requires peer { to < outs_count self.old }
-        requires room { HasRoom self.old 1 }
+        requires room { HasRoomFor self.old 1 }
         ensures sent { (node : ℕ) → sent_to self.new node ≡ sent_to self.old node ++ if_to to (letter_seen letter) node }
         ensures given { (node : ℕ) → given_to self.new node ≡ given_to self.old node }
-        ensures room { (letters : ℕ) → HasRoom self.old (letters + 1) → HasRoom self.new letters }
+        ensures room { (letters : ℕ) → HasRoomFor self.old (letters + 1) → HasRoomFor self.new letters }
         ensures ins { (node : ℕ) → in_at self.new node ≡ in_at self.old node }
         ensures ends { SameEnds self.old self.new }
     {

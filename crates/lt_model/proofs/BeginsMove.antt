@@ -10,7 +10,7 @@ use Rattle.lt_modes.specs.Held.{held_modes}
 use Rattle.lt_modes.specs.Script.{ScriptData}
 use Rattle.lt_modes.specs.State.{SetState, Desk, Tell, Body, Letter, Parked, ParkedAsk, ParkedTell}
 use Rattle.lt_modes.specs.Records.{entry_of}
-use Rattle.lt_modes.specs.Serving.{next_service, next_move}
+use Rattle.lt_modes.specs.Serving.{next_service, next_draw}
 use Rattle.lt_modes.specs.Fits.{Numbers}
 use Rattle.lt_modes.specs.Sound.{IsNoLater, ChargeKept, SoundDesk, SoundSet}
 use Rattle.lt_lists.specs.Below.{one_if}
@@ -223,7 +223,7 @@ stays_kept script moment w later s same goes h = record {
       (All-weaker (IsParkedFor script w s x) (IsParkedFor script later s x) (λ item. parked_same script w later s x item same) (state_at w s x).parked (h.parked x below));
   known = λ place desk is_desk. ledger_goes script moment w later s place desk same goes (h.known place desk (desk_same script w later s place desk same is_desk));
   served = λ t desk idle is_desk.
-      subst (λ (u : SetState). (next_service t u ≡ None) × (next_move t u ≡ None)) (sym (same.states t))
+      subst (λ (u : SetState). (next_service t u ≡ None) × (next_draw t u ≡ None)) (sym (same.states t))
       (h.served t desk refl (desk_same script w later s (Some t) desk same is_desk));
 }
 

@@ -4,7 +4,7 @@ use Rattle.std.specs.Prelude.{◌&&◌, ◌==◌, not, IsTrue, IsFalse, if◌the
 use Rattle.std.proofs.lemmas.Bool.{not-true, and_parts, or_cases}
 use Rattle.lt_modes.specs.declared.mode.Mode.{Mode}
 use Rattle.lt_modes.specs.declared.ask.Ask.{Ask}
-use Rattle.lt_modes.specs.Modes.{is_taking, Modes, has, union, bars, covers}
+use Rattle.lt_modes.specs.Modes.{excludes_itself, Modes, has, union, bars, covers}
 use Rattle.lt_modes.specs.State.{SetState, Desk, Entry, Tell, Parked, ParkedAsk, ParkedTell}
 use Rattle.lt_modes.specs.Held.{count_of, take_lock, own_modes, other_modes}
 use Rattle.lt_modes.specs.Queue.{modes_of_asks}
@@ -77,7 +77,7 @@ routed moving set clock stamp marked item s entry tells copies =
 
     by_item : (i : Parked) → own_account moving clock entry tells copies (reversed stamp.node i s) ≡ own_account moving clock entry tells copies s
     by_item (ParkedTell tell) = refl
-    by_item (ParkedAsk ask) = turned (is_taking ask.mode && not (ask.node == stamp.node)) (Some (record { node = ask.node; stamp = ask.stamp }))
+    by_item (ParkedAsk ask) = turned (excludes_itself ask.mode && not (ask.node == stamp.node)) (Some (record { node = ask.node; stamp = ask.stamp }))
 
     by_way : (w : Way) → own_account moving clock entry tells copies (sent_on set stamp item s w).state ≡ own_account moving clock entry tells copies s
     by_way Parks = refl

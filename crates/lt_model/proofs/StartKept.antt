@@ -15,7 +15,7 @@ use Rattle.lt_modes.specs.Modes.{Modes, no_modes, has}
 use Rattle.lt_modes.specs.Script.{ScriptData}
 use Rattle.lt_modes.specs.State.{SetState, Desk, Entry, Tell, Body, first_desk, first_entry}
 use Rattle.lt_modes.specs.Records.{entry_of, record_of}
-use Rattle.lt_modes.specs.Serving.{next_service, next_move}
+use Rattle.lt_modes.specs.Serving.{next_service, next_draw}
 use Rattle.lt_modes.specs.Fits.{Numbers}
 use Rattle.lt_modes.specs.Sound.{SoundSet}
 use Rattle.lt_lists.specs.Below.{sum_below, gather_below, one_if}
@@ -26,7 +26,7 @@ use Rattle.lt_spec.specs.Facts.{state_at, places_in_state, place_count}
 use Rattle.lt_modes.specs.Queue.{times_in}
 use Rattle.lt_law_accounts.specs.Account.{Account, AccountKept, counted}
 use Rattle.lt_law_accounts.specs.News.{News, Notice, NewsKept}
-use Rattle.lt_model.specs.Invariant.{DeskKept, SetKept, Kept, LinesKept}
+use Rattle.lt_model.specs.Invariant.{DeskKept, SetKept, WorldInvariant, LinesKept}
 use Rattle.lt_model.specs.Paths.{HasWay, Paths}
 use Rattle.lt_modes.specs.declared.parts.Hoped.{Hoped}
 use Rattle.lt_model.specs.SoundNode.{ClientsKept, numbers_of}
@@ -113,7 +113,7 @@ desk_first : (script : ScriptData) (s : ℕ) (place : Option ℕ) (desk : Desk) 
 desk_first script s (Some t) desk h = desk_if script.nodes (t == 0) desk h.1
 desk_first script s None desk h = no_comes script s h.0 _ h.2
 
-pub served_if : (nodes t : ℕ) (here : Bool) → (next_service t (state_if nodes here) ≡ None) × (next_move t (state_if nodes here) ≡ None)
+pub served_if : (nodes t : ℕ) (here : Bool) → (next_service t (state_if nodes here) ≡ None) × (next_draw t (state_if nodes here) ≡ None)
 served_if nodes t true = (refl, refl)
 served_if nodes t false = (refl, refl)
 
@@ -249,7 +249,7 @@ set_start script s some = record {
   served = λ t desk between h. served_if script.nodes t (t == 0);
 }
 
-pub start_kept : (script : ScriptData) → 0 < script.nodes → Kept script (start script)
+pub start_kept : (script : ScriptData) → 0 < script.nodes → WorldInvariant script (start script)
 start_kept script some = record {
   clients = λ q h. clients_start script q;
   letters = λ p q hp hq. All-nil _;

@@ -17,14 +17,14 @@ use Rattle.lt_modes.specs.State.{Desk, TokenBody}
 use Rattle.lt_model.specs.OnWay.{Comes, DeskIs}
 use Rattle.lt_model.specs.Paths.{Paths}
 use Rattle.lt_model.specs.Touches.{IsAside, SameSet, AreStamped}
-use Rattle.lt_model.specs.Invariant.{IsServed, Kept, LinesKept}
+use Rattle.lt_model.specs.Invariant.{IsServed, WorldInvariant, LinesKept}
 use Rattle.lt_model.specs.Timed.{Timed}
 use Rattle.lt_model.specs.Standing.{AsksStand}
 use Rattle.lt_model.specs.TryLines.{HasExactTries, IsOwnAnswer}
 
 -- the start of each script has the invariant
 abbrev pub StartKept : Type 0
-StartKept = (script : ScriptData) → 0 < script.nodes → Kept script (start script)
+StartKept = (script : ScriptData) → 0 < script.nodes → WorldInvariant script (start script)
 
 -- before any line nothing is held, and nobody waits
 abbrev pub StartLines : Type 0

@@ -17,8 +17,8 @@ numbers_of script = record {
 }
 
 -- how many asks of the client are unanswered, over all sets
-abbrev pub asks_of : ScriptData → NodeState → ℕ → ℕ
-asks_of script n client =
+abbrev pub unanswered_asks : ScriptData → NodeState → ℕ → ℕ
+unanswered_asks script n client =
     sum_below (length script.sets) (λ s. count_by (λ (ask : Ask). ask.client == client) (n.set s).pending)
 
 -- how many of them give up no mode
@@ -33,7 +33,7 @@ locks_in_all script n client = sum_below (length script.sets) (λ s. locks_of (n
 
 -- a client waits for at most one ask, and each of its locks and of its asks for one more came by a command of its own
 pub record ClientsKept (script : ScriptData) (n : NodeState) : Type 0 where
-  pub one_ask : (client : ℕ) → asks_of script n client ≤ 1
+  pub one_ask : (client : ℕ) → unanswered_asks script n client ≤ 1
   pub counts : (client : ℕ) → locks_in_all script n client + new_asks_of script n client ≤ n.made client
 
 -- between moves each set is sound, and so is what the clients hold and wait for

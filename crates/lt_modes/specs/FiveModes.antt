@@ -2,7 +2,7 @@
 use Rattle.std.specs.Prelude.{◌≡◌, ◌==◌, ℕ, Bool, true, false, ◌||◌, ◌&&◌, not, IsTrue, if◌then◌else◌}
 use Rattle.lt_modes.specs.declared.mode.Mode.{Mode}
 use Rattle.lt_modes.specs.declared.mode.Mode.TheVariants.{IntentionRead, Read, Upgrade, IntentionWrite, ReadIntentionWrite, Write}
-use Rattle.lt_modes.specs.Modes.{Modes, conflicts, is_taking, same_mode, has, modes_by, any_mode, one, bars, is_within, covers, has_none, same_modes}
+use Rattle.lt_modes.specs.Modes.{Modes, conflicts, excludes_itself, same_mode, has, modes_by, any_mode, one, bars, is_within, covers, has_none, same_modes}
 
 -- the conflict table of the five modes, as it stands where there is no sixth
 abbrev pub conflicts_of_five : Mode → Mode → Bool
@@ -60,7 +60,7 @@ TableAsBefore = (a b : Mode) → IsTrue (is_of_five a) → IsTrue (is_of_five b)
 
 -- one of the five is taking just where it is by the table of five
 abbrev pub TakingAsBefore : Type 0
-TakingAsBefore = (mode : Mode) → IsTrue (is_of_five mode) → is_taking mode ≡ conflicts_of_five mode mode
+TakingAsBefore = (mode : Mode) → IsTrue (is_of_five mode) → excludes_itself mode ≡ conflicts_of_five mode mode
 
 -- of the five, a set of the five bars what it bars by the table of five
 abbrev pub BarsAsBefore : Type 0

@@ -39,8 +39,8 @@ conflicts ReadIntentionWrite Write = true
 conflicts Write other = true
 
 -- a taking mode conflicts with itself
-abbrev pub is_taking : Mode → Bool
-is_taking mode = conflicts mode mode
+abbrev pub excludes_itself : Mode → Bool
+excludes_itself mode = conflicts mode mode
 
 -- the word of a mode in scripts and journals
 abbrev pub word_of : Mode → List ℕ

@@ -1,5 +1,5 @@
 ghost use Rattle.std.specs.Prelude.{◌≡◌, ◌≢◌, IfSome, IfNone};
-ghost use Rattle.lt_modes.specs.Modes.{conflicts, is_taking, word_of, mode_of};
+ghost use Rattle.lt_modes.specs.Modes.{conflicts, excludes_itself, word_of, mode_of};
 ghost use Rattle.lt_modes.specs.FiveModes.{is_of_five};
 ghost use Rattle.std.specs.Str.{bytes_eq};
 ghost use Rattle.lt_modes.specs.declared.mode.Mode.{Mode as AnyMode};
@@ -36,7 +36,7 @@ impl Mode {
 
     /// Whether at most one client can hold a lock of this mode.
     pub fn taking(self) -> bool
-        ensures { result ≡ is_taking self }
+        ensures { result ≡ excludes_itself self }
     {
         self.conflicts(self)
     }

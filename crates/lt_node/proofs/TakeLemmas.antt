@@ -9,7 +9,7 @@ use Rattle.lt_letter.specs.declared.letter.Letter.{Letter}
 use Rattle.lt_letter.specs.Seen.{letter_seen, body_seen}
 use Rattle.lt_letter.specs.Hands.{asks_in, RoomIn}
 use Rattle.lt_letter.specs.OutData.{OutData, FitsOut}
-use Rattle.lt_core.specs.CoreData.{CoreData, Does, HasRoom, HasMemory, RoomForBody, waiting}
+use Rattle.lt_core.specs.CoreData.{CoreData, Does, HasRoom, HasMemory, RoomForBody, waiting_here}
 use Rattle.lt_core.specs.Bound.{RoomToSend, most, brought}
 use Rattle.lt_core.proofs.BoundLemmas.{takes_fit}
 use Rattle.lt_limits.specs.Limits.{node_within}
@@ -62,7 +62,7 @@ can_take n letter core out stamp node taken room later after =
     record {
       room = room_later n.clock stamp.clock (asks_in letter.body) core taken.within later memory;
       desk = room_for_body (numbers_of n.script) n.me n.clock letter.stamp.clock stamp.clock core letter.body (few_homes n node) taken.fit.body taken.within after memory
-          (subst (λ (c : CoreData). RoomIn (waiting c.state + asks_in letter.body + 2) letter.body) (sym taken.core_is) room.desk);
+          (subst (λ (c : CoreData). RoomIn (waiting_here c.state + asks_in letter.body + 2) letter.body) (sym taken.core_is) room.desk);
       fits = takes_fit stamp (letter_seen letter) core.state out
           (subst (λ (c : CoreData). RoomToSend (most c.state + brought (body_seen letter.body) + 2) out) (sym taken.core_is)
           (record { posts = omega (arith, room.send.posts); events = omega (arith, room.send.events) }));

@@ -13,7 +13,7 @@ use Rattle.lt_letter.specs.declared.letter.Body.{Body}
 use Rattle.lt_letter.specs.declared.letter.Body.TheVariants as bodies
 use Rattle.lt_letter.specs.Seen.{body_seen, letter_seen}
 use Rattle.lt_letter.specs.Hands.{asks_in, RoomIn}
-use Rattle.lt_core.specs.CoreData.{CoreData, HasMemory, RoomForBody, waiting}
+use Rattle.lt_core.specs.CoreData.{CoreData, HasMemory, RoomForBody, waiting_here}
 use Rattle.lt_node.proofs.WithinLemmas.{IsWithin}
 
 count_most : (n : ℕ) (test : ℕ → Bool) → count_below n test ≤ n
@@ -92,7 +92,7 @@ few_brought numbers q clock s (bodies.Freeze news) few h = omega arith
 
 -- there is room for what it says, with memory
 pub room_for_body : (numbers : Numbers) (q before sent now : ℕ) (core : CoreData) (body : Body) → length numbers.homes ≤ 256 → body_fits numbers q core.state sent (body_seen body) ≡ true
-    → IsWithin before core.state → sent < now → HasMemory (asks_in body) core → RoomIn (waiting core.state + asks_in body + 2) body → RoomForBody now core body
+    → IsWithin before core.state → sent < now → HasMemory (asks_in body) core → RoomIn (waiting_here core.state + asks_in body + 2) body → RoomForBody now core body
 room_for_body numbers q before sent now core (bodies.Ask ask marked) few h within later memory room = tt
 room_for_body numbers q before sent now core (bodies.Tell tell) few h within later memory room = tt
 room_for_body numbers q before sent now core (bodies.Copy ask) few h within later memory room = tt

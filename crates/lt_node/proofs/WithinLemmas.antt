@@ -10,7 +10,7 @@ use Rattle.lt_modes.specs.Serving.{queue_of}
 use Rattle.lt_modes.specs.Fits.{parked_asks, asks_here}
 use Rattle.lt_lists.proofs.Searches.{any_below_none}
 use Rattle.lt_limits.specs.Limits.{desk_within, set_within, leaves_ask, node_within, leaves_asks}
-use Rattle.lt_core.specs.CoreData.{CoreData, HasRoom, HasMemory, waiting, epoch_of, number_of}
+use Rattle.lt_core.specs.CoreData.{CoreData, HasRoom, HasMemory, waiting_here, epoch_of, freeze_number_of}
 use Rattle.lt_letter.specs.OutData.{OutData}
 use Rattle.lt_node.specs.NodeData.{NodeData, IsNode, state_of, core_at, first_core}
 use Rattle.lt_node.specs.Room.{LeavesAsk, RoomToAct, IsReady}
@@ -18,11 +18,11 @@ use Rattle.lt_node.specs.Room.{LeavesAsk, RoomToAct, IsReady}
 -- what a set keeps, in numbers
 pub record IsWithin (clock : ℕ) (s : SetState) : Type 0 where
   pub locks : locks_in s.held ≤ 4096
-  pub asks : waiting s ≤ 256
+  pub asks : waiting_here s ≤ 256
   pub epoch : epoch_of s.desk ≤ clock
-  pub number : number_of s.desk ≤ clock
+  pub number : freeze_number_of s.desk ≤ clock
 
-desk_numbers : (clock : ℕ) (desk : Option Desk) → desk_within clock desk ≡ true → (epoch_of desk ≤ clock) × (number_of desk ≤ clock)
+desk_numbers : (clock : ℕ) (desk : Option Desk) → desk_within clock desk ≡ true → (epoch_of desk ≤ clock) × (freeze_number_of desk ≤ clock)
 desk_numbers clock None h = (omega arith, omega arith)
 desk_numbers clock (Some desk) h =
     let parts = and_parts (nat_le desk.epoch clock) (nat_le desk.number clock) h in

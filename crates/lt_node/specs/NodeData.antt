@@ -48,15 +48,15 @@ numbers_of script = record {
 }
 
 -- with what a move made put after what was there
-abbrev pub sent_by : NodeMade → OutData → OutData
-sent_by made out = record out { posts = out.posts ++ made.posts; events = out.events ++ made.events }
+abbrev pub with_sent : NodeMade → OutData → OutData
+with_sent made out = record out { posts = out.posts ++ made.posts; events = out.events ++ made.events }
 
 -- the node after the move, and what it sent out, are what the rule makes
 pub record NodeDoes (made : NodeMade) (old : NodeData) (had : OutData) (new : NodeData) (out : OutData) : Type 0 where
   pub script : new.script ≡ old.script
   pub me : new.me ≡ old.me
   pub state : state_of new ≡ made.node
-  pub sent : out ≡ sent_by made had
+  pub sent : out ≡ with_sent made had
 
 -- it is the same node, whose memory may be another
 pub record SameNode (old new : NodeData) : Type 0 where

@@ -13,11 +13,11 @@ use Rattle.lt_mail.specs.Opening.{IsFresh}
 use Rattle.lt_runner.specs.declared.parts.Parts.{Parts}
 use Rattle.lt_runner.specs.declared.hand.Hand.{Hand}
 use Rattle.lt_runner.specs.Hands.{in_hand, IsFromPeer}
-use Rattle.lt_runner.specs.Kept.{Kept}
+use Rattle.lt_runner.specs.Kept.{RunnerInvariant}
 
 pub kept_at_start : (p : Parts) (script : ScriptData) (node : ℕ) → p.script.now ≡ script → p.node.script ≡ script → p.node.me ≡ node
     → state_of p.node ≡ (start script).node node → node < script.nodes → IsFresh script.nodes node p.mail → p.log.entries ≡ [] → p.hand ≡ None
-    → p.out.posts ≡ [] → p.out.events ≡ [] → Kept p
+    → p.out.posts ≡ [] → p.out.events ≡ [] → RunnerInvariant p
 kept_at_start p script node reads is me state below fresh log hand posts events = record {
   used = λ a. [];
   script = reads ∙ sym is;

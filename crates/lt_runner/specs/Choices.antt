@@ -52,5 +52,5 @@ abbrev pub choice_by : ScriptData → ℕ → NodeState → Option Hand → Choi
 choice_by script me n None = act_choice script me n
 choice_by script me n (Some hand) = if may_take script me n (letter_seen hand.letter) then Take else act_choice script me n
 
-abbrev pub choice_of : Parts → Choice
-choice_of p = choice_by p.node.script p.node.me (state_of p.node) p.hand
+abbrev pub next_choice : Parts → Choice
+next_choice p = choice_by p.node.script p.node.me (state_of p.node) p.hand

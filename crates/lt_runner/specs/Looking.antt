@@ -21,7 +21,7 @@ AreBeside x y = Both IsOpenLink (out_at x.mail y.node.me) (in_at y.mail x.node.m
 
 -- what node b took of node a, and what it knows to come, is what the ring was given; where it has no letter in hand and
 -- nothing is known to come, nothing waits to be sent
-pub record IsMet (a b : ℕ) (x y : Parts) : Type 0 where
+pub record HasMet (a b : ℕ) (x y : Parts) : Type 0 where
   pub whole : taken_from y.mail a ++ known_from y.mail a ≡ given_to x.mail b
   pub moves : y.hand ≡ None → known_from y.mail a ≡ [] → waiting_to x.mail b ≡ []
 

@@ -9,7 +9,7 @@ use Rattle.lt_letter.specs.OutData.{OutData}
 use Rattle.lt_law_recipients.specs.Peers.{IsForPeer}
 use Rattle.lt_law_plays.specs.Plays.{letters_for}
 use Rattle.lt_mail.specs.declared.mail.Mail.{Mail}
-use Rattle.lt_mail.specs.Words.{in_at, outs_count, HasRoom, sent_to, SameEnds}
+use Rattle.lt_mail.specs.Words.{in_at, outs_count, HasRoomFor, sent_to, SameEnds}
 use Rattle.lt_runner.specs.declared.parts.Parts.{Parts}
 
 -- the entries after the last move has these events more
@@ -21,7 +21,7 @@ with_events entries (event ∷ events) = with_events (with_event entries event) 
 pub record CanPost (nodes me : ℕ) (m : Mail) (posts : List Post) : Type 0 where
   pub count : outs_count m ≡ nodes
   pub peers : All (IsForPeer nodes me) posts
-  pub room : HasRoom m (length posts)
+  pub room : HasRoomFor m (length posts)
 
 -- the letters are put into the outboxes to their nodes
 pub record Posted (posts : List Post) (a b : Mail) : Type 0 where

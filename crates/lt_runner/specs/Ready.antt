@@ -8,7 +8,7 @@ use Rattle.lt_spec.specs.NodeMove.{NodeState}
 use Rattle.lt_node.specs.NodeData.{numbers_of}
 use Rattle.lt_runner.specs.declared.choice.TheConstants.{LAST_CLOCK}
 use Rattle.lt_node.specs.Room.{RoomToAct, RoomToTake}
-use Rattle.lt_mail.specs.Words.{HasRoom}
+use Rattle.lt_mail.specs.Words.{HasRoomFor}
 use Rattle.lt_runner.specs.declared.hand.Hand.{Hand}
 use Rattle.lt_runner.specs.declared.parts.Parts.{Parts}
 
@@ -16,15 +16,15 @@ use Rattle.lt_runner.specs.declared.parts.Parts.{Parts}
 pub record CanLog (p : Parts) : Type 0 where
   pub move : 0 < p.log.spare
   pub events : p.out.event_room ≤ p.log.room
-  pub posts : HasRoom p.mail p.out.post_room
+  pub posts : HasRoomFor p.mail p.out.post_room
 
 -- and the node has room for a command
-pub record CanAct (p : Parts) : Type 0 where
+pub record RunnerCanAct (p : Parts) : Type 0 where
   pub log : CanLog p
   pub node : RoomToAct p.node p.out
 
 -- or for the letter in hand
-pub record CanTake (p : Parts) : Type 0 where
+pub record RunnerCanTake (p : Parts) : Type 0 where
   pub log : CanLog p
   pub node : IfSome p.hand (λ (hand : Hand). RoomToTake p.node hand.letter p.out)
 

@@ -1,7 +1,7 @@
 ghost use Rattle.std.specs.Prelude.{◌≡◌, ◌<◌, ◌^◌, length};
 ghost use Rattle.lt_law_plays.specs.Plays.{can_act};
 ghost use Rattle.lt_node.specs.NodeData.{state_of};
-ghost use Rattle.lt_runner.specs.Choices.{may_move, may_act, may_take, first_client, act_choice, choice_of, choice_by};
+ghost use Rattle.lt_runner.specs.Choices.{may_move, may_act, may_take, first_client, act_choice, next_choice, choice_by};
 ghost use Rattle.lt_letter.specs.Seen.{letter_seen};
 
 use crate::choice::{Choice, LAST_CLOCK};
@@ -13,7 +13,7 @@ use lt_script::Script;
 /// The move that this runner shows: the letter in hand, or where there is none or it doesn't fit, a client's command.
 pub(crate) fn choose(parts: &Parts<'_>) -> Choice
     requires script { parts.now.script.now ≡ parts.now.node.script }
-    ensures { result ≡ choice_of parts.now }
+    ensures { result ≡ next_choice parts.now }
 {
     match &parts.hand {
         Some(hand) if may_take(&parts.node, &hand.letter) => Choice::Take,

@@ -5,10 +5,10 @@ ghost use Rattle.lt_node.specs.NodeData.{state_of};
 ghost use Rattle.lt_node.specs.Room.{RoomToTake};
 ghost use Rattle.lt_mail.specs.Words.{outs_count};
 ghost use Rattle.lt_runner.specs.declared.choice.Choice.TheVariants as choices;
-ghost use Rattle.lt_runner.specs.Choices.{choice_of};
-ghost use Rattle.lt_runner.specs.Kept.{Kept, SameRunner, MovedOne};
+ghost use Rattle.lt_runner.specs.Choices.{next_choice};
+ghost use Rattle.lt_runner.specs.Kept.{RunnerInvariant, SameRunner, MovedOne};
 ghost use Rattle.lt_runner.specs.Posting.{Finished};
-ghost use Rattle.lt_runner.specs.Ready.{CanAct, CanTake, CanLog, FitsNow};
+ghost use Rattle.lt_runner.specs.Ready.{RunnerCanAct, RunnerCanTake, CanLog, FitsNow};
 
 use crate::hand::Hand;
 use crate::parts::Parts;
@@ -18,11 +18,11 @@ use lt_modes::{Move, Step};
 impl Parts<'_> {
     /// Makes the next command of the client.
     pub(crate) fn make_act(&mut self, client: u16)
-        requires kept { Kept self.old }
-        requires chosen { choice_of self.old ≡ choices.Act client }
-        requires room { CanAct self.old }
+        requires kept { RunnerInvariant self.old }
+        requires chosen { next_choice self.old ≡ choices.Act client }
+        requires room { RunnerCanAct self.old }
         requires place { length self.old.log.entries < self.old.limit }
-        ensures kept { Kept self.new }
+        ensures kept { RunnerInvariant self.new }
         ensures same { SameRunner self.old self.new }
         ensures moved { MovedOne self.old self.new }
     {
@@ -36,11 +36,11 @@ impl Parts<'_> {
 
     /// Takes the letter in hand.
     pub(crate) fn make_take(&mut self)
-        requires kept { Kept self.old }
-        requires chosen { choice_of self.old ≡ choices.Take }
-        requires room { CanTake self.old }
+        requires kept { RunnerInvariant self.old }
+        requires chosen { next_choice self.old ≡ choices.Take }
+        requires room { RunnerCanTake self.old }
         requires place { length self.old.log.entries < self.old.limit }
-        ensures kept { Kept self.new }
+        ensures kept { RunnerInvariant self.new }
         ensures same { SameRunner self.old self.new }
         ensures moved { MovedOne self.old self.new }
     {
@@ -51,13 +51,13 @@ impl Parts<'_> {
 
     // Takes the letter, which is no longer in hand.
     fn take_letter(&mut self, hand: Hand)
-        requires kept { Kept (record self.old { hand = Some hand }) }
+        requires kept { RunnerInvariant (record self.old { hand = Some hand }) }
         requires empty { self.old.hand ≡ None }
         requires fits { FitsNow self.old.node.script self.old.node.me (state_of self.old.node) hand }
         requires log { CanLog self.old }
         requires room { RoomToTake self.old.node hand.letter self.old.out }
         requires place { length self.old.log.entries < self.old.limit }
-        ensures kept { Kept self.new }
+        ensures kept { RunnerInvariant self.new }
         ensures same { SameRunner self.old self.new }
         ensures moved { MovedOne self.old self.new }
     {

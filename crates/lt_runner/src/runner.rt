@@ -2,8 +2,8 @@ ghost use Rattle.std.specs.Prelude.{◌≡◌, ◌≢◌, ◌<◌, ◌≤◌, []
 ghost use Rattle.lt_mail.specs.Opening.{IsFresh};
 ghost use Rattle.lt_runner.specs.declared.choice.Choice.TheVariants as choices;
 ghost use Rattle.lt_runner.specs.declared.turned.Worked.TheVariants as answers;
-ghost use Rattle.lt_runner.specs.Choices.{choice_of};
-ghost use Rattle.lt_runner.specs.Kept.{Kept, Grew, MovedOne, WorkEnds, OneEnds};
+ghost use Rattle.lt_runner.specs.Choices.{next_choice};
+ghost use Rattle.lt_runner.specs.Kept.{RunnerInvariant, Grew, MovedOne, WorkEnds, OneEnds};
 ghost use Rattle.lt_runner.specs.Starts.{StartsWith};
 
 use crate::gate::Gate;
@@ -25,13 +25,13 @@ pub struct Runner<'a> {
 
 impl<'a> Model for Runner<'a> {
     ghost use Rattle.lt_runner.specs.declared.parts.Parts.{Parts as RunnerParts};
-    ghost use Rattle.lt_runner.specs.Kept.{Kept};
+    ghost use Rattle.lt_runner.specs.Kept.{RunnerInvariant};
 
     ghost Value = { RunnerParts };
 
     ghost view = { λ r. r.parts };
 
-    ghost invariant = { λ r. Kept r.parts };
+    ghost invariant = { λ r. RunnerInvariant r.parts };
 }
 
 impl<'a> Runner<'a> {
@@ -69,7 +69,7 @@ impl<'a> Runner<'a> {
     pub fn one<G: Gate>(&mut self, gate: &G) -> Worked
         ensures grew { Grew self.old self.new }
         ensures ends { OneEnds result self.old self.new }
-        ensures moves { choice_of self.old ≢ choices.Nothing → result ≡ answers.Idle → MovedOne self.old self.new }
+        ensures moves { next_choice self.old ≢ choices.Nothing → result ≡ answers.Idle → MovedOne self.old self.new }
     {
         self.parts.one(gate)
     }
@@ -83,7 +83,7 @@ impl<'a> Runner<'a> {
 
     /// What a runner keeps.
     pub fn kept(&self)
-        ensures { Kept self.now }
+        ensures { RunnerInvariant self.now }
     {
         let _ = &self.parts;
     }
@@ -99,7 +99,7 @@ fn begin<'a>(
 ) -> Result<Parts<'a>, AllocError>
     requires node { node < script.now.nodes }
     requires mail { IsFresh script.now.nodes node mail }
-    ensures kept { IfOk result Kept }
+    ensures kept { IfOk result RunnerInvariant }
     ensures starts { IfOk result (StartsWith script.now node mail limit) }
 {
     let state = Node::new(alloc, script, node)?;

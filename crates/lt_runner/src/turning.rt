@@ -2,8 +2,8 @@
 ghost use Rattle.std.specs.Prelude.{◌≡◌, ◌≢◌, ◌<◌, length};
 ghost use Rattle.lt_runner.specs.declared.choice.Choice.TheVariants as choices;
 ghost use Rattle.lt_runner.specs.declared.turned.Turned.TheVariants as endings;
-ghost use Rattle.lt_runner.specs.Choices.{choice_of};
-ghost use Rattle.lt_runner.specs.Kept.{Kept, SameRunner, TurnEnds, KnowsNoLetter};
+ghost use Rattle.lt_runner.specs.Choices.{next_choice};
+ghost use Rattle.lt_runner.specs.Kept.{RunnerInvariant, SameRunner, TurnEnds, KnowsNoLetter};
 
 use crate::choice::Choice;
 use crate::choosing::choose;
@@ -15,11 +15,11 @@ impl Parts<'_> {
     /// Sends what waits in the outboxes, looks for a move, and makes it.
     #[tactic(auto, using(crate::proofs::TurnLemmas::turn_later, crate::proofs::TurnLemmas::same_later, crate::proofs::TurnLemmas::choice_lasts))]
     pub fn turn<G: Gate>(&mut self, gate: &G) -> Turned
-        requires { Kept self.old }
-        ensures kept { Kept self.new }
+        requires { RunnerInvariant self.old }
+        ensures kept { RunnerInvariant self.new }
         ensures same { SameRunner self.old self.new }
         ensures ends { TurnEnds result self.old self.new }
-        ensures choice { choice_of self.old ≢ choices.Nothing → result ≢ endings.Quiet }
+        ensures choice { next_choice self.old ≢ choices.Nothing → result ≢ endings.Quiet }
     {
         self.look();
         self.move_on(gate)
@@ -27,12 +27,12 @@ impl Parts<'_> {
 
     // Makes the move that is there to be made.
     fn move_on<G: Gate>(&mut self, gate: &G) -> Turned
-        requires kept { Kept self.old }
+        requires kept { RunnerInvariant self.old }
         requires rings { KnowsNoLetter self.old }
-        ensures kept { Kept self.new }
+        ensures kept { RunnerInvariant self.new }
         ensures same { SameRunner self.old self.new }
         ensures ends { TurnEnds result self.old self.new }
-        ensures choice { choice_of self.old ≢ choices.Nothing → result ≢ endings.Quiet }
+        ensures choice { next_choice self.old ≢ choices.Nothing → result ≢ endings.Quiet }
     {
         let choice = choose(self);
         if matches!(choice, Choice::Nothing) {
@@ -50,10 +50,10 @@ impl Parts<'_> {
 
     #[tactic(auto, using(crate::proofs::TurnLemmas::choice_stays, crate::proofs::TurnLemmas::same_later, crate::proofs::TurnLemmas::turn_later))]
     fn turn_act<G: Gate>(&mut self, client: u16, gate: &G) -> Turned
-        requires kept { Kept self.old }
-        requires chosen { choice_of self.old ≡ choices.Act client }
+        requires kept { RunnerInvariant self.old }
+        requires chosen { next_choice self.old ≡ choices.Act client }
         requires place { length self.old.log.entries < self.old.limit }
-        ensures kept { Kept self.new }
+        ensures kept { RunnerInvariant self.new }
         ensures same { SameRunner self.old self.new }
         ensures ends { TurnEnds result self.old self.new }
         ensures choice { result ≢ endings.Quiet }
@@ -68,10 +68,10 @@ impl Parts<'_> {
 
     #[tactic(auto, using(crate::proofs::TurnLemmas::take_lasts, crate::proofs::TurnLemmas::same_later, crate::proofs::TurnLemmas::turn_later))]
     fn turn_take<G: Gate>(&mut self, gate: &G) -> Turned
-        requires kept { Kept self.old }
-        requires chosen { choice_of self.old ≡ choices.Take }
+        requires kept { RunnerInvariant self.old }
+        requires chosen { next_choice self.old ≡ choices.Take }
         requires place { length self.old.log.entries < self.old.limit }
-        ensures kept { Kept self.new }
+        ensures kept { RunnerInvariant self.new }
         ensures same { SameRunner self.old self.new }
         ensures ends { TurnEnds result self.old self.new }
         ensures choice { result ≢ endings.Quiet }

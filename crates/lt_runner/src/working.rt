@@ -2,8 +2,8 @@
 ghost use Rattle.std.specs.Prelude.{◌≡◌, ◌≢◌, length};
 ghost use Rattle.lt_runner.specs.declared.choice.Choice.TheVariants as choices;
 ghost use Rattle.lt_runner.specs.declared.turned.Worked.TheVariants as answers;
-ghost use Rattle.lt_runner.specs.Choices.{choice_of};
-ghost use Rattle.lt_runner.specs.Kept.{Kept, Grew, MovedOne, WorkEnds, OneEnds};
+ghost use Rattle.lt_runner.specs.Choices.{next_choice};
+ghost use Rattle.lt_runner.specs.Kept.{RunnerInvariant, Grew, MovedOne, WorkEnds, OneEnds};
 
 use crate::gate::Gate;
 use crate::parts::Parts;
@@ -13,8 +13,8 @@ impl Parts<'_> {
     /// Makes turns until `patience` of them, one after the other, found no move, or the log is full.
     #[tactic(auto, using(crate::proofs::TurnLemmas::turn_grew, crate::proofs::TurnLemmas::grew_self))]
     pub fn work<G: Gate>(&mut self, patience: u32, gate: &G) -> Worked
-        requires { Kept self.old }
-        ensures kept { Kept self.new }
+        requires { RunnerInvariant self.old }
+        ensures kept { RunnerInvariant self.new }
         ensures grew { Grew self.old self.new }
         ensures ends { WorkEnds result patience self.new }
         ensures at_once { patience ≡ 0 → (result ≡ answers.Idle) × (self.new ≡ self.old) }
@@ -34,11 +34,11 @@ impl Parts<'_> {
     /// Makes one turn.
     #[tactic(auto, using(crate::proofs::TurnLemmas::turn_grew, crate::proofs::TurnLemmas::grew_self))]
     pub fn one<G: Gate>(&mut self, gate: &G) -> Worked
-        requires { Kept self.old }
-        ensures kept { Kept self.new }
+        requires { RunnerInvariant self.old }
+        ensures kept { RunnerInvariant self.new }
         ensures grew { Grew self.old self.new }
         ensures ends { OneEnds result self.old self.new }
-        ensures moves { choice_of self.old ≢ choices.Nothing → result ≡ answers.Idle → MovedOne self.old self.new }
+        ensures moves { next_choice self.old ≢ choices.Nothing → result ≡ answers.Idle → MovedOne self.old self.new }
     {
         match self.turn(gate) {
             Turned::Moved | Turned::Quiet => Worked::Idle,

@@ -14,7 +14,7 @@ use Rattle.lt_script.specs.declared.fault.Fault.TheVariants as faults
 use Rattle.lt_script.specs.declared.limits.TheConstants.{MAX_LINE}
 use Rattle.lt_script.specs.Script.{HasModesOf}
 use Rattle.lt_script.specs.Forms.{FormData, CommandForm, OrderData, LockOrder, TryOrder, UnlockOrder, ChangeOrder, DropOrder, form_of}
-use Rattle.lt_script.specs.Faults.{form_fault, line_fault, fault_by_form, is_plain_byte, of_version, mode_in, names_no_mode, uses_unknown, exceeds_limit, drops_elsewhere, command_of}
+use Rattle.lt_script.specs.Faults.{form_fault, line_fault, fault_by_form, is_plain_byte, of_version, mode_in, names_no_mode, uses_unknown, exceeds_limit, drops_elsewhere, named_command}
 
 after_tests : (a b : Bool) (x y : Fault) (o : Option Fault) → cond a (Some x) (cond b (Some y) o) ≡ None → o ≡ None
 after_tests true b x y o e = absurd (cc)
@@ -37,7 +37,7 @@ mode_own v (Some mode) e = elim (cases_Bool (is_of_version v mode)) [
   | inr other ↦ absurd (let h = rw other at e in cc)
 ]
 
-modes_own : (s : ScriptData) (order : OrderData) → names_no_mode s.version order ≡ false → HasModesOf s.version (command_of s order)
+modes_own : (s : ScriptData) (order : OrderData) → names_no_mode s.version order ≡ false → HasModesOf s.version (named_command s order)
 modes_own s (LockOrder set mode) e = mode_own s.version (mode_of mode) e
 modes_own s (TryOrder set mode) e = mode_own s.version (mode_of mode) e
 modes_own s (UnlockOrder set mode) e = mode_own s.version (mode_of mode) e
@@ -47,7 +47,7 @@ modes_own s (ChangeOrder set gives_up mode) e =
 modes_own s (DropOrder other set) e = tt
 
 -- a command's line without fault names modes of the version
-pub modes_clean : (v : ℕ) (s : ScriptData) (c : List ℕ) (order : OrderData) → form_fault v (Some s) (CommandForm c order) ≡ None → HasModesOf s.version (command_of s order)
+pub modes_clean : (v : ℕ) (s : ScriptData) (c : List ℕ) (order : OrderData) → form_fault v (Some s) (CommandForm c order) ≡ None → HasModesOf s.version (named_command s order)
 modes_clean v s c order e =
     modes_own s order
     (no_test (names_no_mode s.version order) faults.Mode (cond (drops_elsewhere s (CommandForm c order)) (Some faults.Node) None)

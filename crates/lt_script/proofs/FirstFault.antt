@@ -8,7 +8,7 @@ use Rattle.lt_script.specs.declared.fault.Fault.TheVariants as faults
 use Rattle.lt_script.specs.declared.fault.ScriptFault.{ScriptFault}
 use Rattle.lt_script.specs.Forms.{form_of}
 use Rattle.lt_script.specs.Faults.{line_fault}
-use Rattle.lt_script.specs.Reading.{is_skipped, line_step, unless, after_line, go_on, read_from, body_of}
+use Rattle.lt_script.specs.Reading.{is_skipped, line_step, unless, script_after, go_on, read_from, script_body}
 use Rattle.lt_script.specs.FaultLaws.{has_fault, IsLeastFault, IsFirstFault, LacksNodes, FirstIsTold}
 use Rattle.lt_script.proofs.FaultOrder.{least_is_told}
 
@@ -24,7 +24,7 @@ by_fault None next fault e = absurd (cc)
 told_of : (v : ℕ) (st : Option ScriptData) (line : List ℕ) (fault : Fault) → line_step v st line ≡ Err fault → Told v st line fault
 unfolding line_step
 told_of v st line fault e =
-    let next = after_line v st (form_of (words line)) in
+    let next = script_after v st (form_of (words line)) in
     elim (is_skipped line) as (λ t. is_skipped line ≡ t → (if t then Ok st else unless (line_fault v st line) next) ≡ Err fault → Told v st line fault) [
       | true ↦ λ skipped e. absurd (cc)
       | false ↦ λ judged e. record { judged = judged; first = by_fault (line_fault v st line) next fault e }
@@ -87,5 +87,5 @@ first_from v (line ∷ rest) k st told e =
 
 pub first_is_told : FirstIsTold
 first_is_told bytes told e =
-    let body = body_of (lines bytes) 1 in
+    let body = script_body (lines bytes) 1 in
     first_from body.version body.lines body.first None told e

@@ -23,7 +23,7 @@ use Rattle.lt_script.specs.Names.{is_name}
 use Rattle.lt_script.specs.Script.{IsScript, IsRequest, HasModesOf, HasTargets, most_nodes, most_clients, load_of, set_number, client_number}
 use Rattle.lt_script.specs.Forms.{NodesForm, ClientForm, CommandForm, OrderData, LockOrder, TryOrder, UnlockOrder, ChangeOrder, DropOrder, form_of, order_of}
 use Rattle.lt_script.specs.Faults.{only_nodes, mode_in}
-use Rattle.lt_script.specs.Reading.{Body, line_step, read_from, body_of, read_body, read_of}
+use Rattle.lt_script.specs.Reading.{ScriptBody, line_step, read_from, script_body, read_body, read_of}
 use Rattle.lt_script.specs.Printing.{version_words, nodes_words, first_name, set_words, client_words, order_words, command_words, script_words, print_of}
 use Rattle.lt_script.proofs.NameLemmas.{not_in_front}
 use Rattle.lt_script.proofs.PrintedLines.{ArePrinted, printed_words, IsPrintedLine, is_printed, line_read, name_printed, number_printed, printed_line, name_begins}
@@ -308,12 +308,12 @@ later_read s good k =
     ∙ walk.1
     ∙ read_end v [] walk.0 (Some s) refl
 
-abbrev body : ℕ → ℕ → List (List ℕ) → Body
+abbrev body : ℕ → ℕ → List (List ℕ) → ScriptBody
 body version first ls = record { version = version; first = first; lines = ls }
 
 -- the line `nodes` isn't skipped, and is no line `version 2`
-first_body : (nodes : ℕ) (rest : List (List ℕ)) (k : ℕ) → nodes ≤ 64 → body_of (spaced (nodes_words nodes) ∷ rest) k ≡ body 1 k (spaced (nodes_words nodes) ∷ rest)
-unfolding body_of
+first_body : (nodes : ℕ) (rest : List (List ℕ)) (k : ℕ) → nodes ≤ 64 → script_body (spaced (nodes_words nodes) ∷ rest) k ≡ body 1 k (spaced (nodes_words nodes) ∷ rest)
+unfolding script_body
 first_body nodes rest k few =
     let good = nodes_printed nodes few in
     rw (words_spaced (nodes_words nodes) (printed_words (nodes_words nodes) good.are_printed)) (and_false (not (nat_lt MAX_LINE (length (spaced (nodes_words nodes))))))
@@ -323,20 +323,20 @@ first_body nodes rest k few =
     and_false false = refl
 
 -- the line `version 2` stands before the others
-second_body : (rest : List (List ℕ)) (k : ℕ) → body_of (spaced (codes "version" ∷ codes "2" ∷ []) ∷ rest) k ≡ body 2 (k + 1) rest
-unfolding body_of
+second_body : (rest : List (List ℕ)) (k : ℕ) → script_body (spaced (codes "version" ∷ codes "2" ∷ []) ∷ rest) k ≡ body 2 (k + 1) rest
+unfolding script_body
 second_body rest k = rw (words_spaced (codes "version" ∷ codes "2" ∷ []) (printed_words (codes "version" ∷ codes "2" ∷ []) (refl, (refl, tt)))) refl
 
 pub read_printed : (s : ScriptData) → IsScript s → read_of (print_of s) ≡ Ok s
 read_printed s good =
-    ap (λ ls. read_body (body_of ls 1)) (lines_printed s good) ∙ elim good.version [
+    ap (λ ls. read_body (script_body ls 1)) (lines_printed s good) ∙ elim good.version [
       | inl one ↦
-          ap (λ v. read_body (body_of (map spaced (version_words v ++ later_words s)) 1)) one
+          ap (λ v. read_body (script_body (map spaced (version_words v ++ later_words s)) 1)) one
           ∙ ap read_body (first_body s.nodes (map spaced (map (set_words s.sets) s.sets ++ (map client_words s.clients ++ map (command_words s) s.commands))) 1 good.few_nodes)
           ∙ ap (λ v. read_from v (map spaced (later_words s)) 1 None) (sym one)
           ∙ later_read s good 1
       | inr two ↦
-          ap (λ v. read_body (body_of (map spaced (version_words v ++ later_words s)) 1)) two
+          ap (λ v. read_body (script_body (map spaced (version_words v ++ later_words s)) 1)) two
           ∙ ap read_body (second_body (map spaced (later_words s)) 1)
           ∙ ap (λ v. read_from v (map spaced (later_words s)) 2 None) (sym two)
           ∙ later_read s good 2

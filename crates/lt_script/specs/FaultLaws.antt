@@ -11,7 +11,7 @@ use Rattle.lt_script.specs.Fault.{number_of}
 use Rattle.lt_script.specs.Names.{is_reserved}
 use Rattle.lt_script.specs.Forms.{FormData, VersionForm, NodesForm, SetForm, SetWithForm, ClientForm, CommandForm, LockOrder, TryOrder, UnlockOrder, ChangeOrder, DropOrder, form_of}
 use Rattle.lt_script.specs.Faults.{declared, is_plain_byte, has_bad_number, has_nodes_misplaced, declares_no_name, declares_again, uses_unknown, exceeds_limit, uses_no_mode, drops_elsewhere, line_fault}
-use Rattle.lt_script.specs.Reading.{Body, is_skipped, line_step, body_of, read_of}
+use Rattle.lt_script.specs.Reading.{ScriptBody, is_skipped, line_step, script_body, read_of}
 
 -- the line has a form that passes the test
 abbrev pub has_form : (FormData → Bool) → Option FormData → Bool
@@ -108,9 +108,9 @@ pub record LacksNodes (version number : ℕ) (st : Option ScriptData) (all : Lis
   pub fault : told.fault ≡ faults.Nodes
 
 -- the first fault of these lines is told, or that the line `nodes` is not among them
-abbrev pub IsToldOf : Body → ScriptFault → Type 0
+abbrev pub IsToldOf : ScriptBody → ScriptFault → Type 0
 IsToldOf body told = IsFirstFault body.version body.first None body.lines told ⊎ LacksNodes body.version body.first None body.lines told
 
 -- what is told of a text is its first line with a fault, and the least fault of that line; a first line `version 2` has none
 abbrev pub FirstIsTold : Type 0
-FirstIsTold = (bytes : List ℕ) (told : ScriptFault) → read_of bytes ≡ Err told → IsToldOf (body_of (lines bytes) 1) told
+FirstIsTold = (bytes : List ℕ) (told : ScriptFault) → read_of bytes ≡ Err told → IsToldOf (script_body (lines bytes) 1) told

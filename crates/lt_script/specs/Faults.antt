@@ -176,12 +176,12 @@ abbrev pub mode_at : List ℕ → Mode
 mode_at word = unwrap_or (mode_of word) IntentionRead
 
 -- the command of an order
-abbrev pub command_of : ScriptData → OrderData → Command
-command_of s (LockOrder set mode) = commands.Lock (set_at s set) (mode_at mode)
-command_of s (TryOrder set mode) = commands.Try (set_at s set) (mode_at mode)
-command_of s (UnlockOrder set mode) = commands.Unlock (set_at s set) (mode_at mode)
-command_of s (ChangeOrder set gives_up mode) = commands.Change (set_at s set) (mode_at gives_up) (mode_at mode)
-command_of s (DropOrder other set) = commands.DropAll (unwrap_or (client_number s other) 0) (set_at s set)
+abbrev pub named_command : ScriptData → OrderData → Command
+named_command s (LockOrder set mode) = commands.Lock (set_at s set) (mode_at mode)
+named_command s (TryOrder set mode) = commands.Try (set_at s set) (mode_at mode)
+named_command s (UnlockOrder set mode) = commands.Unlock (set_at s set) (mode_at mode)
+named_command s (ChangeOrder set gives_up mode) = commands.Change (set_at s set) (mode_at gives_up) (mode_at mode)
+named_command s (DropOrder other set) = commands.DropAll (unwrap_or (client_number s other) 0) (set_at s set)
 
 abbrev pub with_set : ScriptData → List ℕ → ℕ → ScriptData
 with_set s name family = record s { sets = s.sets ++ record { name = name; family = family } ∷ [] }
@@ -199,7 +199,7 @@ after_form s (NodesForm n) = only_nodes s.version (unwrap_or (number n) 0)
 after_form s (SetForm name) = with_set s name (length s.sets)
 after_form s (SetWithForm name t) = with_set s name (family_of s t)
 after_form s (ClientForm name n) = with_client s name (unwrap_or (number n) 0)
-after_form s (CommandForm c order) = with_command s (unwrap_or (client_number s c) 0) (command_of s order)
+after_form s (CommandForm c order) = with_command s (unwrap_or (client_number s c) 0) (named_command s order)
 
 -- what is found out of a line: its form, or its first fault
 abbrev pub Judges : Result Form Fault → Option Fault → Option FormData → Type 0

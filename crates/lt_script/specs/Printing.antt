@@ -52,5 +52,5 @@ unfoldable pub print_of : ScriptData → List ℕ
 print_of s = text (map spaced (script_words s))
 
 -- one line with its line end
-abbrev pub line_of : List (List ℕ) → List ℕ
-line_of words = spaced words ++ 10 ∷ []
+abbrev pub ended_line : List (List ℕ) → List ℕ
+ended_line words = spaced words ++ 10 ∷ []

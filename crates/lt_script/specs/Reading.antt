@@ -20,9 +20,9 @@ abbrev pub is_skipped : List ℕ → Bool
 is_skipped line = says_nothing (words line)
 
 -- the script after a line of this form
-abbrev pub after_line : ℕ → Option ScriptData → Option FormData → Option ScriptData
-after_line version st (Some form) = Some (after_form (declared version st) form)
-after_line version st None = st
+abbrev pub script_after : ℕ → Option ScriptData → Option FormData → Option ScriptData
+script_after version st (Some form) = Some (after_form (declared version st) form)
+script_after version st None = st
 
 -- what is so if there is no fault
 abbrev pub unless : Option Fault → Option ScriptData → Result (Option ScriptData) Fault
@@ -31,7 +31,7 @@ unless None st = Ok st
 
 -- the script after a line, or the line's first fault
 unfoldable pub line_step : ℕ → Option ScriptData → List ℕ → Result (Option ScriptData) Fault
-line_step version st line = if is_skipped line then Ok st else unless (line_fault version st line) (after_line version st (form_of (words line)))
+line_step version st line = if is_skipped line then Ok st else unless (line_fault version st line) (script_after version st (form_of (words line)))
 
 -- what the rest makes of the script after a line with this number, or the line's fault
 abbrev pub go_on : ℕ → (Option ScriptData → Result ScriptData ScriptFault) → Result (Option ScriptData) Fault → Result ScriptData ScriptFault
@@ -57,26 +57,26 @@ abbrev pub says_version : List ℕ → Bool
 says_version line = not (nat_lt MAX_LINE (length line)) && is_version_form (form_of (words line))
 
 -- lines of a script of this version, the first of which has this number
-pub record Body : Type 0 where
+pub record ScriptBody : Type 0 where
   pub version : ℕ
   pub first : ℕ
   pub lines : List (List ℕ)
 
 -- the lines behind the line `version 2`, where it is the first one that isn't skipped, and version 2; else all lines from
 -- the first one that isn't skipped, and version 1
-unfoldable pub body_of : List (List ℕ) → ℕ → Body
-body_of [] k = record { version = 1; first = k; lines = [] }
-body_of (line ∷ rest) k =
-    if is_skipped line then body_of rest (k + 1)
+unfoldable pub script_body : List (List ℕ) → ℕ → ScriptBody
+script_body [] k = record { version = 1; first = k; lines = [] }
+script_body (line ∷ rest) k =
+    if is_skipped line then script_body rest (k + 1)
     else if says_version line then record { version = 2; first = k + 1; lines = rest }
     else record { version = 1; first = k; lines = line ∷ rest }
 
-abbrev pub read_body : Body → Result ScriptData ScriptFault
+abbrev pub read_body : ScriptBody → Result ScriptData ScriptFault
 read_body body = read_from body.version body.lines body.first None
 
 -- the script that the bytes denote, or the first fault
 abbrev pub read_of : List ℕ → Result ScriptData ScriptFault
-read_of bytes = read_body (body_of (lines bytes) 1)
+read_of bytes = read_body (script_body (lines bytes) 1)
 
 -- what reading a line gives: its fault, or the script after it
 abbrev pub TakesLine : Option Fault → Option ScriptData → Result (Option ScriptData) Fault → Type 0

@@ -4,7 +4,7 @@ ghost use Rattle.lt_modes.specs.Modes.{word_of};
 ghost use Rattle.lt_text.specs.Text.{each_after_space};
 ghost use Rattle.lt_script.specs.Script.{IsRequest};
 ghost use Rattle.lt_script.specs.Reading.{read_of};
-ghost use Rattle.lt_script.specs.Printing.{print_of, line_of, version_words, nodes_words, set_words, client_words, order_words, command_words};
+ghost use Rattle.lt_script.specs.Printing.{print_of, ended_line, version_words, nodes_words, set_words, client_words, order_words, command_words};
 
 use crate::declarations::{ClientDecl, SetDecl};
 use crate::script::Script;
@@ -27,7 +27,7 @@ pub fn print(alloc: Global, script: &Script) -> Result<Vec<u8>, AllocError>
 }
 
 fn push_version(out: &mut Vec<u8>, version: u8) -> Result<(), AllocError>
-    ensures { OnOk result (out.new.items ≡ out.old.items ++ flat_map line_of (version_words version)) }
+    ensures { OnOk result (out.new.items ≡ out.old.items ++ flat_map ended_line (version_words version)) }
 {
     if version == 1 {
         Ok(())
@@ -37,7 +37,7 @@ fn push_version(out: &mut Vec<u8>, version: u8) -> Result<(), AllocError>
 }
 
 fn push_nodes(out: &mut Vec<u8>, nodes: u8) -> Result<(), AllocError>
-    ensures { OnOk result (out.new.items ≡ out.old.items ++ line_of (nodes_words nodes)) }
+    ensures { OnOk result (out.new.items ≡ out.old.items ++ ended_line (nodes_words nodes)) }
 {
     push_text(out, "nodes ")?;
     push_number(out, u32::from(nodes))?;
@@ -46,7 +46,7 @@ fn push_nodes(out: &mut Vec<u8>, nodes: u8) -> Result<(), AllocError>
 
 fn push_sets(out: &mut Vec<u8>, script: &Script) -> Result<(), AllocError>
     ensures { OnOk result (out.new.items
-        ≡ out.old.items ++ flat_map (λ x. line_of (set_words script.now.sets x)) script.now.sets) }
+        ≡ out.old.items ++ flat_map (λ x. ended_line (set_words script.now.sets x)) script.now.sets) }
 {
     for set in script.set_declarations() {
         push_set(out, script, set)?;
@@ -57,7 +57,7 @@ fn push_sets(out: &mut Vec<u8>, script: &Script) -> Result<(), AllocError>
 fn push_set(out: &mut Vec<u8>, script: &Script, set: &SetDecl) -> Result<(), AllocError>
     requires { set.now.family < length script.now.sets }
     ensures { OnOk result
-        (out.new.items ≡ out.old.items ++ line_of (set_words script.now.sets set.now)) }
+        (out.new.items ≡ out.old.items ++ ended_line (set_words script.now.sets set.now)) }
 {
     push_text(out, "set")?;
     push_word(out, set.name())?;
@@ -71,7 +71,7 @@ fn push_set(out: &mut Vec<u8>, script: &Script, set: &SetDecl) -> Result<(), All
 
 fn push_clients(out: &mut Vec<u8>, script: &Script) -> Result<(), AllocError>
     ensures { OnOk result
-        (out.new.items ≡ out.old.items ++ flat_map (λ x. line_of (client_words x)) script.now.clients) }
+        (out.new.items ≡ out.old.items ++ flat_map (λ x. ended_line (client_words x)) script.now.clients) }
 {
     for client in script.client_declarations() {
         push_client(out, client)?;
@@ -80,7 +80,7 @@ fn push_clients(out: &mut Vec<u8>, script: &Script) -> Result<(), AllocError>
 }
 
 fn push_client(out: &mut Vec<u8>, client: &ClientDecl) -> Result<(), AllocError>
-    ensures { OnOk result (out.new.items ≡ out.old.items ++ line_of (client_words client.now)) }
+    ensures { OnOk result (out.new.items ≡ out.old.items ++ ended_line (client_words client.now)) }
 {
     push_text(out, "client")?;
     push_word(out, client.name())?;
@@ -91,7 +91,7 @@ fn push_client(out: &mut Vec<u8>, client: &ClientDecl) -> Result<(), AllocError>
 
 fn push_commands(out: &mut Vec<u8>, script: &Script) -> Result<(), AllocError>
     ensures { OnOk result (out.new.items
-        ≡ out.old.items ++ flat_map (λ x. line_of (command_words script.now x)) script.now.commands) }
+        ≡ out.old.items ++ flat_map (λ x. ended_line (command_words script.now x)) script.now.commands) }
 {
     for request in script.requests() {
         push_command(out, script, *request)?;
@@ -106,7 +106,7 @@ fn push_command(
 ) -> Result<(), AllocError>
     requires { IsRequest script.now.sets script.now.clients request }
     ensures { OnOk result
-        (out.new.items ≡ out.old.items ++ line_of (command_words script.now request)) }
+        (out.new.items ≡ out.old.items ++ ended_line (command_words script.now request)) }
 {
     out.extend_from_slice(script.client_name(request.0))?;
     push_order(out, script, request)?;

@@ -1,8 +1,8 @@
 ghost use Rattle.std.specs.Prelude.{◌≡◌, ◌⊎◌, ◌<◌, ◌≤◌, ◌+◌, ◌-◌, ◌^◌, None, Some, false, length, IfOk, OnOk};
 ghost use Rattle.lt_text.specs.Text.{lines, words};
 ghost use Rattle.lt_script.specs.Forms.{form_of, form_seen, order_seen, SetWithForm, ClientForm, CommandForm};
-ghost use Rattle.lt_script.specs.Faults.{declared, form_fault, after_form, command_of, set_at, mode_at};
-ghost use Rattle.lt_script.specs.Reading.{TakesLine, Reads, is_skipped, says_version, line_step, body_of, read_of};
+ghost use Rattle.lt_script.specs.Faults.{declared, form_fault, after_form, named_command, set_at, mode_at};
+ghost use Rattle.lt_script.specs.Reading.{TakesLine, Reads, is_skipped, says_version, line_step, script_body, read_of};
 
 use crate::fault::{Fault, ReadError, ScriptFault};
 use crate::form::{Form, Order, form_of};
@@ -59,7 +59,7 @@ struct Body<'a> {
 // The version of the script, and the lines that say more.
 fn body_of<'a>(bytes: &'a [u8]) -> Body<'a>
     requires { length bytes.now < 2 ^ 32 - 1 }
-    ensures body { body_of (lines bytes.now) 1
+    ensures body { script_body (lines bytes.now) 1
         ≡ record { version = result.version; first = result.number; lines = lines result.rest.now } }
     ensures version { (result.version ≡ 1) ⊎ (result.version ≡ 2) }
     ensures count { result.number + length result.rest.now ≤ length bytes.now + 1 }
@@ -233,7 +233,7 @@ fn add_command(
 
 // The command of an order that names declared sets and clients, and modes.
 fn command_of(script: &Script, order: Order<'_>) -> Command
-    ensures { result ≡ command_of script.now (order_seen order.entry) }
+    ensures { result ≡ named_command script.now (order_seen order.entry) }
 {
     match order {
         Order::Lock { set, mode } => Command::Lock {

@@ -1,6 +1,6 @@
 -- What an answer says of a command: once its text is written, and where it came to no end.
 use Rattle.std.proofs.Common.{◌≡◌, true, false, ℕ, List, [], Option, Some, refl, sym, subst, inl, inr}
-use Rattle.lt_io.specs.FaultCounts.{Counts}
+use Rattle.lt_io.specs.FaultCounts.{CountsFaults}
 use Rattle.lt_io.specs.Source.{SourceState}
 use Rattle.lt_spec.specs.Log.{Logged}
 use Rattle.lt_words.specs.declared.command.Command.{Command}
@@ -11,12 +11,12 @@ use Rattle.lt_serve.specs.declared.status.Status.TheVariants.{Done, Stuck, Usage
 use Rattle.lt_serve.specs.Causes.{TellsSource, TellsSink, IsReadWhole, IsEnding, IsRefusal, WritesNothing, reads, limit_of}
 use Rattle.lt_serve.specs.Complete.{IsComplete, IsAnswered}
 use Rattle.lt_serve.specs.Serves.{Serves}
-use Rattle.lt_serve.specs.TopCall.{Does, TellsOf}
+use Rattle.lt_serve.specs.TopCall.{JournalsBy, TellsOf}
 use Rattle.lt_serve.proofs.Causing.{HasWritten, written_causes, refused_causes, written_reading}
 use Rattle.lt_serve.proofs.Completing.{rose, refusal_complete}
 
 does_answered : (moves : ℕ) (command : Command) (status : Status) (left : Option (List ℕ)) (run : List Logged) (text : List ℕ)
-    → Does moves command status left run text → IsEnding status → IsAnswered command status
+    → JournalsBy moves command status left run text → IsEnding status → IsAnswered command status
 does_answered moves SimFirst status left run text does h = h
 does_answered moves (Sim seed) status left run text does h = h
 does_answered moves (Make nodes clients commands seed) status left run text does h = does.0
@@ -38,7 +38,7 @@ told_answered moves command NoMemory left run old new told h = absurd h
 told_answered moves command (BadJournal line) left run old new told h = absurd h
 
 pub written_complete : (moves : ℕ) (command : Command) (status : Status) (left : Option (List ℕ)) (run : List Logged) (old new : Option (List ℕ))
-    (before after : SourceState) (w v : ℕ) → TellsOf moves command status left run old new → HasWritten status → (status ≡ WriteFault → Counts 1 w v)
+    (before after : SourceState) (w v : ℕ) → TellsOf moves command status left run old new → HasWritten status → (status ≡ WriteFault → CountsFaults 1 w v)
     → IsComplete (Some command) status before after w v
 written_complete moves command status left run old new before after w v told (inl h) fault =
     λ good writes memory. told_answered moves command status left run old new told h

@@ -9,7 +9,7 @@ use Rattle.lt_words.specs.declared.command.Command.TheVariants.{Sim, Make, Soak}
 use Rattle.lt_serve.specs.declared.status.Status.{Status}
 use Rattle.lt_serve.specs.declared.status.Status.TheVariants.{Done, Stuck, Usage, Refused, TooLong, ReadFault, WriteFault, NoMemory, Cut, BadJournal}
 use Rattle.lt_words.specs.Words.{seed_of, can_make, make_of, command_of}
-use Rattle.lt_serve.specs.Causes.{HasCause, TellsSource, IsReadWhole, WritesNothing, IsEnding, CanBeMade, IsRefusal}
+use Rattle.lt_serve.specs.Causes.{HasStatusCause, TellsSource, IsReadWhole, WritesNothing, IsEnding, CanBeMade, IsRefusal}
 
 -- the writing has begun
 abbrev pub HasWritten : Status → Type 0
@@ -41,7 +41,7 @@ is_other : (status other : Status) → HasWritten status → WritesNothing other
 is_other status other h n e = never_written status h (subst WritesNothing (sym e) n)
 
 pub written_causes : (asked : Option Command) (command : Command) (left : Option (List ℕ)) (status : Status) → asked ≡ Some command
-    → HasWritten status → HasCause asked left status
+    → HasWritten status → HasStatusCause asked left status
 written_causes asked command left status is h = record {
   usage = λ e. absurd (is_other status Usage h tt e);
   no_command = λ none. absurd (not_none (sym none ∙ is));
@@ -55,8 +55,8 @@ written_causes asked command left status is h = record {
     not_none e = cc
 
 pub refused_causes : (asked : Option Command) (command : Command) (left : Option (List ℕ)) (status : Status) → asked ≡ Some command
-    → IsRefusal command left status → HasCause asked left status
-refused_causes asked command left status is h = subst (λ (a : Option Command). HasCause a left status) (sym is) (record {
+    → IsRefusal command left status → HasStatusCause asked left status
+refused_causes asked command left status is h = subst (λ (a : Option Command). HasStatusCause a left status) (sym is) (record {
   usage = λ e. absurd (subst (λ (s : Status). IsRefusal command left s) e h);
   no_command = λ none. absurd (not_none none);
   refused = λ fault e. (subst (λ (s : Status). IsRefusal command left s) e h).1;

@@ -1,6 +1,6 @@
 -- A command that came to no end has something against it.
 use Rattle.std.proofs.Common.{◌≡◌, ◌≤◌, ℕ, Some, refl, arith, true}
-use Rattle.lt_io.specs.FaultCounts.{Counts, RoseBy, count_after}
+use Rattle.lt_io.specs.FaultCounts.{CountsFaults, RoseBy, count_after}
 use Rattle.lt_io.specs.Source.{SourceState}
 use Rattle.lt_words.specs.declared.command.Command.{Command}
 use Rattle.lt_serve.specs.declared.status.Status.{Status}
@@ -11,7 +11,7 @@ use Rattle.lt_serve.specs.Complete.{IsComplete}
 at_least : (a b : ℕ) → b ≡ a → a ≤ b
 at_least a b e = omega (arith, e)
 
-pub rose : (n before now : ℕ) → Counts n before now → RoseBy n before now
+pub rose : (n before now : ℕ) → CountsFaults n before now → RoseBy n before now
 rose n before now h = at_least (count_after before n) now h.count
 
 pub refusal_complete : (command : Command) (status : Status) (before after : SourceState) (w v : ℕ)

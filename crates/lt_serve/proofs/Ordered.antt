@@ -10,27 +10,27 @@ use Rattle.lt_world.specs.declared.choice.Choice.{Choice}
 use Rattle.lt_world.specs.Choice.{choice_of}
 use Rattle.lt_serve.specs.declared.order.Order.{Order}
 use Rattle.lt_serve.specs.declared.order.Order.TheVariants.{First}
-use Rattle.lt_serve.specs.Orders.{place_of, IsAt, AreInOrderFrom}
+use Rattle.lt_serve.specs.Orders.{scheduled, IsAt, AreInOrderFrom}
 
 -- the order after these moves
 abbrev pub order_after : ScriptData → World → Order → List Logged → Order
 order_after script w order [] = order
 order_after script w order (entry ∷ rest) =
-    order_after script (after script w entry.made.stamp.node entry.made.step) (place_of order (count_turns script w)).1 rest
+    order_after script (after script w entry.made.stamp.node entry.made.step) (scheduled order (count_turns script w)).1 rest
 
 pub one_more : (script : ScriptData) (w : World) (order : Order) (run : List Logged) (entry : Logged) → AreInOrderFrom script w order run
-    → IsAt script (after_run script w run) (place_of (order_after script w order run) (count_turns script (after_run script w run))).0 entry
+    → IsAt script (after_run script w run) (scheduled (order_after script w order run) (count_turns script (after_run script w run))).0 entry
     → AreInOrderFrom script w order (run ++ entry ∷ [])
 one_more script w order [] entry h at = (at, tt)
 one_more script w order (first ∷ rest) entry h at =
-    (h.0, one_more script (after script w first.made.stamp.node first.made.step) (place_of order (count_turns script w)).1 rest entry h.1 at)
+    (h.0, one_more script (after script w first.made.stamp.node first.made.step) (scheduled order (count_turns script w)).1 rest entry h.1 at)
 
 pub order_more : (script : ScriptData) (w : World) (order : Order) (run : List Logged) (entry : Logged)
     → order_after script w order (run ++ entry ∷ [])
-    ≡ (place_of (order_after script w order run) (count_turns script (after_run script w run))).1
+    ≡ (scheduled (order_after script w order run) (count_turns script (after_run script w run))).1
 order_more script w order [] entry = refl
 order_more script w order (first ∷ rest) entry =
-    order_more script (after script w first.made.stamp.node first.made.step) (place_of order (count_turns script w)).1 rest entry
+    order_more script (after script w first.made.stamp.node first.made.step) (scheduled order (count_turns script w)).1 rest entry
 
 -- the move that was picked, as an entry
 pub picked : (script : ScriptData) (w : World) (place : ℕ) (choice : Choice) → Some choice ≡ option_map choice_of (pick script w place)

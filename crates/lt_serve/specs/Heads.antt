@@ -18,9 +18,9 @@ use Rattle.lt_serve.specs.Input.{IsAnswerOfBytes}
 use Rattle.lt_serve.specs.TopCall.{Checks}
 
 -- these bytes tell where the input is cut: there are no others, or whatever comes after them, it is cut where they are
-abbrev pub IsCut : List ℕ → Option ℕ → Type 0
-IsCut bytes None = Unit {0}
-IsCut bytes (Some room) = IsSettled bytes
+abbrev pub IsHeadCut : List ℕ → Option ℕ → Type 0
+IsHeadCut bytes None = Unit {0}
+IsHeadCut bytes (Some room) = IsSettled bytes
 
 -- an input was read as far as these bytes: to its end, or so that so many more may come
 abbrev pub IsHead : List ℕ → Option ℕ → SourceState → SourceState → Type 0

@@ -9,9 +9,9 @@ use Rattle.lt_serve.specs.declared.order.Order.{Order}
 use Rattle.lt_serve.specs.declared.order.Order.TheVariants.{First, Drawn}
 
 -- the place of the next move among so many, and the order after it
-abbrev pub place_of : Order → ℕ → ℕ × Order
-place_of First count = (0, First)
-place_of (Drawn numbers) count = ((draw_of count numbers).0, Drawn (draw_of count numbers).1)
+abbrev pub scheduled : Order → ℕ → ℕ × Order
+scheduled First count = (0, First)
+scheduled (Drawn numbers) count = ((draw_of count numbers).0, Drawn (draw_of count numbers).1)
 
 -- the entry is that of the enabled move at this place
 abbrev pub IsAt : ScriptData → World → ℕ → Logged → Type 0
@@ -22,8 +22,8 @@ IsAt script w place entry =
 abbrev pub AreInOrderFrom : ScriptData → World → Order → List Logged → Type 0
 AreInOrderFrom script w order [] = Unit {0}
 AreInOrderFrom script w order (entry ∷ rest) =
-    IsAt script w (place_of order (count_turns script w)).0 entry
-    × AreInOrderFrom script (after script w entry.made.stamp.node entry.made.step) (place_of order (count_turns script w)).1 rest
+    IsAt script w (scheduled order (count_turns script w)).0 entry
+    × AreInOrderFrom script (after script w entry.made.stamp.node entry.made.step) (scheduled order (count_turns script w)).1 rest
 
 -- each move of the run is the one whose place the order gives
 abbrev pub AreInOrder : Order → ScriptData → List Logged → Type 0

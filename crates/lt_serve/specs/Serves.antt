@@ -3,7 +3,7 @@ use Rattle.std.specs.Prelude.{◌≡◌, true, false, ℕ, List, Option}
 use Rattle.lt_io.specs.Source.{SourceState}
 use Rattle.lt_words.specs.declared.command.Command.{Command}
 use Rattle.lt_serve.specs.declared.serving.Served.{Served}
-use Rattle.lt_serve.specs.Causes.{HasCause, TellsSource, TellsSink, WritesNothing, reads, limit_of}
+use Rattle.lt_serve.specs.Causes.{HasStatusCause, TellsSource, TellsSink, WritesNothing, reads, limit_of}
 use Rattle.lt_serve.specs.Complete.{IsComplete}
 use Rattle.lt_serve.specs.TopCall.{Tells}
 
@@ -13,7 +13,7 @@ pub record Serves {S K : Type 0} (state : S → SourceState) (held : K → Optio
   -- what the run is, how it ended, and what was written
   pub tells : Tells moves asked answer.status (state source_before).left answer.run.entries (held sink_before) (held sink_after)
   -- why the answer comes
-  pub causes : HasCause asked (state source_before).left answer.status
+  pub causes : HasStatusCause asked (state source_before).left answer.status
   -- what it says of the source, and of the sink
   pub reading : reads asked ≡ true → TellsSource (limit_of asked) answer.status (state source_before) (state source_after)
   pub unread : reads asked ≡ false → source_after ≡ source_before

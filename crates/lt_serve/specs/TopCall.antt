@@ -7,7 +7,7 @@ use Rattle.lt_modes.specs.Script.{ScriptData}
 use Rattle.lt_spec.specs.Log.{Logged}
 use Rattle.lt_merge.specs.Merging.{AreRising}
 use Rattle.lt_spec.specs.FixedOrder.{first_run}
-use Rattle.lt_journal.specs.Split.{parts_of}
+use Rattle.lt_journal.specs.Split.{input_parts}
 use Rattle.lt_journal.specs.Text.{text_of, lines_text}
 use Rattle.lt_journal.specs.declared.line.Line.TheVariants.{Cut as CutLine}
 use Rattle.lt_text.specs.Text.{lines}
@@ -83,12 +83,12 @@ Prints nodes clients commands seed ending run text =
 -- where the bytes are told, their lines before the journal denote this script
 abbrev pub DenotesBefore : Option (List ℕ) → ScriptData → Type 0
 DenotesBefore None script = Unit {0}
-DenotesBefore (Some bytes) script = read_of (take (parts_of bytes).script bytes) ≡ Ok script
+DenotesBefore (Some bytes) script = read_of (take (input_parts bytes).script bytes) ≡ Ok script
 
 -- where the bytes are told, this is the first fault of the lines before the journal
 abbrev pub HasFaultBefore : Option (List ℕ) → ScriptFault → Type 0
 HasFaultBefore None fault = Unit {0}
-HasFaultBefore (Some bytes) fault = read_of (take (parts_of bytes).script bytes) ≡ Err fault
+HasFaultBefore (Some bytes) fault = read_of (take (input_parts bytes).script bytes) ≡ Err fault
 
 -- where the bytes are told, the journal in them is that of this run of the script
 abbrev pub IsJournalOf : Option (List ℕ) → ScriptData → List Logged → Type 0
@@ -115,13 +115,13 @@ pub record Checks (ending : Status) (left : Option (List ℕ)) (run : List Logge
   pub counted : text ≡ ok_text run
 
 -- what a command did that ended so: its run, and the text that is to be written
-abbrev pub Does : ℕ → Command → Status → Option (List ℕ) → List Logged → List ℕ → Type 0
-Does moves SimFirst ending left run text = JournalsFirst moves ending left run text
-Does moves (Sim seed) ending left run text = JournalsDrawn seed moves ending left run text
-Does moves (Make nodes clients commands seed) ending left run text = Prints nodes clients commands seed ending run text
-Does moves Check ending left run text = Checks ending left run text
-Does moves Run ending left run text = JournalsThreads moves ending left run text
-Does moves (Soak seed) ending left run text = Soaks seed moves ending run text
+abbrev pub JournalsBy : ℕ → Command → Status → Option (List ℕ) → List Logged → List ℕ → Type 0
+JournalsBy moves SimFirst ending left run text = JournalsFirst moves ending left run text
+JournalsBy moves (Sim seed) ending left run text = JournalsDrawn seed moves ending left run text
+JournalsBy moves (Make nodes clients commands seed) ending left run text = Prints nodes clients commands seed ending run text
+JournalsBy moves Check ending left run text = Checks ending left run text
+JournalsBy moves Run ending left run text = JournalsThreads moves ending left run text
+JournalsBy moves (Soak seed) ending left run text = Soaks seed moves ending run text
 
 -- no run is told, and nothing was written
 abbrev pub TellsNothing : List Logged → Option (List ℕ) → Option (List ℕ) → Type 0
@@ -129,12 +129,12 @@ TellsNothing run old new = (run ≡ []) × (new ≡ old)
 
 -- it ended so, and its whole text was appended
 abbrev pub TellsAll : ℕ → Command → Status → Option (List ℕ) → List Logged → Option (List ℕ) → Option (List ℕ) → Type 0
-TellsAll moves command ending left run old new = (text : List ℕ) × Does moves command ending left run text × Appends old new text
+TellsAll moves command ending left run old new = (text : List ℕ) × JournalsBy moves command ending left run text × Appends old new text
 
 -- it ended in some way, and a first part of its text was appended
 abbrev pub TellsPart : ℕ → Command → Option (List ℕ) → List Logged → Option (List ℕ) → Option (List ℕ) → Type 0
 TellsPart moves command left run old new =
-    (ending : Status) × (text : List ℕ) × Does moves command ending left run text × AppendsPart old new text
+    (ending : Status) × (text : List ℕ) × JournalsBy moves command ending left run text × AppendsPart old new text
 
 -- what the status says of a command: of the run, and of what the sink held before and after
 abbrev pub TellsOf : ℕ → Command → Status → Option (List ℕ) → List Logged → Option (List ℕ) → Option (List ℕ) → Type 0

@@ -5,13 +5,13 @@ ghost use Rattle.lt_text.specs.Text.{lines};
 ghost use Rattle.lt_modes.specs.Script.{ScriptData};
 ghost use Rattle.lt_script.specs.Script.{IsScript};
 ghost use Rattle.lt_script.specs.Reading.{read_of};
-ghost use Rattle.lt_journal.specs.Split.{parts_of};
+ghost use Rattle.lt_journal.specs.Split.{input_parts};
 ghost use Rattle.lt_law_checking.specs.Checking.{checked};
-ghost use Rattle.lt_checker.specs.Checker.{Answers};
+ghost use Rattle.lt_checker.specs.Checker.{IsAnswer};
 ghost use Rattle.lt_serve.specs.declared.limits.TheConstants.{MAX_JOURNAL};
 ghost use Rattle.lt_words.specs.declared.command.Command.TheVariants as command;
 ghost use Rattle.lt_serve.specs.Causes.{TellsSource, IsReadWhole, IsRefusal};
-ghost use Rattle.lt_serve.specs.Heads.{IsCut, IsRest, FailsRest, IsRoom, IsLineOf, IsAnswer};
+ghost use Rattle.lt_serve.specs.Heads.{IsHeadCut, IsRest, FailsRest, IsRoom, IsLineOf, IsAnswer};
 ghost use Rattle.lt_serve.specs.TopCall.{Checks, ok_text};
 
 use crate::head::read_head;
@@ -55,7 +55,7 @@ fn judged<S: Source>(
     room: Option<usize>,
 ) -> Result<Result<Made, Status>, ReadFailure>
     requires few { length bytes.now ≤ MAX_JOURNAL }
-    requires cut { IsCut bytes.now room }
+    requires cut { IsHeadCut bytes.now room }
     requires room { IsRoom room }
     ensures answer { IfOk result (λ answer. (rest : List ℕ) × IsAnswer (bytes.now ++ rest) answer × IsRest room rest (S.state source.old) (S.state source.new)) }
     ensures err { IfErr result (λ why. FailsRest room why (S.state source.old) (S.state source.new)) }
@@ -82,7 +82,7 @@ fn checked_journal<S: Source>(
     first: &[u8],
     room: Option<usize>,
 ) -> Result<Result<Run, ReplayError>, ReadFailure>
-    ensures told { IfOk result (λ told. (rest : List ℕ) × Answers (checked script.now (lines (first.now ++ rest))) told × IsRest room rest (S.state source.old) (S.state source.new)) }
+    ensures told { IfOk result (λ told. (rest : List ℕ) × IsAnswer (checked script.now (lines (first.now ++ rest))) told × IsRest room rest (S.state source.old) (S.state source.new)) }
     ensures err { IfErr result (λ why. FailsRest room why (S.state source.old) (S.state source.new)) }
 {
     let mut checker = Checker::new(alloc, script)?;
@@ -95,8 +95,8 @@ fn checked_journal<S: Source>(
 fn answered(alloc: Global, before: u32, told: Result<Run, ReplayError>) -> Result<Made, Status>
     requires few { before ≤ MAX_JOURNAL }
     requires line { IsLineOf (2 * MAX_JOURNAL) told }
-    ensures { (script : ScriptData) → (bytes : List ℕ) → IsScript script → read_of (take (parts_of bytes).script bytes) ≡ Ok script
-        → before ≡ (parts_of bytes).lines → Answers (checked script (lines (drop (parts_of bytes).journal bytes))) told → IsAnswer bytes result }
+    ensures { (script : ScriptData) → (bytes : List ℕ) → IsScript script → read_of (take (input_parts bytes).script bytes) ≡ Ok script
+        → before ≡ (input_parts bytes).lines → IsAnswer (checked script (lines (drop (input_parts bytes).journal bytes))) told → IsAnswer bytes result }
 {
     law_promised();
     law_means();

@@ -1,7 +1,7 @@
 ghost use Rattle.std.specs.Prelude.{◌≡◌, ◌⊎◌, ℕ, Option, List};
 ghost use Rattle.lt_words.specs.declared.command.Command.{Command as AnyCommand};
 ghost use Rattle.lt_serve.specs.Causes.{TellsSink, WritesNothing, IsEnding};
-ghost use Rattle.lt_serve.specs.TopCall.{Does, TellsOf};
+ghost use Rattle.lt_serve.specs.TopCall.{JournalsBy, TellsOf};
 
 use crate::serving::Served;
 use crate::status::Status;
@@ -20,7 +20,7 @@ pub struct Made {
 pub(crate) fn write_made<K: Sink>(sink: &mut K, made: Made) -> Served
     requires ended { IsEnding made.ending }
     ensures tells { (moves : ℕ) → (command : AnyCommand) → (left : Option (List ℕ))
-        → Does moves command made.ending left made.run.entries made.text.items
+        → JournalsBy moves command made.ending left made.run.entries made.text.items
         → TellsOf moves command result.status left result.run.entries (K.held sink.old) (K.held sink.new) }
     ensures written { IsEnding result.status ⊎ (result.status ≡ Status.WriteFault) }
     ensures writing { TellsSink result.status (K.faults sink.old) (K.faults sink.new) }

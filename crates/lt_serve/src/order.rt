@@ -4,7 +4,7 @@ ghost use Rattle.lt_spec.specs.FixedOrder.{pick, count_turns};
 ghost use Rattle.lt_world.specs.Choice.{choice_of};
 ghost use Rattle.lt_world.specs.Fields.{world_of};
 ghost use Rattle.lt_gen.specs.Draws.{draw_of};
-ghost use Rattle.lt_serve.specs.Orders.{place_of};
+ghost use Rattle.lt_serve.specs.Orders.{scheduled};
 
 use lt_gen::Draws;
 use lt_world::{Choice, World};
@@ -21,8 +21,8 @@ impl Order {
     pub fn choose(&mut self, world: &World<'_>) -> Option<Choice>
         ensures none { IsNone result → IsTrue (is_at_rest world.now.script (world_of world.now)) }
         ensures place { OnSome result (result ≡ option_map choice_of (pick world.now.script (world_of world.now)
-            (place_of self.old (count_turns world.now.script (world_of world.now))).0)) }
-        ensures next { OnSome result (self.new ≡ (place_of self.old (count_turns world.now.script (world_of world.now))).1) }
+            (scheduled self.old (count_turns world.now.script (world_of world.now))).0)) }
+        ensures next { OnSome result (self.new ≡ (scheduled self.old (count_turns world.now.script (world_of world.now))).1) }
         ensures enabled { IfSome result (λ choice. IsTrue (is_enabled world.now.script (world_of world.now) choice.node choice.step)) }
     {
         match self {

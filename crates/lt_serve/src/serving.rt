@@ -5,7 +5,7 @@ ghost use Rattle.lt_mail.specs.declared.opening.TheConstants.{MAX_CAPACITY};
 ghost use Rattle.lt_words.specs.Words.{command_of};
 ghost use Rattle.lt_serve.specs.Causes.{TellsSource, IsReadWhole, IsEnding, IsRefusal, CanBeMade, reads, limit_of};
 ghost use Rattle.lt_serve.specs.Serves.{Serves};
-ghost use Rattle.lt_serve.specs.TopCall.{Does};
+ghost use Rattle.lt_serve.specs.TopCall.{JournalsBy};
 
 use crate::checking::checked;
 use crate::made::{Made, write_made};
@@ -115,7 +115,7 @@ fn make<R: Threads + Sync, S: Source, G: Gate>(
     requires capacity { (0 < setup.capacity) × (setup.capacity ≤ MAX_CAPACITY) }
     requires possible { CanBeMade command }
     ensures ended { IfOk result (λ made. IsEnding made.ending) }
-    ensures does { IfOk result (λ made. Does setup.moves command made.ending (S.state source.old).left made.run.entries made.text.items) }
+    ensures does { IfOk result (λ made. JournalsBy setup.moves command made.ending (S.state source.old).left made.run.entries made.text.items) }
     ensures whole { OnOk result (reads (Some command) ≡ true → IsReadWhole (limit_of (Some command)) (S.state source.old) (S.state source.new)) }
     ensures reading { IfErr result (λ answer. reads (Some command) ≡ true → TellsSource (limit_of (Some command)) answer (S.state source.old) (S.state source.new)) }
     ensures refused { IfErr result (IsRefusal command (S.state source.old).left) }

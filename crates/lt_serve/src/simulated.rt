@@ -8,7 +8,7 @@ ghost use Rattle.lt_serve.specs.Endings.{RanTo, StopsInTime, cut_of};
 ghost use Rattle.lt_serve.specs.declared.limits.TheConstants.{MAX_INPUT};
 ghost use Rattle.lt_words.specs.declared.command.Command.TheVariants as command;
 ghost use Rattle.lt_serve.specs.Causes.{TellsSource, IsReadWhole, IsRefusal};
-ghost use Rattle.lt_serve.specs.TopCall.{Does};
+ghost use Rattle.lt_serve.specs.TopCall.{JournalsBy};
 
 use crate::made::Made;
 use crate::order::Order;
@@ -61,7 +61,7 @@ pub(crate) fn simulated_first<S: Source>(
     source: &mut S,
 ) -> Result<Made, Status>
     requires moves { (0 < moves) × (moves ≤ MAX_MOVES) }
-    ensures does { IfOk result (λ made. Does moves (command.SimFirst) made.ending (S.state source.old).left made.run.entries made.text.items) }
+    ensures does { IfOk result (λ made. JournalsBy moves (command.SimFirst) made.ending (S.state source.old).left made.run.entries made.text.items) }
     ensures whole { OnOk result (IsReadWhole MAX_INPUT (S.state source.old) (S.state source.new)) }
     ensures reading { IfErr result (λ answer. TellsSource MAX_INPUT answer (S.state source.old) (S.state source.new)) }
     ensures refused { IfErr result (IsRefusal (command.SimFirst) (S.state source.old).left) }
@@ -81,7 +81,7 @@ pub(crate) fn simulated_drawn<S: Source>(
     source: &mut S,
 ) -> Result<Made, Status>
     requires moves { (0 < moves) × (moves ≤ MAX_MOVES) }
-    ensures does { IfOk result (λ made. Does moves (command.Sim seed) made.ending (S.state source.old).left made.run.entries made.text.items) }
+    ensures does { IfOk result (λ made. JournalsBy moves (command.Sim seed) made.ending (S.state source.old).left made.run.entries made.text.items) }
     ensures whole { OnOk result (IsReadWhole MAX_INPUT (S.state source.old) (S.state source.new)) }
     ensures reading { IfErr result (λ answer. TellsSource MAX_INPUT answer (S.state source.old) (S.state source.new)) }
     ensures refused { IfErr result (IsRefusal (command.Sim seed) (S.state source.old).left) }

@@ -8,7 +8,7 @@ ghost use Rattle.lt_mail.specs.declared.opening.TheConstants.{MAX_CAPACITY};
 ghost use Rattle.lt_serve.specs.declared.limits.TheConstants.{MAX_INPUT};
 ghost use Rattle.lt_words.specs.declared.command.Command.TheVariants as command;
 ghost use Rattle.lt_serve.specs.Causes.{TellsSource, IsReadWhole, IsRefusal};
-ghost use Rattle.lt_serve.specs.TopCall.{Does};
+ghost use Rattle.lt_serve.specs.TopCall.{JournalsBy};
 
 use crate::made::Made;
 use crate::reading::read_script;
@@ -92,7 +92,7 @@ pub(crate) fn threaded<R: Threads + Sync, S: Source, G: Gate>(
 ) -> Result<Made, Status>
     requires moves { (0 < setup.moves) × (setup.moves ≤ MAX_MOVES) }
     requires capacity { (0 < setup.capacity) × (setup.capacity ≤ MAX_CAPACITY) }
-    ensures does { IfOk result (λ made. Does setup.moves (command.Run) made.ending (S.state source.old).left made.run.entries made.text.items) }
+    ensures does { IfOk result (λ made. JournalsBy setup.moves (command.Run) made.ending (S.state source.old).left made.run.entries made.text.items) }
     ensures whole { OnOk result (IsReadWhole MAX_INPUT (S.state source.old) (S.state source.new)) }
     ensures reading { IfErr result (λ answer. TellsSource MAX_INPUT answer (S.state source.old) (S.state source.new)) }
     ensures refused { IfErr result (IsRefusal (command.Run) (S.state source.old).left) }

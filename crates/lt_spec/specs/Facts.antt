@@ -3,7 +3,7 @@ use Rattle.lt_modes.specs.Queue.{times_in, same_ask}
 use Rattle.lt_lists.specs.Below.{one_if, sum_below}
 use Rattle.std.specs.Prelude.{◌≡◌, ◌==◌, ◌<◌, ℕ, ◌+◌, List, [], ◌∷◌, if◌then◌else◌, IsTrue, is_some, sum_by, Contains}
 use Rattle.lt_modes.specs.declared.ask.Ask.{Ask}
-use Rattle.lt_modes.specs.Modes.{is_taking}
+use Rattle.lt_modes.specs.Modes.{excludes_itself}
 use Rattle.lt_modes.specs.Script.{ScriptData}
 use Rattle.lt_modes.specs.State.{SetState, Body, AskBody, TellBody, CopyBody, TokenBody, FreezeBody, Letter, Parked, ParkedAsk, ParkedTell}
 use Rattle.lt_modes.specs.Serving.{queue_of}
@@ -60,7 +60,7 @@ IsFirstWaiter script w s ask =
 pub record StandsBehind (w : World) (s : ℕ) (later older : Ask) : Type 0 where
   pub parked : Contains (state_at w s older.node).parked (ParkedAsk later)
   pub unanswered : Contains (state_at w s older.node).pending older
-  pub taking : IsTrue (is_taking older.mode)
+  pub taking : IsTrue (excludes_itself older.mode)
   pub younger : IsTrue (is_newer later.stamp older.stamp)
 
 -- each of these asks stands behind the next one, and the last one stands in the queue of a desk

@@ -21,13 +21,13 @@ holding client set mode = record { client = client; set = set; mode = mode }
 abbrev pub same_holding : Holding → Holding → Bool
 same_holding a b = a.client == b.client && (a.set == b.set && same_mode a.mode b.mode)
 
-abbrev pub without_at : List Holding → Option ℕ → List Holding
-without_at held None = held
-without_at held (Some k) = remove held k
+abbrev pub without_holding : List Holding → Option ℕ → List Holding
+without_holding held None = held
+without_holding held (Some k) = remove held k
 
 -- one such lock less, where there is one
 abbrev pub without_one : List Holding → Holding → List Holding
-without_one held lock = without_at held (position (same_holding lock) held)
+without_one held lock = without_holding held (position (same_holding lock) held)
 
 -- the lock is one of the client in the family of the set
 abbrev pub is_dropped : ScriptData → ℕ → ℕ → Holding → Bool
@@ -48,8 +48,8 @@ abbrev pub holdings : ScriptData → List Event → List Holding
 holdings script lines = fold (after_line script) [] lines
 
 -- how often the lock is held
-abbrev pub count_of : List Holding → Holding → ℕ
-count_of held lock = count_by (same_holding lock) held
+abbrev pub times_held : List Holding → Holding → ℕ
+times_held held lock = count_by (same_holding lock) held
 
 -- the lines of a run, in order
 abbrev pub lines_of : List Logged → List Event

@@ -19,7 +19,7 @@ use Rattle.lt_runner.specs.Kept.{SameRunner, AsSeen, Grew}
 use Rattle.lt_world.specs.Fields.{moves_of, can_move, full_node}
 use Rattle.lt_world.proofs.Counts.{least_full}
 use Rattle.lt_crew.specs.Together.{EachIs, IsCrew, crew_run, crew_world}
-use Rattle.lt_crew.specs.Rounds.{IsCut}
+use Rattle.lt_crew.specs.Rounds.{IsCrewCut}
 use Rattle.lt_crew.specs.Finished.{AreCrewLogs}
 use Rattle.lt_crew.specs.Starting.{IsFirstCrew}
 use Rattle.lt_crew.proofs.Each.{each_weaker, each_before}
@@ -60,7 +60,7 @@ same_can script w q =
     or_swap false false = refl
 
 cut_full : (limit k : ℕ) (script : ScriptData) (rs : List Parts) (logs : List RunData) (run : List Logged) → IsCrew script rs → HasLimit limit rs
-    → AreCrewLogs script rs logs → Merges logs run → IsCut k script rs → full_node script limit run ≡ Some k
+    → AreCrewLogs script rs logs → Merges logs run → IsCrewCut k script rs → full_node script limit run ≡ Some k
 cut_full limit k script rs logs run crew limits finished merges cut =
     least_full script limit run k cut.below
     (λ j below.

@@ -67,7 +67,7 @@ pub record OnlyMemory (q : ℕ) (old new : List NodeData) : Type 0 where
   pub node : SameNode (node_at old q) (node_at new q)
 
 -- there is room for what the node sends out, for which out has room
-pub record RoomToSend (q : ℕ) (inboxes : List (List WireData)) (run : RunData) (out : OutData) : Type 0 where
+pub record InboxRoom (q : ℕ) (inboxes : List (List WireData)) (run : RunData) (out : OutData) : Type 0 where
   pub letters : HasRoomFrom q out.post_room inboxes
   pub move : 1 ≤ run.spare
   pub lines : out.event_room ≤ run.room

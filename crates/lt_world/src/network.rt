@@ -9,7 +9,7 @@ ghost use Rattle.lt_node.specs.Room.{RoomToAct, RoomToTake};
 ghost use Rattle.lt_world.specs.Mail.{SameLetters, AreDelivered, inbox_at, mail_in};
 ghost use Rattle.lt_script.specs.Script.{IsScript};
 ghost use Rattle.lt_world.specs.Moving.{IsWithin, CanAct, CanTake};
-ghost use Rattle.lt_world.specs.Fields.{Holds, IsNodeOf, OnlyMemory, RoomToSend, node_at};
+ghost use Rattle.lt_world.specs.Fields.{Holds, IsNodeOf, OnlyMemory, InboxRoom, node_at};
 
 use crate::choice::Choice;
 use crate::delivery::{deliver, pop_front, put_front, reserve_from};
@@ -119,7 +119,7 @@ impl<'a> Network<'a> {
         ensures entries { self.new.run.entries ≡ self.old.run.entries }
         ensures out { (self.new.out.posts ≡ self.old.out.posts) × (self.new.out.events ≡ self.old.out.events) }
         ensures room { OnOk result (RoomToAct (node_at self.new.nodes.items node) self.new.out) }
-        ensures send { OnOk result (RoomToSend node self.new.inboxes.items self.new.run self.new.out) }
+        ensures send { OnOk result (InboxRoom node self.new.inboxes.items self.new.run self.new.out) }
     {
         self.nodes[usize::from(node)].reserve(&mut self.out)?;
         reserve_all(&mut self.inboxes, &mut self.run, node, &self.out)
@@ -136,7 +136,7 @@ impl<'a> Network<'a> {
         ensures out { (self.new.out.posts ≡ self.old.out.posts) × (self.new.out.events ≡ self.old.out.events) }
         ensures letter { letter_seen letter.new ≡ letter_seen letter.old }
         ensures room { OnOk result (RoomToTake (node_at self.new.nodes.items node) letter.new self.new.out) }
-        ensures send { OnOk result (RoomToSend node self.new.inboxes.items self.new.run self.new.out) }
+        ensures send { OnOk result (InboxRoom node self.new.inboxes.items self.new.run self.new.out) }
     {
         self.nodes[usize::from(node)].reserve_for(letter, &mut self.out)?;
         reserve_all(&mut self.inboxes, &mut self.run, node, &self.out)
@@ -209,7 +209,7 @@ fn reserve_all(
     requires { (q : ℕ) → q < length inboxes.old.items → sender < length (inbox_at inboxes.old.items q) }
     ensures letters { SameLetters inboxes.old.items inboxes.new.items }
     ensures entries { run.new.entries ≡ run.old.entries }
-    ensures send { OnOk result (RoomToSend sender inboxes.new.items run.new out.now) }
+    ensures send { OnOk result (InboxRoom sender inboxes.new.items run.new out.now) }
 {
     reserve_from(inboxes, sender, out.post_room())?;
     let lines = u32::try_from(out.event_room()).map_err(|_| AllocError)?;
@@ -220,7 +220,7 @@ fn reserve_all(
 fn settle(inboxes: &mut Vec<Inbox>, run: &mut Run, made: Move, out: &mut Out)
     requires senders { (q : ℕ) → q < length inboxes.old.items → made.stamp.node < length (inbox_at inboxes.old.items q) }
     requires targets { All (λ (post : rules.Post). post.to < length inboxes.old.items) out.old.posts }
-    requires room { RoomToSend made.stamp.node inboxes.old.items run.old out.old }
+    requires room { InboxRoom made.stamp.node inboxes.old.items run.old out.old }
     requires few { length run.old.entries + 1 < 2 ^ 32 }
     ensures delivered { AreDelivered made.stamp.node out.old.posts inboxes.old.items inboxes.new.items }
     ensures entries { run.new.entries ≡ run.old.entries ++ record { made = made; events = out.old.events } ∷ [] }

@@ -1,7 +1,7 @@
 -- The last runner meets all others, which have met.
 use Rattle.std.proofs.Common.{[], ◌∷◌, ◌++◌, List, sym, subst, arith}
 use Rattle.lt_runner.specs.declared.parts.Parts.{Parts}
-use Rattle.lt_crew.specs.Meeting.{AreMet, AnyTwo, AreLinked}
+use Rattle.lt_crew.specs.Meeting.{AreMet, AnyTwo, RunnersLinked}
 use Rattle.lt_crew.proofs.Linked.{linked_rest, linked_after}
 use Rattle.lt_crew.proofs.Pairs.{settled_vec}
 use Rattle.lt_crew.proofs.settling.+settle.Goals as goal
@@ -9,14 +9,14 @@ use Rattle.lt_crew.proofs.settling.+settle.Goals as goal
 pub settle-requires : goal.settle-requires
 settle-requires t c = (
   omega (arith, c.in-Some.ensures.cases),
-  linked_rest c.pop.new.self.items c.in-Some.last (subst (λ (rs : List Parts). AreLinked rs) c.in-Some.ensures.items c.requires),
+  linked_rest c.pop.new.self.items c.in-Some.last (subst (λ (rs : List Parts). RunnersLinked rs) c.in-Some.ensures.items c.requires),
 )
 
 pub meet_all-requires-clause-linked : goal.meet_all-requires-clause-linked
 meet_all-requires-clause-linked t c =
-    subst (λ (rs : List Parts). AreLinked (rs ++ c.in-Some.last ∷ [])) (sym c.deref_mut.ensures.value)
+    subst (λ (rs : List Parts). RunnersLinked (rs ++ c.in-Some.last ∷ [])) (sym c.deref_mut.ensures.value)
     (linked_after c.pop.new.self.items c.settle.new.runners.items c.in-Some.last
-    (subst (λ (rs : List Parts). AreLinked rs) c.in-Some.ensures.items c.requires) c.settle.ensures.seen)
+    (subst (λ (rs : List Parts). RunnersLinked rs) c.in-Some.ensures.items c.requires) c.settle.ensures.seen)
 
 pub meet_all-requires-clause-met : goal.meet_all-requires-clause-met
 meet_all-requires-clause-met t c = subst (λ (rs : List Parts). AreMet AnyTwo rs) (sym c.deref_mut.ensures.value) c.settle.ensures.met

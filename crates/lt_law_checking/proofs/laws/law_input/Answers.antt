@@ -1,5 +1,5 @@
 use Rattle.std.proofs.Common.{ap, ap₂, ◌∙◌, drop, List, ℕ}
-use Rattle.lt_journal.specs.Split.{parts_of}
+use Rattle.lt_journal.specs.Split.{input_parts}
 use Rattle.lt_law_checking.specs.Checking.{checked}
 use Rattle.lt_law_checking.specs.Input.{counted_from}
 use Rattle.lt_law_checking.proofs.Feeds.{fed_all}
@@ -17,5 +17,5 @@ returns-clause-before c = lines_counted
 
 pub returns-clause-answer : goal.returns-clause-answer
 returns-clause-answer c = λ script bytes is_script.
-    ap (counted_from (parts_of bytes).lines) (fed_all script (drop (parts_of bytes).journal bytes) is_script)
+    ap (counted_from (input_parts bytes).lines) (fed_all script (drop (input_parts bytes).journal bytes) is_script)
     ∙ ap₂ (λ (n : ℕ) (ls : List (List ℕ)). counted_from n (checked script ls)) (lines_counted bytes) (journal_part bytes)

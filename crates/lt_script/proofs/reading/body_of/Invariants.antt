@@ -1,12 +1,12 @@
 use Rattle.std.proofs.Common.{◌≡◌, ◌≤◌, ◌+◌, length}
 use Rattle.lt_text.specs.Text.{lines}
-use Rattle.lt_script.specs.Reading.{body_of}
+use Rattle.lt_script.specs.Reading.{script_body}
 use Rattle.lt_script.proofs.reading.body_of.Given as goal
 
 -- the lines so far are skipped
 abbrev pub invariant-loop-line : goal.invariant-loop-line
 invariant-loop-line l = record {
-  same : body_of (lines l.bytes) 1 ≡ body_of (lines l.rest) l.number;
+  same : script_body (lines l.bytes) 1 ≡ script_body (lines l.rest) l.number;
   count : l.number + length l.rest ≤ length l.bytes + 1;
 }
 

@@ -6,7 +6,7 @@ use Rattle.lt_spec.specs.FixedOrder.{count_turns}
 use Rattle.lt_world.specs.Fields.{WorldData, full_node, world_of}
 use Rattle.lt_serve.specs.declared.order.Order.{Order}
 use Rattle.lt_serve.specs.Endings.{StopsInTime}
-use Rattle.lt_serve.specs.Orders.{IsAt, place_of, AreInOrder}
+use Rattle.lt_serve.specs.Orders.{IsAt, scheduled, AreInOrder}
 use Rattle.lt_serve.proofs.Ordered.{order_after, one_more, order_more, picked}
 use Rattle.lt_serve.proofs.Rooms.{IsWithin, room_left, may_move, stays_within, stays_in_time, less_room, mover_within}
 use Rattle.lt_serve.proofs.simulation.make_moves.Goals as goal
@@ -43,14 +43,14 @@ loop-order-preserved c =
     let stepped : c.step.new.self ≡ record w { run = w.run ++ entry ∷ [] } = c.in_ok-step.ensures.ok in
     let was : Order = c.loop-order.order in
     let is = c.loop-order.invariant.order in
-    let place : ℕ = (place_of was (count_turns w.script (world_of w))).0 in
+    let place : ℕ = (scheduled was (count_turns w.script (world_of w))).0 in
     let at : IsAt w.script (world_of w) place entry = picked w.script (world_of w) place choice c.in-Some.ensures.place in
-    let next : c.choose.new.self ≡ (place_of was (count_turns w.script (world_of w))).1 = c.in-Some.ensures.next in
+    let next : c.choose.new.self ≡ (scheduled was (count_turns w.script (world_of w))).1 = c.in-Some.ensures.next in
     let in_order : AreInOrder c.args.order w.script (w.run ++ entry ∷ []) =
     one_more w.script (start w.script) c.args.order w.run entry c.loop-order.invariant.in_order
-    (subst (λ (o : Order). IsAt w.script (world_of w) (place_of o (count_turns w.script (world_of w))).0 entry) is at) in
+    (subst (λ (o : Order). IsAt w.script (world_of w) (scheduled o (count_turns w.script (world_of w))).0 entry) is at) in
     let order : c.choose.new.self ≡ order_after w.script (start w.script) c.args.order (w.run ++ entry ∷ []) =
-    next ∙ (ap (λ (o : Order). (place_of o (count_turns w.script (world_of w))).1) is ∙ sym (order_more w.script (start w.script) c.args.order w.run entry)) in
+    next ∙ (ap (λ (o : Order). (scheduled o (count_turns w.script (world_of w))).1) is ∙ sym (order_more w.script (start w.script) c.args.order w.run entry)) in
     record {
       script = ap (λ (v : WorldData). v.script) stepped ∙ c.loop-order.invariant.script;
       limit = ap (λ (v : WorldData). v.limit) stepped ∙ c.loop-order.invariant.limit;
