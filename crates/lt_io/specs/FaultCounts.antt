@@ -1,4 +1,4 @@
--- CountsFaults of faults, of ends and of bytes. A count is a `u64` that stops at its last value.
+-- Counts of faults, of ends and of bytes. A count is a `u64` that stops at its last value.
 use Rattle.std.specs.Prelude.{◌≡◌, ℕ, zero, suc, ◌+◌, ◌-◌, ◌^◌, ◌≤◌, min, Result, OnOk, OnErr}
 
 -- a count after n more
