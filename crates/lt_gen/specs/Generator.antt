@@ -1,10 +1,9 @@
 -- The script that is made from a number.
-use Rattle.std.specs.Prelude.{◌≡◌, ℕ, zero, suc, ◌+◌, ◌-◌, ◌*◌, ◌%◌, ◌<◌, ◌≤◌, ◌==◌, if◌then◌else◌, List, [], ◌∷◌, ◌++◌, length, codes}
+use Rattle.std.specs.Prelude.{◌≡◌, ℕ, zero, suc, ◌+◌, ◌-◌, ◌%◌, ◌==◌, if◌then◌else◌, List, [], ◌∷◌, ◌++◌, length, codes}
 use Rattle.std.specs.Fmt.{decimal}
 use Rattle.rand_pcg.specs.Lcg.{Lcg}
 use Rattle.lt_modes.specs.declared.command.Command.{Command}
 use Rattle.lt_modes.specs.Script.{ScriptData, SetData, ClientData}
-use Rattle.lt_script.specs.declared.limits.TheConstants.{MAX_NODES_OF_FIRST, MAX_CLIENTS_OF_FIRST, MAX_CLIENTS_OF_NODE, MAX_COMMANDS}
 use Rattle.lt_gen.specs.declared.group.Group.{Group}
 use Rattle.lt_gen.specs.Draws.{seeded}
 use Rattle.lt_gen.specs.Groups.{group_of, group_commands, requests_of}
@@ -57,12 +56,3 @@ pub record HasSizes (nodes sets clients commands : ℕ) (script : ScriptData) : 
   pub sets_are : length script.sets ≡ sets
   pub clients_are : length script.clients ≡ clients
   pub commands_are : length script.commands ≡ commands
-
--- a script can have so many nodes, clients and commands
-pub record CanMake (nodes clients commands : ℕ) : Type 0 where
-  pub some_node : 0 < nodes
-  pub few_nodes : nodes ≤ MAX_NODES_OF_FIRST
-  pub some_client : 0 < clients
-  pub few_clients : clients ≤ MAX_CLIENTS_OF_FIRST
-  pub on_nodes : clients ≤ nodes * MAX_CLIENTS_OF_NODE
-  pub few_commands : commands ≤ MAX_COMMANDS

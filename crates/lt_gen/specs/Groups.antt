@@ -1,15 +1,16 @@
 -- The groups of commands of a generated script: what a client does in its turn.
-use Rattle.std.specs.Prelude.{ℕ, ◌==◌, nat_lt, nat_le, if◌then◌else◌, List, [], ◌∷◌, map}
+use Rattle.std.specs.Prelude.{ℕ, ◌==◌, nat_lt, nat_le, if◌then◌else◌, List, [], ◌∷◌, map, IsTrue}
 use Rattle.rand_pcg.specs.Lcg.{Lcg}
 use Rattle.lt_modes.specs.declared.mode.Mode.{Mode}
 use Rattle.lt_modes.specs.declared.mode.Mode.TheVariants as modes
 use Rattle.lt_modes.specs.declared.command.Command.{Command}
 use Rattle.lt_modes.specs.declared.command.Command.TheVariants as commands
+use Rattle.lt_modes.specs.FiveModes.{is_of_five}
 use Rattle.lt_gen.specs.declared.group.Group.{Group}
 use Rattle.lt_gen.specs.declared.group.Group.TheVariants.{Last, Lock, Try, Upgrade, Change}
 use Rattle.lt_gen.specs.Draws.{draw_of}
 
--- the modes in order
+-- the five modes of version 1, in order
 abbrev pub nth_mode : ℕ → Mode
 nth_mode k =
     if k == 0 then modes.IntentionRead
@@ -48,6 +49,13 @@ set_of (Try set mode) = set
 set_of (Upgrade set) = set
 set_of (Change set) = set
 
+-- the mode that the group takes is one of the five of version 1
+abbrev pub HasFiveModes : Group → Type 0
+HasFiveModes (Lock set mode) = IsTrue (is_of_five mode)
+HasFiveModes (Try set mode) = IsTrue (is_of_five mode)
+HasFiveModes other = Unit {0}
+
+-- the commands of the group, in order
 abbrev pub group_commands : Group → List Command
 group_commands Last = commands.Unlock 0 modes.Read ∷ []
 group_commands (Lock set mode) = commands.Lock set mode ∷ commands.Unlock set mode ∷ []
