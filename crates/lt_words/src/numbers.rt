@@ -1,9 +1,9 @@
 ghost use Rattle.std.specs.Prelude.{◌≡◌, Some};
 ghost use Rattle.lt_text.specs.Number.{are_digits, is_numeral, number};
-ghost use Rattle.lt_words.specs.Words.{seed_of, can_make, make_of};
+ghost use Rattle.lt_words.specs.Words.{seed_of, make_of};
 
 use crate::command::Command;
-use lt_script::{MAX_CLIENTS_OF_FIRST, MAX_CLIENTS_OF_NODE, MAX_COMMANDS, MAX_NODES_OF_FIRST};
+use lt_gen::can_make;
 use lt_text::number;
 
 pub fn make_of(nodes: &str, clients: &str, commands: &str, seed: &str) -> Option<Command>
@@ -27,18 +27,6 @@ fn make(nodes: u32, clients: u32, commands: u32, seed: u64) -> Option<Command>
         commands,
         seed,
     })
-}
-
-// Whether a script can be made with so many nodes, clients and commands.
-fn can_make(nodes: u32, clients: u32, commands: u32) -> bool
-    ensures { result ≡ can_make nodes clients commands }
-{
-    1 <= nodes
-        && nodes <= u32::from(MAX_NODES_OF_FIRST)
-        && 1 <= clients
-        && clients <= u32::from(MAX_CLIENTS_OF_FIRST)
-        && clients <= nodes * u32::from(MAX_CLIENTS_OF_NODE)
-        && commands <= MAX_COMMANDS
 }
 
 /// The number below 2^64 that 1 to 20 decimal digits write.
