@@ -6,16 +6,8 @@ use Rattle.std.proofs.lemmas.Bool.{or_cases, or_left, or_right}
 use Rattle.lt_modes.specs.declared.mode.Mode.{Mode}
 use Rattle.lt_modes.specs.Modes.{Modes, has, no_modes, union, one, with_mode, same_mode}
 use Rattle.lt_modes.proofs.ModeAlgebra.{has-modes_by, has-itself, union_has_both}
-use Rattle.lt_law_accounts.proofs.Asks.{same_mode-true}
+use Rattle.lt_modes.proofs.EachMode.{same_mode-true}
 use Rattle.lt_modes.specs.declared.mode.Mode.TheVariants.{IntentionRead, Read, Upgrade, IntentionWrite, ReadIntentionWrite, Write}
-
-pub none_has : {A : Type 0} (mode : Mode) → IsTrue (has mode no_modes) → A
-none_has IntentionRead h = cc
-none_has Read h = cc
-none_has Upgrade h = cc
-none_has IntentionWrite h = cc
-none_has ReadIntentionWrite h = cc
-none_has Write h = cc
 
 -- one mode more
 pub has-with_mode : (mode more : Mode) (modes : Modes) → IsTrue (has mode (with_mode modes more)) → IsTrue (has mode modes) ⊎ (more ≡ mode)
