@@ -6,7 +6,7 @@ use Rattle.std.proofs.lemmas.Bool.{or_cases, or_left, or_right}
 use Rattle.lt_modes.specs.declared.mode.Mode.{Mode}
 use Rattle.lt_modes.specs.Modes.{Modes, has, no_modes, union, one, with_mode, same_mode}
 use Rattle.lt_modes.proofs.ModeAlgebra.{has-modes_by, has-itself, union_has_both}
-use Rattle.lt_modes.proofs.EachMode.{same_mode-true}
+use Rattle.lt_modes.proofs.EachMode.{same_mode-true, none_in_none}
 use Rattle.lt_modes.specs.declared.mode.Mode.TheVariants.{IntentionRead, Read, Upgrade, IntentionWrite, ReadIntentionWrite, Write}
 
 -- one mode more
@@ -70,7 +70,7 @@ gathered-at mode_of from (first ∷ rest) x h = elim (contains_cases first x res
 pub mode_which : {X : Type 0} (mode_of : X → Mode) (xs : List X) (mode : Mode)
     → IsTrue (has mode (fold (λ modes x. with_mode modes (mode_of x)) no_modes xs)) → (x : X) × Contains xs x × (mode_of x ≡ mode)
 mode_which mode_of xs mode h = elim (gathered-which mode_of no_modes xs mode h) [
-  | inl none ↦ none_has mode none
+  | inl none ↦ none_in_none mode none
   | inr found ↦ found
 ]
 
