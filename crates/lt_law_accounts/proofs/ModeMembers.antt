@@ -7,7 +7,6 @@ use Rattle.lt_modes.specs.declared.mode.Mode.{Mode}
 use Rattle.lt_modes.specs.Modes.{Modes, has, no_modes, union, one, with_mode, same_mode}
 use Rattle.lt_modes.proofs.ModeAlgebra.{has-modes_by, has-itself, union_has_both}
 use Rattle.lt_modes.proofs.EachMode.{same_mode-true, none_in_none}
-use Rattle.lt_modes.specs.declared.mode.Mode.TheVariants.{IntentionRead, Read, Upgrade, IntentionWrite, ReadIntentionWrite, Write}
 
 -- one mode more
 pub has-with_mode : (mode more : Mode) (modes : Modes) → IsTrue (has mode (with_mode modes more)) → IsTrue (has mode modes) ⊎ (more ≡ mode)

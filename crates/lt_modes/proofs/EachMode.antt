@@ -1,5 +1,5 @@
 -- What holds of each mode: with the table, the words and the masks of specs/ this is all that names the modes one by one.
-use Rattle.std.proofs.Common.{◌≡◌, ◌≤◌, ℕ, List, [], ◌∷◌, length, Option, Some, Bool, true, refl, arith}
+use Rattle.std.proofs.Common.{◌≡◌, ◌≤◌, length, Some, true, refl, arith}
 use Rattle.std.specs.Prelude.{IsTrue, Contains}
 use Rattle.lt_modes.specs.declared.mode.Mode.{Mode}
 use Rattle.lt_modes.specs.declared.mode.Mode.TheVariants.{IntentionRead, Read, Upgrade, IntentionWrite, ReadIntentionWrite, Write}

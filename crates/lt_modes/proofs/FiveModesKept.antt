@@ -1,11 +1,10 @@
 -- Sets of the five modes by the table of six and by that of five: tables that the check computes.
-use Rattle.std.proofs.Common.{◌≡◌, ◌∙◌, Bool, true, false, refl, sym}
-use Rattle.std.specs.Prelude.{◌&&◌, ◌||◌, not, IsTrue}
+use Rattle.std.proofs.Common.{◌≡◌, Bool, true, false, refl}
+use Rattle.std.specs.Prelude.{◌&&◌, not, IsTrue}
 use Rattle.std.proofs.lemmas.Bool.{and_parts}
-use Rattle.lt_modes.specs.declared.mode.Mode.{Mode}
 use Rattle.lt_modes.specs.declared.mode.Mode.TheVariants.{IntentionRead, Read, Upgrade, IntentionWrite, ReadIntentionWrite, Write}
 use Rattle.lt_modes.specs.Modes.{Modes, conflicts, same_modes, has, bars, covers, has_none}
-use Rattle.lt_modes.specs.FiveModes.{conflicts_of_five, is_of_five, five_of, has_five_alone, bars_of_five, covers_of_five, has_below_write, TableAsBefore, TakingAsBefore, BarsAsBefore, SixthByOthers, CoversAsBefore, SameBarsAsBefore, NoneBarredAsBefore}
+use Rattle.lt_modes.specs.FiveModes.{five_of, has_five_alone, bars_of_five, covers_of_five, has_below_write, TableAsBefore, TakingAsBefore, BarsAsBefore, SixthByOthers, CoversAsBefore, SameBarsAsBefore, NoneBarredAsBefore}
 use Rattle.lt_modes.proofs.ModeAlgebra.{same_modes-true}
 
 abbrev same_bool : Bool → Bool → Bool
