@@ -3,7 +3,7 @@ use Rattle.std.specs.Prelude.{◌&&◌, ◌==◌, ◌≤◌, ◌<◌, false, ℕ
 use Rattle.lt_modes.specs.declared.ask.Ask.{Ask}
 use Rattle.lt_modes.specs.Script.{ScriptData, ClientData}
 use Rattle.lt_modes.specs.Held.{locks_of}
-use Rattle.lt_modes.specs.Fits.{Numbers}
+use Rattle.lt_modes.specs.Fits.{numbers_of}
 use Rattle.lt_modes.specs.Sound.{SoundSet}
 use Rattle.lt_lists.specs.Below.{sum_below}
 use Rattle.lt_spec.specs.NodeMove.{NodeState}
