@@ -1,8 +1,7 @@
 -- Which nodes a node's links, asks and letters name.
 use Rattle.std.specs.Prelude.{◌≢◌, ◌≤◌, ◌<◌, ℕ, length, IfSome, All}
-use Rattle.lt_modes.specs.declared.ask.Ask.{Ask}
 use Rattle.lt_modes.specs.declared.parts.Hoped.{Hoped}
-use Rattle.lt_modes.specs.State.{SetState, Desk, Parked, ParkedAsk, ParkedTell}
+use Rattle.lt_modes.specs.State.{SetState, Desk}
 use Rattle.lt_modes.specs.Made.{Post}
 use Rattle.lt_modes.specs.Serving.{queue_of}
 use Rattle.lt_spec.specs.NodeMove.{NodeState}

@@ -1,7 +1,7 @@
 -- What holds of a node and of the world's numbers.
-use Rattle.std.specs.Prelude.{◌&&◌, ◌==◌, ◌≤◌, ◌<◌, false, ℕ, ◌+◌, length, map, count_by, is_none}
+use Rattle.std.specs.Prelude.{◌&&◌, ◌==◌, ◌≤◌, ◌<◌, false, ℕ, ◌+◌, length, count_by, is_none}
 use Rattle.lt_modes.specs.declared.ask.Ask.{Ask}
-use Rattle.lt_modes.specs.Script.{ScriptData, ClientData}
+use Rattle.lt_modes.specs.Script.{ScriptData}
 use Rattle.lt_modes.specs.Held.{locks_of}
 use Rattle.lt_modes.specs.Fits.{numbers_of}
 use Rattle.lt_modes.specs.Sound.{SoundSet}
