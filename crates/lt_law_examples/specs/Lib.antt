@@ -3,7 +3,7 @@ pub mod WorkedOneNode
 pub mod WorkedNodes
 pub mod WorkedOrders
 pub mod WorkedLong
-pub mod Moment
+pub mod Snapshot
 pub mod WorldHoped
 pub mod WorldTokens
 pub mod WorldBehind

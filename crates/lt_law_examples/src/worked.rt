@@ -6,6 +6,7 @@ ghost use Rattle.lt_law_examples.specs.WorkedOrders.{late_copy, overtaking_tells
 ghost use Rattle.lt_law_examples.specs.WorkedLong.{freezes_overtake, copies_and_freezes, token_goes_round, token_comes_back, three_sets, upgrade_from_write, copies_stay_owed, owed_until_told};
 
 /// The worked examples on one node: the rules give these moves and lines.
+#[tactic(auto, unfolding(lt_modes::specs::Modes::conflicts))]
 pub fn law_examples_one_node()
     ensures lock_then_unlock { IsFirstRun lock_then_unlock }
     ensures write_in_turn { IsFirstRun write_in_turn }
@@ -19,6 +20,7 @@ pub fn law_examples_one_node()
 {}
 
 /// The worked examples on two to four nodes, in the fixed order of moves.
+#[tactic(auto, unfolding(lt_modes::specs::Modes::conflicts))]
 pub fn law_examples_nodes()
     ensures read_everywhere { IsFirstRun read_everywhere }
     ensures reader_draws_desk { IsFirstRun reader_draws_desk }
@@ -37,6 +39,7 @@ pub fn law_examples_nodes()
 {}
 
 /// The worked examples in other orders of moves.
+#[tactic(auto, unfolding(lt_modes::specs::Modes::conflicts))]
 pub fn law_examples_orders()
     ensures late_copy { IsWholeRun late_copy }
     ensures overtaking_tells { IsWholeRun overtaking_tells }
@@ -54,6 +57,7 @@ pub fn law_examples_orders()
 {}
 
 /// The longer worked examples in other orders of moves.
+#[tactic(auto, unfolding(lt_modes::specs::Modes::conflicts))]
 pub fn law_examples_long()
     ensures freezes_overtake { IsWholeRun freezes_overtake }
     ensures copies_and_freezes { IsWholeRun copies_and_freezes }
