@@ -1,4 +1,4 @@
-use super::{Mode, ModeSet};
+use super::{MODES, Mode, ModeSet};
 
 // The printed conflict table, a row for each mode.
 const TABLE: [[bool; 6]; 6] = [
