@@ -12,3 +12,4 @@ pub mod WorldDrop
 pub mod WorldOrder
 pub mod WorldCopy
 pub mod WorldExamples
+pub mod WorkedSixth
