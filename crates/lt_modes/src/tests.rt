@@ -1,14 +1,5 @@
 use super::{Mode, ModeSet};
 
-const MODES: [Mode; 6] = [
-    Mode::IntentionRead,
-    Mode::Read,
-    Mode::Upgrade,
-    Mode::IntentionWrite,
-    Mode::ReadIntentionWrite,
-    Mode::Write,
-];
-
 // The printed conflict table, a row for each mode.
 const TABLE: [[bool; 6]; 6] = [
     [false, false, false, false, false, true],
