@@ -1,13 +1,13 @@
-ghost use Rattle.std.specs.Prelude.{◌≡◌, [], ◌∷◌, ◌++◌, map, OnOk};
+ghost use Rattle.std.specs.Prelude.{◌≡◌, [], ◌∷◌, ◌++◌, OnOk};
 ghost use Rattle.lt_modes.specs.Script.{ScriptData};
 ghost use Rattle.lt_spec.specs.World.{IsRun};
 ghost use Rattle.lt_script.specs.Script.{IsScript};
-ghost use Rattle.lt_journal.specs.declared.line.Line.TheVariants.{Event as EventLine};
 ghost use Rattle.lt_journal.specs.Grammar.{journal_of};
+ghost use Rattle.lt_journal.specs.RunLines.{first_lines, event_lines};
 ghost use Rattle.lt_law_checking.specs.Checking.{closing_at_rest};
 ghost use Rattle.lt_law_checking.specs.Journals.{HasFewMoves};
 
-use lt_journal::{Line, read_line, write_closing};
+use lt_journal::{Line, read_line, shown_event, write_closing};
 use lt_modes::Event;
 use lt_script::Script;
 use lt_text::next_line;
@@ -27,12 +27,26 @@ fn push(due: &mut VecDeque<Line>, line: Line) -> Result<(), AllocError>
     Ok(())
 }
 
-/// Adds the lines of the events.
-pub(crate) fn push_events(due: &mut VecDeque<Line>, events: &[Event]) -> Result<(), AllocError>
-    ensures { OnOk result (due.new.items ≡ due.old.items ++ map EventLine events.now) }
+/// Adds the line before all moves, where the script has version 2.
+pub(crate) fn push_first(due: &mut VecDeque<Line>, script: &Script) -> Result<(), AllocError>
+    ensures { OnOk result (due.new.items ≡ due.old.items ++ first_lines script.now.version) }
+{
+    if script.version() != 1 {
+        push(due, Line::Version)?;
+    }
+    Ok(())
+}
+
+/// Adds the lines of the events, as a journal of the script's version shows them.
+pub(crate) fn push_events(
+    due: &mut VecDeque<Line>,
+    script: &Script,
+    events: &[Event],
+) -> Result<(), AllocError>
+    ensures { OnOk result (due.new.items ≡ due.old.items ++ event_lines script.now.version events.now) }
 {
     for event in events {
-        push(due, Line::Event(*event))?;
+        push(due, Line::Event(shown_event(script.version(), *event)))?;
     }
     Ok(())
 }

@@ -61,7 +61,7 @@ fn next_move(
     if world.run().made(last).stamp.clock != clock {
         return Ok(false);
     }
-    push_events(due, world.run().events(last))?;
+    push_events(due, script, world.run().events(last))?;
     push_closing(alloc, due, script, world)?;
     Ok(true)
 }

@@ -4,7 +4,7 @@ ghost use Rattle.lt_law_checking.specs.Checking.{first_reader, read_on, verdict}
 ghost use Rattle.lt_checker.specs.Checker.{IsAnswer};
 
 use crate::counts::Counts;
-use crate::due::push_closing;
+use crate::due::{push_closing, push_first};
 use crate::error::ReplayError;
 use crate::following::follow;
 use lt_journal::Line;
@@ -53,6 +53,7 @@ impl<'a> Reader<'a> {
         let world = World::new(alloc, script, MAX_MOVES)?;
         let counts = Counts::new(alloc, script)?;
         let mut due = VecDeque::new(alloc);
+        push_first(&mut due, script)?;
         push_closing(alloc, &mut due, script, &world)?;
         Ok(Reader {
             alloc,

@@ -10,7 +10,7 @@ use Rattle.lt_modes.specs.declared.moves.Step.{Step}
 use Rattle.lt_modes.specs.declared.moves.Step.TheVariants.{Act, Take}
 use Rattle.lt_modes.specs.Modes.{Modes, no_modes, with_mode, word_of, mode_of}
 use Rattle.lt_modes.specs.Script.{ScriptData, set_name, client_name}
-use Rattle.lt_journal.specs.Words.{all_modes, step_words, words_of_modes, spaced}
+use Rattle.lt_journal.specs.Words.{all_modes, step_words, words_of_modes}
 use Rattle.lt_text.specs.Number.{exact_number}
 use Rattle.lt_script.specs.Script.{set_number, client_number}
 use Rattle.lt_journal.specs.declared.line.Line.{Line}
@@ -19,8 +19,7 @@ use Rattle.lt_journal.specs.declared.lock.Lock.{Lock}
 use Rattle.lt_journal.specs.Grammar.{line_of, read_line, line_of_two, line_of_four, line_of_five, line_of_many, line_of_freeze, lock_line, lock_and_line, node_of, step_of, lock_of, lock_by, bool_of, modes_of, with_words, says_none, end_line, version_line, cut_line, busy_line, token_line, owner_line, move_line, drop_line, copy_line, try_line, change_line, held_line, freeze_line}
 use Rattle.lt_journal.specs.Text.{IsAsWritten}
 use Rattle.lt_journal.proofs.Spelled.{has_words, Both, both}
-use Rattle.lt_journal.proofs.Plain.{spaced_same}
-use Rattle.lt_text.specs.Text.{fields}
+use Rattle.lt_text.specs.Text.{fields, spaced}
 use Rattle.lt_text.proofs.TextLemmas.{spaced_fields}
 
 -- which of the modes are picked
@@ -259,5 +258,5 @@ line_found script (word ∷ a ∷ b ∷ c ∷ d ∷ later) = many_found script w
 pub as_written : (script : ScriptData) (line : List ℕ) → IsAsWritten script line (read_line script line)
 as_written script line = elim (line_found script (fields line)) [
   | inl bad ↦ inl bad
-  | inr same ↦ inr (ap spaced same ∙ (spaced_same (fields line) ∙ spaced_fields line))
+  | inr same ↦ inr (ap spaced same ∙ spaced_fields line)
 ]

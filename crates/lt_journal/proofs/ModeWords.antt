@@ -4,7 +4,8 @@ use Rattle.std.specs.Prelude.{if◌then◌else◌}
 use Rattle.std.specs.List.{flat_map}
 use Rattle.lt_modes.specs.declared.mode.Mode.{Mode}
 use Rattle.lt_modes.specs.Modes.{Modes, has, has_none, word_of}
-use Rattle.lt_journal.specs.Words.{after_space, all_modes, words_of_modes, member_words}
+use Rattle.lt_text.specs.Text.{after_space}
+use Rattle.lt_journal.specs.Words.{all_modes, words_of_modes, member_words}
 
 kept_words : (modes : Modes) (ms : List Mode)
     → flat_map after_space (map word_of (filter (λ mode. has mode modes) ms)) ≡ flat_map (member_words modes) ms

@@ -10,9 +10,9 @@ use Rattle.lt_modes.specs.declared.event.Event.{Event}
 use Rattle.lt_modes.specs.declared.event.Event.TheVariants.{Grant, Wait, Try, Unlock, NotHeld, Change, DropAll, Busy, Copy, Freeze, Token}
 use Rattle.lt_modes.specs.Modes.{Modes, word_of, has, has_none}
 use Rattle.lt_modes.specs.Script.{ScriptData, set_name, client_name}
-use Rattle.lt_journal.specs.Words.{spaced, step_words, event_words, words_of_modes, word_of_bool, all_modes, line_words}
+use Rattle.lt_journal.specs.Words.{step_words, event_words, words_of_modes, word_of_bool, all_modes, line_words}
 use Rattle.lt_journal.specs.Text.{lines_text}
-use Rattle.lt_text.specs.Text.{lines, cut_at, fields}
+use Rattle.lt_text.specs.Text.{lines, cut_at, fields, spaced}
 use Rattle.lt_journal.specs.declared.line.Line.{Line}
 use Rattle.lt_journal.specs.declared.line.Line.TheVariants.{Version, Move as MoveLine, Event as EventLine, Held, Waiting, Owner, End, Cut, Bad}
 use Rattle.lt_journal.specs.Grammar.{line_of, read_line, journal_of}

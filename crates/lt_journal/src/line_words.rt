@@ -1,5 +1,6 @@
 ghost use Rattle.std.specs.Prelude.{◌≡◌, ◌++◌, OnOk, IfOk};
-ghost use Rattle.lt_journal.specs.Words.{spaced, line_words};
+ghost use Rattle.lt_text.specs.Text.{spaced};
+ghost use Rattle.lt_journal.specs.Words.{line_words};
 
 use crate::events::{lock, words_of_event, words_of_move};
 use crate::line::Line;

@@ -1,6 +1,6 @@
 ghost use Rattle.std.specs.Prelude.{◌≡◌, [], ◌∷◌, ◌++◌, OnOk};
 ghost use Rattle.std.specs.Fmt.{decimal};
-ghost use Rattle.lt_journal.specs.Words.{after_space};
+ghost use Rattle.lt_text.specs.Text.{after_space};
 
 use itoa::Buffer;
 use std::alloc::{AllocError, Global};

@@ -13,7 +13,8 @@ use Rattle.lt_modes.specs.declared.event.Event.{Event}
 use Rattle.lt_modes.specs.declared.event.Event.TheVariants.{Grant, Wait, Try, Unlock, NotHeld, Change, DropAll, Busy, Copy, Freeze, Token}
 use Rattle.lt_modes.specs.Modes.{Modes, word_of, has, has_none}
 use Rattle.lt_modes.specs.Script.{ScriptData, set_name, client_name}
-use Rattle.lt_journal.specs.Words.{after_space, spaced, all_modes, words_of_modes, word_of_bool, step_words, event_words}
+use Rattle.lt_text.specs.Text.{after_space, spaced}
+use Rattle.lt_journal.specs.Words.{all_modes, words_of_modes, word_of_bool, step_words, event_words}
 use Rattle.lt_script.specs.Names.{is_name}
 use Rattle.lt_script.specs.declared.limits.TheConstants.{MAX_NAME}
 use Rattle.lt_script.specs.Script.{IsScript}

@@ -1,11 +1,11 @@
-use Rattle.std.proofs.Common.{◌≡◌, ◌-◌, ◌++◌, ℕ, nat_lt, true, List, Some, length, get_or, map, sym, ap, subst, ◌∙◌, arith, rules}
+use Rattle.std.proofs.Common.{◌≡◌, ◌-◌, ◌++◌, ℕ, nat_lt, true, List, Some, length, get_or, sym, ap, subst, ◌∙◌, arith, rules}
 use Rattle.std.proofs.lemmas.Bool.{ltb-true}
 use Rattle.lt_spec.specs.Log.{Logged}
 use Rattle.lt_spec.specs.World.{is_enabled}
 use Rattle.lt_limits.specs.declared.moves.TheConstants.{MAX_MOVES}
 use Rattle.lt_merge.specs.Run.{made_at, events_at}
 use Rattle.lt_journal.specs.declared.line.Line.{Line}
-use Rattle.lt_journal.specs.declared.line.Line.TheVariants.{Event as EventLine}
+use Rattle.lt_journal.specs.RunLines.{event_lines}
 use Rattle.lt_world.specs.Fields.{world_of}
 use Rattle.lt_law_checking.specs.Checking.{Place, by_move, closing_at_rest}
 use Rattle.lt_checker.specs.Place.{IsPlace}
@@ -84,7 +84,7 @@ returns-clause-led c =
     let last = last_place script world counts node step next c.len-last.result s (c.len-last.ensures ∙ ap (λ (r : List Logged). length r) c.run.ensures) in
     let clock = next_clock script world counts node step next k c.made.result s last (ap (λ (r : List Logged). made_at r k) (sym c.run-2.ensures) ∙ c.made.ensures) in
     let right : c.in-Move.clock ≡ c.made.result.stamp.clock = search rules in
-    let due = c.in_ok-push_closing.ensures ∙ ap (λ (t : List Line). t ++ closing_at_rest script next.run) (c.in_ok-push_events.ensures ∙ ap (λ (t : List Line). t ++ map EventLine c.events.result.now) c.requires.none_due) in
+    let due = c.in_ok-push_closing.ensures ∙ ap (λ (t : List Line). t ++ closing_at_rest script next.run) (c.in_ok-push_events.ensures ∙ ap (λ (t : List Line). t ++ event_lines script.version c.events.result.now) c.requires.none_due) in
     let at = next_place script world counts node step next k c.events.result.now c.push_closing.new.due.items s last
     (ap (λ (r : List Logged). events_at r k) (sym c.run-3.ensures) ∙ c.events.ensures) due in
     ap (by_move script world.run) c.in-Move.is ∙ (right_move script world counts node step next c.in-Move.clock s (right ∙ sym clock) ∙ ap (λ (p : Place). Some p) at)
