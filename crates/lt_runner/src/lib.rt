@@ -20,7 +20,7 @@ mod turning;
 mod working;
 
 pub use at_once::all_at_once;
-pub use gate::Gate;
+pub use gate::{Gate, Open};
 pub use parts::Parts;
 pub use runner::Runner;
 pub use turned::{Turned, Worked};

@@ -1,5 +1,6 @@
 ghost use Rattle.std.specs.Prelude.{◌≡◌, ◌≤◌, ◌<◌, [], ◌∷◌, ◌++◌, length};
-ghost use Rattle.lt_runner.specs.Posting.{CanPost, Posted, with_events};
+ghost use Rattle.lt_merge.specs.Run.{with_events};
+ghost use Rattle.lt_runner.specs.Posting.{CanPost, Posted};
 
 use lt_letter::Out;
 use lt_mail::Mail;

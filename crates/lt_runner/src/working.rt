@@ -1,9 +1,7 @@
 // Turns, one after the other.
-ghost use Rattle.std.specs.Prelude.{◌≡◌, ◌≢◌, length};
-ghost use Rattle.lt_runner.specs.declared.choice.Choice.TheVariants as choices;
+ghost use Rattle.std.specs.Prelude.{◌≡◌, length};
 ghost use Rattle.lt_runner.specs.declared.turned.Worked.TheVariants as answers;
-ghost use Rattle.lt_runner.specs.Choices.{next_choice};
-ghost use Rattle.lt_runner.specs.Kept.{RunnerInvariant, Grew, MovedOne, WorkEnds, OneEnds};
+ghost use Rattle.lt_runner.specs.Kept.{RunnerInvariant, Grew, WorkEnds};
 
 use crate::gate::Gate;
 use crate::parts::Parts;
@@ -29,22 +27,6 @@ impl Parts<'_> {
             }
         }
         Worked::Idle
-    }
-
-    /// Makes one turn.
-    #[tactic(auto, using(crate::proofs::TurnLemmas::turn_grew, crate::proofs::TurnLemmas::grew_self))]
-    pub fn one<G: Gate>(&mut self, gate: &G) -> Worked
-        requires { RunnerInvariant self.old }
-        ensures kept { RunnerInvariant self.new }
-        ensures grew { Grew self.old self.new }
-        ensures ends { OneEnds result self.old self.new }
-        ensures moves { next_choice self.old ≢ choices.Nothing → result ≡ answers.Idle → MovedOne self.old self.new }
-    {
-        match self.turn(gate) {
-            Turned::Moved | Turned::Quiet => Worked::Idle,
-            Turned::Full => Worked::Full,
-            Turned::NoMemory => Worked::NoMemory,
-        }
     }
 
     /// How many moves were made.

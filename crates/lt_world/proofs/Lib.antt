@@ -1,4 +1,3 @@
-mod Recorded
 pub mod Senders
 pub mod Wires
 pub mod Delivered

@@ -6,7 +6,8 @@ ghost use Rattle.lt_limits.specs.declared.moves.TheConstants.{MAX_MOVES};
 ghost use Rattle.lt_spec.specs.World.{is_runnable, is_enabled, is_at_rest, anyone_waits, is_waiting, has_mail, logged, IsRun};
 ghost use Rattle.lt_spec.specs.FixedOrder.{pick, count_turns};
 ghost use Rattle.lt_world.specs.Choice.{choice_of};
-ghost use Rattle.lt_world.specs.Fields.{moves_of, world_of};
+ghost use Rattle.lt_limits.specs.Cut.{moves_of};
+ghost use Rattle.lt_world.specs.Fields.{world_of};
 
 use crate::choice::Choice;
 use crate::network::Network;

@@ -2,8 +2,8 @@
 use Rattle.std.proofs.Common.{◌≡◌, ◌∙◌, length, List, arith, subst, ap}
 use Rattle.lt_modes.specs.declared.event.Event.{Event}
 use Rattle.lt_letter.specs.OutData.{OutData}
-use Rattle.lt_runner.specs.Posting.{with_events}
-use Rattle.lt_runner.proofs.Recorded.{length-with_event}
+use Rattle.lt_merge.specs.Run.{with_events}
+use Rattle.lt_merge.proofs.Recorded.{length-with_event}
 use Rattle.lt_runner.proofs.posting.note_events.Goals as goal
 
 pub loop-event-preserved : goal.loop-event-preserved

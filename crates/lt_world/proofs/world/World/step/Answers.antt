@@ -3,7 +3,8 @@ use Rattle.std.specs.Prelude.{IsTrue}
 use Rattle.std.proofs.lemmas.List.{get_or_default}
 use Rattle.lt_spec.specs.Log.{Logged}
 use Rattle.lt_spec.specs.World.{is_enabled, logged}
-use Rattle.lt_world.specs.Fields.{WorldData, world_of, moves_of, AreCounted, AreAtMost}
+use Rattle.lt_limits.specs.Cut.{moves_of}
+use Rattle.lt_world.specs.Fields.{WorldData, world_of, AreCounted, AreAtMost}
 use Rattle.lt_world.proofs.Runs.{stamp_node}
 use Rattle.lt_world.proofs.Counts.{few_moves, counted_moved, at_most_moved, moves_inside}
 use Rattle.lt_world.proofs.world.World.step.Goals as goal
