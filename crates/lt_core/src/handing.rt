@@ -73,7 +73,7 @@ impl Core {
         requires fits { FitsOut (hand_over self.old.set stamp self.old.state) out.old }
         ensures does { Does (hand_over self.old.set stamp self.old.state) self.old out.old self.new out.new }
     {
-        if let Some(k) = self.next_move() {
+        if let Some(k) = self.next_draw() {
             if let Some(desk) = self.desk.take() {
                 self.send_desk(k, desk, stamp, out);
             }
@@ -81,12 +81,12 @@ impl Core {
     }
 
     // The place of the ask to whose node the desk moves.
-    fn next_move(&self) -> Option<u32>
+    fn next_draw(&self) -> Option<u32>
         ensures next { result ≡ next_draw self.now.node self.now.state }
         ensures within { IfSome result (λ k. k < length (queue_of self.now.state)) }
     {
         match &self.desk {
-            Some(desk) => desk.next_move(self.links.me(), &self.held, self.pending.stamps()),
+            Some(desk) => desk.next_draw(self.links.me(), &self.held, self.pending.stamps()),
             None => None,
         }
     }

@@ -8,7 +8,8 @@ use Rattle.lt_letter.specs.Seen.{letter_seen}
 use Rattle.lt_limits.specs.Limits.{node_within, leaves_asks}
 use Rattle.lt_spec.specs.NodeMove.{NodeState}
 use Rattle.lt_law_plays.specs.Plays.{can_act}
-use Rattle.lt_node.specs.NodeData.{state_of, numbers_of}
+use Rattle.lt_node.specs.NodeData.{state_of}
+use Rattle.lt_modes.specs.Fits.{numbers_of}
 use Rattle.lt_runner.specs.declared.choice.Choice.TheVariants.{Nothing, Act, Take}
 use Rattle.lt_runner.specs.declared.choice.TheConstants.{LAST_CLOCK}
 use Rattle.lt_runner.specs.declared.hand.Hand.{Hand}

@@ -17,7 +17,8 @@ use Rattle.lt_law_invariant.proofs.KeptRuns.{letters_fit_in_runs}
 use Rattle.lt_law_limits.proofs.Within.{nodes_within, asks_placed, whole}
 use Rattle.lt_law_enabled.specs.OrderLaws.{HasLetter}
 use Rattle.lt_law_enabled.proofs.Order.{takes_where}
-use Rattle.lt_node.specs.NodeData.{NodeData, state_of, numbers_of}
+use Rattle.lt_node.specs.NodeData.{NodeData, state_of}
+use Rattle.lt_modes.specs.Fits.{numbers_of}
 use Rattle.lt_world.specs.Fields.{IsNodeOf}
 use Rattle.lt_world.specs.Moving.{IsWithin, CanAct, CanTake}
 use Rattle.lt_world.proofs.Runs.{whole_run}

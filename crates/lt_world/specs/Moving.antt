@@ -5,7 +5,8 @@ use Rattle.lt_modes.specs.Fits.{fits}
 use Rattle.lt_limits.specs.Limits.{node_within, leaves_asks}
 use Rattle.lt_spec.specs.Families.{home}
 use Rattle.lt_spec.specs.NodeMove.{node_waits, has_command}
-use Rattle.lt_node.specs.NodeData.{NodeData, state_of, numbers_of}
+use Rattle.lt_node.specs.NodeData.{NodeData, state_of}
+use Rattle.lt_modes.specs.Fits.{numbers_of}
 
 -- what the node keeps leaves room for a move
 abbrev pub IsWithin : NodeData → Type 0

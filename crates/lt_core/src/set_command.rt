@@ -2,7 +2,7 @@ use lt_modes::Mode;
 
 /// What a client's command does in the set of a core.
 #[derive(Clone, Copy, Debug, PartialEq, Eq)]
-pub enum Order {
+pub enum SetCommand {
     Lock(Mode),
     Try(Mode),
     Unlock(Mode),
