@@ -7,6 +7,3 @@ pub enum Choice {
     /// The letter in hand is taken.
     Take,
 }
-
-/// The clock after which a node makes no move more.
-pub const LAST_CLOCK: u64 = 4_294_967_295;

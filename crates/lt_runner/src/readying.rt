@@ -1,5 +1,5 @@
 // What a runner does before a move.
-ghost use Rattle.std.specs.Prelude.{◌≡◌, ◌≢◌, ℕ, None, IsTrue, IfSome, OnOk};
+ghost use Rattle.std.specs.Prelude.{◌≡◌, None, IsTrue, IfSome, OnOk};
 ghost use Rattle.lt_limits.specs.Limits.{node_within};
 ghost use Rattle.lt_node.specs.NodeData.{state_of};
 ghost use Rattle.lt_node.specs.Room.{RoomToAct, RoomToTake};

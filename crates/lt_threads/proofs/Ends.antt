@@ -1,6 +1,6 @@
 -- The run of a crew, and how it ended.
 use Rattle.std.proofs.Common.{◌≡◌, ℕ, zero, suc, ◌+◌, ◌<◌, List, [], ◌∷◌, length, Some, Bool, true, false, refl, sym, ap, subst, arith, ◌∙◌}
-use Rattle.std.specs.Prelude.{◌==◌, ◌||◌, ◌&&◌, if◌then◌else◌, filter, slice_get}
+use Rattle.std.specs.Prelude.{◌==◌, ◌&&◌, if◌then◌else◌, filter, slice_get}
 use Rattle.std.proofs.lemmas.Bool.{eq-eqb, and_from}
 use Rattle.std.proofs.lemmas.List.Sums.{sum_by-cons}
 use Rattle.lt_modes.specs.Script.{ScriptData}

@@ -1,10 +1,10 @@
-ghost use Rattle.std.specs.Prelude.{◌≡◌, ◌<◌, ◌≤◌, IfOk};
+ghost use Rattle.std.specs.Prelude.{◌<◌, ◌≤◌, IfOk};
 ghost use Rattle.lt_limits.specs.declared.moves.TheConstants.{MAX_MOVES};
 ghost use Rattle.lt_threads.specs.Together.{IsCrew, EachIs};
 ghost use Rattle.lt_threads.specs.Rounds.{RoundsEnd};
 ghost use Rattle.lt_runner.specs.Kept.{AsSeen};
 ghost use Rattle.lt_threads.specs.Threads.{IsThreadRun};
-ghost use Rattle.lt_threads.specs.Crews.{HasLimit, CrewEnds};
+ghost use Rattle.lt_threads.specs.Crews.{CrewEnds};
 
 use crate::finishing::finish;
 use crate::rounds::{Ended, run_rounds};
