@@ -38,6 +38,7 @@ can_move_is_enabled script w q = (enabled, moves)
   where
     takes : ℕ → Bool
     takes p = is_enabled script w q (Take p)
+
     acts : ℕ → Bool
     acts client = is_enabled script w q (Act client)
 

@@ -11,7 +11,7 @@ use Rattle.lt_law_plays.specs.Plays.{can_act}
 use Rattle.lt_node.specs.NodeData.{state_of}
 use Rattle.lt_runner.specs.declared.choice.Choice.TheVariants.{Nothing, Act, Take}
 use Rattle.lt_core.specs.declared.fits.TheConstants.{LAST_CLOCK}
-use Rattle.lt_runner.specs.declared.hand.Hand.{Hand}
+use Rattle.lt_runner.specs.declared.parts.Hand.{Hand}
 use Rattle.lt_runner.specs.declared.parts.Parts.{Parts}
 use Rattle.lt_runner.specs.Ready.{FitsNow}
 use Rattle.lt_runner.specs.Choices.{or_this, least_below, first_client, may_move, may_act, may_take, act_of, act_choice, choice_by, next_choice}

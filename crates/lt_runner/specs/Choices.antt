@@ -11,7 +11,7 @@ use Rattle.lt_node.specs.NodeData.{state_of}
 use Rattle.lt_core.specs.declared.fits.TheConstants.{LAST_CLOCK}
 use Rattle.lt_runner.specs.declared.choice.Choice.{Choice}
 use Rattle.lt_runner.specs.declared.choice.Choice.TheVariants.{Nothing, Act, Take}
-use Rattle.lt_runner.specs.declared.hand.Hand.{Hand}
+use Rattle.lt_runner.specs.declared.parts.Hand.{Hand}
 use Rattle.lt_runner.specs.declared.parts.Parts.{Parts}
 
 abbrev pub or_this : Option ℕ → (ℕ → Bool) → ℕ → Option ℕ

@@ -9,10 +9,10 @@ use Rattle.lt_law_recipients.specs.Peers.{NodeNames}
 use Rattle.lt_node.specs.NodeData.{state_of}
 use Rattle.lt_mail.specs.Words.{outs_count, ins_count, sent_to, taken_from, known_from, SameEnds}
 use Rattle.lt_runner.specs.declared.choice.Choice.TheVariants as choices
-use Rattle.lt_runner.specs.declared.turned.Turned.{Turned}
-use Rattle.lt_runner.specs.declared.turned.Turned.TheVariants.{Moved, Quiet, Full, NoMemory}
-use Rattle.lt_runner.specs.declared.turned.Worked.{Worked}
-use Rattle.lt_runner.specs.declared.turned.Worked.TheVariants as worked
+use Rattle.lt_runner.specs.declared.turning.Turned.{Turned}
+use Rattle.lt_runner.specs.declared.turning.Turned.TheVariants.{Moved, Quiet, Full, NoMemory}
+use Rattle.lt_runner.specs.declared.turning.Worked.{Worked}
+use Rattle.lt_runner.specs.declared.turning.Worked.TheVariants as worked
 use Rattle.lt_runner.specs.declared.parts.Parts.{Parts}
 use Rattle.lt_runner.specs.Hands.{in_hand, IsFromPeer, HandStays}
 use Rattle.lt_runner.specs.Choices.{next_choice}

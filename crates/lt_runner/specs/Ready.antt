@@ -8,7 +8,7 @@ use Rattle.lt_spec.specs.NodeMove.{NodeState}
 use Rattle.lt_core.specs.declared.fits.TheConstants.{LAST_CLOCK}
 use Rattle.lt_node.specs.Room.{RoomToAct, RoomToTake}
 use Rattle.lt_mail.specs.Words.{HasRoomFor}
-use Rattle.lt_runner.specs.declared.hand.Hand.{Hand}
+use Rattle.lt_runner.specs.declared.parts.Hand.{Hand}
 use Rattle.lt_runner.specs.declared.parts.Parts.{Parts}
 
 -- the log and the outboxes have room for all that a move may send out

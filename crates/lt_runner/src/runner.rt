@@ -2,15 +2,15 @@ ghost use Rattle.std.specs.Prelude.{◌≡◌, ◌≢◌, ◌<◌, ◌≤◌, le
 ghost use Rattle.lt_limits.specs.declared.moves.TheConstants.{MAX_MOVES};
 ghost use Rattle.lt_mail.specs.Opening.{IsFresh};
 ghost use Rattle.lt_runner.specs.declared.choice.Choice.TheVariants as choices;
-ghost use Rattle.lt_runner.specs.declared.turned.Turned.TheVariants as turns;
-ghost use Rattle.lt_runner.specs.declared.turned.Worked.TheVariants as answers;
+ghost use Rattle.lt_runner.specs.declared.turning.Turned.TheVariants as turns;
+ghost use Rattle.lt_runner.specs.declared.turning.Worked.TheVariants as answers;
 ghost use Rattle.lt_runner.specs.Choices.{next_choice};
 ghost use Rattle.lt_runner.specs.Kept.{RunnerInvariant, Grew, TurnEnds, WorkEnds};
 ghost use Rattle.lt_runner.specs.Starts.{StartsWith};
 
 use crate::gate::Gate;
 use crate::parts::Parts;
-use crate::turned::{Turned, Worked};
+use crate::turning::{Turned, Worked};
 use lt_letter::Out;
 use lt_mail::Mail;
 use lt_merge::Log;

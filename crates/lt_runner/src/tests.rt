@@ -135,7 +135,10 @@ fn a_letter_is_met_and_fetched(rt: HostRuntime) -> Result<(), Fail> {
     assert_eq!(rt; script.nodes(), 2);
     let (mut first, mut second) = two_runners(rt.alloc(), &script)?;
     let gate = Counter::new();
-    assert_eq!(rt; turn_and_meet(&mut first, &mut second, &gate), Turned::Moved);
+    assert_eq!(rt;
+        turn_and_meet(&mut first, &mut second, &gate),
+        Turned::Moved
+    );
     assert!(rt; second.waits(0));
     assert!(rt; !first.has_move());
     first.fetch();

@@ -5,7 +5,7 @@ use Rattle.lt_mail.specs.Words.{out_at, in_at, Alike, SameOut, SameIn, SameEnds}
 use Rattle.lt_mail.specs.declared.mail.Mail.{Mail}
 use Rattle.lt_mail.specs.declared.lane.OutLane.{OutLane}
 use Rattle.lt_mail.specs.declared.lane.InLane.{InLane}
-use Rattle.lt_runner.specs.declared.hand.Hand.{Hand}
+use Rattle.lt_runner.specs.declared.parts.Hand.{Hand}
 use Rattle.lt_runner.specs.declared.parts.Parts.{Parts}
 use Rattle.lt_runner.specs.Hands.{HandStays}
 use Rattle.lt_runner.specs.Kept.{SameRunner, AsSeen}

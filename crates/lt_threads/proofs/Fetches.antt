@@ -5,7 +5,7 @@ use Rattle.std.proofs.lemmas.Bool.{cases_eq}
 use Rattle.std.proofs.lemmas.Option.{slice_get-get_or, slice_get_within}
 use Rattle.lt_mail.specs.Lanes.{ring_given, outbox_letters}
 use Rattle.lt_mail.specs.Words.{out_at, on_out, Alike}
-use Rattle.lt_runner.specs.declared.hand.Hand.{Hand}
+use Rattle.lt_runner.specs.declared.parts.Hand.{Hand}
 use Rattle.lt_runner.specs.declared.parts.Parts.{Parts}
 use Rattle.lt_runner.specs.Hands.{HandStays}
 use Rattle.lt_runner.specs.Kept.{RunnerInvariant, AsSeen}

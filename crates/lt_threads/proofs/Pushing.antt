@@ -14,8 +14,8 @@ use Rattle.lt_runner.specs.Looking.{is_move}
 use Rattle.lt_runner.specs.Kept.{SameRunner, AsSeen, Grew}
 use Rattle.lt_threads.specs.declared.rounds.Ended.{Ended}
 use Rattle.lt_threads.specs.declared.rounds.Ended.TheVariants as ended
-use Rattle.lt_runner.specs.declared.turned.Turned.{Turned}
-use Rattle.lt_runner.specs.declared.turned.Turned.TheVariants.{Moved, Quiet, Full, NoMemory}
+use Rattle.lt_runner.specs.declared.turning.Turned.{Turned}
+use Rattle.lt_runner.specs.declared.turning.Turned.TheVariants.{Moved, Quiet, Full, NoMemory}
 use Rattle.lt_threads.specs.Together.{EachIs, IsCrew, crew_world}
 use Rattle.lt_threads.specs.Enabled.{IsLeastEnabled, IsFirstMove}
 use Rattle.lt_threads.specs.Rounds.{IsCrewCut, room_of}

@@ -24,7 +24,7 @@ use Rattle.lt_node.specs.NodeData.{state_of}
 use Rattle.lt_mail.specs.Words.{known_from, waiting_to}
 use Rattle.lt_runner.specs.declared.choice.Choice.TheVariants.{Nothing, Take}
 use Rattle.lt_core.specs.declared.fits.TheConstants.{LAST_CLOCK}
-use Rattle.lt_runner.specs.declared.hand.Hand.{Hand}
+use Rattle.lt_runner.specs.declared.parts.Hand.{Hand}
 use Rattle.lt_runner.specs.declared.parts.Parts.{Parts}
 use Rattle.lt_runner.specs.Choices.{least_below, or_this, may_move, may_act, may_take, act_of, act_choice, choice_by, next_choice}
 use Rattle.lt_runner.specs.Hands.{in_hand, IsFromPeer}

@@ -11,8 +11,8 @@ use Rattle.lt_runner.specs.declared.parts.Parts.{Parts}
 use Rattle.lt_runner.specs.declared.choice.Choice.TheVariants as choices
 use Rattle.lt_runner.specs.Choices.{next_choice}
 use Rattle.lt_runner.specs.Kept.{RunnerInvariant, AsSeen, Grew, TurnEnds}
-use Rattle.lt_runner.specs.declared.turned.Turned.{Turned}
-use Rattle.lt_runner.specs.declared.turned.Turned.TheVariants.{Moved, Quiet, Full, NoMemory}
+use Rattle.lt_runner.specs.declared.turning.Turned.{Turned}
+use Rattle.lt_runner.specs.declared.turning.Turned.TheVariants.{Moved, Quiet, Full, NoMemory}
 use Rattle.lt_threads.specs.Together.{EachIs}
 use Rattle.lt_threads.specs.Rounds.{room_of}
 use Rattle.lt_threads.specs.Pushes.{PushedEnds, OnePushed, PushedAt}

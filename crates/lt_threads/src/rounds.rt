@@ -2,7 +2,7 @@ ghost use Rattle.std.specs.Prelude.{◌≡◌, ◌<◌, ◌⊎◌, length};
 ghost use Rattle.lt_runner.specs.Kept.{Grew};
 ghost use Rattle.lt_threads.specs.Together.{EachIs, IsCrew};
 ghost use Rattle.lt_threads.specs.Rounds.{RoundsEnd, IsCrewCut};
-ghost use Rattle.lt_runner.specs.declared.turned.Turned.TheVariants as turns;
+ghost use Rattle.lt_runner.specs.declared.turning.Turned.TheVariants as turns;
 ghost use Rattle.lt_threads.specs.Pushes.{OnePushed, PushedAt, Tried, CanPush, PushEnds, is_end, first_end, other_end};
 
 use crate::enabled::any_enabled;

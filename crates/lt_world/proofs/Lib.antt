@@ -12,3 +12,4 @@ pub mod ActOrder
 pub mod Counts
 pub mod Rest
 pub mod Picks
+pub mod MadeLemmas

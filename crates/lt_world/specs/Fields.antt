@@ -5,7 +5,7 @@ use Rattle.lt_lists.specs.Below.{sum_below}
 use Rattle.lt_script.specs.Script.{IsScript}
 use Rattle.lt_spec.specs.Log.{Logged}
 use Rattle.lt_spec.specs.NodeMove.{NodeState}
-use Rattle.lt_spec.specs.World.{World, world_after, is_runnable, IsRun}
+use Rattle.lt_spec.specs.World.{World, world_after, made_by, is_runnable, IsRun}
 use Rattle.lt_letter.specs.OutData.{OutData}
 use Rattle.lt_node.specs.NodeData.{NodeData, SameNode, state_of}
 use Rattle.lt_merge.specs.Run.{RunData}
@@ -82,7 +82,13 @@ pub record AreCounted (script : ScriptData) (limit : ℕ) (moves : List ℕ) (ru
 abbrev pub AreAtMost : ScriptData → ℕ → List Logged → Type 0
 AreAtMost script most run = (q : ℕ) → q < script.nodes → moves_of q run ≤ most
 
-pub record Stands (script : ScriptData) (limit most : ℕ) (nodes : List NodeData) (inboxes : List (List WireData)) (moves : List ℕ) (out : OutData) (run : List Logged) : Type 0 where
+-- how many commands each client has made
+pub record AreMade (script : ScriptData) (made : List ℕ) (w : World) : Type 0 where
+  pub count : length made ≡ length script.clients
+  pub made_are : (c : ℕ) → c < length script.clients → slice_index_or made c 0 ≡ made_by script w c
+
+pub record Stands (script : ScriptData) (limit most : ℕ) (nodes : List NodeData) (inboxes : List (List WireData)) (moves made : List ℕ) (out : OutData) (run : List Logged) : Type 0 where
   pub holds : Holds script nodes inboxes out run
   pub counted : AreCounted script limit moves run
   pub at_most : AreAtMost script most run
+  pub acts : AreMade script made (world_after script run)

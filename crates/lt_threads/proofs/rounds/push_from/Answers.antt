@@ -1,5 +1,5 @@
 use Rattle.std.proofs.Common.{subst, ℕ}
-use Rattle.lt_runner.specs.declared.turned.Turned.{Turned}
+use Rattle.lt_runner.specs.declared.turning.Turned.{Turned}
 use Rattle.lt_threads.specs.Pushes.{PushedAt}
 use Rattle.lt_threads.proofs.rounds.push_from.Goals as goal
 use Rattle.lt_threads.proofs.Pushing.{first_crew, first_full, first_moved_or_over, after_full, first_ends}

@@ -2,7 +2,7 @@
 use Rattle.std.proofs.Common.{◌∙◌, ap}
 use Rattle.lt_merge.specs.Run.{with_events}
 use Rattle.lt_merge.proofs.Recorded.{pushed}
-use Rattle.lt_runner.proofs.posting.log_move.Goals as goal
+use Rattle.lt_runner.proofs.making.log_move.Goals as goal
 
 pub returns-clause-log : goal.returns-clause-log
 returns-clause-log c =

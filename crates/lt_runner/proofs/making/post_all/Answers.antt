@@ -1,7 +1,7 @@
 -- The next letter is put into its outbox.
 use Rattle.lt_letter.specs.Seen.{post_seen}
 use Rattle.lt_runner.proofs.PostLemmas.{next_post, one_posted}
-use Rattle.lt_runner.proofs.posting.post_all.Goals as goal
+use Rattle.lt_runner.proofs.making.post_all.Goals as goal
 
 pub put-requires-clause-peer : goal.put-requires-clause-peer
 put-requires-clause-peer c =

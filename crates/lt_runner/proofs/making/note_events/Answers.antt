@@ -4,7 +4,7 @@ use Rattle.lt_modes.specs.declared.event.Event.{Event}
 use Rattle.lt_letter.specs.OutData.{OutData}
 use Rattle.lt_merge.specs.Run.{with_events}
 use Rattle.lt_merge.proofs.Recorded.{length-with_event}
-use Rattle.lt_runner.proofs.posting.note_events.Goals as goal
+use Rattle.lt_runner.proofs.making.note_events.Goals as goal
 
 pub loop-event-preserved : goal.loop-event-preserved
 loop-event-preserved c =
