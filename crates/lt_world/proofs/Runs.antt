@@ -13,7 +13,7 @@ use Rattle.lt_modes.specs.Made.{Post}
 use Rattle.lt_lists.proofs.Members.{all_of, filter_map-at}
 use Rattle.lt_spec.specs.Log.{Logged}
 use Rattle.lt_spec.specs.NodeMove.{NodeState}
-use Rattle.lt_spec.specs.World.{World, world_after, is_enabled, logged, after, opened, node_move, front_stamp, move_stamp, letter_for, IsMove, IsRun}
+use Rattle.lt_spec.specs.World.{World, world_after, is_enabled, logged, after, opened, node_move, front_stamp, move_stamp, letter_for, IsRun}
 use Rattle.lt_spec.specs.World as runs
 use Rattle.lt_model.specs.Paths.{Paths}
 use Rattle.lt_model.proofs.Runs.{after_run-push, IsRunFrom-push}

@@ -1,4 +1,4 @@
-ghost use Rattle.std.specs.Prelude.{◌≡◌, ◌<◌, ◌≤◌, ◌+◌, ◌^◌, ℕ, [], ◌∷◌, ◌++◌, All, length, slice_set, IsTrue, IfOk, OnOk, OnErr};
+ghost use Rattle.std.specs.Prelude.{◌≡◌, ◌<◌, ◌+◌, ◌^◌, ℕ, [], ◌∷◌, ◌++◌, All, length, slice_set, IsTrue, IfOk, OnOk, OnErr};
 ghost use Rattle.lt_modes.specs.Made as rules;
 ghost use Rattle.lt_modes.specs.declared.moves.Step.TheVariants.{Act, Take};
 ghost use Rattle.lt_spec.specs.World.{start, world_after, is_enabled, logged};
@@ -75,7 +75,7 @@ impl<'a> Network<'a> {
         self.reserve(node)?;
         let stamp = act_at(&mut self.nodes, node, client, &mut self.out);
         let step = Step::Act(client);
-        settle(
+        record_move(
             &mut self.inboxes,
             &mut self.run,
             Move { stamp, step },
@@ -100,7 +100,7 @@ impl<'a> Network<'a> {
         }
         let stamp = take_at(&mut self.nodes, node, letter, &mut self.out);
         let step = Step::Take(sender);
-        settle(
+        record_move(
             &mut self.inboxes,
             &mut self.run,
             Move { stamp, step },
@@ -217,7 +217,7 @@ fn reserve_all(
 }
 
 // Notes the move that its node made, and sends on what it sent out.
-fn settle(inboxes: &mut Vec<Inbox>, run: &mut Run, made: Move, out: &mut Out)
+fn record_move(inboxes: &mut Vec<Inbox>, run: &mut Run, made: Move, out: &mut Out)
     requires senders { (q : ℕ) → q < length inboxes.old.items → made.stamp.node < length (inbox_at inboxes.old.items q) }
     requires targets { All (λ (post : rules.Post). post.to < length inboxes.old.items) out.old.posts }
     requires room { InboxRoom made.stamp.node inboxes.old.items run.old out.old }
