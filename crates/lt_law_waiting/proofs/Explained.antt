@@ -1,58 +1,25 @@
 -- Who waits at rest, and why; and what the report tells of it.
-use Rattle.std.proofs.Common.{◌≡◌, ◌≢◌, ℕ, zero, suc, ◌<◌, ◌≤◌, inl, inr, List, [], ◌∷◌, ◌++◌, length, Bool, true, false, refl, sym, ap, subst, arith, take, ◌∙◌}
-use Rattle.std.specs.Prelude.{◌⊎◌, ◌==◌, ◌&&◌, ◌||◌, not, if◌then◌else◌, nat_lt, Contains, IsTrue}
-use Rattle.std.specs.List.{list_any}
-use Rattle.std.proofs.lemmas.Bool.{or_cases, or_left, or_right, eq-eqb, ne_eqb, eqb-true, and_parts, and_from, lt-ltb, ltb-true, false≢true}
-use Rattle.std.proofs.lemmas.List.Elements.{All-contains}
-use Rattle.std.proofs.lemmas.List.Sums.{get_or-le-sum_by}
+use Rattle.std.proofs.Common.{◌≡◌, ℕ, ◌<◌, inl, inr, List, [], ◌∷◌, length, Bool, true, false, refl, sym, subst, take, ◌∙◌}
+use Rattle.std.specs.Prelude.{◌⊎◌, Contains, IsTrue}
+use Rattle.std.proofs.lemmas.Bool.{false≢true}
 use Rattle.lt_modes.specs.declared.event.Event.{Event}
-use Rattle.lt_modes.specs.declared.ask.Ask.{Ask}
-use Rattle.lt_modes.specs.declared.parts.Row.{Row}
-use Rattle.lt_modes.specs.declared.stamp.Stamp.{Stamp}
-use Rattle.lt_modes.specs.Modes.{conflicts, excludes_itself}
-use Rattle.lt_modes.specs.Held.{count_of}
-use Rattle.lt_modes.specs.Fits.{ask_if, parked_asks, has_client, are_apart}
 use Rattle.lt_modes.specs.Script.{ScriptData}
-use Rattle.lt_modes.specs.Serving.{queue_of, waits}
-use Rattle.lt_modes.specs.State.{ParkedAsk}
-use Rattle.lt_modes.specs.Tells.{is_newer}
-use Rattle.lt_modes.proofs.ModeAlgebra.{has-itself, any_mode-which, any_mode-at}
-use Rattle.lt_lists.specs.Below.{any_below}
-use Rattle.lt_lists.proofs.Members.{contains_first, contains_later, list_any-at, list_any-which, filter_map-at}
-use Rattle.lt_lists.proofs.Searches.{any_below_at, any_below_none}
-use Rattle.lt_lists.proofs.Sums.{sum_below-at, counted_in}
-use Rattle.lt_spec.specs.Families.{home}
-use Rattle.lt_spec.specs.Facts.{state_at, places_in_state, LeadsBy, IsLedToQueue}
-use Rattle.lt_spec.specs.Holdings.{Holding, holding, same_holding, holdings, lines_of}
+use Rattle.lt_modes.specs.Serving.{waits}
+use Rattle.lt_lists.proofs.Searches.{any_below_at}
+use Rattle.lt_spec.specs.Holdings.{Holding, holdings, lines_of}
 use Rattle.lt_spec.specs.Log.{Logged}
 use Rattle.lt_spec.specs.World.{World, world_after, IsRun, is_waiting, is_at_rest, anyone_waits}
-use Rattle.lt_model.specs.Homes.{IsWhole, Homes, IsRowAtHome, IsAskAtHome, IsAskOf}
-use Rattle.lt_model.specs.Invariant.{WorldInvariant, WaitsFor}
-use Rattle.lt_model.proofs.HomesMove.{homes_in_runs}
-use Rattle.lt_model.proofs.KeptSets.{kept_stands}
-use Rattle.lt_model.proofs.StandingInRuns.{stands_once}
-use Rattle.lt_law_accounts.proofs.Asks.{times_in-some}
-use Rattle.lt_law_accounts.proofs.RowTotals.{row_count, total}
-use Rattle.lt_law_rest.specs.RestLaws.{IsBarred}
-use Rattle.lt_law_rest.proofs.FirstWaiter.{first_waiter_conflicts}
-use Rattle.lt_law_rest.proofs.LedAtRest.{asks_are_led}
-use Rattle.lt_law_invariant.proofs.ClientEffects.{one_of_client}
-use Rattle.lt_law_invariant.proofs.ClientMoves.{at_first}
-use Rattle.lt_law_invariant.proofs.ClientsKept.{sound_clients}
-use Rattle.lt_law_invariant.proofs.KeptRuns.{kept_in_runs}
+use Rattle.lt_model.specs.Homes.{IsWhole}
 use Rattle.lt_law_lines.proofs.KeptLines.{lines_kept_in_runs}
-use Rattle.lt_law_lines.proofs.LineCounts.{same_holding-true}
-use Rattle.lt_spec.specs.Rings.{Graph, numbers_below, AreBelow, IsRing, ring_set, ring_of, walk_end}
-use Rattle.lt_modes.specs.Waiting.{pending_ask, is_before, stands_before, has_older, parked_behind}
-use Rattle.lt_spec.specs.Waiting.{holds_against, waits_behind, is_kept_by, kept_if, waits_for}
-use Rattle.lt_law_waiting.specs.WaitingLaws.{HasEnded, HoldsUp, WaitInRing, EndedHoldsUp, OnlyWaitersWait, EachWaitsForSome, EndedHold, WaitersAreExplained, PairsAreReported, EndsAreReported, WaitersAreReported}
-use Rattle.lt_law_waiting.specs.Reports.{WaitsLine, EndsLine, waits_report}
-use Rattle.lt_law_waiting.proofs.RingSets.{remaining_below}
+use Rattle.lt_spec.specs.Rings.{Graph, ring_set, walk_end}
+use Rattle.lt_spec.specs.Waiting.{waits_for}
+use Rattle.lt_law_waiting.specs.WaitingLaws.{WaitInRing, EndedHoldsUp, WaitersAreExplained, PairsAreReported, EndsAreReported, WaitersAreReported}
+use Rattle.lt_law_waiting.specs.Reports.{EndsLine, waits_report}
 use Rattle.lt_law_waiting.proofs.RingWalks.{cons_some, ring_in_set, ring_some, ring_waits}
 use Rattle.lt_law_waiting.proofs.WalkEnds.{walks_end}
-use Rattle.lt_law_waiting.proofs.Finds.{any_below_which, find_some, find_is}
+use Rattle.lt_law_waiting.proofs.Finds.{any_below_which}
 use Rattle.lt_law_waiting.proofs.Reports.{waits_are_told, ends_are_told, ends_are_all}
-use Rattle.lt_law_waiting.proofs.KeptAsks.{KeptAsk, kept_waits, waits_kept, ask_waits, only_waiters_wait}
+use Rattle.lt_law_waiting.proofs.KeptAsks.{ask_waits, only_waiters_wait}
 use Rattle.lt_law_waiting.proofs.WaitsAtRest.{each_waits_for_some}
 use Rattle.lt_law_waiting.proofs.Ended.{ended_hold}
 

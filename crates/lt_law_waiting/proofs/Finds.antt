@@ -1,18 +1,10 @@
 -- What a search among clients finds.
-use Rattle.std.proofs.Common.{◌≡◌, ◌≢◌, ℕ, zero, suc, ◌+◌, ◌<◌, ◌≤◌, inl, inr, List, [], ◌∷◌, ◌++◌, length, Option, Some, None, Bool, true, false, refl, sym, ap, subst, arith, ◌∙◌}
-use Rattle.std.specs.Prelude.{◌⊎◌, ◌||◌, ◌==◌, if◌then◌else◌, filter, Contains}
-use Rattle.std.specs.List.{list_any, find, IsDistinct}
+use Rattle.std.proofs.Common.{◌≡◌, ℕ, zero, suc, ◌<◌, inl, inr, List, [], ◌∷◌, Some, None, Bool, true, false, refl, sym, ap, arith, ◌∙◌}
+use Rattle.std.specs.Prelude.{◌||◌, if◌then◌else◌, Contains}
+use Rattle.std.specs.List.{list_any, find}
 use Rattle.std.proofs.lemmas.Bool.{or_cases, false≢true}
 use Rattle.lt_lists.specs.Below.{any_below}
-use Rattle.std.proofs.lemmas.List.FromFn.{length-range_with_len, get_or-range_with_len}
-use Rattle.std.proofs.lemmas.List.{length_push}
-use Rattle.std.proofs.lemmas.List.Elements.{Contains-push_cases}
-use Rattle.std.proofs.lemmas.Map.Keys.{IsDistinct-push, IsDistinct-tail}
-use Rattle.std.proofs.lemmas.Map.Steps.{length-le_from_distinct_below}
-use Rattle.std.proofs.lemmas.Cmp.{nat_eq_equiv}
-use Rattle.lt_lists.proofs.Members.{contains_first, contains_later, contains_cases, contains_filter, contains_filtered, list_any-at, list_any-which, none_in}
-use Rattle.lt_spec.specs.Rings.{Graph, numbers_below, AreBelow, first_or, IsPath, IsRing, still_waiting, remaining, ring_set, next_among, has_come, from_coming, ring_from, ring_of, walk_on, walk_end_from}
-use Rattle.lt_law_waiting.specs.RingLaws.{RingSetWaits, RingSetIsGreatest, WalkFindsRing, NoRing, WalksEnd}
+use Rattle.lt_lists.proofs.Members.{contains_first, contains_later}
 
 -- a search that finds something finds it at some number
 pub any_below_which : (n : ℕ) (test : ℕ → Bool) → any_below n test ≡ true → (k : ℕ) × (k < n) × (test k ≡ true)

@@ -1,5 +1,5 @@
 -- What the lines of a report tell.
-use Rattle.std.proofs.Common.{◌≡◌, ℕ, ◌<◌, inl, inr, List, [], ◌∷◌, ◌++◌, Bool, true, refl, sym, ap, subst, ◌∙◌}
+use Rattle.std.proofs.Common.{◌≡◌, ℕ, ◌<◌, inl, inr, List, [], ◌∷◌, ◌++◌, true, refl, sym, ap, subst, ◌∙◌}
 use Rattle.std.specs.List.{IsDistinct}
 use Rattle.std.specs.Prelude.{◌==◌, map, filter, flat_map, Contains}
 use Rattle.std.proofs.lemmas.List.Elements.{Contains-append_cases, Contains-append_left, Contains-append_right}
@@ -20,12 +20,12 @@ flat_map-which f (x ∷ rest) y there = elim (Contains-append_cases (f x) (flat_
 -- a line `waits` is no other line
 waits_only : (n : ℕ) (graph : Graph) (line : ReportLine) → Contains (waits_lines n graph) line → (c d : ℕ) × (WaitsLine c d ≡ line)
 waits_only n graph line there =
-    let found = flat_map-which (λ c. map (WaitsLine c) (filter (graph c) ((numbers_below n)))) ((numbers_below n)) line there in
-    let pair = contains_mapped (WaitsLine found.0) (filter (graph found.0) ((numbers_below n))) line found.1 in
+    let found = flat_map-which (λ c. map (WaitsLine c) (filter (graph c) (numbers_below n))) (numbers_below n) line there in
+    let pair = contains_mapped (WaitsLine found.0) (filter (graph found.0) (numbers_below n)) line found.1 in
     (found.0, pair.0, pair.2)
 
-ends_only : (n : ℕ) (graph : Graph) (line : ReportLine) → Contains (ends_lines n graph) line → (c : ℕ) × Contains (filter (waits_for_some n graph) ((numbers_below n))) c × (EndsLine c (walk_end n graph c) ≡ line)
-ends_only n graph line there = contains_mapped (λ c. EndsLine c (walk_end n graph c)) (filter (waits_for_some n graph) ((numbers_below n))) line there
+ends_only : (n : ℕ) (graph : Graph) (line : ReportLine) → Contains (ends_lines n graph) line → (c : ℕ) × Contains (filter (waits_for_some n graph) (numbers_below n)) c × (EndsLine c (walk_end n graph c) ≡ line)
+ends_only n graph line there = contains_mapped (λ c. EndsLine c (walk_end n graph c)) (filter (waits_for_some n graph) (numbers_below n)) line there
 
 cycle_is : (a b : List ℕ) → CycleLine a ≡ CycleLine b → a ≡ b
 cycle_is a b e = cc
@@ -122,8 +122,8 @@ ends_are_told n graph c d there = elim (Contains-append_cases (waits_lines n gra
       | inr ends ↦
           let line = ends_only n graph (EndsLine c d) ends in
           let is : line.0 ≡ c = ends_first line.0 (walk_end n graph line.0) c d line.2 in
-          let passes = contains_filtered (waits_for_some n graph) ((numbers_below n)) line.0 line.1 in
-          let other = list_any-which (graph line.0) ((numbers_below n)) passes.1 in (
+          let passes = contains_filtered (waits_for_some n graph) (numbers_below n) line.0 line.1 in
+          let other = list_any-which (graph line.0) (numbers_below n) passes.1 in (
             e,
             subst (λ (x : ℕ). x < n) is (below_in n line.0 passes.0),
             sym (ends_second line.0 (walk_end n graph line.0) c d line.2) ∙ ap (walk_end n graph) is,
@@ -159,10 +159,10 @@ flat_map-at f (first ∷ rest) x y there here = elim (contains_cases first x res
 
 pair_there : (n : ℕ) (graph : Graph) (c d : ℕ) → Contains (waits_lines n graph) (WaitsLine c d) → (c < n) × (d < n) × (graph c d ≡ true)
 pair_there n graph c d there =
-    let found = flat_map-among (λ x. map (WaitsLine x) (filter (graph x) ((numbers_below n)))) ((numbers_below n)) (WaitsLine c d) there in
-    let pair = contains_mapped (WaitsLine found.0) (filter (graph found.0) ((numbers_below n))) (WaitsLine c d) found.2 in
+    let found = flat_map-among (λ x. map (WaitsLine x) (filter (graph x) (numbers_below n))) (numbers_below n) (WaitsLine c d) there in
+    let pair = contains_mapped (WaitsLine found.0) (filter (graph found.0) (numbers_below n)) (WaitsLine c d) found.2 in
     let is = waits_pair found.0 pair.0 c d pair.2 in
-    let passes = contains_filtered (graph found.0) ((numbers_below n)) pair.0 pair.1 in (
+    let passes = contains_filtered (graph found.0) (numbers_below n) pair.0 pair.1 in (
       subst (λ (x : ℕ). x < n) is.0 (below_in n found.0 found.1),
       subst (λ (x : ℕ). x < n) is.1 (below_in n pair.0 passes.0),
       subst (λ (x : ℕ). graph x d ≡ true) is.0 (subst (λ (y : ℕ). graph found.0 y ≡ true) is.1 passes.1),
@@ -182,8 +182,8 @@ waits_are_told n graph c d = (
     | inr last ↦ not_last (ring_set n graph) last
   ],
   λ pair. Contains-append_left (waits_lines n graph) (last_lines n graph (ring_set n graph)) (WaitsLine c d)
-      (flat_map-at (λ x. map (WaitsLine x) (filter (graph x) ((numbers_below n)))) ((numbers_below n)) c (WaitsLine c d) (in_(numbers_below n) c pair.0)
-      (contains_map (WaitsLine c) (filter (graph c) ((numbers_below n))) d (contains_filter (graph c) ((numbers_below n)) d (in_(numbers_below n) d pair.1) pair.2))),
+      (flat_map-at (λ x. map (WaitsLine x) (filter (graph x) (numbers_below n))) (numbers_below n) c (WaitsLine c d) (in_below n c pair.0)
+      (contains_map (WaitsLine c) (filter (graph c) (numbers_below n)) d (contains_filter (graph c) (numbers_below n) d (in_below n d pair.1) pair.2))),
 )
   where
     not_last : {A : Type 0} (set : List ℕ) → Contains (last_lines n graph set) (WaitsLine c d) → A
@@ -201,5 +201,5 @@ ends_are_all n graph none c d under also on =
     Contains-append_right (waits_lines n graph) (last_lines n graph (ring_set n graph)) (EndsLine c (walk_end n graph c))
     (subst (λ (set : List ℕ). Contains (last_lines n graph set) (EndsLine c (walk_end n graph c))) (sym none)
     (contains_later NoCycleLine (EndsLine c (walk_end n graph c)) (ends_lines n graph)
-    (contains_map (λ x. EndsLine x (walk_end n graph x)) (filter (waits_for_some n graph) ((numbers_below n))) c
-    (contains_filter (waits_for_some n graph) ((numbers_below n)) c (in_(numbers_below n) c under) (list_any-at (graph c) ((numbers_below n)) d (in_(numbers_below n) d also) on)))))
+    (contains_map (λ x. EndsLine x (walk_end n graph x)) (filter (waits_for_some n graph) (numbers_below n)) c
+    (contains_filter (waits_for_some n graph) (numbers_below n) c (in_below n c under) (list_any-at (graph c) (numbers_below n) d (in_below n d also) on)))))

@@ -1,32 +1,26 @@
 -- The ring set: the clients that remain when those that wait for none that remains are taken away.
-use Rattle.std.proofs.Common.{◌≡◌, ◌≢◌, ℕ, zero, suc, ◌+◌, ◌<◌, ◌≤◌, inl, inr, List, [], ◌∷◌, ◌++◌, length, Option, Some, None, Bool, true, false, refl, sym, ap, subst, arith, ◌∙◌}
-use Rattle.std.specs.Prelude.{◌⊎◌, ◌||◌, ◌==◌, if◌then◌else◌, filter, Contains}
-use Rattle.std.specs.List.{list_any, find, IsDistinct}
-use Rattle.std.proofs.lemmas.Bool.{eqb-true, eq-eqb, false≢true}
+use Rattle.std.proofs.Common.{◌≡◌, ℕ, zero, suc, ◌+◌, ◌<◌, ◌≤◌, inl, inr, List, [], ◌∷◌, length, Bool, true, false, refl, sym, ap, subst, arith}
+use Rattle.std.specs.Prelude.{◌⊎◌, if◌then◌else◌, filter, Contains}
+use Rattle.std.specs.List.{list_any}
 use Rattle.std.proofs.lemmas.List.FromFn.{length-range_with_len, get_or-range_with_len}
-use Rattle.std.proofs.lemmas.List.{length_push}
-use Rattle.std.proofs.lemmas.List.Elements.{Contains-push_cases}
-use Rattle.std.proofs.lemmas.Map.Keys.{IsDistinct-push, IsDistinct-tail}
-use Rattle.std.proofs.lemmas.Map.Steps.{length-le_from_distinct_below}
-use Rattle.std.proofs.lemmas.Cmp.{nat_eq_equiv}
-use Rattle.lt_lists.proofs.Members.{contains_first, contains_later, contains_cases, contains_filter, contains_filtered, list_any-at, list_any-which, none_in}
-use Rattle.lt_spec.specs.Rings.{Graph, numbers_below, AreBelow, first_or, IsPath, IsRing, still_waiting, remaining, ring_set, next_among, has_come, from_coming, ring_from, ring_of, walk_on, walk_end_from}
-use Rattle.lt_law_waiting.specs.RingLaws.{RingSetWaits, RingSetIsGreatest, WalkFindsRing, NoRing, WalksEnd}
+use Rattle.lt_lists.proofs.Members.{contains_filter, contains_filtered, list_any-at, list_any-which}
+use Rattle.lt_spec.specs.Rings.{Graph, numbers_below, still_waiting, remaining, ring_set}
+use Rattle.lt_law_waiting.specs.RingLaws.{RingSetWaits, RingSetIsGreatest}
 
 -- the numbers (numbers_below n)
-pub in_below : (n c : ℕ) → c < n → Contains ((numbers_below n)) c
-in_(numbers_below n) c h = (c, omega (arith, h, length-range_with_len 0 n), omega (arith, get_or-range_with_len 0 n c c h))
+pub in_below : (n c : ℕ) → c < n → Contains (numbers_below n) c
+in_below n c h = (c, omega (arith, h, length-range_with_len 0 n), omega (arith, get_or-range_with_len 0 n c c h))
 
-pub below_in : (n c : ℕ) → Contains ((numbers_below n)) c → c < n
+pub below_in : (n c : ℕ) → Contains (numbers_below n) c → c < n
 below_in n c (i, within, is) =
     let short : i < n = omega (arith, within, length-range_with_len 0 n) in
     omega (arith, short, is, get_or-range_with_len 0 n i c short)
 
 -- what is left
-pub remaining_below : (graph : Graph) (n k c : ℕ) → Contains (remaining graph ((numbers_below n)) k) c → c < n
+pub remaining_below : (graph : Graph) (n k c : ℕ) → Contains (remaining graph (numbers_below n) k) c → c < n
 remaining_below graph n zero c there = below_in n c there
 remaining_below graph n (suc k) c there =
-    remaining_below graph n k c (contains_filtered (λ x. list_any (graph x) (remaining graph ((numbers_below n)) k)) (remaining graph ((numbers_below n)) k) c there).0
+    remaining_below graph n k c (contains_filtered (λ x. list_any (graph x) (remaining graph (numbers_below n) k)) (remaining graph (numbers_below n) k) c there).0
 
 -- all pass, or the list gets shorter
 filtered : {X : Type 0} (test : X → Bool) (xs : List X) → (filter test xs ≡ xs) ⊎ (length (filter test xs) < length xs)
@@ -54,13 +48,13 @@ settles graph clients (suc k) = by_cases (settles graph clients k) (filtered (λ
     by_cases (inr few) (inr less) = inr (omega (arith, few, less))
 
 settled : (n : ℕ) (graph : Graph) → still_waiting graph (ring_set n graph) ≡ ring_set n graph
-settled n graph = by_cases (settles graph ((numbers_below n)) n)
+settled n graph = by_cases (settles graph (numbers_below n) n)
   where
     empty : (xs : List ℕ) → length xs ≡ 0 → still_waiting graph xs ≡ xs
     empty [] e = refl
     empty (x ∷ rest) e = absurd (omega (arith, e))
 
-    by_cases : (still_waiting graph (ring_set n graph) ≡ ring_set n graph) ⊎ (length (ring_set n graph) + n ≤ length ((numbers_below n))) → still_waiting graph (ring_set n graph) ≡ ring_set n graph
+    by_cases : (still_waiting graph (ring_set n graph) ≡ ring_set n graph) ⊎ (length (ring_set n graph) + n ≤ length (numbers_below n)) → still_waiting graph (ring_set n graph) ≡ ring_set n graph
     by_cases (inl e) = e
     by_cases (inr few) = empty (ring_set n graph) (omega (arith, few, length-range_with_len 0 n))
 
@@ -76,9 +70,9 @@ ring_set_waits n graph c there =
 pub ring_set_is_greatest : RingSetIsGreatest
 ring_set_is_greatest n graph clients under waits c there = stays n c there
   where
-    stays : (k c : ℕ) → Contains clients c → Contains (remaining graph ((numbers_below n)) k) c
-    stays zero c there = in_(numbers_below n) c (under c there)
+    stays : (k c : ℕ) → Contains clients c → Contains (remaining graph (numbers_below n) k) c
+    stays zero c there = in_below n c (under c there)
     stays (suc k) c there =
         let next = waits c there in
-        contains_filter (λ x. list_any (graph x) (remaining graph ((numbers_below n)) k)) (remaining graph ((numbers_below n)) k) c (stays k c there)
-        (list_any-at (graph c) (remaining graph ((numbers_below n)) k) next.0 (stays k next.0 next.1) next.2)
+        contains_filter (λ x. list_any (graph x) (remaining graph (numbers_below n) k)) (remaining graph (numbers_below n) k) c (stays k c there)
+        (list_any-at (graph c) (remaining graph (numbers_below n) k) next.0 (stays k next.0 next.1) next.2)

@@ -1,18 +1,17 @@
 -- The walk in the ring set finds a ring.
-use Rattle.std.proofs.Common.{◌≡◌, ◌≢◌, ℕ, zero, suc, ◌+◌, ◌<◌, ◌≤◌, inl, inr, List, [], ◌∷◌, ◌++◌, length, Option, Some, None, Bool, true, false, refl, sym, ap, subst, arith, ◌∙◌}
-use Rattle.std.specs.Prelude.{◌⊎◌, ◌||◌, ◌==◌, if◌then◌else◌, filter, Contains}
-use Rattle.std.specs.List.{list_any, find, IsDistinct}
+use Rattle.std.proofs.Common.{◌≡◌, ◌≢◌, ℕ, zero, suc, ◌+◌, ◌<◌, inl, inr, List, [], ◌∷◌, ◌++◌, length, Option, Some, Bool, true, false, refl, sym, subst, arith, ◌∙◌}
+use Rattle.std.specs.Prelude.{◌⊎◌, ◌||◌, ◌==◌, if◌then◌else◌, Contains}
+use Rattle.std.specs.List.{list_any, IsDistinct}
 use Rattle.std.proofs.lemmas.Bool.{eqb-true, eq-eqb, false≢true}
-use Rattle.std.proofs.lemmas.List.FromFn.{length-range_with_len, get_or-range_with_len}
 use Rattle.std.proofs.lemmas.List.{length_push}
 use Rattle.std.proofs.lemmas.List.Elements.{Contains-push_cases}
 use Rattle.std.proofs.lemmas.Map.Keys.{IsDistinct-push, IsDistinct-tail}
 use Rattle.std.proofs.lemmas.Map.Steps.{length-le_from_distinct_below}
 use Rattle.std.proofs.lemmas.Cmp.{nat_eq_equiv}
-use Rattle.lt_lists.proofs.Members.{contains_first, contains_later, contains_cases, contains_filter, contains_filtered, list_any-at, list_any-which, none_in}
-use Rattle.lt_spec.specs.Rings.{Graph, numbers_below, AreBelow, first_or, IsPath, IsRing, still_waiting, remaining, ring_set, next_among, has_come, from_coming, ring_from, ring_of, walk_on, walk_end_from}
-use Rattle.lt_law_waiting.specs.RingLaws.{RingSetWaits, RingSetIsGreatest, WalkFindsRing, NoRing, WalksEnd}
-use Rattle.lt_law_waiting.proofs.RingSets.{in_below, remaining_below, ring_next, ring_set_is_greatest}
+use Rattle.lt_lists.proofs.Members.{contains_first, contains_later, contains_cases, list_any-which, none_in}
+use Rattle.lt_spec.specs.Rings.{Graph, AreBelow, first_or, IsPath, IsRing, ring_set, next_among, has_come, from_coming, ring_from, ring_of}
+use Rattle.lt_law_waiting.specs.RingLaws.{WalkFindsRing, NoRing}
+use Rattle.lt_law_waiting.proofs.RingSets.{remaining_below, ring_next, ring_set_is_greatest}
 use Rattle.lt_law_waiting.proofs.Finds.{find_some}
 
 -- a path that goes one client further
