@@ -1,60 +1,32 @@
 -- The same of an `unlock`, a `change` and a `drop`, and of the sets that a command leaves alone.
-use Rattle.std.proofs.Common.{◌≡◌, ◌≢◌, ℕ, ◌+◌, ◌-◌, ◌<◌, ◌≤◌, inl, inr, List, [], ◌∷◌, ◌++◌, length, Option, Some, None, Bool, true, false, refl, sym, ap, subst, arith, zero, suc, ◌∙◌}
-use Rattle.std.specs.Prelude.{◌⊎◌, ◌==◌, ◌&&◌, if◌then◌else◌, IsTrue, Contains, count_by, slice_index_or, drop as drop_front}
+use Rattle.std.proofs.Common.{◌≡◌, ◌≢◌, ℕ, ◌+◌, ◌-◌, ◌≤◌, List, Option, Some, None, Bool, true, false, refl, sym, ap, arith, zero, suc, ◌∙◌}
+use Rattle.std.specs.Prelude.{◌==◌, ◌&&◌, if◌then◌else◌, IsTrue, slice_index_or}
 use Rattle.std.proofs.lemmas.List.Quantifiers.{position-Some}
-use Rattle.std.specs.List.{AllByRecursion}
-use Rattle.std.proofs.lemmas.Bool.{cases_eq, ne_eqb, eqb-true, and_left, and_right, and_parts, false≢true}
-use Rattle.std.proofs.lemmas.List.Elements.{All-contains}
+use Rattle.std.proofs.lemmas.Bool.{ne_eqb, eqb-true, and_left, and_right, and_parts, false≢true}
 use Rattle.lt_modes.specs.declared.mode.Mode.{Mode}
 use Rattle.lt_modes.specs.declared.stamp.Stamp.{Stamp}
-use Rattle.lt_modes.specs.declared.ask.Ask.{Ask}
 use Rattle.lt_modes.specs.declared.parts.Row.{Row}
 use Rattle.lt_modes.specs.declared.command.Command.{Command}
-use Rattle.lt_modes.specs.declared.command.Command.TheVariants.{Lock, Unlock, Try, Change, DropAll}
-use Rattle.lt_modes.specs.declared.event.Event.TheVariants.{Try as TryLine, Unlock as UnlockLine, NotHeld, Change as ChangeLine}
+use Rattle.lt_modes.specs.declared.command.Command.TheVariants.{Unlock, Change, DropAll}
+use Rattle.lt_modes.specs.declared.event.Event.TheVariants.{Unlock as UnlockLine, NotHeld, Change as ChangeLine}
 use Rattle.lt_modes.specs.Modes.{same_mode, one, covers}
 use Rattle.lt_modes.specs.Script.{ScriptData}
-use Rattle.lt_modes.specs.State.{SetState, CopyBody, Letter, ParkedAsk}
+use Rattle.lt_modes.specs.State.{SetState}
 use Rattle.lt_modes.specs.Held.{is_row_of, no_row, row_place, count_at, count_of, add_lock, take_lock}
-use Rattle.lt_modes.specs.Made.{Made, then_do}
 use Rattle.lt_modes.specs.Granting.{can_grant}
-use Rattle.lt_modes.specs.SetMove.{answers, given, granted, ask_of, asked, locked, tried, unlocked, change_held, changed, dropped, drop, take as take_letter}
-use Rattle.lt_modes.specs.Telling.{finish}
-use Rattle.lt_lists.specs.Below.{put}
-use Rattle.lt_spec.specs.Families.{related, is_related}
+use Rattle.lt_modes.specs.SetMove.{answers, given, ask_of, asked, unlocked, change_held, changed, dropped}
+use Rattle.lt_spec.specs.Families.{is_related}
 use Rattle.lt_spec.specs.Holdings.{holding, same_holding, is_dropped}
-use Rattle.lt_spec.specs.NodeMove.{NodeState, node_waits, act_stamp, take_stamp, at_clock, one_made, drop_all, obey, node_take}
-use Rattle.lt_spec.specs.World.{World, put_mail}
-use Rattle.lt_model.specs.Homes.{HasTargetsAt}
-use Rattle.lt_model.specs.Invariant.{WorldInvariant}
-use Rattle.lt_model.specs.Standing.{AsksStand}
-use Rattle.lt_lists.proofs.Puts.{put-same, put-other}
 use Rattle.lt_law_accounts.proofs.Asks.{same_mode-true}
 use Rattle.lt_law_accounts.proofs.RowTotals.{row_count, total, is_key, total_added, total_taken, total_dropped}
-use Rattle.lt_model.proofs.Effects.{Fact, HoldsOf, EndEffects, ends_by_effects, finish_by_effects, take_by_effects, both}
-use Rattle.lt_model.proofs.Gathered.{copies_are_on_way}
-use Rattle.lt_model.proofs.KeptSets.{kept_stands}
-use Rattle.lt_model.proofs.NodeEffects.{IsOfSet, IsOnce, once_or_aside, each_by_effects, both_of_set}
-use Rattle.lt_model.proofs.NodeMoves.{each-beside}
-use Rattle.lt_model.proofs.SentInMove.{finish-sent, drop-sent}
-use Rattle.lt_model.proofs.StandingEffects.{stands_later}
-use Rattle.lt_model.proofs.StandingParts.{Stands, stands}
-use Rattle.lt_model.proofs.StandingBegins.{stands_arrived, elsewhere, unanswered, only_here, stands_before, none_in_hand, stands_of_set}
-use Rattle.lt_model.proofs.TokenComes.{desk_somewhere}
-use Rattle.lt_law_ledgers.proofs.OwnSteps.{route_same}
-use Rattle.lt_lists.proofs.Sums.{counted_in}
-use Rattle.lt_law_invariant.proofs.ClientCounts.{SomeEach, each_some, asks_pushed}
-use Rattle.lt_law_invariant.proofs.ClientEffects.{Clients, clients}
-use Rattle.lt_law_invariant.proofs.ClientCommands.{one_for, IsIdle, idle, no_ask_of, clients_acts, drops_kept, locked_of, tried_of, unlocked_of, changed_of}
-use Rattle.lt_law_invariant.proofs.ClientMoves.{SoundClients, at_first, idle_in}
-use Rattle.lt_law_invariant.proofs.ClientsKept.{sound_clients, clients_arrived}
+use Rattle.lt_law_invariant.proofs.ClientCounts.{SomeEach, each_some}
+use Rattle.lt_law_invariant.proofs.ClientCommands.{IsIdle}
 use Rattle.lt_lists.proofs.Sums.{none_found, sum_by-zero}
 use Rattle.lt_law_lines.proofs.LineCounts.{count_after}
 use Rattle.lt_law_lines.proofs.LineRules.{key_is}
-use Rattle.lt_law_lines.proofs.HeldMoves.{some_set, related_aside}
 use Rattle.lt_law_ordered.specs.Ordered.{best_answer}
 use Rattle.lt_law_ordered.proofs.Weaker.{weaker_granted}
-use Rattle.lt_law_ordered.proofs.Loans.{is_for, asks_for, Loans, loans, no_more, same_loans, loans_ends, loans_arrived}
+use Rattle.lt_law_ordered.proofs.Loans.{asks_for}
 use Rattle.lt_law_ordered.proofs.ActLoans.{ActLoans, act_stays, idle_asks, not_his}
 
 -- of a mode that isn't held nothing is counted

@@ -1,12 +1,10 @@
 -- At rest nobody waits, where each client waits only for sets of greater ranks.
-use Rattle.std.proofs.Common.{◌≡◌, ℕ, zero, suc, ◌+◌, ◌<◌, ◌≤◌, inl, inr, List, [], ◌∷◌, length, Some, Bool, true, false, refl, sym, ap, subst, arith, take, ◌∙◌}
+use Rattle.std.proofs.Common.{◌≡◌, ℕ, zero, suc, ◌+◌, ◌<◌, ◌≤◌, List, [], ◌∷◌, length, Some, Bool, true, false, refl, sym, ap, subst, arith, take, ◌∙◌}
 use Rattle.std.specs.Prelude.{◌==◌, ◌&&◌, not, if◌then◌else◌, Contains, IsTrue, slice_get}
-use Rattle.std.proofs.lemmas.Bool.{or_cases, eq-eqb, eqb-true, and_parts, and_from, ltb-false}
+use Rattle.std.proofs.lemmas.Bool.{eq-eqb, eqb-true, and_parts, and_from, ltb-false}
 use Rattle.std.proofs.lemmas.List.Elements.{All-contains}
-use Rattle.std.proofs.lemmas.List.Sums.{get_or-le-sum_by}
 use Rattle.lt_modes.specs.declared.mode.Mode.{Mode}
 use Rattle.lt_modes.specs.declared.ask.Ask.{Ask}
-use Rattle.lt_modes.specs.declared.parts.Row.{Row}
 use Rattle.lt_modes.specs.declared.command.Command.TheVariants.{Lock}
 use Rattle.lt_modes.specs.Modes.{same_mode}
 use Rattle.lt_modes.specs.Script.{ScriptData}
@@ -24,7 +22,7 @@ use Rattle.lt_spec.specs.World.{World, world_after, made_by, is_waiting, is_runn
 use Rattle.lt_model.specs.Homes.{IsWhole, Homes, IsRowAtHome}
 use Rattle.lt_model.specs.Invariant.{WorldInvariant}
 use Rattle.lt_model.proofs.HomesMove.{homes_in_runs}
-use Rattle.lt_law_accounts.proofs.RowTotals.{row_count, total}
+use Rattle.lt_law_accounts.proofs.RowTotals.{total}
 use Rattle.lt_law_rest.specs.RestLaws.{IsBarred}
 use Rattle.lt_law_rest.proofs.FirstWaiter.{first_waiter_conflicts}
 use Rattle.lt_law_rest.proofs.LedAtRest.{asks_are_led}

@@ -4,7 +4,6 @@ use Rattle.std.specs.Prelude.{slice_get, fold}
 use Rattle.std.specs.List.{list_all}
 use Rattle.std.proofs.lemmas.Bool.{and_parts, ltb-false}
 use Rattle.lt_modes.specs.declared.command.Command.{Command}
-use Rattle.lt_modes.specs.declared.command.Command.TheVariants.{Lock, Try, Unlock, Change, DropAll}
 use Rattle.lt_modes.specs.Script.{ScriptData}
 use Rattle.lt_lists.proofs.Sums.{counted_some}
 use Rattle.lt_spec.specs.Families.{home, commands_of}
@@ -18,7 +17,6 @@ use Rattle.lt_law_lines.proofs.LineCounts.{same_holding-itself}
 use Rattle.lt_law_ordered.specs.Ordered.{may_hold_after, may_hold, holds_none}
 use Rattle.lt_law_ordered.specs.Ranked.{is_steady, IsReleasing}
 use Rattle.lt_law_ordered.proofs.LoanMoves.{AreSteady, within_in_runs}
-use Rattle.lt_law_waiting.specs.WaitingLaws.{WaitInRing}
 use Rattle.lt_law_ordered.specs.OrderedLaws.{StuckByRing}
 use Rattle.lt_law_waiting.proofs.Explained.{waiters_are_explained}
 
@@ -47,23 +45,23 @@ none_is (lock ∷ rest) e = cc
 pub stuck_by_ring : StuckByRing
 stuck_by_ring script run whole is_run releasing k rest = (
   λ someone. elim ((waiters_are_explained script run whole is_run k rest).0 someone) [
-  | inl ring ↦ ring
-  | inr (waiter, last, waits, known, ended, holds) ↦
-      let w = world_after script (take k run) in
-      let parts = and_parts (list_all is_steady (commands_of script last)) _ (releasing last known) in
-      let all : length (commands_of script last) ≤ made_by script w last = omega (arith, ltb-false (made_by script w last) (length (commands_of script last)) ended.commands) in
-      let nothing : may_hold script last (made_by script w last) ≡ [] =
-      ap (λ (l : List Command). fold (may_hold_after script last) [] l) (all_taken (commands_of script last) (made_by script w last) all)
-      ∙ none_is (may_hold script last (length (commands_of script last))) parts.1 in
-      let named = (lines_kept_in_runs script run whole is_run k).named holds.lock holds.held in
-      let some = counted_some (same_holding holds.lock) (holdings script (lines_of (take k run))) holds.lock holds.held (same_holding-itself holds.lock) in
-      let client : holds.lock.client ≡ last = holds.holder in
-      let own = (held_in_runs script run whole is_run k).own holds.lock named.1 in
-      let within = (within_in_runs script run whole is_run (releasing_steady script releasing) k last known).loans holds.lock.set holds.lock.mode named.1 in
-      let same : total (state_at w holds.lock.set (home script holds.lock.client)).held holds.lock.client holds.lock.mode ≡ total (state_at w holds.lock.set (home script last)).held last holds.lock.mode =
-      ap (λ (x : ℕ). total (state_at w holds.lock.set (home script x)).held x holds.lock.mode) client in
-      let empty = ap (λ (l : List Holding). times_held l (holding last holds.lock.set holds.lock.mode)) nothing in
-      absurd (omega (arith, some, own, within, same, empty))
-],
+    | inl ring ↦ ring
+    | inr (waiter, last, waits, known, ended, holds) ↦
+        let w = world_after script (take k run) in
+        let parts = and_parts (list_all is_steady (commands_of script last)) _ (releasing last known) in
+        let all : length (commands_of script last) ≤ made_by script w last = omega (arith, ltb-false (made_by script w last) (length (commands_of script last)) ended.commands) in
+        let nothing : may_hold script last (made_by script w last) ≡ [] =
+        ap (λ (l : List Command). fold (may_hold_after script last) [] l) (all_taken (commands_of script last) (made_by script w last) all)
+        ∙ none_is (may_hold script last (length (commands_of script last))) parts.1 in
+        let named = (lines_kept_in_runs script run whole is_run k).named holds.lock holds.held in
+        let some = counted_some (same_holding holds.lock) (holdings script (lines_of (take k run))) holds.lock holds.held (same_holding-itself holds.lock) in
+        let client : holds.lock.client ≡ last = holds.holder in
+        let own = (held_in_runs script run whole is_run k).own holds.lock named.1 in
+        let within = (within_in_runs script run whole is_run (releasing_steady script releasing) k last known).loans holds.lock.set holds.lock.mode named.1 in
+        let same : total (state_at w holds.lock.set (home script holds.lock.client)).held holds.lock.client holds.lock.mode ≡ total (state_at w holds.lock.set (home script last)).held last holds.lock.mode =
+        ap (λ (x : ℕ). total (state_at w holds.lock.set (home script x)).held x holds.lock.mode) client in
+        let empty = ap (λ (l : List Holding). times_held l (holding last holds.lock.set holds.lock.mode)) nothing in
+        absurd (omega (arith, some, own, within, same, empty))
+  ],
   λ ring. (waiters_are_explained script run whole is_run k rest).1 (inl ring),
 )
