@@ -2,8 +2,7 @@
 use Rattle.std.specs.Prelude.{◌≡◌, ◌<◌, ◌≤◌, ◌+◌, ◌^◌, ℕ, List, ◌++◌, Some, length, slice_get, IsTrue, Contains}
 use Rattle.lt_modes.specs.Script.{ScriptData}
 use Rattle.lt_modes.specs.State.{Letter}
-use Rattle.lt_modes.specs.Fits.{fits}
-use Rattle.lt_model.specs.SoundNode.{numbers_of}
+use Rattle.lt_modes.specs.Fits.{fits, numbers_of}
 use Rattle.lt_script.specs.Script.{IsScript}
 use Rattle.lt_limits.specs.Limits.{node_within, leaves_asks}
 use Rattle.lt_law_plays.specs.Plays.{can_act}

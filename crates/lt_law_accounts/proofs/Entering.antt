@@ -7,7 +7,7 @@ use Rattle.std.proofs.lemmas.List.{length-append}
 use Rattle.lt_modes.specs.declared.ask.Ask.{Ask}
 use Rattle.lt_modes.specs.Queue.{after_holders_from, place}
 use Rattle.lt_lists.proofs.AllLemmas.{all_append}
-use Rattle.lt_law_enabled.specs.RuleLaws.{EndsWithHolder, HolderEntersAfterHolders, OthersEnterLast}
+use Rattle.lt_law_accounts.specs.RuleLaws.{EndsWithHolder, HolderEntersAfterHolders, OthersEnterLast}
 
 abbrev IsNoHolder : Ask → Type 0
 IsNoHolder ask = IsFalse ask.holder

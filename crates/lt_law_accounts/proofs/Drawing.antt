@@ -13,7 +13,7 @@ use Rattle.lt_modes.specs.Records.{others, modes_at}
 use Rattle.lt_modes.specs.Serving.{is_free, is_clear_at_home, may_draw, draw_from, move_at}
 use Rattle.lt_modes.proofs.ModeAlgebra.{bars_by_table}
 use Rattle.lt_law_accounts.proofs.ModeMembers.{has-union, has-left, has-right, mode_which, mode_at}
-use Rattle.lt_law_enabled.specs.RuleLaws.{AgreesWith, MayDraw, DrawsAt, IsFirstDrawing, DrawnByFirst}
+use Rattle.lt_law_accounts.specs.RuleLaws.{AgreesWith, MayDraw, DrawsAt, IsFirstDrawing, DrawnByFirst}
 
 -- a set bars no mode with which it agrees, and no other
 agrees : (modes : Modes) (mode : Mode) → has mode (bars modes) ≡ false → AgreesWith modes mode

@@ -9,7 +9,7 @@ use Rattle.lt_modes.specs.State.{SetState, Parked, ParkedAsk, ParkedTell}
 use Rattle.lt_modes.specs.Routing.{Parks, Goes, way, way_onward, hoped_way, is_behind}
 use Rattle.lt_modes.specs.Tells.{is_newer}
 use Rattle.lt_lists.proofs.Members.{list_any-at, list_any-which}
-use Rattle.lt_law_enabled.specs.RuleLaws.{IsBehindTaking, IsMarkedBehind, ParksBehindTakingAsk, KeepsFreezeOfSameNumber, TakesLaterFreeze}
+use Rattle.lt_law_accounts.specs.RuleLaws.{IsBehindTaking, IsMarkedBehind, ParksBehindTakingAsk, KeepsFreezeOfSameNumber, TakesLaterFreeze}
 
 is_older : Ask → Ask → Bool
 is_older ask own = excludes_itself own.mode && is_newer ask.stamp own.stamp
