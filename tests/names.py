@@ -1,9 +1,11 @@
 #!/usr/bin/env python3
-"""Sees that each name that stands in backticks in README.md and docs/ exists: as a file, a crate, an item of a crate, or a
-word of a command or of a format; and that each clause that docs/PROOFS.md names is one of the call or the law that it is
-said of, or a field of a record that such a clause is."""
+"""Sees that each name that stands in backticks in README.md and docs/ exists: as a file, a crate, an item of a crate,
+or a word of a command or of a format; that it is an item of the crate, or of the file of definitions, that it is said
+to be of; and that each clause that docs/PROOFS.md names is one of the call or the law that it is said of, or a field of
+a record that such a clause is."""
 import re
 import sys
+from functools import cache
 from pathlib import Path
 
 TOP = Path(__file__).resolve().parent.parent
@@ -13,10 +15,10 @@ SOURCES = [path for part in ('src', 'specs', 'proofs') for path in sorted((TOP /
 
 # The first words of what may stand in backticks with other words behind it: those of formats, and of commands.
 FIRST_WORDS = '''
-    version nodes set client journal lock try unlock change drop move grant wait not_held busy copy freeze token held waiting
-    owner end cut ok act take run sim check make soak lockrun: rt rustc unfolding a'''.split()
-# Words that are names of nothing in the repository: of languages, of the toolchain and its libraries, of what a build or a
-# check makes, and of places in an example.
+    version nodes set client journal lock try unlock change drop move grant wait not_held busy copy freeze token held
+    waiting owner end cut ok act take run sim check make soak lockrun: rt rustc unfolding a'''.split()
+# Words that are names of nothing in the repository: of languages, of the toolchain and its libraries, of what a build
+# or a check makes, and of places in an example.
 OTHERS = '''
     abbrev pub unfoldable ensures requires ghost true false none clap awk sh args stdin stdout HANDLES lt_ lt_law_ line
     rand_pcg rand_core itoa rtrb arrayvec anyhow atomic_table seed_from_u64 for_each_mut rattle-kit-13f
@@ -34,20 +36,27 @@ def without_comments(path):
     return re.sub(r'//.*' if path.suffix == '.rt' else r'--.*', '', path.read_text())
 
 
+FUNCTION = re.compile(r'^(?:pub )?trait (\w+)|^impl(?:<[^>]*>)? (?:[\w<>\', ]+ for )?(\w+)'
+                      r'|^(\s*)(?:pub(?:\(crate\))? )?fn (\w+)', re.M)
+SAID = re.compile(r'(.*?(?:`| of lt_\w+)):((?: (?:and )?`[\w.]+`(?: \([^)]*\))?,?)+)')
+PLACED = re.compile(r'`([\w:]+)`(?: of | \((?=lt_))`?(lt_\w+|[A-Z]\w+)\b')
+
 TEXTS = {path: without_comments(path) for path in SOURCES}
 
 
+@cache
+def names_in(path):
+    """The names that a source defines, and its own."""
+    groups = (RT_ITEM if path.suffix == '.rt' else ANTT_ITEM).findall(TEXTS[path])
+    return {name for group in groups for name in group if name} | {path.stem}
+
+
 def items():
-    """The names that the sources define, and those of files and crates."""
-    found = set()
-    for path, text in TEXTS.items():
-        found.add(path.stem)
-        for groups in (RT_ITEM if path.suffix == '.rt' else ANTT_ITEM).findall(text):
-            found.update(name for name in groups if name)
+    """The names that the sources define, and those of files, crates, edits and examples."""
+    found = set().union(*(names_in(path) for path in SOURCES))
     found.update(path.name for path in (TOP / 'crates').iterdir())
-    found.update(path.stem for path in (TOP / 'crates').glob('*/must-fail/*.edit'))
-    found.update(path.stem for path in (TOP / 'examples').iterdir())
     found.update(path.name for path in TOP.iterdir())
+    found.update(path.stem for part in ('crates/*/must-fail/*.edit', 'examples/*') for path in TOP.glob(part))
     for path in (TOP / 'tests' / 'bugs').glob('*.edits'):
         found.update(re.findall(r'^bug (\S+)', path.read_text(), re.M))
     return found
@@ -76,7 +85,7 @@ def contracts():
         if path.suffix != '.rt':
             continue
         owner = ''
-        for match in re.finditer(r'^(?:pub )?trait (\w+)|^impl(?:<[^>]*>)? (?:[\w<>\', ]+ for )?(\w+)|^(\s*)(?:pub(?:\(crate\))? )?fn (\w+)', text, re.M):
+        for match in FUNCTION.finditer(text):
             if not match[4]:
                 owner = match[1] or match[2]
                 continue
@@ -132,7 +141,8 @@ def exists(name, known):
     if '.' in name and '/' not in name and all(part in known for part in name.split('.')):
         return True
     path = name.removeprefix('./').rstrip('/')
-    if any((TOP / start / (path + end)).exists() for start in ('', 'crates', 'docs', 'tools', 'tests') for end in ('', '.antt', '.rt')):
+    starts = ('.', 'crates', 'docs', 'tools', 'tests')
+    if any((TOP / start / (path + end)).exists() for start in starts for end in ('', '.antt', '.rt')):
         return True
     return any(TOP.glob(f'crates/*/{path}')) or any(TOP.glob(f'crates/*/specs/{path}'))
 
@@ -146,6 +156,29 @@ def unknown_names(page, known):
                 yield f'{page.relative_to(TOP)}:{number}: `{name}` is no name'
 
 
+@cache
+def places():
+    """The names of each crate, of each file of definitions, and of the files that have a type of this name."""
+    found = {}
+    for path in SOURCES:
+        crate = path.relative_to(TOP / 'crates').parts[0]
+        edits = TOP / 'tests' / 'bugs' / f'{crate}.edits'
+        names = names_in(path) | set(re.findall(r'^bug (\S+)', edits.read_text(), re.M) if edits.exists() else ())
+        types = re.findall(r'^pub (?:struct|enum) (\w+)|^impl(?:<[^>]*>)? (\w+)', TEXTS[path], re.M)
+        files = [path.stem] if 'specs' in path.parts else [name for pair in types for name in pair if name]
+        for place in {crate, *files}:
+            found.setdefault(place, set()).update(names)
+    return found
+
+
+def misplaced_names(page):
+    """The faults of a page: names that aren't of the crate, the file or the type that they are said to be of."""
+    for number, line in enumerate(page.read_text().splitlines(), 1):
+        for name, place in PLACED.findall(line):
+            if name.split('::')[-1] not in places().get(place, {name.split('::')[-1]}):
+                yield f'{page.relative_to(TOP)}:{number}: `{name}` is not of {place}'
+
+
 def said_of_calls(line):
     """Each call that a line names with clauses behind it, and these clauses."""
     cells = line.strip('|').split(' | ')
@@ -155,10 +188,9 @@ def said_of_calls(line):
             yield laws, [name for name in re.findall(r'`([a-z_]+)`', group) if not name.startswith('law_')]
         return
     for part in re.split(r'[;.] |\|', line):
-        match = re.match(r'(.*?`):((?: (?:and )?`[\w.]+`(?: \([^)]*\))?,?)+)', part) or re.match(r'(.*? of lt_\w+):((?: (?:and )?`[\w.]+`,?)+)', part)
-        if match:
-            names = re.findall(r'`([\w.]+)`', match[2])
-            yield re.findall(r'`([\w:]+)`', match[1])[-4:], [name.split('.')[-1] for name in names if name.split('.')[-1][0].islower()]
+        if match := SAID.match(part):
+            names = [name.split('.')[-1] for name in re.findall(r'`([\w.]+)`', match[2])]
+            yield re.findall(r'`([\w:]+)`', match[1])[-4:], [name for name in names if name[0].islower()]
 
 
 def unknown_clauses(page):
@@ -176,7 +208,7 @@ def unknown_clauses(page):
 def main():
     """Looks at all pages; the status is 0 if nothing is wrong."""
     known = items() | words()
-    faults = [fault for page in PAGES for fault in unknown_names(page, known)]
+    faults = [fault for page in PAGES for fault in [*unknown_names(page, known), *misplaced_names(page)]]
     faults += list(unknown_clauses(TOP / 'docs' / 'PROOFS.md'))
     for fault in faults:
         print(f'tests/names.py: {fault}')
