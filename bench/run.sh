@@ -1,8 +1,8 @@
 #!/bin/sh
 # Prints how long `run` takes for a script of 16 nodes, 64 clients and 4,096 commands with 1, 2 and 4 processors, and how
-# long `sim first` takes for the same script: milliseconds, the least of several times, with the moves made. Then the most
-# memory that `run` takes for a script of version 2 with 64 nodes, 256 clients and 4,096 commands. A program may be named
-# as one word, in place of the one that ./build makes.
+# long `sim first` takes for the same script: milliseconds, the least of several times, with the moves made. Then the
+# most memory that `run` takes for a script of version 2 with 64 nodes, 256 clients and 4,096 commands. A program may be
+# named as one word, in place of the one that ./build makes.
 top=$(CDPATH='' cd -- "$(dirname -- "$0")/.." && pwd) || exit 1
 program=${1:-$top/crates/lockrun/out/lockrun}
 times=${2:-9}

@@ -1,7 +1,7 @@
 #!/usr/bin/env python3
 """Sees that the tables of docs/ARCHITECTURE.md are those of crates.txt: each crate has one row, and its last column has
-the crates and libraries that it stands on, each once: one that follows from another is left out. With the word --write it
-writes that column anew. It also sees that no chain of crates is longer than 10."""
+the crates and libraries that it stands on, each once: one that follows from another is left out. With the word --write
+it writes that column anew. It also sees that no chain of crates is longer than 10."""
 import re
 import sys
 from pathlib import Path
@@ -78,7 +78,7 @@ def main():
         print(f'tests/crates.py: {fault}')
     longest = max((chain(crates, crate) for crate in crates), key=len)
     edges = sum(len(names.split(', ')) for names in wanted.values() if names)
-    print(f'tests/crates.py: {len(crates)} crates, {edges} edges, {len(longest)} in the longest chain, {len(faults)} faults')
+    print(f'tests/crates.py: {len(crates)} crates, {edges} edges, a longest chain of {len(longest)}, {len(faults)} faults')
     return 1 if faults else 0
 
 

@@ -22,7 +22,7 @@ def words_of():
     parser.add_argument('--count', type=int, default=300, help='how many scripts')
     parser.add_argument('--seed', type=int, default=1, help='the number of the first one')
     parser.add_argument('--version', type=int, choices=(1, 2), default=1, help='the version of the scripts')
-    parser.add_argument('--keep', default='drawn.script', help='where the first script goes whose answers differ')
+    parser.add_argument('--keep', default='drawn.script', help='the file for the first script whose answers differ')
     return parser.parse_args()
 
 

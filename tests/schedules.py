@@ -27,7 +27,7 @@ def words_of():
     parser.add_argument('--seed', type=int, default=1, help='the number that the script is drawn from')
     parser.add_argument('--version', type=int, choices=(1, 2), default=1, help='the version of the script')
     parser.add_argument('--mixed', action='store_true', help='commands of all kinds: clients may wait at the end')
-    parser.add_argument('--keep', default='schedules.input', help='where the first input goes that is refused')
+    parser.add_argument('--keep', default='schedules.input', help='the file for the first input that is refused')
     return parser.parse_args()
 
 

@@ -177,7 +177,7 @@ rm "$top/crates/lockrun/out/sources" && is_stale 'the list of sources is gone'
 mkdir -p "$top/crates/lockrun/must-fail" && touch "$top/crates/lockrun/must-fail/x.edit"
 expect 'what no program is made from' '<run>' "$(said "$top/lockrun" run </dev/null | head -n 1)"
 
-# What a refused script is told: only where standard error is a terminal.
+# How a refused script is explained: only if standard error is a terminal.
 printf '# refuse 5 10\nnodes 1\nset s\nclient a at 0\na lock s reed\n' >"$room/refused"
 expect 'refused' 'lockrun: line 5: S10
 status 2' "$(said "$top/lockrun" sim 7 <"$room/refused" | tail -n 2)"
@@ -207,7 +207,7 @@ status 125' "$(on_terminal "echo '# no answer' | PATH='$with_rt' '$room/bare/loc
 }
 if [ "$(on_terminal 'test -t 2 && echo yes')" = yes ]; then on_a_terminal; else echo "tests/wrapper.sh: no terminal can be made here"; fi
 
-# Each fault: the script, the line, the fault, where the caret stands, and how many there are.
+# Each fault: the script, the line, the fault, the place of the caret, and how many carets there are.
 fault() {
   expect "fault $3 in line $2 of: $1" "$4 $5 $6" "$(printf "$1" | "$here/tools/explain" "$2" "$3" | awk '
     NR == 2 { match($0, /\^+/); at = RSTART - 2; long = RLENGTH }

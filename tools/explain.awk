@@ -73,7 +73,7 @@ function explain_mode(k) {
   else point(k, "not a mode: " modes " or write")
 }
 
-# A line that doesn't stand where it may.
+# A line in the wrong place.
 function explain_order() {
   if (word[1] == "version") point(1, "the version is given once, before all other lines")
   else if (word[1] == "nodes") point(1, "the number of nodes is given once, before all sets and clients")
@@ -91,7 +91,7 @@ function explain_form() {
   else point(count < 4 + (word[2] == "change") ? count + 1 : 5 + (word[2] == "change"), "the form is: " form[word[2]])
 }
 
-# The first word that is wrong or missing, where the third is to be `wanted` and there are so many words.
+# The first word that is wrong or missing, if the third is to be `wanted` and there are to be `words` of them.
 function odd_word(wanted, words) {
   if (count > 2 && word[3] != wanted) return 3
   return count < words ? count + 1 : words + 1
