@@ -64,7 +64,8 @@ function explain() {
 
 # Whether a word is a mode word of the script's version.
 function is_mode(text) {
-  return text ~ /^(intention_read|read|upgrade|intention_write|write)$/ || version == 2 && text == "read_intention_write"
+  if (text == "read_intention_write") return version == 2
+  return text ~ /^(intention_read|read|upgrade|intention_write|write)$/
 }
 
 function explain_mode(k) {

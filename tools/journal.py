@@ -233,14 +233,15 @@ def unfit(line, what):
 
 # ---------------------------------------------------------------- the command line
 
-def serve(tool, usage, write):
+def serve(tool, usage, write, words, more=''):
     """Reads a script and its journal, and prints what `write` makes of them."""
-    if len(sys.argv) != 3:
-        print(f'usage: {tool} SCRIPT JOURNAL\n\n{usage}', file=sys.stdout if is_help() else sys.stderr)
-        return 0 if is_help() else 1
+    if len(words) != 2:
+        is_help = words in (['--help'], ['-h'])
+        print(f'usage: {tool} SCRIPT JOURNAL{more}\n\n{usage}', file=sys.stdout if is_help else sys.stderr)
+        return 0 if is_help else 1
     try:
-        script = read_script(text_of(sys.argv[1]))
-        text = write(read_journal(Path(sys.argv[1]).stem, script, text_of(sys.argv[2])))
+        script = read_script(text_of(words[0]))
+        text = write(read_journal(Path(words[0]).stem, script, text_of(words[1])))
         print(text, end='', flush=True)
     except (Fault, OSError) as fault:
         is_write = isinstance(fault, OSError) and fault.filename is None
@@ -250,11 +251,6 @@ def serve(tool, usage, write):
             os.dup2(os.open(os.devnull, os.O_WRONLY), 1)   # what is left of the text goes nowhere
         return 1
     return 0
-
-
-def is_help():
-    """Whether the words ask for help."""
-    return sys.argv[1:] in (['--help'], ['-h'])
 
 
 def text_of(path):
