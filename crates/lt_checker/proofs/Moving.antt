@@ -91,19 +91,6 @@ next_run : (script : ScriptData) (world : WorldData) (counts : List ℕ) (node :
     → next.run ≡ world.run ++ logged script (world_after script world.run) node step ∷ []
 next_run script world counts node step next s = ap (λ (w : WorldData). w.run) s.next_is
 
-pub next_is_run : (script : ScriptData) (world : WorldData) (counts : List ℕ) (node : ℕ) (step : Step) (next : WorldData) → IsStepped script world counts node step next
-    → IsRun script next.run
-next_is_run script world counts node step next s =
-    subst (IsRun script) (sym (next_run script world counts node step next s))
-    (IsRunFrom-push script (start script) world.run (logged script (world_after script world.run) node step) s.place.come.1.is_run
-    (is_logged script (world_after script world.run) node step s.enabled))
-
-pub next_few : (script : ScriptData) (world : WorldData) (counts : List ℕ) (node : ℕ) (step : Step) (next : WorldData) → IsStepped script world counts node step next
-    → HasFewMoves next.run
-next_few script world counts node step next s =
-    subst HasFewMoves (sym (next_run script world counts node step next s))
-    (few_push world.run (logged script (world_after script world.run) node step) node s.place.come.1.few (stamp_node (world_after script world.run) node step) s.may)
-
 last_get : (run : List Logged) (entry : Logged) → slice_get (run ++ entry ∷ []) (length run) ≡ Some entry
 last_get [] entry = refl
 last_get (first ∷ run) entry = last_get run entry

@@ -1,16 +1,10 @@
 ghost use Rattle.std.specs.Prelude.{◌≡◌, [], ◌∷◌, ◌++◌, OnOk};
-ghost use Rattle.lt_modes.specs.Script.{ScriptData};
-ghost use Rattle.lt_spec.specs.World.{IsRun};
-ghost use Rattle.lt_script.specs.Script.{IsScript};
-ghost use Rattle.lt_journal.specs.Grammar.{journal_of};
 ghost use Rattle.lt_journal.specs.RunLines.{first_lines, event_lines};
 ghost use Rattle.lt_law_checking.specs.Checking.{closing_at_rest};
-ghost use Rattle.lt_law_checking.specs.Journals.{HasFewMoves};
 
-use lt_journal::{Line, read_line, shown_event, write_closing};
+use lt_journal::{Line, closing_lines, shown_event};
 use lt_modes::Event;
 use lt_script::Script;
-use lt_text::next_line;
 use lt_world::World;
 use std::alloc::{AllocError, Global};
 use std::collections::VecDeque;
@@ -51,14 +45,12 @@ pub(crate) fn push_events(
     Ok(())
 }
 
-// Adds what the lines of the text say.
-fn push_lines(due: &mut VecDeque<Line>, script: &Script, text: &[u8]) -> Result<(), AllocError>
-    ensures { OnOk result (due.new.items ≡ due.old.items ++ journal_of script.now text.now) }
+// Adds these lines.
+fn push_all(due: &mut VecDeque<Line>, lines: &[Line]) -> Result<(), AllocError>
+    ensures { OnOk result (due.new.items ≡ due.old.items ++ lines.now) }
 {
-    let mut rest = text;
-    while let Some((line, after)) = next_line(rest) {
-        push(due, read_line(script, line))?;
-        rest = after;
+    for line in lines {
+        push(due, *line)?;
     }
     Ok(())
 }
@@ -70,15 +62,12 @@ pub(crate) fn push_closing(
     script: &Script,
     world: &World,
 ) -> Result<(), AllocError>
-    requires is_script { IsScript script.now }
-    requires script { world.now.script ≡ script.now }
-    requires is_run { IsRun script.now world.now.run }
-    requires few { HasFewMoves world.now.run }
+    requires { world.now.script ≡ script.now }
     ensures { OnOk result (due.new.items ≡ due.old.items ++ closing_at_rest script.now world.now.run) }
 {
     if world.at_rest() {
-        let text = write_closing(alloc, script, world.run(), None)?;
-        push_lines(due, script, &text)?;
+        let lines = closing_lines(alloc, script, world.run())?;
+        push_all(due, &lines)?;
     }
     Ok(())
 }

@@ -7,10 +7,9 @@ ghost use Rattle.lt_journal.specs.Text.{line_text};
 ghost use Rattle.lt_modes.specs.FiveModes.{shown_in};
 ghost use Rattle.lt_journal.specs.RunLines.{shown_event};
 
-use crate::closing::MODES;
 use crate::names::{client_name, set_name};
 use crate::text::Text;
-use lt_modes::{Event, Mode, ModeSet, Move, Step};
+use lt_modes::{Event, MODES, Mode, ModeSet, Move, Step};
 use lt_script::Script;
 use std::alloc::AllocError;
 

@@ -59,6 +59,19 @@ impl Text {
         Ok(())
     }
 
+    /// The text of nothing, in the memory that this one has.
+    pub fn clear(&mut self)
+        ensures { self.new ≡ [] }
+    {
+        self.bytes.clear();
+    }
+
+    pub fn bytes(&self) -> &[u8]
+        ensures { result.now ≡ self.now }
+    {
+        &self.bytes
+    }
+
     pub fn into_bytes(self) -> Vec<u8>
         ensures { result.items ≡ self }
     {

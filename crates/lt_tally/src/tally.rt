@@ -1,8 +1,9 @@
-ghost use Rattle.std.specs.Prelude.{◌≡◌, ◌≤◌, ◌+◌, ◌^◌, ◌++◌, ◌∷◌, [], List, length, OnErr, IfOk, OnOk, slice_set};
+ghost use Rattle.std.specs.Prelude.{◌≡◌, ◌≤◌, ◌<◌, ◌+◌, ◌^◌, ◌++◌, ◌∷◌, [], List, length, OnErr, IfOk, OnOk, slice_set};
 ghost use Rattle.lt_modes.specs.declared.event.Event.{Event as AnyEvent};
 ghost use Rattle.lt_modes.specs.declared.event.Event.TheVariants.{Grant, Change};
-ghost use Rattle.lt_spec.specs.Holdings.{holdings, lines_of};
-ghost use Rattle.lt_tally.specs.LockTable.{IsTallied};
+ghost use Rattle.lt_modes.specs.Script.{ScriptData};
+ghost use Rattle.lt_spec.specs.Holdings.{holdings, times_held, wanted, owner_of, lines_of};
+ghost use Rattle.lt_tally.specs.LockTable.{HasCell, IsTallied, waits_for, owner_at};
 
 use crate::holding::Holding;
 use crate::table::Table;
@@ -16,9 +17,9 @@ use std::marker::Model;
 /// last.
 #[derive(Debug, Drop)]
 pub struct Tally {
-    pub held: Table,
-    pub waiting: Vec<Option<Holding>>,
-    pub owners: Vec<Link>,
+    held: Table,
+    waiting: Vec<Option<Holding>>,
+    owners: Vec<Link>,
 }
 
 impl Model for Tally {
@@ -39,6 +40,30 @@ impl Tally {
             waiting: vec![in alloc; None; usize::from(script.clients())]?,
             owners: vec![in alloc; Link { node: 0, epoch: 0 }; usize::from(script.sets())]?,
         })
+    }
+
+    /// How many such locks are held.
+    pub fn count(&self, lock: Holding) -> usize
+        ensures { (script : ScriptData) → (events : List AnyEvent)
+            → IsTallied script self.now events → HasCell script lock → result ≡ times_held (holdings script events) lock }
+    {
+        self.held.count(lock)
+    }
+
+    /// What the client waits for.
+    pub fn wanted(&self, client: u16) -> Option<Holding>
+        ensures { (script : ScriptData) → (events : List AnyEvent)
+            → IsTallied script self.now events → client < length script.clients → result ≡ wanted client events }
+    {
+        waits_for(&self.waiting, client)
+    }
+
+    /// The node that the set's token went to last, with the epoch of that move.
+    pub fn owner(&self, set: u8) -> Link
+        ensures { (script : ScriptData) → (events : List AnyEvent)
+            → IsTallied script self.now events → set < length script.sets → result ≡ owner_of set events }
+    {
+        owner_at(&self.owners, set)
     }
 
     /// Takes one event more into account. It fails where more locks are held than a number can say.
@@ -139,6 +164,23 @@ impl Tally {
             self.owners[place] = owner;
         }
     }
+}
+
+// What the client waits for, by this list.
+fn waits_for(waiting: &[Option<Holding>], client: u16) -> Option<Holding>
+    ensures { result ≡ waits_for waiting.now client }
+{
+    waiting.get(usize::from(client)).copied().flatten()
+}
+
+// Where the set's token went last, by this list.
+fn owner_at(owners: &[Link], set: u8) -> Link
+    ensures { result ≡ owner_at owners.now set }
+{
+    owners
+        .get(usize::from(set))
+        .copied()
+        .unwrap_or(Link { node: 0, epoch: 0 })
 }
 
 /// What a run comes to.
