@@ -8,12 +8,11 @@ use Rattle.lt_limits.specs.declared.moves.TheConstants.{MAX_MOVES}
 use Rattle.lt_limits.specs.Cut.{can_move}
 use Rattle.lt_law_merged.specs.CanMove.{RestIsNoMove}
 use Rattle.lt_runner.specs.declared.parts.Parts.{Parts}
-use Rattle.lt_runner.specs.Crew.{InCrew}
 use Rattle.lt_runner.specs.Kept.{SameRunner, AsSeen}
 use Rattle.lt_runner.specs.Choices.{next_choice}
 use Rattle.lt_runner.specs.Looking.{is_move}
 use Rattle.lt_runner.proofs.KeptLemmas.{seen_join}
-use Rattle.lt_threads.specs.Together.{EachIs, AreKept, IsCrew, crew_world}
+use Rattle.lt_threads.specs.Together.{InCrew, EachIs, AreKept, IsCrew, crew_world}
 use Rattle.lt_threads.specs.Meeting.{RunnersLinked, AreMet, AnyTwo, HaveFetched}
 use Rattle.lt_threads.specs.Enabled.{IsLeastEnabled, EachShows, IsFirstMove, NoneShows}
 use Rattle.lt_threads.proofs.Each.{each_before, each_join, each_len, each_weaker}

@@ -1,10 +1,11 @@
 -- The runners of a script, and the run that they have made together.
-use Rattle.std.specs.Prelude.{◌≡◌, ◌≢◌, ◌-◌, ℕ, List, Some, length, map, take, slice_get}
+use Rattle.std.specs.Prelude.{◌≡◌, ◌≢◌, ◌≤◌, ◌-◌, ℕ, List, Some, length, map, take, slice_get}
 use Rattle.lt_modes.specs.Script.{ScriptData}
 use Rattle.lt_modes.specs.State.{Letter}
 use Rattle.lt_script.specs.Script.{IsScript}
 use Rattle.lt_spec.specs.Log.{Logged}
 use Rattle.lt_spec.specs.World.{World, world_after}
+use Rattle.lt_limits.specs.declared.moves.TheConstants.{MAX_MOVES}
 use Rattle.lt_law_plays.specs.Merged.{merged}
 use Rattle.lt_law_plays.specs.Parts.{Part, logs_of}
 use Rattle.lt_node.specs.NodeData.{state_of}
@@ -12,7 +13,6 @@ use Rattle.lt_mail.specs.Words.{out_at, in_at, sent_to, taken_from, IsOpenLink, 
 use Rattle.lt_runner.specs.declared.parts.Parts.{Parts}
 use Rattle.lt_runner.specs.Hands.{in_hand}
 use Rattle.lt_runner.specs.Kept.{RunnerInvariant}
-use Rattle.lt_runner.specs.Crew.{InCrew}
 
 -- the letters of the node that were used: those that were taken, but the one in hand
 abbrev pub used_of : Parts → ℕ → List Letter
@@ -29,6 +29,12 @@ crew_run script rs = merged script.nodes (logs_of script (map part_of rs)).log
 -- the world after these moves
 abbrev pub crew_world : ScriptData → List Parts → World
 crew_world script rs = world_after script (crew_run script rs)
+
+-- the runner of node k of the script, which makes no more moves than a script may let a node make
+pub record InCrew (script : ScriptData) (k : ℕ) (p : Parts) : Type 0 where
+  pub script_is : p.node.script ≡ script
+  pub me : p.node.me ≡ k
+  pub limit : p.limit ≤ MAX_MOVES
 
 -- the runners of all nodes of a script, in order, with both ends of each ring among them
 pub record IsCrew (script : ScriptData) (rs : List Parts) : Type 0 where
