@@ -16,7 +16,7 @@ SOURCES = [path for part in ('src', 'specs', 'proofs') for path in sorted((TOP /
 # The first words of what may stand in backticks with other words behind it: those of formats, and of commands.
 FIRST_WORDS = '''
     version nodes set client journal lock try unlock change drop move grant wait not_held busy copy freeze token held
-    waiting owner end cut ok act take run sim check make soak lockrun: rt rustc unfolding a'''.split()
+    waiting owner end cut ok act take run sim check make soak lockrun: rt rustc unfolding waits cycle no ends a'''.split()
 # Words that are names of nothing in the repository: of languages, of the toolchain and its libraries, of what a build
 # or a check makes, and of places in an example.
 OTHERS = '''
@@ -171,6 +171,15 @@ def places():
     return found
 
 
+def unknown_files(page):
+    """The faults of a page: files of definitions, named behind their folder, that don't exist."""
+    for number, line in enumerate(page.read_text().splitlines(), 1):
+        for folder, files in re.findall(r'\b(lt_\w+/specs)/([A-Z]\w+(?:, [A-Z]\w+)*)', line):
+            for name in set(files.split(', ')) - set(OTHERS):
+                if not (TOP / 'crates' / folder / f'{name}.antt').exists():
+                    yield f'{page.relative_to(TOP)}:{number}: {folder}/{name} is no file'
+
+
 def misplaced_names(page):
     """The faults of a page: names that aren't of the crate, the file or the type that they are said to be of."""
     for number, line in enumerate(page.read_text().splitlines(), 1):
@@ -208,7 +217,8 @@ def unknown_clauses(page):
 def main():
     """Looks at all pages; the status is 0 if nothing is wrong."""
     known = items() | words()
-    faults = [fault for page in PAGES for fault in [*unknown_names(page, known), *misplaced_names(page)]]
+    faults = [fault for page in PAGES
+              for fault in [*unknown_names(page, known), *unknown_files(page), *misplaced_names(page)]]
     faults += list(unknown_clauses(TOP / 'docs' / 'PROOFS.md'))
     for fault in faults:
         print(f'tests/names.py: {fault}')
