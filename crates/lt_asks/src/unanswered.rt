@@ -75,7 +75,7 @@ impl Unanswered {
     pub fn has(&self, ask: &Ask) -> bool
         ensures { result ≡ list_any (same_ask ask.now) self.now }
     {
-        self.asks.iter().any(|own| own == ask)
+        self.asks.iter().any(|own| is_same(ask, own))
     }
 
     /// Whether one of the asks is of the client.
@@ -101,4 +101,14 @@ fn place(asks: &[Ask], stamp: Stamp) -> Option<usize>
     ensures within { IfSome result (λ k. k < length asks.now) }
 {
     asks.iter().position(|ask| ask.stamp == stamp)
+}
+
+// Whether the asks are equal in all fields.
+fn is_same(a: &Ask, b: &Ask) -> bool
+    ensures { result ≡ same_ask a.now b.now }
+{
+    b.stamp == a.stamp
+        && (a.client == b.client
+            && (a.node == b.node
+                && (a.mode == b.mode && (a.gives_up == b.gives_up && a.holder == b.holder))))
 }

@@ -1,5 +1,5 @@
 -- How many commands each client has made, as moves are made.
-use Rattle.std.proofs.Common.{◌≡◌, ◌≢◌, ℕ, ◌+◌, ◌<◌, Bool, true, false, List, [], ◌∷◌, Option, Some, None, length, inl, inr, refl, sym, ap, ◌∙◌, arith}
+use Rattle.std.proofs.Common.{◌≡◌, ◌≢◌, ℕ, ◌+◌, ◌<◌, Bool, true, false, List, [], ◌∷◌, Option, Some, None, length, inl, inr, refl, sym, ap, ◌∙◌}
 use Rattle.std.specs.Prelude.{slice_index_or, if◌then◌else◌}
 use Rattle.std.proofs.lemmas.Bool.{cases_eq, eq-eqb, ne_eqb}
 use Rattle.lt_modes.specs.declared.command.Command.{Command}
@@ -14,10 +14,11 @@ use Rattle.lt_modes.specs.SetMove.{drop}
 use Rattle.lt_modes.specs.Telling.{finish}
 use Rattle.lt_spec.specs.Log.{Logged}
 use Rattle.lt_spec.specs.Families.{home, related}
-use Rattle.lt_spec.specs.NodeMove.{NodeState, NodeMade, node_waits, touched, each_touched, drop_all, obey, next_command, act_stamp, one_made, at_clock}
+use Rattle.lt_spec.specs.NodeMove.{NodeState, node_waits, touched, each_touched, drop_all, obey, next_command, act_stamp, one_made, at_clock}
 use Rattle.lt_spec.specs.World.{World, world_after, after, made_by, node_move, take_front}
 use Rattle.lt_world.specs.Fields.{AreMade}
-use Rattle.lt_world.proofs.Runs.{longer, longer_world}
+use Rattle.lt_world.specs.Network.{run_with}
+use Rattle.lt_world.proofs.Runs.{longer_world}
 
 each_made : (rule : ℕ → SetState → Made) (sets : List ℕ) (n : NodeState) → (each_touched rule sets n).node.made ≡ n.made
 each_made rule [] n = refl
@@ -59,7 +60,7 @@ moved_made script w q c (Take p) other = elim (cases_eq (home script c) q) [
 ]
 
 pub others_made : (script : ScriptData) (run run' : List Logged) (q : ℕ) (step : Step) (made : List ℕ)
-    → AreMade script made (world_after script run) → run' ≡ longer script run q step
+    → AreMade script made (world_after script run) → run' ≡ run_with script run q step
     → (c : ℕ) → c < length script.clients → step ≢ Act c → slice_index_or made c 0 ≡ made_by script (world_after script run') c
 others_made script run run' q step made before moved c below other =
     before.made_are c below

@@ -2,3 +2,4 @@ pub mod Choice
 pub mod Mail
 pub mod Fields
 pub mod Moving
+pub mod Network

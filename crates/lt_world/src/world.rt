@@ -5,11 +5,12 @@ ghost use Rattle.std.specs.Prelude.{◌≡◌, ◌≢◌, ◌≤◌, ◌<◌, �
 ghost use Rattle.lt_limits.specs.declared.moves.TheConstants.{MAX_MOVES};
 ghost use Rattle.lt_lists.specs.Below.{any_below};
 ghost use Rattle.lt_modes.specs.declared.moves.Step.TheVariants.{Act};
-ghost use Rattle.lt_spec.specs.World.{world_after, made_by, is_runnable, is_enabled, is_at_rest, anyone_waits, is_waiting, has_mail, logged, IsRun};
+ghost use Rattle.lt_spec.specs.World.{made_by, is_runnable, is_enabled, is_at_rest, anyone_waits, is_waiting, has_mail, logged, IsRun};
 ghost use Rattle.lt_spec.specs.FixedOrder.{pick, count_turns};
 ghost use Rattle.lt_world.specs.Choice.{choice_of};
 ghost use Rattle.lt_limits.specs.Cut.{moves_of};
-ghost use Rattle.lt_world.specs.Fields.{Holds, AreMade, world_of};
+ghost use Rattle.lt_world.specs.Fields.{AreMade, world_of};
+ghost use Rattle.lt_world.specs.Network.{IsAfterRun, world_in};
 
 use crate::choice::Choice;
 use crate::network::Network;
@@ -211,12 +212,12 @@ fn none_made(alloc: Global, script: &Script) -> Result<Vec<u32>, AllocError>
 
 // Notes how many commands the client of a move has made.
 fn note_made(made: &mut Vec<u32>, script: &Script, network: &Network<'_>, choice: Choice)
-    requires holds { Holds script.now network.now.nodes.items network.now.inboxes.items network.now.out network.now.run.entries }
+    requires holds { IsAfterRun script.now network.now }
     requires count { length made.old.items ≡ length script.now.clients }
     requires client { (client : ℕ) → choice.step ≡ Act client → client < length script.now.clients }
     requires others { (c : ℕ) → c < length script.now.clients → choice.step ≢ Act c
-        → slice_index_or made.old.items c 0 ≡ made_by script.now (world_after script.now network.now.run.entries) c }
-    ensures { AreMade script.now made.new.items (world_after script.now network.now.run.entries) }
+        → slice_index_or made.old.items c 0 ≡ made_by script.now (world_in script.now network.now) c }
+    ensures { AreMade script.now made.new.items (world_in script.now network.now) }
 {
     if let Step::Act(client) = choice.step {
         made[usize::from(client)] = made_of(script, network, client);
@@ -225,9 +226,9 @@ fn note_made(made: &mut Vec<u32>, script: &Script, network: &Network<'_>, choice
 
 // How many commands the client has made.
 fn made_of(script: &Script, network: &Network<'_>, client: u16) -> u32
-    requires holds { Holds script.now network.now.nodes.items network.now.inboxes.items network.now.out network.now.run.entries }
+    requires holds { IsAfterRun script.now network.now }
     requires client { client < length script.now.clients }
-    ensures { result ≡ made_by script.now (world_after script.now network.now.run.entries) client }
+    ensures { result ≡ made_by script.now (world_in script.now network.now) client }
 {
     let home = usize::from(script.home(client));
     network.nodes[home].made(client)
