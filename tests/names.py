@@ -135,7 +135,8 @@ def exists(name, known):
     if ' ' in name:
         return first in known or (TOP / first).exists()
     if '::' in name:
-        return all(part in known for part in re.sub(r'[(<].*', '', name).split('::') if part != 'crate')
+        *of, last = re.sub(r'[(<].*', '', name).split('::')
+        return all(part in known for part in of) and last in places().get(of[-1], known)
     if '(' in name:
         return name[:name.index('(')] in known
     if '.' in name and '/' not in name and all(part in known for part in name.split('.')):
