@@ -20,10 +20,11 @@ FIRST_WORDS = '''
 # Words that are names of nothing in the repository: of languages, of the toolchain and its libraries, of what a build
 # or a check makes, and of places in an example.
 OTHERS = '''
-    abbrev pub unfoldable ensures requires ghost true false none clap awk sh args stdin stdout HANDLES lt_ lt_law_ line
-    rand_pcg rand_core itoa rtrb arrayvec anyhow atomic_table seed_from_u64 for_each_mut rattle-kit-13f
-    specs/declared Goals Given crates/lockrun/out/sources --also --help --version --moves --write File crates/lt_modes/specs/File.antt
-    tests/bugs/CRATE.edits s0 s1 s2 s3 c0 c1 cI name'''.split()
+    abbrev pub record unfoldable ensures requires ghost result self.old self.new IfOk IfErr IfSome OnFalse IsTrue Err Model
+    true false none λ (x clap awk sh args stdin stdout HANDLES lt_ lt_law_ line rand_pcg rand_core itoa rtrb arrayvec anyhow
+    atomic_table seed_from_u64 for_each_mut rattle-kit-13f specs/declared Goals Given crates/lockrun/out/sources
+    --also --help --version --moves --write File crates/lt_modes/specs/File.antt tests/bugs/CRATE.edits
+    s0 s1 s2 s3 c0 c1 cI name'''.split()
 
 RT_ITEM = re.compile(r'\b(?:fn|struct|enum|trait|type|const|mod)\s+(\w+)'
                      r'|\b(?:ensures|requires)\s+(\w+)\s*\{|\bghost\s+(\w+)\s*='
