@@ -1,8 +1,8 @@
 #!/usr/bin/env python3
 """Sees that each name that stands in backticks in README.md and docs/ exists: as a file, a crate, an item of a crate,
 or a word of a command or of a format; that it is an item of the crate, or of the file of definitions, that it is said
-to be of; and that each clause that docs/PROOFS.md names is one of the call or the law that it is said of, or a field of
-a record that such a clause is."""
+to be of; that each clause that docs/PROOFS.md names is one of the call or the law that it is said of, or a field of a
+record that such a clause is; and that the code in docs/READING.md stands in the sources."""
 import re
 import sys
 from functools import cache
@@ -216,12 +216,20 @@ def unknown_clauses(page):
                     yield f'{page.relative_to(TOP)}:{number}: `{name}` is no clause of {" or ".join(calls)}'
 
 
+def unknown_code(page):
+    """The faults of a page that shows code: lines that stand in no source."""
+    lines = {line.strip() for path in SOURCES for line in path.read_text().splitlines()}
+    for number, line in enumerate(page.read_text().splitlines(), 1):
+        if line.startswith('    ') and line.strip() not in lines:
+            yield f'{page.relative_to(TOP)}:{number}: no source has this line'
+
+
 def main():
     """Looks at all pages; the status is 0 if nothing is wrong."""
     known = items() | words()
     faults = [fault for page in PAGES
               for fault in [*unknown_names(page, known), *unknown_files(page), *misplaced_names(page)]]
-    faults += list(unknown_clauses(TOP / 'docs' / 'PROOFS.md'))
+    faults += [*unknown_clauses(TOP / 'docs' / 'PROOFS.md'), *unknown_code(TOP / 'docs' / 'READING.md')]
     for fault in faults:
         print(f'tests/names.py: {fault}')
     print(f'tests/names.py: {len(PAGES)} pages, {len(faults)} faults')
