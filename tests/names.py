@@ -1,8 +1,8 @@
 #!/usr/bin/env python3
 """Sees that each name that stands in backticks in README.md and docs/ exists: as a file, a crate, an item of a crate,
 or a word of a command or of a format; that it is an item of the crate, or of the file of definitions, that it is said
-to be of; and that each clause that docs/PROOFS.md names is one of the call or the law that it is said of, or a field of
-a record that such a clause is."""
+to be of; that each clause that docs/PROOFS.md names is one of the call or the law that it is said of, or a field of a
+record that such a clause is; and that the code in docs/READING.md stands in the sources."""
 import re
 import sys
 from functools import cache
@@ -16,14 +16,15 @@ SOURCES = [path for part in ('src', 'specs', 'proofs') for path in sorted((TOP /
 # The first words of what may stand in backticks with other words behind it: those of formats, and of commands.
 FIRST_WORDS = '''
     version nodes set client journal lock try unlock change drop move grant wait not_held busy copy freeze token held
-    waiting owner end cut ok act take run sim check make soak lockrun: rt rustc unfolding a'''.split()
+    waiting owner end cut ok act take run sim check make soak lockrun: rt rustc unfolding waits cycle no ends a'''.split()
 # Words that are names of nothing in the repository: of languages, of the toolchain and its libraries, of what a build
 # or a check makes, and of places in an example.
 OTHERS = '''
-    abbrev pub unfoldable ensures requires ghost true false none clap awk sh args stdin stdout HANDLES lt_ lt_law_ line
-    rand_pcg rand_core itoa rtrb arrayvec anyhow atomic_table seed_from_u64 for_each_mut rattle-kit-13f
-    specs/declared Goals Given crates/lockrun/out/sources --also --help --version --moves --write File crates/lt_modes/specs/File.antt
-    tests/bugs/CRATE.edits s0 s1 s2 s3 c0 c1 cI name'''.split()
+    abbrev pub record unfoldable ensures requires ghost result self.old self.new IfOk IfErr IfSome OnFalse IsTrue Err Model
+    true false none λ (x clap awk sh args stdin stdout HANDLES lt_ lt_law_ line rand_pcg rand_core itoa rtrb arrayvec anyhow
+    atomic_table seed_from_u64 for_each_mut rattle-kit-13f specs/declared Goals Given crates/lockrun/out/sources
+    --also --help --version --moves --write File crates/lt_modes/specs/File.antt tests/bugs/CRATE.edits
+    s0 s1 s2 s3 c0 c1 cI name'''.split()
 
 RT_ITEM = re.compile(r'\b(?:fn|struct|enum|trait|type|const|mod)\s+(\w+)'
                      r'|\b(?:ensures|requires)\s+(\w+)\s*\{|\bghost\s+(\w+)\s*='
@@ -135,7 +136,8 @@ def exists(name, known):
     if ' ' in name:
         return first in known or (TOP / first).exists()
     if '::' in name:
-        return all(part in known for part in re.sub(r'[(<].*', '', name).split('::') if part != 'crate')
+        *of, last = re.sub(r'[(<].*', '', name).split('::')
+        return all(part in known for part in of) and last in places().get(of[-1], known)
     if '(' in name:
         return name[:name.index('(')] in known
     if '.' in name and '/' not in name and all(part in known for part in name.split('.')):
@@ -169,6 +171,15 @@ def places():
         for place in {crate, *files}:
             found.setdefault(place, set()).update(names)
     return found
+
+
+def unknown_files(page):
+    """The faults of a page: files of definitions, named behind their folder, that don't exist."""
+    for number, line in enumerate(page.read_text().splitlines(), 1):
+        for folder, files in re.findall(r'\b(lt_\w+/specs)/([A-Z]\w+(?:, [A-Z]\w+)*)', line):
+            for name in set(files.split(', ')) - set(OTHERS):
+                if not (TOP / 'crates' / folder / f'{name}.antt').exists():
+                    yield f'{page.relative_to(TOP)}:{number}: {folder}/{name} is no file'
 
 
 def misplaced_names(page):
@@ -205,11 +216,20 @@ def unknown_clauses(page):
                     yield f'{page.relative_to(TOP)}:{number}: `{name}` is no clause of {" or ".join(calls)}'
 
 
+def unknown_code(page):
+    """The faults of a page that shows code: lines that stand in no source."""
+    lines = {line.strip() for path in SOURCES for line in path.read_text().splitlines()}
+    for number, line in enumerate(page.read_text().splitlines(), 1):
+        if line.startswith('    ') and line.strip() not in lines:
+            yield f'{page.relative_to(TOP)}:{number}: no source has this line'
+
+
 def main():
     """Looks at all pages; the status is 0 if nothing is wrong."""
     known = items() | words()
-    faults = [fault for page in PAGES for fault in [*unknown_names(page, known), *misplaced_names(page)]]
-    faults += list(unknown_clauses(TOP / 'docs' / 'PROOFS.md'))
+    faults = [fault for page in PAGES
+              for fault in [*unknown_names(page, known), *unknown_files(page), *misplaced_names(page)]]
+    faults += [*unknown_clauses(TOP / 'docs' / 'PROOFS.md'), *unknown_code(TOP / 'docs' / 'READING.md')]
     for fault in faults:
         print(f'tests/names.py: {fault}')
     print(f'tests/names.py: {len(PAGES)} pages, {len(faults)} faults')
