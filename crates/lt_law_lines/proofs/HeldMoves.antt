@@ -160,7 +160,7 @@ related_once script a s d below once =
     let found = places-which (λ i (set : SetData). set.family == family script s) 0 script.sets d a (once_contains a (related script s) once) in
     ap (λ (f : ℕ). f == family script s) (ap (family_of_set) (got script.sets a d below) ∙ ap (λ (i : ℕ). (slice_index_or script.sets i d).family) (omega (arith, found.1))) ∙ found.3
 
-related_aside : (script : ScriptData) (a s : ℕ) (d : SetData) → a < length script.sets → AllByRecursion (λ x. x ≢ a) (related script s) → is_related script a s ≡ false
+pub related_aside : (script : ScriptData) (a s : ℕ) (d : SetData) → a < length script.sets → AllByRecursion (λ x. x ≢ a) (related script s) → is_related script a s ≡ false
 related_aside script a s d below aside = by_test (is_related script a s) refl
   where
     by_test : (b : Bool) → is_related script a s ≡ b → is_related script a s ≡ false
@@ -169,7 +169,7 @@ related_aside script a s d below aside = by_test (is_related script a s) refl
         (subst (Contains (related script s)) (omega arith) (places-at (λ i (set : SetData). set.family == family script s) 0 script.sets d a below
         (ap (λ (f : ℕ). f == family script s) (sym (ap (family_of_set) (got script.sets a d below))) ∙ e))))
 
-some_set : (sets : List SetData) (a : ℕ) → a < length sets → SetData
+pub some_set : (sets : List SetData) (a : ℕ) → a < length sets → SetData
 some_set [] a below = absurd (omega (arith, below))
 some_set (set ∷ rest) a below = set
 

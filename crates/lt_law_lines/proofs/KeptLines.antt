@@ -13,7 +13,7 @@ use Rattle.lt_spec.specs.Families.{home}
 use Rattle.lt_spec.specs.Holdings.{Holding, holding, same_holding, holdings, lines_of, agree, times_held}
 use Rattle.lt_model.specs.Homes.{Homes, IsRowAtHome}
 use Rattle.lt_spec.specs.World.{World, world_after}
-use Rattle.lt_law_accounts.proofs.Asks.{same_mode-true}
+use Rattle.lt_modes.proofs.EachMode.{same_mode-true}
 use Rattle.lt_model.proofs.HomesMove.{homes_in_runs}
 use Rattle.lt_law_invariant.proofs.KeptRuns.{locks_never_conflict, kept_in_runs, first_waiter_in_runs}
 use Rattle.lt_law_accounts.proofs.RowTotals.{row_count, total}
@@ -28,7 +28,7 @@ use Rattle.lt_law_lines.proofs.OpenWaits.{open_wait}
 use Rattle.lt_law_lines.specs.LineLaws.{LinesKeptInRuns, LinesTellHeld, HoldingsAreLawful, LinesTellWaits, FirstWaiterByLines}
 
 -- a lock that counts is that of a row
-row_of : (rows : List Row) (client : ℕ) (mode : Mode) → 1 ≤ total rows client mode → (row : Row) × Contains rows row × (row.client ≡ client) × (row.mode ≡ mode)
+pub row_of : (rows : List Row) (client : ℕ) (mode : Mode) → 1 ≤ total rows client mode → (row : Row) × Contains rows row × (row.client ≡ client) × (row.mode ≡ mode)
 row_of [] client mode h = absurd (omega (arith, h))
 row_of (row ∷ rest) client mode h = by_test (is_row_of client mode row) refl (λ more. row_of rest client mode more)
   where
@@ -90,7 +90,7 @@ holdings_are_lawful script run whole is_run k i j d before within = agreed (slic
         by_sets true e = by_clients e (a.client == b.client) refl
 
 -- rows of one client and mode are one row, so its count is all that is held
-counted_all : (rows : List Row) → AllPairs (λ (a b : Row). (a.client ≢ b.client) ⊎ (a.mode ≢ b.mode)) rows → (client : ℕ) (mode : Mode)
+pub counted_all : (rows : List Row) → AllPairs (λ (a b : Row). (a.client ≢ b.client) ⊎ (a.mode ≢ b.mode)) rows → (client : ℕ) (mode : Mode)
     → total rows client mode ≡ count_in rows client mode
 counted_all rows apart client mode = by_place (row_place rows client mode) refl
   where

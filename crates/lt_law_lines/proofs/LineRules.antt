@@ -49,7 +49,7 @@ quiet script q set t m none same = record {
   aside = λ k n other. ap (λ (l : List Event). fold (count_after script k) n l) none;
 }
 
-key_is : (c client set : ℕ) (mode m : Mode) → same_holding (holding c set mode) (holding client set m) ≡ is_key c mode client m
+pub key_is : (c client set : ℕ) (mode m : Mode) → same_holding (holding c set mode) (holding client set m) ≡ is_key c mode client m
 key_is c client set mode m = ap (λ (b : Bool). c == client && (b && same_mode mode m)) (eq-eqb set set refl)
 
 -- a lock of another set, or of a client of another node, is another one
@@ -63,7 +63,7 @@ some_each : (script : ScriptData) (q : ℕ) (rows : List Row) → All (IsRowAtHo
 some_each script q rows h k within = (h k no_row within).count
 
 -- a grant, and a change
-grant_total : (script : ScriptData) (set client : ℕ) (mode : Mode) (rows : List Row) (c : ℕ) (m : Mode)
+pub grant_total : (script : ScriptData) (set client : ℕ) (mode : Mode) (rows : List Row) (c : ℕ) (m : Mode)
     → total (add_lock rows client mode) c m ≡ count_after script (holding c set m) (total rows c m) (Grant client set mode)
 grant_total script set client mode rows c m =
     total_added rows client c mode m ∙ ap (λ (b : Bool). if b then total rows c m + 1 else total rows c m) (sym (key_is c client set m mode))

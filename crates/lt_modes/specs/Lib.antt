@@ -20,3 +20,4 @@ pub mod SetMove
 pub mod Fits
 pub mod FiveModes
 pub mod Sound
+pub mod Waiting

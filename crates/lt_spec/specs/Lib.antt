@@ -5,3 +5,5 @@ pub mod World
 pub mod Holdings
 pub mod Facts
 pub mod FixedOrder
+pub mod Rings
+pub mod Waiting

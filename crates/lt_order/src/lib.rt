@@ -1,0 +1,10 @@
+//! Which scripts are ordered: each client asks for sets in rising order, changes no mode, drops only its own locks, and
+//! releases all that it may hold.
+#![tactic(auto)]
+
+mod locks;
+mod order;
+#[cfg(test)]
+mod tests;
+
+pub use order::{first_bad, ordered};
