@@ -13,7 +13,7 @@ use Rattle.lt_gen.specs.Draws.{seeded, draw_of}
 use Rattle.lt_gen.specs.Draws as draws
 use Rattle.rand_core.specs.Pcg32Seed as seeds
 use Rattle.rand_core.specs.Steps as steps
-use Rattle.lt_serve.specs.Orders.{AreDrawn, IsAt}
+use Rattle.lt_serve.specs.Schedules.{AreDrawn, IsAt}
 use Rattle.lt_answers.specs.TwoOrders.{OrdersSay, two_tries, two_tries_script, try_of_a, try_of_b, a_first, b_first}
 use Rattle.lt_answers.proofs.Results.{same_script}
 

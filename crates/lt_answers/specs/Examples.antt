@@ -12,12 +12,12 @@ use Rattle.lt_words.specs.declared.command.Command.{Command}
 use Rattle.lt_words.specs.declared.command.Command.TheVariants.{Run, SimFirst, Sim}
 use Rattle.lt_serve.specs.declared.status.Status.{Status}
 use Rattle.lt_serve.specs.declared.status.Status.TheVariants.{Done, Stuck, WriteFault, Cut}
-use Rattle.lt_serve.specs.TopCall.{Tells}
+use Rattle.lt_serve.specs.TopCall.{Did}
 
 -- what an answer to a command with this input says, where a node makes up to so many moves
 -- and the sink is known to have held `old` before and to hold `new` now
 abbrev pub Says : ℕ → Command → Status → List ℕ → List Logged → List ℕ → List ℕ → Type 0
-Says moves command status input run old new = Tells moves (Some command) status (Some input) run (Some old) (Some new)
+Says moves command status input run old new = Did moves (Some command) status (Some input) run (Some old) (Some new)
 
 -- with this answer to the command, this text is written
 abbrev pub Writes : ℕ → Command → Status → List ℕ → List ℕ → Type 0

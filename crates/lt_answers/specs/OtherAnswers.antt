@@ -11,8 +11,8 @@ use Rattle.lt_words.specs.Words.{command_of}
 use Rattle.lt_serve.specs.declared.limits.TheConstants.{MAX_INPUT}
 use Rattle.lt_serve.specs.declared.status.Status.{Status}
 use Rattle.lt_serve.specs.declared.status.Status.TheVariants.{Done, Stuck, Usage, Refused, TooLong, ReadFault, WriteFault, Cut, BadJournal}
-use Rattle.lt_serve.specs.Causes.{HasStatusCause, TellsSource, TellsSink, reads, limit_of}
-use Rattle.lt_serve.specs.TopCall.{Tells}
+use Rattle.lt_serve.specs.Causes.{HasStatusCause, SaysOfSource, SaysOfSink, reads, limit_of}
+use Rattle.lt_serve.specs.TopCall.{Did}
 use Rattle.lt_answers.specs.Examples.{Says, SaysNothing, Writes, IsNever, one_lock, one_lock_journal, the_move}
 
 -- words that are no command, and one that is
@@ -20,7 +20,7 @@ pub record WordsSay : Type 0 where
   pub wrong : (left : Option (List ℕ)) (answer : Status) → HasStatusCause (command_of (codes "run" ∷ codes "now" ∷ [])) left answer → answer ≡ Usage
   pub right : (left : Option (List ℕ)) → HasStatusCause (command_of (codes "sim" ∷ codes "first" ∷ [])) left Usage → ⊥
   pub nothing : SaysNothing SimFirst Usage one_lock
-  pub no_command : (answer : Status) (run : List Logged) (old new : List ℕ) → Tells MAX_MOVES None answer (Some one_lock) run (Some old) (Some new)
+  pub no_command : (answer : Status) (run : List Logged) (old new : List ℕ) → Did MAX_MOVES None answer (Some one_lock) run (Some old) (Some new)
       → (run ≡ []) × (new ≡ old)
 
 -- its fourth line has a word that is no mode
@@ -76,19 +76,19 @@ untouched left = record { left = left; given = 0; faults = 0; ends = 0 }
 -- at this answer a source that was never at its end has come to it
 abbrev pub ComesToEnd : Command → Status → Type 0
 ComesToEnd command status =
-    (left : Option (List ℕ)) (now : SourceState) → TellsSource (limit_of (Some command)) status (untouched left) now → now.ends ≡ 1
+    (left : Option (List ℕ)) (now : SourceState) → SaysOfSource (limit_of (Some command)) status (untouched left) now → now.ends ≡ 1
 
 pub record CountsSay : Type 0 where
-  pub done : (left : Option (List ℕ)) (now : SourceState) → TellsSource (limit_of (Some SimFirst)) Done (untouched left) now
+  pub done : (left : Option (List ℕ)) (now : SourceState) → SaysOfSource (limit_of (Some SimFirst)) Done (untouched left) now
       → (now.given ≤ 1048576) × (now.faults ≡ 0) × (now.ends ≡ 1)
-  pub checked : (left : Option (List ℕ)) (now : SourceState) → TellsSource (limit_of (Some Check)) Done (untouched left) now → now.given ≤ 67108864
-  pub refused : (fault : ScriptFault) (left : Option (List ℕ)) (now : SourceState) → TellsSource MAX_INPUT (Refused fault) (untouched left) now
+  pub checked : (left : Option (List ℕ)) (now : SourceState) → SaysOfSource (limit_of (Some Check)) Done (untouched left) now → now.given ≤ 67108864
+  pub refused : (fault : ScriptFault) (left : Option (List ℕ)) (now : SourceState) → SaysOfSource MAX_INPUT (Refused fault) (untouched left) now
       → (now.faults ≡ 0) × (now.ends ≡ 1)
-  pub too_long : (left : Option (List ℕ)) (now : SourceState) → TellsSource (limit_of (Some Run)) TooLong (untouched left) now → (now.given ≡ 1048577) × (now.faults ≡ 0)
-  pub read_fault : (left : Option (List ℕ)) (now : SourceState) → TellsSource MAX_INPUT ReadFault (untouched left) now → (now.given ≤ 1048576) × (now.faults ≡ 1)
+  pub too_long : (left : Option (List ℕ)) (now : SourceState) → SaysOfSource (limit_of (Some Run)) TooLong (untouched left) now → (now.given ≡ 1048577) × (now.faults ≡ 0)
+  pub read_fault : (left : Option (List ℕ)) (now : SourceState) → SaysOfSource MAX_INPUT ReadFault (untouched left) now → (now.given ≤ 1048576) × (now.faults ≡ 1)
   pub stuck : ComesToEnd SimFirst Stuck
   pub cut : ComesToEnd (Sim 7) (Cut 0)
   pub unwritten : ComesToEnd Run WriteFault
   pub bad_journal : ComesToEnd Check (BadJournal 7)
-  pub written : (now : ℕ) → TellsSink Done 0 now → now ≡ 0
-  pub write_fault : (now : ℕ) → TellsSink WriteFault 0 now → now ≡ 1
+  pub written : (now : ℕ) → SaysOfSink Done 0 now → now ≡ 0
+  pub write_fault : (now : ℕ) → SaysOfSink WriteFault 0 now → now ≡ 1

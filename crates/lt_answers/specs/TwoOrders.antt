@@ -12,7 +12,7 @@ use Rattle.lt_merge.specs.Merging.{AreRising}
 use Rattle.lt_words.specs.declared.command.Command.{Command}
 use Rattle.lt_words.specs.declared.command.Command.TheVariants.{Run, SimFirst, Sim}
 use Rattle.lt_serve.specs.declared.status.Status.TheVariants.{Done}
-use Rattle.lt_serve.specs.Orders.{AreDrawn}
+use Rattle.lt_serve.specs.Schedules.{AreDrawn}
 use Rattle.lt_answers.specs.Examples.{Says}
 
 -- each of two nodes has a client that tries a lock

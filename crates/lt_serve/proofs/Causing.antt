@@ -8,8 +8,9 @@ use Rattle.lt_words.specs.declared.command.Command.{Command}
 use Rattle.lt_words.specs.declared.command.Command.TheVariants.{Sim, Make, Soak}
 use Rattle.lt_serve.specs.declared.status.Status.{Status}
 use Rattle.lt_serve.specs.declared.status.Status.TheVariants.{Done, Stuck, Usage, Refused, TooLong, ReadFault, WriteFault, NoMemory, Cut, BadJournal}
-use Rattle.lt_words.specs.Words.{seed_of, can_make, make_of, command_of}
-use Rattle.lt_serve.specs.Causes.{HasStatusCause, TellsSource, IsReadWhole, WritesNothing, IsEnding, CanBeMade, IsRefusal}
+use Rattle.lt_words.specs.Words.{seed_of, make_of, command_of}
+use Rattle.lt_gen.specs.Sizes.{can_make}
+use Rattle.lt_serve.specs.Causes.{HasStatusCause, SaysOfSource, IsReadWhole, WritesNothing, IsEnding, CanBeMade, IsRefusal}
 
 -- the writing has begun
 abbrev pub HasWritten : Status → Type 0
@@ -69,7 +70,7 @@ refused_causes asked command left status is h = subst (λ (a : Option Command). 
     not_none e = cc
 
 pub written_reading : (limit : ℕ) (status : Status) (before after : SourceState) → IsReadWhole limit before after → HasWritten status
-    → TellsSource limit status before after
+    → SaysOfSource limit status before after
 written_reading limit status before after whole h = record {
   too_long = λ e. absurd (is_other status TooLong h tt e);
   not_too_long = λ other. whole.few;

@@ -15,7 +15,7 @@ use Rattle.lt_serve.specs.declared.status.Status.{Status}
 use Rattle.lt_serve.specs.declared.status.Status.TheVariants.{Done, NoMemory}
 use Rattle.lt_serve.specs.Causes.{IsRefusal}
 use Rattle.lt_serve.specs.Input.{IsAnswerOfBytes}
-use Rattle.lt_serve.specs.Heads.{IsAnswer}
+use Rattle.lt_serve.specs.Heads.{AnswersInput}
 use Rattle.lt_serve.specs.TopCall.{ok_text}
 use Rattle.lt_law_checking.specs.Input.{journal_in, lines_before, counted_from, checked_input}
 
@@ -32,7 +32,7 @@ input_told script bytes told journal before h =
 pub counted_answer : (script : ScriptData) (bytes : List ℕ) (run : List Logged) (answer : Result Made Status)
     → read_of (take (input_parts bytes).script bytes) ≡ Ok script → checked_input script (lines bytes) ≡ Ok run → IsFinished script run → Promised script run
     → IfOk answer (λ made. (made.ending ≡ Done) × (made.run.entries ≡ run) × (made.text.items ≡ ok_text run)) → IfErr answer (λ why. why ≡ NoMemory)
-    → IsAnswer bytes answer
+    → AnswersInput bytes answer
 counted_answer script bytes run (Ok made) read accepted finished promised h refused = record {
   done = h.0;
   script = script;

@@ -13,7 +13,7 @@ use Rattle.lt_lists.proofs.Sums.{sum_below-change}
 use Rattle.lt_spec.specs.Log.{Logged}
 use Rattle.lt_spec.specs.World.{World, world_after, logged, is_enabled}
 use Rattle.lt_law_checking.proofs.Places.{stamp_node, count_push}
-use Rattle.lt_world.specs.Fields.{moves_of, can_move, is_full, full_node}
+use Rattle.lt_limits.specs.Cut.{moves_of, can_move, is_full, full_node}
 use Rattle.lt_serve.specs.Endings.{StopsInTime}
 
 -- the moves that the nodes may still make

@@ -10,7 +10,7 @@ use Rattle.lt_words.specs.declared.command.Command.TheVariants.{Run, SimFirst, S
 use Rattle.lt_modes.specs.Script.{ScriptData}
 use Rattle.lt_serve.specs.declared.limits.TheConstants.{MAX_INPUT, MAX_JOURNAL}
 use Rattle.lt_serve.specs.TopCall.{HasFault, HasFaultBefore, DenotesBefore, IsBadLine}
-use Rattle.lt_words.specs.Words.{can_make}
+use Rattle.lt_gen.specs.Sizes.{can_make}
 use Rattle.lt_serve.specs.declared.status.Status.{Status}
 use Rattle.lt_serve.specs.declared.status.Status.TheVariants.{Done, Stuck, Usage, Refused, TooLong, ReadFault, WriteFault, NoMemory, Cut, BadJournal}
 
@@ -37,7 +37,7 @@ abbrev pub IsBad : Option (List ℕ) → ℕ → Type 0
 IsBad left line = (script : ScriptData) × DenotesBefore left script × IsBadLine left script line
 
 -- why a command is answered so, where the source had these bytes left: each answer has a cause here but want of memory, and but
--- for the ends of a run, of which `Tells` speaks
+-- for the ends of a run, of which `Did` speaks
 pub record HasStatusCause (asked : Option Command) (left : Option (List ℕ)) (answer : Status) : Type 0 where
   pub usage : answer ≡ Usage → asked ≡ None
   pub no_command : asked ≡ None → answer ≡ Usage
@@ -58,7 +58,7 @@ HasRead (Refused fault) = Unit {0}
 HasRead other = ⊥
 
 -- what the answer says of the source's counts, before and after, where the input may have so many bytes
-pub record TellsSource (limit : ℕ) (answer : Status) (before after : SourceState) : Type 0 where
+pub record SaysOfSource (limit : ℕ) (answer : Status) (before after : SourceState) : Type 0 where
   -- it gave one byte more than that, or no more than that
   pub too_long : answer ≡ TooLong → CountsFaults (limit + 1) before.given after.given
   pub not_too_long : answer ≢ TooLong → after.given ≤ before.given + limit
@@ -75,7 +75,7 @@ pub record IsReadWhole (limit : ℕ) (before after : SourceState) : Type 0 where
   pub without_fault : after.faults ≡ before.faults
 
 -- what the answer says of the sink's count of faults: one write failed, or none
-pub record TellsSink (answer : Status) (before after : ℕ) : Type 0 where
+pub record SaysOfSink (answer : Status) (before after : ℕ) : Type 0 where
   pub write_fault : answer ≡ WriteFault → CountsFaults 1 before after
   pub no_write_fault : answer ≢ WriteFault → after ≡ before
 

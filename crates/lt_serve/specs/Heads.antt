@@ -53,6 +53,6 @@ IsLineOf size (Err (Bad line)) = line ≤ size + 1
 IsLineOf size told = Unit {0}
 
 -- an input of these bytes is answered so
-abbrev pub IsAnswer : List ℕ → Result Made Status → Type 0
-IsAnswer bytes (Ok made) = Checks made.ending (Some bytes) made.run.entries made.text.items
-IsAnswer bytes (Err answer) = IsAnswerOfBytes answer × IsRefusal Check (Some bytes) answer
+abbrev pub AnswersInput : List ℕ → Result Made Status → Type 0
+AnswersInput bytes (Ok made) = Checks made.ending (Some bytes) made.run.entries made.text.items
+AnswersInput bytes (Err answer) = IsAnswerOfBytes answer × IsRefusal Check (Some bytes) answer

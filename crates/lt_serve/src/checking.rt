@@ -10,8 +10,8 @@ ghost use Rattle.lt_law_checking.specs.Checking.{checked};
 ghost use Rattle.lt_checker.specs.Checker.{IsAnswer};
 ghost use Rattle.lt_serve.specs.declared.limits.TheConstants.{MAX_JOURNAL};
 ghost use Rattle.lt_words.specs.declared.command.Command.TheVariants as command;
-ghost use Rattle.lt_serve.specs.Causes.{TellsSource, IsReadWhole, IsRefusal};
-ghost use Rattle.lt_serve.specs.Heads.{IsHeadCut, IsRest, FailsRest, IsRoom, IsLineOf, IsAnswer};
+ghost use Rattle.lt_serve.specs.Causes.{SaysOfSource, IsReadWhole, IsRefusal};
+ghost use Rattle.lt_serve.specs.Heads.{IsHeadCut, IsRest, FailsRest, IsRoom, IsLineOf, AnswersInput};
 ghost use Rattle.lt_serve.specs.TopCall.{Checks, ok_text};
 
 use crate::head::read_head;
@@ -20,11 +20,11 @@ use crate::reading::status_of;
 use crate::rest::{feed_rest, skip_rest};
 use crate::status::Status;
 use lt_checker::{Checker, ReplayError};
-use lt_law_checking::{law_input, law_means};
 use lt_io::{ReadFailure, Source};
 use lt_journal::split;
-use lt_merge::Run;
+use lt_law_checking::{law_input, law_means};
 use lt_law_promises::law_promised;
+use lt_merge::Run;
 use lt_script::{ReadError, Script, read};
 use std::alloc::{AllocError, Global};
 use std::fmt::Write;
@@ -33,7 +33,7 @@ use std::fmt::Write;
 pub(crate) fn checked<S: Source>(alloc: Global, source: &mut S) -> Result<Made, Status>
     ensures does { IfOk result (λ made. Checks made.ending (S.state source.old).left made.run.entries made.text.items) }
     ensures whole { OnOk result (IsReadWhole MAX_JOURNAL (S.state source.old) (S.state source.new)) }
-    ensures reading { IfErr result (λ answer. TellsSource MAX_JOURNAL answer (S.state source.old) (S.state source.new)) }
+    ensures reading { IfErr result (λ answer. SaysOfSource MAX_JOURNAL answer (S.state source.old) (S.state source.new)) }
     ensures refused { IfErr result (IsRefusal command.Check (S.state source.old).left) }
 {
     let head = match read_head(alloc, source) {
@@ -57,7 +57,7 @@ fn judged<S: Source>(
     requires few { length bytes.now ≤ MAX_JOURNAL }
     requires cut { IsHeadCut bytes.now room }
     requires room { IsRoom room }
-    ensures answer { IfOk result (λ answer. (rest : List ℕ) × IsAnswer (bytes.now ++ rest) answer × IsRest room rest (S.state source.old) (S.state source.new)) }
+    ensures answer { IfOk result (λ answer. (rest : List ℕ) × AnswersInput (bytes.now ++ rest) answer × IsRest room rest (S.state source.old) (S.state source.new)) }
     ensures err { IfErr result (λ why. FailsRest room why (S.state source.old) (S.state source.new)) }
 {
     let parts = split(bytes);
@@ -96,7 +96,7 @@ fn answered(alloc: Global, before: u32, told: Result<Run, ReplayError>) -> Resul
     requires few { before ≤ MAX_JOURNAL }
     requires line { IsLineOf (2 * MAX_JOURNAL) told }
     ensures { (script : ScriptData) → (bytes : List ℕ) → IsScript script → read_of (take (input_parts bytes).script bytes) ≡ Ok script
-        → before ≡ (input_parts bytes).lines → IsAnswer (checked script (lines (drop (input_parts bytes).journal bytes))) told → IsAnswer bytes result }
+        → before ≡ (input_parts bytes).lines → IsAnswer (checked script (lines (drop (input_parts bytes).journal bytes))) told → AnswersInput bytes result }
 {
     law_promised();
     law_means();

@@ -5,9 +5,9 @@ ghost use Rattle.lt_serve.specs.declared.limits.TheConstants.{MAX_JOURNAL};
 ghost use Rattle.lt_serve.specs.Heads.{IsHeadCut, IsHead, IsRoom};
 
 use crate::limits::MAX_JOURNAL;
-use lt_law_checking::law_settled;
 use lt_io::{MAX_PIECE, ReadFailure, Source, read_piece};
 use lt_journal::split;
+use lt_law_checking::law_settled;
 use std::alloc::Global;
 
 /// The first bytes of an input: at least those up to and with the line `journal`, or all of them.

@@ -1,6 +1,7 @@
 ghost use Rattle.std.specs.Prelude.{◌≡◌, ◌≢◌, ◌↔◌, [], IsTrue};
 ghost use Rattle.lt_serve.specs.Status.{code_of, status_text};
 
+use lt_limits::Ending;
 use lt_script::ScriptFault;
 use std::fmt;
 
@@ -57,10 +58,24 @@ impl Status {
     }
 
     /// Whether the program writes a line on standard error.
-    pub fn is_told(&self) -> bool
+    pub fn has_line(&self) -> bool
         ensures { IsTrue result ↔ (status_text self.now ≢ []) }
     {
         !matches!(self, Status::Done | Status::Stuck)
+    }
+}
+
+impl From<Ending> for Status {
+    ghost use Rattle.lt_serve.specs.Endings.{status_of_end};
+
+    ghost from_gives = { λ ending status. status ≡ status_of_end ending };
+
+    fn from(ending: Ending) -> Status {
+        match ending {
+            Ending::Done => Status::Done,
+            Ending::Stuck => Status::Stuck,
+            Ending::Cut { node } => Status::Cut { node },
+        }
     }
 }
 

@@ -1,10 +1,10 @@
 ghost use Rattle.std.specs.Prelude.{◌≡◌, Some};
-ghost use Rattle.lt_text.specs.Number.{are_digits, is_numeral, number};
+ghost use Rattle.lt_text.specs.Number.{is_numeral, number};
 ghost use Rattle.lt_words.specs.Words.{seed_of, make_of};
 
 use crate::command::Command;
 use lt_gen::can_make;
-use lt_text::number;
+use lt_text::{are_digits, number};
 
 pub fn make_of(nodes: &str, clients: &str, commands: &str, seed: &str) -> Option<Command>
     ensures { result ≡ make_of (number nodes.now) (number clients.now) (number commands.now) (seed_of seed.now) }
@@ -43,11 +43,5 @@ pub fn seed_of(word: &str) -> Option<u64>
 fn is_numeral(word: &str, most: usize) -> bool
     ensures { result ≡ is_numeral word.now most }
 {
-    !word.is_empty() && word.len() <= most && are_digits(word)
-}
-
-fn are_digits(word: &str) -> bool
-    ensures { result ≡ are_digits word.now }
-{
-    word.as_bytes().iter().all(|byte| byte.is_ascii_digit())
+    !word.is_empty() && word.len() <= most && are_digits(word.as_bytes())
 }

@@ -1,4 +1,4 @@
-use Rattle.lt_serve.proofs.simulated.simulated_drawn.Goals as goal
+use Rattle.lt_serve.proofs.simulated.simulated.Goals as goal
 
 pub returns-in-Ok-clause-does : goal.returns-in-Ok-clause-does
 returns-in-Ok-clause-does g c = record {
@@ -8,6 +8,6 @@ returns-in-Ok-clause-does g c = record {
     ran = c.in-Ok.ensures.ran;
     journal = c.in-Ok.ensures.text;
   };
-  drawn = c.in-Ok.ensures.drawn;
+  in_order = c.in-Ok.ensures.in_order;
   in_time = c.in-Ok.ensures.in_time;
 }

@@ -4,19 +4,19 @@ ghost use Rattle.lt_spec.specs.FixedOrder.{pick, count_turns};
 ghost use Rattle.lt_world.specs.Choice.{choice_of};
 ghost use Rattle.lt_world.specs.Fields.{world_of};
 ghost use Rattle.lt_gen.specs.Draws.{draw_of};
-ghost use Rattle.lt_serve.specs.Orders.{scheduled};
+ghost use Rattle.lt_serve.specs.Schedules.{scheduled};
 
 use lt_gen::Draws;
 use lt_world::{Choice, World};
 
-/// In which order a simulation makes the enabled moves: always the first one, or one that is drawn.
+/// Which of the enabled moves a simulation makes next: always the first one, or one that is drawn.
 #[derive(Drop)]
-pub enum Order {
+pub enum Schedule {
     First,
     Drawn(Draws),
 }
 
-impl Order {
+impl Schedule {
     /// The move that comes next, where one is enabled.
     pub fn choose(&mut self, world: &World<'_>) -> Option<Choice>
         ensures none { IsNone result → IsTrue (is_at_rest world.now.script (world_of world.now)) }
@@ -26,8 +26,8 @@ impl Order {
         ensures enabled { IfSome result (λ choice. IsTrue (is_enabled world.now.script (world_of world.now) choice.node choice.step)) }
     {
         match self {
-            Order::First => world.pick(0),
-            Order::Drawn(numbers) => draw(numbers, world),
+            Schedule::First => world.pick(0),
+            Schedule::Drawn(numbers) => draw(numbers, world),
         }
     }
 }
