@@ -38,6 +38,9 @@ impl Core {
         requires fits { FitsOut (notices self.now.set stamp self.now.state targets.now.modes targets.now.number (bits_from nodes 0 targets.now.nodes)) out.old }
         ensures { out.new ≡ out_after (notices self.now.set stamp self.now.state targets.now.modes targets.now.number (bits_from nodes 0 targets.now.nodes)) out.old }
     {
+        if targets.nodes == 0 {
+            return;
+        }
         for x in 0..nodes {
             self.send_notice(x, targets, stamp, out);
         }
