@@ -83,7 +83,7 @@ pub record KeepsSent (a b : Mail) : Type 0 where
 -- the outboxes to the first nodes have room for so many further letters, and none has less room
 pub record Reserved (letters first : ℕ) (a b : Mail) : Type 0 where
   pub kept : KeepsSent a b
-  pub ring_given : (node : ℕ) → given_to b node ≡ given_to a node
+  pub given : (node : ℕ) → given_to b node ≡ given_to a node
   pub room : (node : ℕ) → node < first → HasRoomAt letters (out_at b node)
   pub room_kept : (node further : ℕ) → HasRoomAt further (out_at a node) → HasRoomAt further (out_at b node)
 

@@ -3,6 +3,7 @@
 
 mod both_ends;
 mod lane;
+mod lanes;
 mod mail;
 mod opening;
 #[cfg(test)]
