@@ -1,5 +1,5 @@
 -- What the next move makes of a place.
-use Rattle.std.proofs.Common.{◌≡◌, ℕ, suc, ◌+◌, ◌-◌, ◌<◌, ◌==◌, ◌&&◌, not, cond, Bool, true, false, nat_lt, List, [], ◌∷◌, ◌++◌, length, set, get_or, slice_get, Some, None, map, refl, sym, ap, ap₂, subst, ◌∙◌, inl, inr, arith, length-set, get_or-set_same, get_or-set_other}
+use Rattle.std.proofs.Common.{◌≡◌, ℕ, suc, ◌+◌, ◌-◌, ◌<◌, ◌==◌, ◌&&◌, not, cond, Bool, true, false, nat_lt, List, [], ◌∷◌, ◌++◌, length, set, get_or, slice_get, Some, None, refl, sym, ap, ap₂, subst, ◌∙◌, inl, inr, arith, length-set, get_or-set_same, get_or-set_other}
 use Rattle.std.specs.Option.{option_map}
 use Rattle.std.proofs.lemmas.Bool.{cases_eq, eq-eqb, ne_eqb, eqb-true, ltb-true, and_parts, and_from}
 use Rattle.std.proofs.lemmas.List.{length_push}
@@ -16,7 +16,8 @@ use Rattle.lt_limits.specs.declared.moves.TheConstants.{MAX_MOVES}
 use Rattle.lt_merge.specs.Run.{made_at, events_at}
 use Rattle.lt_modes.specs.declared.event.Event.{Event}
 use Rattle.lt_journal.specs.declared.line.Line.{Line}
-use Rattle.lt_journal.specs.declared.line.Line.TheVariants.{Move as MoveLine, Event as EventLine}
+use Rattle.lt_journal.specs.declared.line.Line.TheVariants.{Move as MoveLine}
+use Rattle.lt_journal.specs.RunLines.{event_lines}
 use Rattle.lt_world.specs.Fields.{WorldData, world_of}
 use Rattle.lt_law_checking.specs.Checking.{closing_at_rest, moved, has_moves_left, by_move}
 use Rattle.lt_law_checking.specs.Journals.{HasFewMoves}
@@ -90,19 +91,6 @@ next_run : (script : ScriptData) (world : WorldData) (counts : List ℕ) (node :
     → next.run ≡ world.run ++ logged script (world_after script world.run) node step ∷ []
 next_run script world counts node step next s = ap (λ (w : WorldData). w.run) s.next_is
 
-pub next_is_run : (script : ScriptData) (world : WorldData) (counts : List ℕ) (node : ℕ) (step : Step) (next : WorldData) → IsStepped script world counts node step next
-    → IsRun script next.run
-next_is_run script world counts node step next s =
-    subst (IsRun script) (sym (next_run script world counts node step next s))
-    (IsRunFrom-push script (start script) world.run (logged script (world_after script world.run) node step) s.place.come.1.is_run
-    (is_logged script (world_after script world.run) node step s.enabled))
-
-pub next_few : (script : ScriptData) (world : WorldData) (counts : List ℕ) (node : ℕ) (step : Step) (next : WorldData) → IsStepped script world counts node step next
-    → HasFewMoves next.run
-next_few script world counts node step next s =
-    subst HasFewMoves (sym (next_run script world counts node step next s))
-    (few_push world.run (logged script (world_after script world.run) node step) node s.place.come.1.few (stamp_node (world_after script world.run) node step) s.may)
-
 last_get : (run : List Logged) (entry : Logged) → slice_get (run ++ entry ∷ []) (length run) ≡ Some entry
 last_get [] entry = refl
 last_get (first ∷ run) entry = last_get run entry
@@ -152,14 +140,14 @@ last_events run entry k events last is =
 -- the next run, with the lines that are then due, is the place after the move
 pub next_place : (script : ScriptData) (world : WorldData) (counts : List ℕ) (node : ℕ) (step : Step) (next : WorldData) (k : ℕ) (events : List Event) (due : List Line)
     → IsStepped script world counts node step next → suc k ≡ length next.run → events_at next.run k ≡ Some events
-    → due ≡ map EventLine events ++ closing_at_rest script next.run
+    → due ≡ event_lines script.version events ++ closing_at_rest script next.run
     → moved script world.run (logged script (world_after script world.run) node step) ≡ record { run = next.run; due = due }
 next_place script world counts node step next k events due s last is due_is =
     let run_is = next_run script world counts node step next s in
     let entry = logged script (world_after script world.run) node step in
     let told = last_events world.run entry k events (last ∙ ap (λ (r : List Logged). length r) run_is) (ap (λ (r : List Logged). events_at r k) (sym run_is) ∙ is) in
-    let same : map EventLine entry.events ++ closing_at_rest script (world.run ++ entry ∷ []) ≡ due =
-    ap₂ (λ (es : List Event) (r : List Logged). map EventLine es ++ closing_at_rest script r) told (sym run_is) ∙ sym due_is in
+    let same : event_lines script.version entry.events ++ closing_at_rest script (world.run ++ entry ∷ []) ≡ due =
+    ap₂ (λ (es : List Event) (r : List Logged). event_lines script.version es ++ closing_at_rest script r) told (sym run_is) ∙ sym due_is in
     λ i. record { run = sym run_is i; due = same i }
 
 -- and a reader can come to it

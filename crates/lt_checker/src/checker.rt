@@ -9,6 +9,7 @@ use crate::reader::Reader;
 use arrayvec::ArrayVec;
 use lt_merge::Run;
 use lt_script::Script;
+use lt_text::trim_return;
 use std::alloc::{AllocError, Global};
 use std::marker::Model;
 
@@ -132,17 +133,5 @@ fn keep(rest: &mut ArrayVec<u8, 201>, byte: u8)
 {
     if !rest.is_full() {
         rest.push(byte);
-    }
-}
-
-// The line without a carriage return at its end.
-fn trim_return(line: &[u8]) -> &[u8]
-    ensures { result.now ≡ without_return line.now }
-{
-    if !line.is_empty() && line[line.len() - 1] == b'\r' {
-        let (front, _) = line.split_at(line.len() - 1);
-        front
-    } else {
-        line
     }
 }

@@ -14,8 +14,8 @@ use lt_letter::{Body, Letter, Parked, Tell};
 use lt_modes::Ask;
 use std::collections::VecDeque;
 
-// The bound of the clocks.
-const LAST_CLOCK: u64 = 4_294_967_295;
+/// The greatest clock: no move is made at it, and no letter of it is taken.
+pub const LAST_CLOCK: u64 = 4_294_967_295;
 
 impl Core {
     /// Whether the node, with this clock, can be sent the letter. Takes no memory.

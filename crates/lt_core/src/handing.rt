@@ -38,6 +38,9 @@ impl Core {
         requires fits { FitsOut (notices self.now.set stamp self.now.state targets.now.modes targets.now.number (bits_from nodes 0 targets.now.nodes)) out.old }
         ensures { out.new ≡ out_after (notices self.now.set stamp self.now.state targets.now.modes targets.now.number (bits_from nodes 0 targets.now.nodes)) out.old }
     {
+        if targets.nodes == 0 {
+            return;
+        }
         for x in 0..nodes {
             self.send_notice(x, targets, stamp, out);
         }
@@ -73,7 +76,7 @@ impl Core {
         requires fits { FitsOut (hand_over self.old.set stamp self.old.state) out.old }
         ensures does { Does (hand_over self.old.set stamp self.old.state) self.old out.old self.new out.new }
     {
-        if let Some(k) = self.next_move() {
+        if let Some(k) = self.next_draw() {
             if let Some(desk) = self.desk.take() {
                 self.send_desk(k, desk, stamp, out);
             }
@@ -81,12 +84,12 @@ impl Core {
     }
 
     // The place of the ask to whose node the desk moves.
-    fn next_move(&self) -> Option<u32>
+    fn next_draw(&self) -> Option<u32>
         ensures next { result ≡ next_draw self.now.node self.now.state }
         ensures within { IfSome result (λ k. k < length (queue_of self.now.state)) }
     {
         match &self.desk {
-            Some(desk) => desk.next_move(self.links.me(), &self.held, self.pending.stamps()),
+            Some(desk) => desk.next_draw(self.links.me(), &self.held, self.pending.stamps()),
             None => None,
         }
     }

@@ -5,12 +5,12 @@ use Rattle.lt_modes.specs.State.{SetState}
 use Rattle.lt_modes.specs.Queue.{no_ask}
 use Rattle.lt_modes.specs.Serving.{queue_of, next_service, next_draw}
 use Rattle.lt_desk.specs.declared.pick.Pick.{Pick}
-use Rattle.lt_desk.specs.declared.pick.Pick.TheVariants.{Nothing, Local, Copy, Move}
+use Rattle.lt_desk.specs.declared.pick.Pick.TheVariants.{Nothing, Local, Copy, HandOver}
 
 -- a service is local where its ask is of node `me`; the desk moves only where there is no service
 abbrev pub picked_by : ℕ → List Ask → Option ℕ → Option ℕ → Pick
 picked_by me queue (Some k) move = if (slice_index_or queue k no_ask).node == me then Local k else Copy k
-picked_by me queue None (Some k) = Move k
+picked_by me queue None (Some k) = HandOver k
 picked_by me queue None None = Nothing
 
 -- the next service; where there is none, the next move of the desk
@@ -22,4 +22,4 @@ abbrev pub IsInQueue : ℕ → Pick → Type 0
 IsInQueue n Nothing = Unit {0}
 IsInQueue n (Local k) = k < n
 IsInQueue n (Copy k) = k < n
-IsInQueue n (Move k) = k < n
+IsInQueue n (HandOver k) = k < n

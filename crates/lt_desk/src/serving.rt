@@ -18,8 +18,8 @@ impl Sight<'_> {
             } else {
                 Pick::Copy(k)
             }
-        } else if let Some(k) = self.next_move() {
-            Pick::Move(k)
+        } else if let Some(k) = self.next_draw() {
+            Pick::HandOver(k)
         } else {
             Pick::Nothing
         }
@@ -43,8 +43,8 @@ impl Sight<'_> {
     }
 
     // The place of the ask to whose node the desk moves, once no service is left.
-    #[tactic(auto, using(crate::proofs::PlaceLemmas::move_found, crate::proofs::PlaceLemmas::move_later))]
-    pub(crate) fn next_move(&self) -> Option<u32>
+    #[tactic(auto, using(crate::proofs::PlaceLemmas::draw_found, crate::proofs::PlaceLemmas::draw_later))]
+    pub(crate) fn next_draw(&self) -> Option<u32>
         ensures place { result ≡ next_draw self.now.me (sight_state self.now) }
         ensures within { IfSome result (λ k. k < length self.now.queue.now.asks) }
     {

@@ -12,7 +12,7 @@ use Rattle.lt_modes.specs.declared.parts.Link.{Link}
 use Rattle.lt_spec.specs.Holdings.{Holding, holding, holdings, same_holding, times_held, wanted, wanted_after, owner_of, owner_after, lines_of}
 use Rattle.lt_journal.specs.declared.line.Line.{Line}
 use Rattle.lt_journal.specs.declared.line.Line.TheVariants.{Version, Held}
-use Rattle.lt_journal.specs.Words.{all_modes}
+use Rattle.lt_modes.specs.Modes.{modes_in_order}
 use Rattle.lt_journal.specs.RunLines.{shown_event, event_lines, first_lines, entry_lines, moves_lines, lines_below, held_line, held_in_mode, held_in_set, held_by, held_lines, waiting_line, waiting_lines, owner_line, owner_lines, closing_lines, run_lines}
 use Rattle.lt_journal.specs.LineFits.{HasNode, HasSet, HasClient, IsNumber, FitsEvent, FitsLine}
 use Rattle.lt_journal.proofs.Conditions.{FitsEntry, FitsRun}
@@ -116,7 +116,7 @@ held_fits : (script : ScriptData) (held : List Holding) → IsNumber (length hel
 held_fits script held few =
     below_fits script (length script.clients) (held_by script held)
     (λ client has_client. below_fits script (length script.sets) (held_in_set held client)
-    (λ lock_set has_set. held_modes_fit script held client lock_set all_modes few has_client has_set))
+    (λ lock_set has_set. held_modes_fit script held client lock_set modes_in_order few has_client has_set))
 
 waiting_line_fits : (script : ScriptData) (lock : Option Holding) → FitsWaiting script lock → AllByRecursion (FitsLine script) (waiting_line lock)
 waiting_line_fits script None fits = tt

@@ -3,8 +3,9 @@ use Rattle.std.proofs.Common.{◌≡◌, ◌∙◌, ℕ, cond, Bool, true, false
 use Rattle.std.specs.Prelude.{if◌then◌else◌}
 use Rattle.std.specs.List.{flat_map}
 use Rattle.lt_modes.specs.declared.mode.Mode.{Mode}
-use Rattle.lt_modes.specs.Modes.{Modes, has, has_none, word_of}
-use Rattle.lt_journal.specs.Words.{after_space, all_modes, words_of_modes, member_words}
+use Rattle.lt_modes.specs.Modes.{Modes, has, has_none, word_of, modes_in_order}
+use Rattle.lt_text.specs.Text.{after_space}
+use Rattle.lt_journal.specs.Words.{words_of_modes, member_words}
 
 kept_words : (modes : Modes) (ms : List Mode)
     → flat_map after_space (map word_of (filter (λ mode. has mode modes) ms)) ≡ flat_map (member_words modes) ms
@@ -19,7 +20,7 @@ kept_words modes (m ∷ ms) = by_test (has m modes) (kept_words modes ms)
     by_test true later = ap (λ (t : List ℕ). after_space (word_of m) ++ t) later
     by_test false later = later
 
-pub words_kept : (modes : Modes) → has_none modes ≡ false → flat_map after_space (words_of_modes modes) ≡ flat_map (member_words modes) all_modes
+pub words_kept : (modes : Modes) → has_none modes ≡ false → flat_map after_space (words_of_modes modes) ≡ flat_map (member_words modes) modes_in_order
 words_kept modes some =
-    ap (λ (b : Bool). flat_map after_space (cond b (codes "none" ∷ []) (map word_of (filter (λ mode. has mode modes) all_modes)))) some
-    ∙ kept_words modes all_modes
+    ap (λ (b : Bool). flat_map after_space (cond b (codes "none" ∷ []) (map word_of (filter (λ mode. has mode modes) modes_in_order)))) some
+    ∙ kept_words modes modes_in_order

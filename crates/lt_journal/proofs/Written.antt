@@ -8,11 +8,11 @@ use Rattle.lt_modes.specs.declared.moves.Step.{Step}
 use Rattle.lt_modes.specs.declared.moves.Step.TheVariants.{Act, Take}
 use Rattle.lt_modes.specs.declared.event.Event.{Event}
 use Rattle.lt_modes.specs.declared.event.Event.TheVariants.{Grant, Wait, Try, Unlock, NotHeld, Change, DropAll, Busy, Copy, Freeze, Token}
-use Rattle.lt_modes.specs.Modes.{Modes, word_of, has, has_none}
+use Rattle.lt_modes.specs.Modes.{Modes, word_of, has, has_none, modes_in_order}
 use Rattle.lt_modes.specs.Script.{ScriptData, set_name, client_name}
-use Rattle.lt_journal.specs.Words.{spaced, step_words, event_words, words_of_modes, word_of_bool, all_modes, line_words}
+use Rattle.lt_journal.specs.Words.{step_words, event_words, words_of_modes, word_of_bool, line_words}
 use Rattle.lt_journal.specs.Text.{lines_text}
-use Rattle.lt_text.specs.Text.{lines, cut_at, fields}
+use Rattle.lt_text.specs.Text.{lines, cut_at, fields, spaced}
 use Rattle.lt_journal.specs.declared.line.Line.{Line}
 use Rattle.lt_journal.specs.declared.line.Line.TheVariants.{Version, Move as MoveLine, Event as EventLine, Held, Waiting, Owner, End, Cut, Bad}
 use Rattle.lt_journal.specs.Grammar.{line_of, read_line, journal_of}
@@ -51,9 +51,9 @@ plain_modes_in [] = tt
 plain_modes_in (mode ∷ modes) = (plain_mode mode, plain_modes_in modes)
 
 plain_modes : (modes : Modes) → ArePlain (words_of_modes modes)
-plain_modes modes = elim (has_none modes) as (λ none. ArePlain (cond none (codes "none" ∷ []) (map word_of (filter (λ mode. has mode modes) all_modes)))) [
+plain_modes modes = elim (has_none modes) as (λ none. ArePlain (cond none (codes "none" ∷ []) (map word_of (filter (λ mode. has mode modes) modes_in_order)))) [
   | true ↦ (plain (codes "none") refl, tt)
-  | false ↦ plain_modes_in (filter (λ mode. has mode modes) all_modes)
+  | false ↦ plain_modes_in (filter (λ mode. has mode modes) modes_in_order)
 ]
 
 plain_step : (script : ScriptData) (step : Step) → IsNamed script → FewNodes script → FitsStep script step → ArePlain (step_words script step)

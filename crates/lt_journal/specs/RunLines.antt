@@ -9,7 +9,7 @@ use Rattle.lt_modes.specs.declared.parts.Link.{Link}
 use Rattle.lt_modes.specs.Script.{ScriptData}
 use Rattle.lt_spec.specs.Log.{Logged}
 use Rattle.lt_spec.specs.Holdings.{Holding, holding, holdings, times_held, wanted, owner_of, lines_of}
-use Rattle.lt_journal.specs.Words.{all_modes}
+use Rattle.lt_modes.specs.Modes.{modes_in_order}
 use Rattle.lt_journal.specs.declared.line.Line.{Line}
 use Rattle.lt_journal.specs.declared.line.Line.TheVariants.{Version, Move as MoveLine, Event as EventLine, Held, Waiting, Owner, End, Cut}
 
@@ -53,7 +53,7 @@ held_in_mode held client set mode = held_line (holding client set mode) (times_h
 
 -- the lines of the client's locks in a set, by mode
 abbrev pub held_in_set : List Holding → ℕ → ℕ → List Line
-held_in_set held client set = flat_map (held_in_mode held client set) all_modes
+held_in_set held client set = flat_map (held_in_mode held client set) modes_in_order
 
 -- the lines of the client's locks, by set
 abbrev pub held_by : ScriptData → List Holding → ℕ → List Line

@@ -1,15 +1,15 @@
 ghost use Rattle.std.specs.Prelude.{◌≡◌, ◌++◌, [], ◌∷◌, OnOk, if◌then◌else◌};
 ghost use Rattle.std.specs.List.{flat_map};
 ghost use Rattle.lt_journal.specs.declared.line.Line.TheVariants.{Move as MoveLine, Event as EventLine};
-ghost use Rattle.lt_journal.specs.Words.{after_space, spaced, line_words, lock_words, drop_words, letter_words, event_words, further_words, words_of_modes, member_words};
+ghost use Rattle.lt_text.specs.Text.{after_space, spaced};
+ghost use Rattle.lt_journal.specs.Words.{line_words, lock_words, drop_words, letter_words, event_words, further_words, words_of_modes, member_words};
 ghost use Rattle.lt_journal.specs.Text.{line_text};
 ghost use Rattle.lt_modes.specs.FiveModes.{shown_in};
 ghost use Rattle.lt_journal.specs.RunLines.{shown_event};
 
-use crate::closing::MODES;
 use crate::names::{client_name, set_name};
 use crate::text::Text;
-use lt_modes::{Event, Mode, ModeSet, Move, Step};
+use lt_modes::{Event, MODES, Mode, ModeSet, Move, Step};
 use lt_script::Script;
 use std::alloc::AllocError;
 

@@ -3,10 +3,10 @@ ghost use Rattle.lt_text.specs.Text.{fields};
 ghost use Rattle.lt_journal.specs.Grammar.{read_line, line_of_two, line_of_four, line_of_five, line_of_copy, line_of_freeze, lock_line, lock_and_line};
 
 use crate::line::Line;
-use crate::lock::Lock;
 use crate::meaning::{bool_of, lock, modes, node, step};
 use lt_modes::{Event, Mode};
 use lt_script::Script;
+use lt_tally::Holding;
 use lt_text::{exact_number, is, next_field};
 
 /// What the line says, which stands here without its line end: what [`read`](crate::read) gives for it. It takes no
@@ -97,10 +97,10 @@ fn line_of_four(script: &Script, word: &[u8], a: &[u8], b: &[u8], c: &[u8]) -> L
 }
 
 // A line of a word and a lock.
-fn lock_line(word: &[u8], lock: Option<Lock>) -> Line
+fn lock_line(word: &[u8], lock: Option<Holding>) -> Line
     ensures { result ≡ lock_line word.now lock }
 {
-    let Some(Lock { client, set, mode }) = lock else {
+    let Some(Holding { client, set, mode }) = lock else {
         return Line::Bad;
     };
     if is(word, "grant") {
@@ -174,10 +174,10 @@ fn copy(script: &Script, a: &[u8], b: &[u8], c: &[u8], d: &[u8]) -> Line
 }
 
 // A line of a word, a lock, and what is said of the lock.
-fn lock_and_line(word: &[u8], lock: Option<Lock>, d: &[u8]) -> Line
+fn lock_and_line(word: &[u8], lock: Option<Holding>, d: &[u8]) -> Line
     ensures { result ≡ lock_and_line word.now lock d.now }
 {
-    let Some(Lock { client, set, mode }) = lock else {
+    let Some(Holding { client, set, mode }) = lock else {
         return Line::Bad;
     };
     if is(word, "try") {
@@ -208,7 +208,7 @@ fn lock_and_line(word: &[u8], lock: Option<Lock>, d: &[u8]) -> Line
             client,
             set,
             mode,
-            count,
+            count: u64::from(count),
         }
     } else {
         Line::Bad

@@ -2,9 +2,10 @@ ghost use Rattle.std.specs.Prelude.{◌≡◌, ◌++◌, OnOk, IfOk};
 ghost use Rattle.lt_journal.specs.RunLines.{first_lines, event_lines, moves_lines, closing_lines};
 ghost use Rattle.lt_journal.specs.Text.{lines_text, text_of};
 
-use crate::closing::rest_lines;
+use crate::closing::closing_lines;
 use crate::events::{event_line, move_line, shown_event};
-use crate::tally::tally_of;
+use crate::line::Line;
+use crate::line_words::write_lines;
 use crate::text::Text;
 use lt_merge::Run;
 use lt_modes::Event;
@@ -24,7 +25,7 @@ pub fn write(
     let mut text = Text::new(alloc);
     first_lines(&mut text, script)?;
     move_lines(&mut text, script, run)?;
-    closing_lines(alloc, &mut text, script, run, cut)?;
+    push_closing(alloc, &mut text, script, run, cut)?;
     Ok(text.into_bytes())
 }
 
@@ -38,7 +39,7 @@ pub fn write_closing(
     ensures { IfOk result (λ text. text.items ≡ lines_text script.now (closing_lines script.now run.now.entries cut)) }
 {
     let mut text = Text::new(alloc);
-    closing_lines(alloc, &mut text, script, run, cut)?;
+    push_closing(alloc, &mut text, script, run, cut)?;
     Ok(text.into_bytes())
 }
 
@@ -49,9 +50,7 @@ fn first_lines(text: &mut Text, script: &Script) -> Result<(), AllocError>
     if script.version() == 1 {
         return Ok(());
     }
-    text.first_word("version")?;
-    text.word(b"2")?;
-    text.end_line()
+    write_lines(text, script, &[Line::Version])
 }
 
 // Writes the lines of all moves.
@@ -76,7 +75,7 @@ fn event_lines(text: &mut Text, script: &Script, events: &[Event]) -> Result<(),
 }
 
 // Writes the lines after the moves: those at rest, or `cut NODE`.
-fn closing_lines(
+fn push_closing(
     alloc: Global,
     text: &mut Text,
     script: &Script,
@@ -85,11 +84,11 @@ fn closing_lines(
 ) -> Result<(), AllocError>
     ensures { OnOk result (text.new ≡ text.old ++ lines_text script.now (closing_lines script.now run.now.entries cut)) }
 {
-    let Some(node) = cut else {
-        let tally = tally_of(alloc, script, run)?;
-        return rest_lines(text, script, &tally, run.len());
-    };
-    text.first_word("cut")?;
-    text.number(u64::from(node))?;
-    text.end_line()
+    match cut {
+        Some(node) => write_lines(text, script, &[Line::Cut { node }]),
+        None => {
+            let lines = closing_lines(alloc, script, run)?;
+            write_lines(text, script, &lines)
+        }
+    }
 }

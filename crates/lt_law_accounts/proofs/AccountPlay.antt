@@ -14,7 +14,8 @@ use Rattle.lt_law_accounts.specs.Account.{Account, AccountKept, Bars, AreClear, 
 use Rattle.lt_law_accounts.specs.AccountLaws.{CountsSame, CountsLess, CountsOneMore}
 use Rattle.lt_law_accounts.specs.AccountPlay.{AccountStep, Tick, Wait, Grant, Unlock, Drop, Answer, Owe, Deliver, Apply, Say, Settle, Arrive, Rest, Freeze, Reorder, after_step, MayStep, others_counted, after_one, AllClear, AllKept, CountsOn, ClearStays, first_account, FirstAccounts, LocksAgree, AnyOrder, FromTheStart}
 use Rattle.lt_law_accounts.specs.AccountFacts.{OwedAreOnWay, OnWayAreOwed, TellKeepsWaiting, TwiceIsOnce, RecordBoundsHeld}
-use Rattle.lt_law_accounts.proofs.ModeMembers.{has-with_mode, none_has}
+use Rattle.lt_modes.proofs.EachMode.{none_in_none}
+use Rattle.lt_law_accounts.proofs.ModeMembers.{has-with_mode}
 use Rattle.lt_law_accounts.proofs.FirstAccount.{empty_is_kept}
 use Rattle.lt_law_accounts.proofs.AccountFacts.{waiting_is_copy, copy_is_waiting, asks_which, asks_at, left_owed-at, held_below_now, newer_in_turn, open-cases, open_later}
 use Rattle.lt_law_accounts.proofs.AccountAsks.{ticks_kept, asks_kept, rests_kept, freezes_kept, reorders_kept}
@@ -52,7 +53,7 @@ clear_stays n x counts now clear here on y z hy hz d = by_first (cases_eq y x)
 -- what the others count, each of them counts
 pub others-which : (n : ℕ) (accounts : ℕ → Account) (v : ℕ) (mode : Mode) → Bars (others_counted n accounts v) mode
     → (y : ℕ) × (y < n) × (y ≢ v) × Bars (counted (accounts y)) mode
-others-which zero accounts v mode bar = none_has bar.0 bar.2
+others-which zero accounts v mode bar = none_in_none bar.0 bar.2
 others-which (suc n) accounts v mode bar =
     elim ((union_bars_both conflicts (others_counted n accounts v) (if n == v then no_modes else counted (accounts n)) mode).0 bar) [
       | inl below ↦
@@ -65,7 +66,7 @@ others-which (suc n) accounts v mode bar =
         → (y : ℕ) × (y < suc n) × (y ≢ v) × Bars (counted (accounts y)) mode
     by_same (inl same) last =
         let none : Bars no_modes mode = subst (λ (b : Bool). Bars (if b then no_modes else counted (accounts n)) mode) (eq-eqb n v same) last in
-        none_has none.0 none.2
+        none_in_none none.0 none.2
     by_same (inr d) last = (n, omega arith, d, subst (λ (b : Bool). Bars (if b then no_modes else counted (accounts n)) mode) (ne_eqb n v d) last)
 
 others-at : (n : ℕ) (accounts : ℕ → Account) (v y : ℕ) (mode : Mode) → y < n → y ≢ v → Bars (counted (accounts y)) mode → Bars (others_counted n accounts v) mode
@@ -171,8 +172,8 @@ first_accounts n desk = record {
 }
   where
     by_test : {A : Type 0} (here : Bool) (mode : Mode) → IsTrue (has mode (counted (record (first_account desk 0) { here = here }))) → A
-    by_test true mode member = none_has mode member
-    by_test false mode member = none_has mode member
+    by_test true mode member = none_in_none mode member
+    by_test false mode member = none_in_none mode member
 
 pub from_the_start : FromTheStart
 from_the_start n desk happenings may = (any_order n (first_account desk) happenings (first_accounts n desk) may).1

@@ -11,7 +11,7 @@ use Rattle.lt_modes.specs.State.{Entry, Tell}
 use Rattle.lt_modes.specs.Held.{held_modes}
 use Rattle.lt_modes.specs.Queue.{modes_of_asks}
 use Rattle.lt_modes.specs.Records.{record_of, modes_of_owed}
-use Rattle.lt_modes.specs.Tells.{is_newer, is_open, left_owed, told}
+use Rattle.lt_modes.specs.Tells.{is_newer, is_open, left_owed}
 use Rattle.lt_modes.specs.HandingOver.{stamps_of}
 use Rattle.lt_modes.proofs.ModeAlgebra.{union_bars_both}
 use Rattle.lt_law_accounts.specs.Account.{Account, AccountKept, Covers, IsBelow, left_after, now_modes, counted}

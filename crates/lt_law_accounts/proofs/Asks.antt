@@ -8,12 +8,10 @@ use Rattle.lt_modes.specs.declared.mode.Mode.{Mode}
 use Rattle.lt_modes.specs.declared.stamp.Stamp.{Stamp}
 use Rattle.lt_modes.specs.declared.ask.Ask.{Ask}
 use Rattle.lt_modes.specs.Modes.{same_mode}
+use Rattle.lt_modes.proofs.EachMode.{same_mode-true}
 use Rattle.lt_modes.proofs.ModeAlgebra.{has-itself}
 use Rattle.lt_modes.specs.Queue.{same_ask, same_choice, same_flag, has_stamp, without, entered, place, no_ask, times_in}
 use Rattle.lt_lists.specs.Below.{one_if}
-
-pub same_mode-true : (a b : Mode) → same_mode a b ≡ true → a ≡ b
-same_mode-true a b e = grind arith
 
 same_choice-true : (a b : Option Mode) → same_choice a b ≡ true → a ≡ b
 same_choice-true None None e = refl

@@ -16,3 +16,6 @@ pub mod RowTotals
 pub mod AllKept
 pub mod AccountSettles
 pub mod AccountApplies
+pub mod Entering
+pub mod Parking
+pub mod Drawing

@@ -6,16 +6,7 @@ use Rattle.std.proofs.lemmas.Bool.{or_cases, or_left, or_right}
 use Rattle.lt_modes.specs.declared.mode.Mode.{Mode}
 use Rattle.lt_modes.specs.Modes.{Modes, has, no_modes, union, one, with_mode, same_mode}
 use Rattle.lt_modes.proofs.ModeAlgebra.{has-modes_by, has-itself, union_has_both}
-use Rattle.lt_law_accounts.proofs.Asks.{same_mode-true}
-use Rattle.lt_modes.specs.declared.mode.Mode.TheVariants.{IntentionRead, Read, Upgrade, IntentionWrite, ReadIntentionWrite, Write}
-
-pub none_has : {A : Type 0} (mode : Mode) → IsTrue (has mode no_modes) → A
-none_has IntentionRead h = cc
-none_has Read h = cc
-none_has Upgrade h = cc
-none_has IntentionWrite h = cc
-none_has ReadIntentionWrite h = cc
-none_has Write h = cc
+use Rattle.lt_modes.proofs.EachMode.{same_mode-true, none_in_none}
 
 -- one mode more
 pub has-with_mode : (mode more : Mode) (modes : Modes) → IsTrue (has mode (with_mode modes more)) → IsTrue (has mode modes) ⊎ (more ≡ mode)
@@ -78,7 +69,7 @@ gathered-at mode_of from (first ∷ rest) x h = elim (contains_cases first x res
 pub mode_which : {X : Type 0} (mode_of : X → Mode) (xs : List X) (mode : Mode)
     → IsTrue (has mode (fold (λ modes x. with_mode modes (mode_of x)) no_modes xs)) → (x : X) × Contains xs x × (mode_of x ≡ mode)
 mode_which mode_of xs mode h = elim (gathered-which mode_of no_modes xs mode h) [
-  | inl none ↦ none_has mode none
+  | inl none ↦ none_in_none mode none
   | inr found ↦ found
 ]
 

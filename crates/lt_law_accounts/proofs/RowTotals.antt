@@ -10,7 +10,7 @@ use Rattle.lt_modes.specs.Modes.{same_mode}
 use Rattle.lt_modes.specs.Held.{is_row_of, no_row, row_place, one_more, one_less, add_at, add_lock, take_at, take_lock, without_client}
 use Rattle.lt_modes.proofs.ModeAlgebra.{has-itself}
 use Rattle.lt_lists.proofs.Sums.{none_found, sum_by-zero}
-use Rattle.lt_law_accounts.proofs.Asks.{same_mode-true}
+use Rattle.lt_modes.proofs.EachMode.{same_mode-true}
 
 -- the locks of the client and the mode in these rows
 abbrev pub row_count : ℕ → Mode → Row → ℕ

@@ -9,7 +9,8 @@ use Rattle.lt_modes.specs.declared.parts.Row.{Row}
 use Rattle.lt_modes.specs.Modes.{Modes, has, no_modes, with_mode}
 use Rattle.lt_modes.specs.Held.{is_of, is_row_of, no_row, one_more, one_less, row_place, gather, add_at, add_lock, take_at, take_lock, without_client, own_modes, other_modes, held_modes}
 use Rattle.lt_modes.specs.Serving.{give_up}
-use Rattle.lt_law_accounts.proofs.ModeMembers.{none_has, has-with_mode, has-kept, has-added, mode_which, mode_at}
+use Rattle.lt_modes.proofs.EachMode.{none_in_none}
+use Rattle.lt_law_accounts.proofs.ModeMembers.{has-with_mode, has-kept, has-added, mode_which, mode_at}
 use Rattle.lt_lists.proofs.EditedLists.{contains_set, contains_removed}
 use Rattle.lt_lists.proofs.Members.{contains_first, contains_later, contains_cases, contains_filtered}
 
@@ -156,7 +157,7 @@ picked-which meant from (first ∷ rest) mode h =
 pub own-which : (rows : List Row) (client : ℕ) (mode : Mode) → IsTrue (has mode (own_modes rows client))
     → (row : Row) × Contains rows row × (row.client ≡ client) × (row.mode ≡ mode)
 own-which rows client mode h = elim (picked-which (is_of client) no_modes rows mode h) [
-  | inl none ↦ none_has mode none
+  | inl none ↦ none_in_none mode none
   | inr found ↦ (found.0, found.1, eqb-true found.0.client client found.2, found.3)
 ]
 
@@ -175,7 +176,7 @@ others-at rows client row h differ =
 pub other-which : (rows : List Row) (client : ℕ) (mode : Mode) → IsTrue (has mode (other_modes rows client))
     → (row : Row) × Contains rows row × (row.client ≢ client) × (row.mode ≡ mode)
 other-which rows client mode h = elim (picked-which (λ (r : Row). not (is_of client r)) no_modes rows mode h) [
-  | inl none ↦ none_has mode none
+  | inl none ↦ none_in_none mode none
   | inr found ↦ (found.0, found.1, λ same. not_own (found.0.client == client) (eq-eqb found.0.client client same) found.2, found.3)
 ]
   where

@@ -6,3 +6,4 @@ pub mod AccountFacts
 pub mod News
 pub mod NewsSteps
 pub mod NewsLaws
+pub mod RuleLaws

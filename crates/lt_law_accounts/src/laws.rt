@@ -1,6 +1,7 @@
 ghost use Rattle.lt_law_accounts.specs.AccountLaws.{Ticks, Ages, Asks, Grants, Unlocks, Drops, AnswersKeep, Owes, Delivers, Applies, AppliesStale, TellsKeep, Settles, Arrives, Rests, Freezes, Reorders, HoldClear};
 ghost use Rattle.lt_law_accounts.specs.AccountFacts.{OwedAreOnWay, OnWayAreOwed, TellKeepsWaiting, TwiceIsOnce, RecordBoundsHeld};
 ghost use Rattle.lt_law_accounts.specs.AccountPlay.{ClearStays, FirstAccounts, AnyOrder, FromTheStart};
+ghost use Rattle.lt_law_accounts.specs.RuleLaws.{DrawnByFirst, HolderEntersAfterHolders, OthersEnterLast, ParksBehindTakingAsk, KeepsFreezeOfSameNumber, TakesLaterFreeze};
 ghost use Rattle.lt_law_accounts.specs.NewsLaws.{BeginsKeep, Changes, Sends, Spares, Keeps, TakesKeep, Leaves, Arrives as NewsArrive, Reorders as NewsReorder, FrozenAtRest};
 
 /// What can happen to the account of a node keeps it. What counts of the node then bars the same, or less, or one mode
@@ -57,4 +58,14 @@ pub fn law_news()
     ensures arrives { NewsArrive }
     ensures reorders { NewsReorder }
     ensures rest { FrozenAtRest }
+{}
+
+/// Rules of a node, stated a second way: what draws the desk, where an ask enters, what is parked, which freeze is kept.
+pub fn law_rules()
+    ensures draws { DrawnByFirst }
+    ensures holder { HolderEntersAfterHolders }
+    ensures other { OthersEnterLast }
+    ensures parks { ParksBehindTakingAsk }
+    ensures same_freeze { KeepsFreezeOfSameNumber }
+    ensures later_freeze { TakesLaterFreeze }
 {}

@@ -5,8 +5,7 @@ use Rattle.std.proofs.lemmas.Fmt.{decimal_digit}
 use Rattle.lt_modes.specs.declared.mode.Mode.TheVariants.{Read}
 use Rattle.lt_modes.specs.declared.event.Event.TheVariants.{Grant}
 use Rattle.lt_spec.specs.Log.{Logged}
-use Rattle.lt_journal.specs.Words.{spaced}
-use Rattle.lt_text.specs.Text.{cut_at, lines, before_space, later_fields}
+use Rattle.lt_text.specs.Text.{cut_at, lines, before_space, later_fields, spaced}
 use Rattle.lt_journal.specs.declared.line.Line.{Line}
 use Rattle.lt_journal.specs.declared.line.Line.TheVariants.{Event as EventLine, Held, Owner, End}
 use Rattle.lt_law_checking.specs.Checking.{written, checked, verdict, led_to, first_reader, read_on}

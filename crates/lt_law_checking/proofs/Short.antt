@@ -11,9 +11,10 @@ use Rattle.lt_modes.specs.declared.moves.Step.{Step}
 use Rattle.lt_modes.specs.declared.moves.Step.TheVariants.{Act, Take}
 use Rattle.lt_modes.specs.declared.event.Event.{Event}
 use Rattle.lt_modes.specs.declared.event.Event.TheVariants.{Grant, Wait, Try, Unlock, NotHeld, Change, DropAll, Busy, Copy, Freeze, Token}
-use Rattle.lt_modes.specs.Modes.{Modes, word_of, has, has_none}
+use Rattle.lt_modes.specs.Modes.{Modes, word_of, has, has_none, modes_in_order}
 use Rattle.lt_modes.specs.Script.{ScriptData, set_name, client_name}
-use Rattle.lt_journal.specs.Words.{after_space, spaced, all_modes, words_of_modes, word_of_bool, step_words, event_words}
+use Rattle.lt_text.specs.Text.{after_space, spaced}
+use Rattle.lt_journal.specs.Words.{words_of_modes, word_of_bool, step_words, event_words}
 use Rattle.lt_script.specs.Names.{is_name}
 use Rattle.lt_script.specs.declared.limits.TheConstants.{MAX_NAME}
 use Rattle.lt_script.specs.Script.{IsScript}
@@ -91,13 +92,13 @@ size_modes [] = omega arith
 size_modes (mode ∷ modes) = omega (arith, mode_length mode, size_modes modes)
 
 size_words_of_modes : (modes : Modes) → size (words_of_modes modes) ≤ 126
-size_words_of_modes modes = elim (has_none modes) as (λ none. size (cond none (codes "none" ∷ []) (map word_of (filter (λ mode. has mode modes) all_modes))) ≤ 126) [
+size_words_of_modes modes = elim (has_none modes) as (λ none. size (cond none (codes "none" ∷ []) (map word_of (filter (λ mode. has mode modes) modes_in_order))) ≤ 126) [
   | true ↦ omega arith
   | false ↦ omega (
     arith,
-    size_modes (filter (λ mode. has mode modes) all_modes),
-    length-filter (λ mode. has mode modes) all_modes,
-    count_by-le-length (λ mode. has mode modes) all_modes,
+    size_modes (filter (λ mode. has mode modes) modes_in_order),
+    length-filter (λ mode. has mode modes) modes_in_order,
+    count_by-le-length (λ mode. has mode modes) modes_in_order,
   )
 ]
 

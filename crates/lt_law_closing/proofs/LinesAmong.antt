@@ -13,7 +13,7 @@ use Rattle.lt_lists.proofs.Members.{contains_first, contains_cases}
 use Rattle.lt_spec.specs.Holdings.{Holding, holding, holdings, times_held, wanted, owner_of}
 use Rattle.lt_journal.specs.declared.line.Line.{Line}
 use Rattle.lt_journal.specs.declared.line.Line.TheVariants.{Held, Waiting, Owner, End}
-use Rattle.lt_journal.specs.Words.{all_modes}
+use Rattle.lt_modes.specs.Modes.{modes_in_order}
 use Rattle.lt_journal.specs.RunLines.{lines_below, held_line, held_in_mode, held_in_set, held_by, held_lines, waiting_line, waiting_lines, owner_line, owner_lines, rest_lines}
 
 -- the line is of this kind: 0 a lock held, 1 a client that waits, 2 an owner, 3 another one
@@ -57,7 +57,7 @@ modes_at f (first ∷ rest) x mode there h = elim (contains_cases first mode res
   | inr later ↦ Contains-append_right (f first) (flat_map f rest) x (modes_at f rest x mode later h)
 ]
 
-every_mode : (mode : Mode) → Contains all_modes mode
+every_mode : (mode : Mode) → Contains modes_in_order mode
 every_mode IntentionRead = (0, omega arith, refl)
 every_mode Read = (1, omega arith, refl)
 every_mode Upgrade = (2, omega arith, refl)
@@ -96,7 +96,7 @@ held_which script held client s mode count h =
     let line = Held client s mode count in
     let at_client = below_which (length script.clients) (held_by script held) line h in
     let at_set = below_which (length script.sets) (held_in_set held at_client.0) line at_client.2 in
-    let at_mode = modes_which (held_in_mode held at_client.0 at_set.0) all_modes line at_set.2 in
+    let at_mode = modes_which (held_in_mode held at_client.0 at_set.0) modes_in_order line at_set.2 in
     let lock = holding at_client.0 at_set.0 at_mode.0 in
     let found = held_line-which lock (times_held held lock) line at_mode.1 in
     let same : times_held held lock ≡ count = ap count_in found.1 in
@@ -107,7 +107,7 @@ held_at : (script : ScriptData) (held : List Holding) (client s : ℕ) (mode : M
 held_at script held client s mode count known below some same =
     below_at (length script.clients) (held_by script held) (Held client s mode count) client known
     (below_at (length script.sets) (held_in_set held client) (Held client s mode count) s below
-    (modes_at (held_in_mode held client s) all_modes (Held client s mode count) mode (every_mode mode)
+    (modes_at (held_in_mode held client s) modes_in_order (Held client s mode count) mode (every_mode mode)
     (subst (λ (n : ℕ). Contains (held_line (holding client s mode) n) (Held client s mode count)) (sym same) here)))
   where
     here : Contains (held_line (holding client s mode) count) (Held client s mode count)
@@ -126,7 +126,7 @@ held_kind : (script : ScriptData) (held : List Holding) → AreOf 0 (held_lines 
 held_kind script held x h =
     let at_client = below_which (length script.clients) (held_by script held) x h in
     let at_set = below_which (length script.sets) (held_in_set held at_client.0) x at_client.2 in
-    let at_mode = modes_which (held_in_mode held at_client.0 at_set.0) all_modes x at_set.2 in
+    let at_mode = modes_which (held_in_mode held at_client.0 at_set.0) modes_in_order x at_set.2 in
     let lock = holding at_client.0 at_set.0 at_mode.0 in
     ap kind_of (sym (held_line-which lock (times_held held lock) x at_mode.1).1)
 

@@ -1,6 +1,6 @@
-//! Laws over the definitions of the rules and of runs: rules in their own words, and the fixed order of the moves.
+//! Which moves of a world are enabled, and which of them stands first in the fixed order.
 #![tactic(auto)]
 
 mod laws;
 
-pub use laws::{law_order, law_rules};
+pub use laws::law_order;

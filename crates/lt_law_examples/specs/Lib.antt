@@ -3,7 +3,7 @@ pub mod WorkedOneNode
 pub mod WorkedNodes
 pub mod WorkedOrders
 pub mod WorkedLong
-pub mod Moment
+pub mod Snapshot
 pub mod WorldHoped
 pub mod WorldTokens
 pub mod WorldBehind
@@ -12,3 +12,4 @@ pub mod WorldDrop
 pub mod WorldOrder
 pub mod WorldCopy
 pub mod WorldExamples
+pub mod WorkedSixth

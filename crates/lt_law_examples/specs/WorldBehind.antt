@@ -8,7 +8,7 @@ use Rattle.lt_modes.specs.Modes.{no_modes, all_modes, modes_in}
 use Rattle.lt_modes.specs.State.{AskBody, TokenBody}
 use Rattle.lt_spec.specs.Holdings.{holding}
 use Rattle.lt_law_examples.specs.Worked.{Worked, declared_set, declared_client, act, taken_at, holds, owner}
-use Rattle.lt_law_examples.specs.Moment.{Snapshot, blank, untouched_set, stamp, hoped, entry, new_ask, turn}
+use Rattle.lt_law_examples.specs.Snapshot.{Snapshot, blank, untouched_set, stamp, hoped, entry, new_ask, turn}
 
 -- Asks follow the token to its new node, and by a hoped link.
 abbrev pub asks_behind_token : Worked

@@ -8,7 +8,7 @@ use Rattle.lt_modes.specs.Modes.{no_modes, all_modes, modes_in}
 use Rattle.lt_modes.specs.State.{AskBody, TellBody, CopyBody, FreezeBody}
 use Rattle.lt_spec.specs.Holdings.{holding}
 use Rattle.lt_law_examples.specs.Worked.{Worked, declared_set, declared_client, act, taken_at, holds, owner}
-use Rattle.lt_law_examples.specs.Moment.{Snapshot, blank, untouched_set, stamp, held_row, hoped, owed, entry, new_ask, turn}
+use Rattle.lt_law_examples.specs.Snapshot.{Snapshot, blank, untouched_set, stamp, held_row, hoped, owed, entry, new_ask, turn}
 
 -- A client that waits in another family is busy.
 abbrev pub busy_in_another_set : Worked

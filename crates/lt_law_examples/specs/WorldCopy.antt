@@ -7,7 +7,7 @@ use Rattle.lt_modes.specs.declared.moves.Step.TheVariants.{Act, Take}
 use Rattle.lt_modes.specs.Modes.{no_modes, modes_in}
 use Rattle.lt_modes.specs.State.{AskBody, CopyBody, FreezeBody}
 use Rattle.lt_law_examples.specs.Worked.{Worked, declared_set, declared_client, act, taken_at, holds, owner}
-use Rattle.lt_law_examples.specs.Moment.{Snapshot, blank, stamp, owed, entry, new_ask, turn}
+use Rattle.lt_law_examples.specs.Snapshot.{Snapshot, blank, stamp, owed, entry, new_ask, turn}
 
 -- A copy is out, and the token comes another way: a grant at the desk does not forget the copy.
 abbrev pub copy_before_token : Worked

@@ -6,7 +6,7 @@ use Rattle.lt_modes.specs.declared.event.Event.TheVariants.{Grant, Wait, Unlock 
 use Rattle.lt_modes.specs.declared.moves.Step.TheVariants.{Act}
 use Rattle.lt_modes.specs.Modes.{no_modes, modes_in}
 use Rattle.lt_law_examples.specs.Worked.{Worked, declared_set, declared_client, act, taken_at, holds, owner}
-use Rattle.lt_law_examples.specs.Moment.{Snapshot, blank, untouched_set, stamp, held_row, entry, new_ask, turn}
+use Rattle.lt_law_examples.specs.Snapshot.{Snapshot, blank, untouched_set, stamp, held_row, entry, new_ask, turn}
 
 -- A drop counts locks, and not rows.
 abbrev pub drop_counts_locks : Worked

@@ -7,7 +7,7 @@ use Rattle.lt_modes.specs.State.{TellBody, TokenBody, FreezeBody}
 use Rattle.lt_law_examples.specs.Worked.{owner}
 use Rattle.lt_law_examples.specs.WorkedLong.{copies_and_freezes, token_comes_back}
 use Rattle.lt_law_examples.specs.WorkedOrders.{old_freeze}
-use Rattle.lt_law_examples.specs.Moment.{Snapshot, blank, untouched_set, stamp, held_row, owed, entry, new_ask, turn}
+use Rattle.lt_law_examples.specs.Snapshot.{Snapshot, blank, untouched_set, stamp, held_row, owed, entry, new_ask, turn}
 
 -- The world after 19 of its moves.
 abbrev pub copies_and_freezes_after_19 : Snapshot

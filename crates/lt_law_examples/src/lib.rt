@@ -6,5 +6,6 @@ mod worlds;
 
 pub use worked::{
     law_examples_long, law_examples_nodes, law_examples_one_node, law_examples_orders,
+    law_examples_sixth_mode,
 };
 pub use worlds::{law_worlds_midway, law_worlds_runs};

@@ -1,6 +1,6 @@
 //! Whole worlds in the middle of worked runs, each computed by the proof.
 ghost use Rattle.lt_law_examples.specs.Worked.{IsWholeRun};
-ghost use Rattle.lt_law_examples.specs.Moment.{StandsSo};
+ghost use Rattle.lt_law_examples.specs.Snapshot.{StandsSo};
 ghost use Rattle.lt_law_examples.specs.WorldHoped.{asks_by_hoped_links, asks_by_hoped_links_after_21};
 ghost use Rattle.lt_law_examples.specs.WorldTokens.{tokens_on_way, tokens_on_way_after_11};
 ghost use Rattle.lt_law_examples.specs.WorldBehind.{asks_behind_token, asks_behind_token_after_17};
@@ -11,6 +11,7 @@ ghost use Rattle.lt_law_examples.specs.WorldCopy.{copy_before_token, copy_before
 ghost use Rattle.lt_law_examples.specs.WorldExamples.{copies_and_freezes_after_19, token_comes_back_after_13, old_freeze_after_16};
 
 /// The runs: these moves in this order are enabled in turn, with these stamps and lines, to the end.
+#[tactic(auto, unfolding(lt_modes::specs::Modes::conflicts))]
 pub fn law_worlds_runs()
     ensures asks_by_hoped_links { IsWholeRun asks_by_hoped_links }
     ensures tokens_on_way { IsWholeRun tokens_on_way }
@@ -22,6 +23,7 @@ pub fn law_worlds_runs()
 {}
 
 /// After so many moves of each run the whole world is this one.
+#[tactic(auto, unfolding(lt_modes::specs::Modes::conflicts))]
 pub fn law_worlds_midway()
     ensures asks_by_hoped_links { StandsSo asks_by_hoped_links_after_21 }
     ensures tokens_on_way { StandsSo tokens_on_way_after_11 }

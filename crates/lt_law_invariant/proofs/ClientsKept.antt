@@ -27,7 +27,8 @@ use Rattle.lt_model.specs.Standing.{AsksStand}
 use Rattle.lt_model.specs.Homes.{IsWhole}
 use Rattle.lt_model.specs.Invariant.{WorldInvariant}
 use Rattle.lt_spec.specs.NodeMove.{NodeState, node_waits, next_command, act_stamp, take_stamp, at_clock, one_made, node_take, touched, each_touched, drop_all, obey}
-use Rattle.lt_model.specs.SoundNode.{unanswered_asks, numbers_of}
+use Rattle.lt_modes.specs.Fits.{numbers_of}
+use Rattle.lt_model.specs.SoundNode.{unanswered_asks}
 use Rattle.lt_spec.specs.World.{World, is_enabled, is_waiting, is_some_letter, put_mail, take_front, node_move}
 use Rattle.lt_spec.specs.Facts.{state_at}
 use Rattle.lt_lists.proofs.Sums.{sum_below-none}

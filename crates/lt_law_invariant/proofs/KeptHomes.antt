@@ -21,7 +21,7 @@ use Rattle.lt_lists.specs.Below.{one_if}
 use Rattle.lt_spec.specs.NodeMove.{NodeState, NodeMade, next_command, node_act, node_take}
 use Rattle.lt_spec.specs.World.{World, is_enabled, is_some_letter, opened, take_front, node_move, after}
 use Rattle.lt_spec.specs.Facts.{state_at, times_parked, places_in_state, places_in_body, place_count}
-use Rattle.lt_model.specs.SoundNode.{numbers_of}
+use Rattle.lt_modes.specs.Fits.{numbers_of}
 use Rattle.lt_model.specs.Moments.{Between}
 use Rattle.lt_model.specs.OnWay.{OnWay}
 use Rattle.lt_model.specs.Invariant.{BodyKept, SetKept, WorldInvariant}

@@ -10,7 +10,7 @@ use Rattle.lt_modes.specs.State.{SetState, Desk, Body, TokenBody, Letter, Parked
 use Rattle.lt_modes.specs.Routing.{learn}
 use Rattle.lt_modes.specs.Taking.{arrive, take_body}
 use Rattle.lt_modes.specs.Sound.{SoundDesk}
-use Rattle.lt_model.specs.SoundNode.{numbers_of}
+use Rattle.lt_modes.specs.Fits.{numbers_of}
 use Rattle.lt_spec.specs.NodeMove.{NodeState, take_stamp}
 use Rattle.lt_spec.specs.World.{World, is_enabled, put_mail, node_move, opened, take_front, after}
 use Rattle.lt_spec.specs.Facts.{state_at}

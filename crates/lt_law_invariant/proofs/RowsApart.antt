@@ -9,7 +9,7 @@ use Rattle.lt_modes.specs.declared.parts.Row.{Row}
 use Rattle.lt_modes.specs.Modes.{same_mode}
 use Rattle.lt_modes.specs.Held.{is_row_of, is_of, no_row, row_place, one_more, one_less, add_at, add_lock, take_at, take_lock, without_client}
 use Rattle.lt_modes.specs.Serving.{give_up}
-use Rattle.lt_law_accounts.proofs.Asks.{same_mode-true}
+use Rattle.lt_modes.proofs.EachMode.{same_mode-true}
 use Rattle.lt_modes.proofs.ModeAlgebra.{has-itself}
 use Rattle.lt_lists.proofs.Sums.{counted_twice, none_found, sum_by-zero}
 

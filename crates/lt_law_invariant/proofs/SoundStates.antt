@@ -11,14 +11,13 @@ use Rattle.lt_modes.specs.Script.{ScriptData}
 use Rattle.lt_modes.specs.State.{SetState, Desk}
 use Rattle.lt_modes.specs.Held.{is_row_of, no_row, row_place, count_at, count_of}
 use Rattle.lt_modes.specs.Queue.{times_in}
-use Rattle.lt_modes.specs.Fits.{is_at_home, asks_here}
+use Rattle.lt_modes.specs.Fits.{is_at_home, asks_here, numbers_of}
 use Rattle.lt_modes.specs.Sound.{HoldsGivenUp, SoundPending, SoundHere, SoundDesk, SoundSet}
 use Rattle.lt_model.specs.Homes.{IsWhole, HasSoundHomes, IsSoundOwn}
 use Rattle.lt_spec.specs.World.{World}
 use Rattle.lt_spec.specs.Facts.{state_at, places_in_state, place_count}
 use Rattle.lt_model.specs.Moments.{is_at}
 use Rattle.lt_model.specs.OnWay.{DeskIs}
-use Rattle.lt_model.specs.SoundNode.{numbers_of}
 use Rattle.lt_model.specs.Timed.{Timed}
 use Rattle.lt_lists.proofs.Sums.{sum_below-at, none_found, sum_by-zero}
 use Rattle.lt_law_accounts.proofs.Asks.{times_in-some}

@@ -6,13 +6,12 @@ use Rattle.lt_modes.specs.Modes.{conflicts}
 use Rattle.lt_modes.specs.Script.{ScriptData}
 use Rattle.lt_modes.specs.State.{Desk, Letter}
 use Rattle.lt_modes.specs.Freezing.{frozen_by}
-use Rattle.lt_modes.specs.Fits.{fits}
+use Rattle.lt_modes.specs.Fits.{fits, numbers_of}
 use Rattle.lt_spec.specs.Log.{Logged}
 use Rattle.lt_spec.specs.World.{world_after, IsRun, is_at_rest}
 use Rattle.lt_spec.specs.Facts.{state_at, IsFirstWaiter, IsLedToQueue}
 use Rattle.lt_model.specs.Homes.{IsWhole}
 use Rattle.lt_model.specs.OnWay.{DeskIs}
-use Rattle.lt_model.specs.SoundNode.{numbers_of}
 use Rattle.lt_model.specs.Invariant.{WorldInvariant}
 use Rattle.lt_law_rest.specs.RestLaws.{IsBarred}
 

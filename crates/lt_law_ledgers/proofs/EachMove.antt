@@ -14,7 +14,7 @@ use Rattle.lt_model.specs.Moments.{Between}
 use Rattle.lt_model.specs.OnWay.{OnWay, account_of}
 use Rattle.lt_model.specs.Paths.{Paths}
 use Rattle.lt_model.specs.AccountRules.{IsParkedOf}
-use Rattle.lt_model.specs.SoundNode.{numbers_of}
+use Rattle.lt_modes.specs.Fits.{numbers_of}
 use Rattle.lt_modes.specs.Sound.{SoundParked}
 use Rattle.lt_model.specs.Touches.{IsAside, sets_of_command, sets_of_front}
 use Rattle.lt_model.specs.Invariant.{DeskKept, BodyKept}

@@ -9,7 +9,7 @@ use Rattle.lt_modes.specs.declared.ask.Ask.{Ask}
 use Rattle.lt_modes.specs.Script.{ScriptData, ClientData, home_at}
 use Rattle.lt_modes.specs.State.{SetState}
 use Rattle.lt_modes.specs.Serving.{waits}
-use Rattle.lt_modes.specs.Fits.{has_client, are_apart, asks_here, is_at_home}
+use Rattle.lt_modes.specs.Fits.{has_client, are_apart, asks_here, is_at_home, numbers_of}
 use Rattle.lt_modes.specs.Sound.{SoundHere}
 use Rattle.lt_script.specs.Script.{IsScript, load_of}
 use Rattle.lt_script.specs.declared.limits.TheConstants.{MAX_CLIENTS, MAX_CLIENTS_OF_NODE}
@@ -19,7 +19,7 @@ use Rattle.lt_lists.proofs.Sums.{sum_below-add, sum_below-at, sum_below-most}
 use Rattle.lt_spec.specs.Families.{home}
 use Rattle.lt_spec.specs.NodeMove.{NodeState}
 use Rattle.lt_model.specs.Homes.{IsAskOf}
-use Rattle.lt_model.specs.SoundNode.{numbers_of, ClientsKept}
+use Rattle.lt_model.specs.SoundNode.{ClientsKept}
 use Rattle.lt_law_limits.proofs.Counting.{weight_at, by_key, few_keys, length_sum}
 
 abbrev asks_by : List Ask → ℕ → ℕ

@@ -20,7 +20,7 @@ use Rattle.lt_spec.specs.NodeMove.{node_waits}
 use Rattle.lt_spec.specs.World.{world_after, IsRun}
 use Rattle.lt_model.specs.Homes.{IsWhole, HasTargetsAt, Homes}
 use Rattle.lt_model.specs.Invariant.{WorldInvariant}
-use Rattle.lt_model.specs.SoundNode.{numbers_of}
+use Rattle.lt_modes.specs.Fits.{numbers_of}
 use Rattle.lt_model.proofs.HomesMove.{homes_in_runs}
 use Rattle.lt_law_invariant.proofs.KeptRuns.{kept_in_runs}
 use Rattle.lt_limits.specs.Limits.{desk_within, set_within, leaves_ask}

@@ -13,7 +13,7 @@ use Rattle.lt_spec.specs.Families.{home}
 use Rattle.lt_spec.specs.Holdings.{Holding, holding, same_holding, holdings, lines_of, agree, times_held}
 use Rattle.lt_model.specs.Homes.{Homes, IsRowAtHome}
 use Rattle.lt_spec.specs.World.{World, world_after}
-use Rattle.lt_law_accounts.proofs.Asks.{same_mode-true}
+use Rattle.lt_modes.proofs.EachMode.{same_mode-true}
 use Rattle.lt_model.proofs.HomesMove.{homes_in_runs}
 use Rattle.lt_law_invariant.proofs.KeptRuns.{locks_never_conflict, kept_in_runs, first_waiter_in_runs}
 use Rattle.lt_law_accounts.proofs.RowTotals.{row_count, total}

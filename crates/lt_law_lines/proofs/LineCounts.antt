@@ -10,7 +10,7 @@ use Rattle.lt_modes.specs.Script.{ScriptData}
 use Rattle.lt_modes.proofs.ModeAlgebra.{has-itself}
 use Rattle.lt_spec.specs.Holdings.{Holding, holding, same_holding, without_holding, without_one, is_dropped, after_line, times_held}
 use Rattle.lt_lists.proofs.Sums.{none_found, sum_by-zero}
-use Rattle.lt_law_accounts.proofs.Asks.{same_mode-true}
+use Rattle.lt_modes.proofs.EachMode.{same_mode-true}
 
 -- a count of one lock after one line more
 abbrev pub count_after : ScriptData → Holding → ℕ → Event → ℕ

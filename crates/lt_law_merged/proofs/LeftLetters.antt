@@ -7,13 +7,13 @@ use Rattle.std.proofs.lemmas.Option.{slice_get_within}
 use Rattle.lt_modes.specs.declared.moves.Step.TheVariants.{Act}
 use Rattle.lt_modes.specs.Script.{ScriptData}
 use Rattle.lt_modes.specs.State.{Letter}
-use Rattle.lt_modes.specs.Fits.{fits}
+use Rattle.lt_modes.specs.Fits.{fits, numbers_of}
 use Rattle.lt_spec.specs.Log.{Logged}
 use Rattle.lt_spec.specs.Families.{home}
 use Rattle.lt_spec.specs.NodeMove.{NodeState}
 use Rattle.lt_spec.specs.World.{world_after, is_runnable, is_enabled}
-use Rattle.lt_model.specs.SoundNode.{numbers_of}
 use Rattle.lt_law_invariant.proofs.KeptRuns.{letters_fit_in_runs}
+use Rattle.lt_limits.specs.declared.moves.TheConstants.{MAX_MOVES}
 use Rattle.lt_limits.specs.Limits.{node_within, leaves_asks}
 use Rattle.lt_law_limits.proofs.Within.{whole, nodes_within, asks_placed}
 use Rattle.lt_law_plays.specs.Plays.{can_act}
@@ -47,10 +47,10 @@ asks_have_place script parts is_script joined q client part is_part can =
     subst (λ (n : NodeState). IsTrue (leaves_asks script n)) (ap w.node (eqb-true (home script client) q at_home.0) ∙ run.node q part is_part) place
 
 -- no log is longer than a node's log may be
-short_logs : (script : ScriptData) (parts : List Part) → AreShort parts → (x : ℕ) → length ((logs_of script parts).log x) ≤ 1048576
+short_logs : (script : ScriptData) (parts : List Part) → AreShort parts → (x : ℕ) → length ((logs_of script parts).log x) ≤ MAX_MOVES
 short_logs script parts short x = by_part (slice_get parts x) refl
   where
-    by_part : (o : Option Part) → slice_get parts x ≡ o → length (part_or script x o).log ≤ 1048576
+    by_part : (o : Option Part) → slice_get parts x ≡ o → length (part_or script x o).log ≤ MAX_MOVES
     by_part (Some part) e = short x part e
     by_part None e = omega arith
 

@@ -1,19 +1,20 @@
 -- Which nodes can make a move.
-use Rattle.std.proofs.Common.{◌≡◌, ℕ, zero, suc, ◌<◌, inl, inr, length, Bool, true, false, sym, ap, arith, ◌∙◌, subst}
-use Rattle.std.specs.Prelude.{◌&&◌, ◌==◌, nat_lt, IsTrue}
+use Rattle.std.proofs.Common.{◌≡◌, ℕ, zero, suc, ◌<◌, inl, inr, length, Bool, true, false, ap, arith, subst}
+use Rattle.std.specs.Prelude.{◌&&◌, ◌||◌, ◌==◌, nat_lt, IsTrue}
 use Rattle.std.proofs.lemmas.Bool.{or_cases, or_left, or_right, and_parts, false_from_ne_true, eqb-true, both_ways, ltb-true}
 use Rattle.lt_modes.specs.declared.moves.Step.{Step}
 use Rattle.lt_modes.specs.declared.moves.Step.TheVariants.{Act, Take}
 use Rattle.lt_modes.specs.Script.{ScriptData}
 use Rattle.lt_lists.specs.Below.{any_below}
-use Rattle.lt_lists.proofs.Searches.{any_below_at}
+use Rattle.lt_lists.proofs.Searches.{any_below_at, any_below_same}
 use Rattle.lt_spec.specs.Families.{home}
 use Rattle.lt_spec.specs.World.{World, is_runnable, has_mail, is_enabled, is_at_rest}
 use Rattle.lt_script.specs.Script.{IsScript}
+use Rattle.lt_limits.specs.Cut.{can_move}
 use Rattle.lt_law_plays.specs.Plays.{can_act}
 use Rattle.lt_law_plays.proofs.LowClocks.{same_runnable}
 use Rattle.lt_law_enabled.specs.OrderLaws.{RestsWithoutMove}
-use Rattle.lt_law_merged.specs.CanMove.{can_move, CanMoveIsEnabled, RestIsNoMove}
+use Rattle.lt_law_merged.specs.CanMove.{CanMoveIsSeen, CanMoveIsEnabled, RestIsNoMove}
 
 -- an act is enabled where the node alone can make it
 pub act_is_seen : (script : ScriptData) (w : World) (q client : ℕ) → is_enabled script w q (Act client) ≡ can_act script q (w.node q) client
@@ -27,23 +28,33 @@ any_below_which (suc n) test e = elim (or_cases (any_below n test) (test n) e) [
   | inr last ↦ (n, omega arith, last)
 ]
 
+pub can_move_is_seen : CanMoveIsSeen
+can_move_is_seen script w q =
+    ap (λ (b : Bool). any_below script.nodes (λ p. has_mail script w p q) || b)
+    (any_below_same (length script.clients) (λ client. is_enabled script w q (Act client)) (can_act script q (w.node q)) (λ k h. act_is_seen script w q k))
+
 pub can_move_is_enabled : CanMoveIsEnabled
 can_move_is_enabled script w q = (enabled, moves)
   where
+    takes : ℕ → Bool
+    takes p = is_enabled script w q (Take p)
+
+    acts : ℕ → Bool
+    acts client = is_enabled script w q (Act client)
+
     enabled : IsTrue (can_move script w q) → (step : Step) × IsTrue (is_enabled script w q step)
-    enabled e = elim (or_cases (any_below (length script.clients) (can_act script q (w.node q))) (any_below script.nodes (λ p. has_mail script w p q)) e) [
-      | inl acts ↦ let found = any_below_which (length script.clients) (can_act script q (w.node q)) acts in (Act found.0, act_is_seen script w q found.0 ∙ found.2)
-      | inr takes ↦ let found = any_below_which script.nodes (λ p. has_mail script w p q) takes in (Take found.0, found.2)
+    enabled e = elim (or_cases (any_below script.nodes takes) (any_below (length script.clients) acts) e) [
+      | inl some ↦ let found = any_below_which script.nodes takes some in (Take found.0, found.2)
+      | inr some ↦ let found = any_below_which (length script.clients) acts some in (Act found.0, found.2)
     ]
 
     moves : (step : Step) × IsTrue (is_enabled script w q step) → IsTrue (can_move script w q)
     moves (Act client, e) =
-        let can = sym (act_is_seen script w q client) ∙ e in
-        or_left (any_below (length script.clients) (can_act script q (w.node q))) (any_below script.nodes (λ p. has_mail script w p q))
-        (any_below_at (length script.clients) client (can_act script q (w.node q)) (ltb-true client (length script.clients) (and_parts _ _ can).0) can)
+        or_right (any_below script.nodes takes) (any_below (length script.clients) acts)
+        (any_below_at (length script.clients) client acts (ltb-true client (length script.clients) (and_parts _ _ e).0) e)
     moves (Take p, e) =
-        or_right (any_below (length script.clients) (can_act script q (w.node q))) (any_below script.nodes (λ p. has_mail script w p q))
-        (any_below_at script.nodes p (λ p. has_mail script w p q) (ltb-true p script.nodes (and_parts _ _ e).0) e)
+        or_left (any_below script.nodes takes) (any_below (length script.clients) acts)
+        (any_below_at script.nodes p takes (ltb-true p script.nodes (and_parts _ _ e).0) e)
 
 -- an enabled move is one of a node of the script
 of_script : (script : ScriptData) (w : World) (q : ℕ) (step : Step) → IsScript script → IsTrue (is_enabled script w q step) → q < script.nodes

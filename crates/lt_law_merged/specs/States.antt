@@ -2,9 +2,9 @@
 use Rattle.std.specs.Prelude.{◌≡◌, ◌<◌, ◌≤◌, ◌+◌, ◌^◌, ℕ, List, ◌++◌, Some, length, slice_get, IsTrue, Contains}
 use Rattle.lt_modes.specs.Script.{ScriptData}
 use Rattle.lt_modes.specs.State.{Letter}
-use Rattle.lt_modes.specs.Fits.{fits}
-use Rattle.lt_model.specs.SoundNode.{numbers_of}
+use Rattle.lt_modes.specs.Fits.{fits, numbers_of}
 use Rattle.lt_script.specs.Script.{IsScript}
+use Rattle.lt_limits.specs.declared.moves.TheConstants.{MAX_MOVES}
 use Rattle.lt_limits.specs.Limits.{node_within, leaves_asks}
 use Rattle.lt_law_plays.specs.Plays.{can_act}
 use Rattle.lt_law_plays.specs.Parts.{Part, Joined}
@@ -21,7 +21,7 @@ AsksHavePlace = (script : ScriptData) (parts : List Part) → IsScript script �
 
 -- no part has more moves than a script may let a node make
 abbrev pub AreShort : List Part → Type 0
-AreShort parts = (x : ℕ) (part : Part) → slice_get parts x ≡ Some part → length part.log ≤ 1048576
+AreShort parts = (x : ℕ) (part : Part) → slice_get parts x ≡ Some part → length part.log ≤ MAX_MOVES
 
 -- no clock is at its bound
 abbrev pub ClocksBelow : Type 0

@@ -1,6 +1,6 @@
 ghost use Rattle.lt_law_merged.specs.JoinedRun.{JoinedRuns, JoinedMerges, LogsOfParts};
 ghost use Rattle.lt_law_merged.specs.States.{StatesWithin, AsksHavePlace, ClocksBelow, LettersLeftFit};
-ghost use Rattle.lt_law_merged.specs.CanMove.{CanMoveIsEnabled, RestIsNoMove};
+ghost use Rattle.lt_law_merged.specs.CanMove.{CanMoveIsSeen, CanMoveIsEnabled, RestIsNoMove};
 
 use lt_law_enabled::law_order;
 
@@ -23,6 +23,7 @@ pub fn law_hand_fits()
 
 /// Whether a node can make a move is seen from its own state and the letters for it; a world is at rest where no node can.
 pub fn law_can_move()
+    ensures seen { CanMoveIsSeen }
     ensures enabled { CanMoveIsEnabled }
     ensures rest { RestIsNoMove }
 {

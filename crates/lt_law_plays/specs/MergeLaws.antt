@@ -3,9 +3,8 @@ use Rattle.std.specs.Prelude.{◌≡◌, ◌<◌, ◌≤◌, ◌-◌, ◌^◌, �
 use Rattle.lt_modes.specs.declared.moves.Step.TheVariants.{Act, Take}
 use Rattle.lt_modes.specs.Script.{ScriptData}
 use Rattle.lt_modes.specs.State.{Letter, Desk, TokenBody}
-use Rattle.lt_modes.specs.Fits.{head_fits}
+use Rattle.lt_modes.specs.Fits.{head_fits, numbers_of}
 use Rattle.lt_model.specs.Homes.{IsWhole}
-use Rattle.lt_model.specs.SoundNode.{numbers_of}
 use Rattle.lt_spec.specs.Log.{Logged}
 use Rattle.lt_lists.specs.Below.{sum_below}
 use Rattle.lt_spec.specs.World.{World, start, is_enabled, is_of_node, world_after, IsRun}

@@ -19,7 +19,7 @@ use Rattle.lt_script.specs.Script.{IsScript, IsRequest}
 use Rattle.lt_script.specs.Script as of_script
 use Rattle.lt_journal.specs.LineFits.{FitsStep, FitsEvent, FitsCut}
 use Rattle.lt_journal.proofs.Conditions.{FitsEntry, FitsRun}
-use Rattle.lt_journal.proofs.Few.{length-without, length-kept}
+use Rattle.lt_tally.proofs.Few.{length-without, length-kept}
 use Rattle.lt_journal.proofs.Named.{few_nodes}
 
 targets : (script : ScriptData) (client : ℕ) (request : Command) → of_script.HasTargets script.sets script.clients client request

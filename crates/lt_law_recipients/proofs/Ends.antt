@@ -25,9 +25,10 @@ use Rattle.lt_modes.specs.Routing.{route}
 use Rattle.lt_modes.specs.SetMove.{answers, given, ask_of, asked, dropped}
 use Rattle.lt_model.proofs.Effects.{HoldsOf, holds_silent, holds_then, EndEffects, ActEffects, next_service-within, quiet_made}
 use Rattle.lt_model.proofs.PathsQuiet.{length-map_from}
-use Rattle.lt_law_enabled.specs.RuleLaws.{IsFirstDrawing}
-use Rattle.lt_law_enabled.proofs.Drawing.{drawn_by_first}
-use Rattle.lt_law_recipients.specs.Peers.{IsForPeer, IsNamed, NamesNodes}
+use Rattle.lt_law_accounts.specs.RuleLaws.{IsFirstDrawing}
+use Rattle.lt_law_accounts.proofs.Drawing.{drawn_by_first}
+use Rattle.lt_model.specs.Paths.{IsNamed}
+use Rattle.lt_law_recipients.specs.Peers.{IsForPeer, NamesNodes}
 use Rattle.lt_law_recipients.proofs.Routes.{named, desk_of_state, route_named, post_last}
 
 -- rows, asks and charges don't matter

@@ -14,7 +14,7 @@ use Rattle.lt_modes.specs.declared.command.Command.TheVariants.{Lock, Unlock, Tr
 use Rattle.lt_modes.specs.Script.{ScriptData}
 use Rattle.lt_modes.specs.State.{SetState, Body, AskBody, TellBody, CopyBody, TokenBody, FreezeBody, ParkedAsk, ParkedTell, first_entry, first_state, first_desk}
 use Rattle.lt_modes.specs.Made.{Made, silent}
-use Rattle.lt_modes.specs.Fits.{Numbers, head_fits, body_fits, is_at_home}
+use Rattle.lt_modes.specs.Fits.{Numbers, head_fits, body_fits, is_at_home, numbers_of}
 use Rattle.lt_modes.specs.Routing.{learn}
 use Rattle.lt_modes.specs.Telling.{finish}
 use Rattle.lt_modes.specs.Taking.{take_copy, take_body}
@@ -22,9 +22,9 @@ use Rattle.lt_modes.specs.SetMove.{drop, take}
 use Rattle.lt_spec.specs.Families.{related}
 use Rattle.lt_spec.specs.NodeMove.{NodeState, NodeMade, node_waits, next_command, touched, each_touched, drop_all, obey, act_stamp, take_stamp, at_clock, one_made}
 use Rattle.lt_lists.specs.Below.{put}
-use Rattle.lt_model.specs.SoundNode.{numbers_of}
 use Rattle.lt_model.proofs.Effects.{HoldsOf, ByEffects, acts_by_effects, take_by_effects}
-use Rattle.lt_law_recipients.specs.Peers.{IsForPeer, IsNamed, IsNamedItem, NamesNodes, NodeNames}
+use Rattle.lt_model.specs.Paths.{IsNamed, IsParkedNamed}
+use Rattle.lt_law_recipients.specs.Peers.{IsForPeer, NamesNodes, NodeNames}
 use Rattle.lt_law_recipients.specs.PeerLaws.{ReachesPeers, NamesAtStart, ActsReachPeers, TakesReachPeers}
 use Rattle.lt_law_recipients.proofs.Routes.{named, DeskNames, all_dealt, route_named, learn_named}
 use Rattle.lt_law_recipients.proofs.Ends.{same_names, named_ends, named_acts}
@@ -116,7 +116,7 @@ body_named numbers set clock stamp (TokenBody desk) s t here f h =
       entries = omega (arith, eqb-true (length desk.entries) numbers.nodes entries.0);
     } in
     let dealt = all_dealt numbers.nodes t.parked desk brought h.parked in
-    (record { queue = dealt.queue; parked = All-nil (IsNamedItem numbers.nodes); firm = here; hoped = tt; entries = dealt.entries }, tt)
+    (record { queue = dealt.queue; parked = All-nil (IsParkedNamed numbers.nodes); firm = here; hoped = tt; entries = dealt.entries }, tt)
 body_named numbers set clock stamp (FreezeBody number frozen) s t here f h = by_test (nat_lt t.number number)
   where
     by_test : (later : Bool) → HoldsOf (named numbers.nodes stamp.node) [] (silent (if later then record t { frozen = frozen; number = number } else t))
@@ -144,14 +144,14 @@ names_at_start script q below s = by_test (q == 0)
     by_test : (here : Bool) → NamesNodes script.nodes q (record (first_state script.nodes q) { desk = if here then Some (first_desk script.nodes) else None })
     by_test true = record {
       queue = All-nil (IsNamed script.nodes);
-      parked = All-nil (IsNamedItem script.nodes);
+      parked = All-nil (IsParkedNamed script.nodes);
       firm = omega (arith, below);
       hoped = tt;
       entries = omega (arith, length-replicate script.nodes first_entry);
     }
     by_test false = record {
       queue = All-nil (IsNamed script.nodes);
-      parked = All-nil (IsNamedItem script.nodes);
+      parked = All-nil (IsParkedNamed script.nodes);
       firm = omega (arith, below);
       hoped = tt;
       entries = tt;

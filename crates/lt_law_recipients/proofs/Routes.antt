@@ -19,7 +19,8 @@ use Rattle.lt_modes.specs.Records.{entry_of}
 use Rattle.lt_modes.specs.Tells.{is_newer, told}
 use Rattle.lt_modes.specs.Routing.{Way, Parks, Goes, learn, dealt, is_behind, hoped_way, ask_way, way_onward, way, reversed, sent_on, route}
 use Rattle.lt_model.proofs.Effects.{Fact, HoldsOf, holds_silent, route_ways}
-use Rattle.lt_law_recipients.specs.Peers.{IsForPeer, IsNamed, IsNamedItem, NamesNodes}
+use Rattle.lt_model.specs.Paths.{IsNamed, IsParkedNamed}
+use Rattle.lt_law_recipients.specs.Peers.{IsForPeer, NamesNodes}
 
 -- the state names nodes of the script, and the letters are for other nodes of it
 abbrev pub named : ℕ → ℕ → Fact
@@ -36,12 +37,12 @@ pub record DeskNames (nodes : ℕ) (desk : Desk) : Type 0 where
   pub queue : All (IsNamed nodes) desk.queue
   pub entries : length desk.entries ≤ nodes
 
-pub dealt_named : (nodes : ℕ) (desk : Desk) (item : Parked) → DeskNames nodes desk → IsNamedItem nodes item → DeskNames nodes (dealt desk item)
+pub dealt_named : (nodes : ℕ) (desk : Desk) (item : Parked) → DeskNames nodes desk → IsParkedNamed nodes item → DeskNames nodes (dealt desk item)
 dealt_named nodes desk (ParkedAsk ask) h own = record { queue = enter_named nodes desk.queue ask h.queue own; entries = h.entries }
 dealt_named nodes desk (ParkedTell tell) h own =
     record { queue = h.queue; entries = omega (arith, h.entries, length-set desk.entries tell.node (told tell (entry_of desk tell.node))) }
 
-pub all_dealt : (nodes : ℕ) (items : List Parked) (desk : Desk) → DeskNames nodes desk → All (IsNamedItem nodes) items
+pub all_dealt : (nodes : ℕ) (items : List Parked) (desk : Desk) → DeskNames nodes desk → All (IsParkedNamed nodes) items
     → DeskNames nodes (fold dealt desk items)
 all_dealt nodes [] desk h own = h
 all_dealt nodes (item ∷ rest) desk h own =
@@ -95,7 +96,7 @@ is_not : (b : Bool) → not b ≡ true → b ≡ false
 is_not true e = sym e
 is_not false e = refl
 
-reversed_named : (nodes me : ℕ) (item : Parked) (t : SetState) → IsNamedItem nodes item → NamesNodes nodes me t → NamesNodes nodes me (reversed me item t)
+reversed_named : (nodes me : ℕ) (item : Parked) (t : SetState) → IsParkedNamed nodes item → NamesNodes nodes me t → NamesNodes nodes me (reversed me item t)
 reversed_named nodes me (ParkedTell tell) t own h = h
 reversed_named nodes me (ParkedAsk ask) t own h = by_test (excludes_itself ask.mode && not (ask.node == me)) refl
   where
@@ -111,7 +112,7 @@ pub post_last : (nodes me : ℕ) (posts : List Post) (post : Post) → AllByRecu
 post_last nodes me posts post h own = all_append (IsForPeer nodes me) posts (post ∷ []) h (own, tt)
 
 -- an ask or a tell that names nodes of the script
-pub route_named : (nodes set : ℕ) (stamp : Stamp) (marked : Bool) (item : Parked) (t : SetState) (posts : List Post) → IsNamedItem nodes item
+pub route_named : (nodes set : ℕ) (stamp : Stamp) (marked : Bool) (item : Parked) (t : SetState) (posts : List Post) → IsParkedNamed nodes item
     → named nodes stamp.node t posts → HoldsOf (named nodes stamp.node) posts (route set stamp marked item t)
 route_named nodes set stamp marked item t posts own h =
     route_ways (HoldsOf (named nodes stamp.node) posts) set stamp marked item t
@@ -125,7 +126,7 @@ route_named nodes set stamp marked item t posts own h =
         let names = h.0 in
         let state : NamesNodes nodes stamp.node (record t { parked = t.parked ++ item ∷ [] }) = record {
           queue = names.queue;
-          parked = All-push (IsNamedItem nodes) t.parked item names.parked own;
+          parked = All-push (IsParkedNamed nodes) t.parked item names.parked own;
           firm = names.firm;
           hoped = names.hoped;
           entries = names.entries;

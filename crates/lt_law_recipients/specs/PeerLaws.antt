@@ -2,10 +2,9 @@
 use Rattle.std.specs.Prelude.{◌<◌, ℕ, IsTrue, All}
 use Rattle.lt_modes.specs.Script.{ScriptData}
 use Rattle.lt_modes.specs.State.{Letter}
-use Rattle.lt_modes.specs.Fits.{fits}
+use Rattle.lt_modes.specs.Fits.{fits, numbers_of}
 use Rattle.lt_spec.specs.NodeMove.{NodeState, NodeMade, node_act, node_take}
 use Rattle.lt_spec.specs.World.{start}
-use Rattle.lt_model.specs.SoundNode.{numbers_of}
 use Rattle.lt_law_recipients.specs.Peers.{IsForPeer, NodeNames}
 
 -- the node that a move made names nodes of the script, and its letters are for other nodes of it

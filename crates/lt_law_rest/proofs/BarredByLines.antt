@@ -13,11 +13,11 @@ use Rattle.lt_modes.specs.Held.{is_row_of, no_row, row_place, count_at, count_of
 use Rattle.lt_modes.specs.Sound.{SoundRow}
 use Rattle.lt_modes.proofs.ModeAlgebra.{has-itself}
 use Rattle.lt_lists.proofs.Sums.{none_found, counted_in}
-use Rattle.lt_law_accounts.proofs.Asks.{same_mode-true}
+use Rattle.lt_modes.proofs.EachMode.{same_mode-true}
 use Rattle.lt_spec.specs.Families.{home}
 use Rattle.lt_spec.specs.Holdings.{Holding, holding, holdings, same_holding}
 use Rattle.lt_spec.specs.Facts.{state_at}
-use Rattle.lt_model.specs.SoundNode.{numbers_of}
+use Rattle.lt_modes.specs.Fits.{numbers_of}
 use Rattle.lt_model.proofs.HomesSound.{home_among}
 use Rattle.lt_law_rest.specs.RestLaws.{BarredByLines}
 

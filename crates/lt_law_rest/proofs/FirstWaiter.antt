@@ -15,8 +15,7 @@ use Rattle.lt_model.specs.Moments.{Between}
 use Rattle.lt_model.specs.OnWay.{DeskIs, account_of}
 use Rattle.lt_law_accounts.specs.Account.{Bars}
 use Rattle.lt_model.specs.Paths.{HasWay}
-use Rattle.lt_model.specs.SoundNode.{numbers_of}
-use Rattle.lt_modes.specs.Fits.{parked_asks, asks_here}
+use Rattle.lt_modes.specs.Fits.{parked_asks, asks_here, numbers_of}
 use Rattle.lt_modes.specs.Sound.{SoundRow, SoundHere}
 use Rattle.lt_model.specs.Invariant.{DeskKept}
 use Rattle.lt_modes.proofs.ModeAlgebra.{union_bars_both, bars_by_table}
@@ -25,14 +24,14 @@ use Rattle.lt_law_accounts.proofs.AccountPlay.{others-which}
 use Rattle.lt_model.proofs.AccountRules.{rules_count}
 use Rattle.lt_model.proofs.Gathered.{copies_are_on_way}
 use Rattle.lt_law_accounts.proofs.Rows.{held-which, other-which}
-use Rattle.lt_law_accounts.proofs.ModeMembers.{none_has}
+use Rattle.lt_modes.proofs.EachMode.{none_in_none}
 use Rattle.lt_law_rest.proofs.QuietRest.{no_letters, counts_held}
 use Rattle.lt_law_rest.specs.RestLaws.{IsBarred, FirstWaiterConflicts}
 
 bars_union-none : (modes : Modes) (mode : Mode) → Bars (union modes no_modes) mode → Bars modes mode
 bars_union-none modes mode bar = elim ((union_bars_both conflicts modes no_modes mode).0 bar) [
   | inl own ↦ own
-  | inr none ↦ none_has none.0 none.2
+  | inr none ↦ none_in_none none.0 none.2
 ]
 
 bars_from : (modes : Modes) (mode : Mode) → has mode (bars modes) ≡ true → Bars modes mode

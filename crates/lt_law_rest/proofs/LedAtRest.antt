@@ -15,7 +15,7 @@ use Rattle.lt_lists.specs.Below.{sum_below, one_if}
 use Rattle.lt_spec.specs.World.{World, is_at_rest}
 use Rattle.lt_spec.specs.Facts.{state_at, times_parked, places_in_state, places_in_body, StandsBehind, IsLedToQueue}
 use Rattle.lt_model.specs.Moments.{Between}
-use Rattle.lt_model.specs.SoundNode.{numbers_of}
+use Rattle.lt_modes.specs.Fits.{numbers_of}
 use Rattle.lt_modes.specs.Sound.{SoundPending}
 use Rattle.lt_model.proofs.KeptSets.{kept_stands}
 use Rattle.lt_model.specs.Invariant.{IsParkedFor, SetKept}

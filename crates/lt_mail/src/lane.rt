@@ -1,8 +1,12 @@
-ghost use Rattle.std.specs.Prelude.{◌+◌, ◌≤◌, length};
-ghost use Rattle.rtrb.specs.Ring.{sent, known_free, producer_capacity};
+ghost use Rattle.std.specs.Prelude.{◌+◌, ◌≤◌, length, ◌≡◌, ◌<◌, ◌⊎◌, [], ◌∷◌, ◌++◌, OnOk, IfSome, IfNone};
+ghost use Rattle.rtrb.specs.Ring.{sent, known_free, producer_capacity, SameProducer, SameConsumer};
+ghost use Rattle.std.specs.VecDeque.{deque_len, deque_capacity};
+ghost use mathlib.Core.List.{IsPrefix};
+ghost use Rattle.lt_mail.specs.Lanes.{ring_given, outbox_letters, sent_by, taken, known};
 
 use lt_letter::Letter;
 use rtrb::{Consumer, Producer};
+use std::alloc::AllocError;
 use std::collections::VecDeque;
 
 /// The sending end of a ring, and the letters that still wait for a place in it.
@@ -18,4 +22,71 @@ pub struct OutLane {
 #[derive(Drop)]
 pub struct InLane {
     pub(crate) ring: Consumer<Letter>,
+}
+
+impl OutLane {
+    /// Makes room in the outbox for so many further letters.
+    pub fn reserve(&mut self, letters: u32) -> Result<(), AllocError>
+        ensures ring_given { ring_given self.new ≡ ring_given self.old }
+        ensures outbox_letters { outbox_letters self.new ≡ outbox_letters self.old }
+        ensures ring { SameProducer self.old.ring self.new.ring }
+        ensures len { deque_len self.new.outbox ≡ deque_len self.old.outbox }
+        ensures room { OnOk result (deque_len self.new.outbox + letters ≤ deque_capacity self.new.outbox) }
+        ensures kept { deque_capacity self.old.outbox ≤ deque_capacity self.new.outbox }
+    {
+        self.outbox.reserve(letters as usize)
+    }
+
+    /// Puts a letter at the end of the outbox.
+    pub fn put(&mut self, letter: Letter)
+        requires { deque_len self.old.outbox < deque_capacity self.old.outbox }
+        ensures sent { sent_by self.new ≡ sent_by self.old ++ letter ∷ [] }
+        ensures ring_given { ring_given self.new ≡ ring_given self.old }
+        ensures ring { SameProducer self.old.ring self.new.ring }
+        ensures len { deque_len self.new.outbox ≡ deque_len self.old.outbox + 1 }
+        ensures room { deque_capacity self.new.outbox ≡ deque_capacity self.old.outbox }
+    {
+        self.outbox.push_back_reserved(letter);
+    }
+
+    /// Gives the ring letters of the outbox, in order, while it has places.
+    pub fn flush(&mut self)
+        ensures sent { sent_by self.new ≡ sent_by self.old }
+        ensures ring_given { IsPrefix (ring_given self.old) (ring_given self.new) }
+        ensures ring { SameProducer self.old.ring self.new.ring }
+        ensures places { known_free self.old.ring + length (ring_given self.old) ≤ known_free self.new.ring + length (ring_given self.new) }
+        ensures first { length (ring_given self.new) < producer_capacity self.new.ring → outbox_letters self.new ≡ [] }
+        ensures stops { (outbox_letters self.new ≡ []) ⊎ (known_free self.new.ring ≡ 0) }
+    {
+        while !self.ring.is_full() {
+            let Some(letter) = self.outbox.pop_front() else {
+                return;
+            };
+            self.ring.push_reserved(letter);
+        }
+    }
+}
+
+impl InLane {
+    /// Takes the next letter that is in the ring.
+    pub fn take(&mut self) -> Option<Letter>
+        ensures ring { SameConsumer self.old.ring self.new.ring }
+        ensures some { IfSome result (λ x. (taken self.new ≡ taken self.old ++ x ∷ []) × IsPrefix (known self.old) (x ∷ known self.new)) }
+        ensures none { IfNone result ((taken self.new ≡ taken self.old) × (known self.old ≡ []) × (known self.new ≡ [])) }
+    {
+        self.ring.pop().ok()
+    }
+
+    /// Takes the first letter that is known to be in the ring.
+    pub fn take_known(&mut self) -> Option<Letter>
+        ensures ring { SameConsumer self.old.ring self.new.ring }
+        ensures some { IfSome result (λ x. (taken self.new ≡ taken self.old ++ x ∷ []) × (known self.old ≡ x ∷ known self.new)) }
+        ensures none { IfNone result ((self.new ≡ self.old) × (known self.old ≡ [])) }
+    {
+        if self.ring.cached_slots() == 0 {
+            None
+        } else {
+            Some(self.ring.pop_known())
+        }
+    }
 }

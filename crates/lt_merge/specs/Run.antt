@@ -21,6 +21,11 @@ with_event [] event = []
 with_event (entry ∷ []) event = record entry { events = entry.events ++ event ∷ [] } ∷ []
 with_event (entry ∷ next ∷ later) event = entry ∷ with_event (next ∷ later) event
 
+-- the entries after the last move has these events more
+abbrev pub with_events : List Logged → List Event → List Logged
+with_events entries [] = entries
+with_events entries (event ∷ events) = with_events (with_event entries event) events
+
 -- the move at place k
 abbrev pub made_at : List Logged → ℕ → Option Move
 made_at entries k = option_map (λ (entry : Logged). entry.made) (slice_get entries k)

@@ -15,7 +15,6 @@ use Rattle.lt_modes.specs.Tells.{told}
 use Rattle.lt_modes.specs.Serving.{ask_at, queue_of, queue_of_desk, next_at, next_from, is_served, is_free, is_local, is_copy, is_clear_at_home, served, owed_at, owing}
 use Rattle.lt_modes.specs.declared.stamp.Stamp.{Stamp}
 use Rattle.lt_modes.specs.Freezing.{freeze_at}
-use Rattle.lt_modes.specs.SetMove.{answers}
 use Rattle.lt_modes.specs.Telling.{tell_of}
 use Rattle.lt_modes.specs.HandingOver.{settled, without_desk}
 use Rattle.lt_modes.proofs.ModeAlgebra.{same_modes-true}

@@ -11,7 +11,7 @@ use Rattle.lt_modes.specs.Script.{ScriptData}
 use Rattle.lt_modes.specs.State.{SetState, Desk, Tell, Body, Letter, Parked, ParkedAsk, ParkedTell}
 use Rattle.lt_modes.specs.Records.{entry_of}
 use Rattle.lt_modes.specs.Serving.{next_service, next_draw}
-use Rattle.lt_modes.specs.Fits.{Numbers}
+use Rattle.lt_modes.specs.Fits.{Numbers, numbers_of}
 use Rattle.lt_modes.specs.Sound.{IsNoLater, ChargeKept, SoundDesk, SoundSet}
 use Rattle.lt_lists.specs.Below.{one_if}
 use Rattle.lt_spec.specs.World.{World, after}
@@ -22,7 +22,6 @@ use Rattle.lt_model.specs.Moments.{Moment, Between, Acting, Frozen, is_at, is_mo
 use Rattle.lt_law_accounts.specs.Account.{Account, AccountKept, AreClear, counted}
 use Rattle.lt_law_accounts.specs.News.{News, NewsKept, Notice}
 use Rattle.lt_model.specs.Paths.{Paths, StateOnPath, LetterOnPath}
-use Rattle.lt_model.specs.SoundNode.{numbers_of}
 use Rattle.lt_model.specs.Touches.{of_set, SameSet}
 use Rattle.lt_model.specs.Invariant.{PlacesKept, IsParkedFor, DeskKept, SetKept}
 use Rattle.lt_model.specs.MomentLaws.{begun, MoveBegins, AsideStays}

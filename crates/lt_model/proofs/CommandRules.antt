@@ -1,5 +1,5 @@
 -- What is granted and asked is a step of the account.
-use Rattle.std.proofs.Common.{◌≡◌, ℕ, ◌+◌, inl, inr, List, [], ◌∷◌, ◌++◌, Option, Some, None, Bool, true, false, refl, sym, ap, subst, ◌∙◌}
+use Rattle.std.proofs.Common.{◌≡◌, ℕ, inl, inr, List, [], ◌∷◌, ◌++◌, Option, Some, None, Bool, true, false, refl, sym, ap, subst, ◌∙◌}
 use Rattle.std.specs.Prelude.{◌&&◌, ◌==◌, not, IsTrue, IsFalse, if◌then◌else◌, is_some}
 use Rattle.std.proofs.lemmas.Bool.{not-true, and_parts, or_cases}
 use Rattle.lt_modes.specs.declared.mode.Mode.{Mode}

@@ -12,9 +12,8 @@ use Rattle.lt_modes.specs.declared.event.Event.TheVariants.{Grant, Wait, Try as 
 use Rattle.lt_modes.specs.Script.{ScriptData}
 use Rattle.lt_modes.specs.State.{SetState, Body, AskBody, TellBody, CopyBody, TokenBody, FreezeBody, Letter, Parked, ParkedAsk, ParkedTell}
 use Rattle.lt_modes.specs.Serving.{queue_of}
-use Rattle.lt_modes.specs.Fits.{is_at_home, asks_here}
+use Rattle.lt_modes.specs.Fits.{is_at_home, asks_here, numbers_of}
 use Rattle.lt_modes.specs.Sound.{SoundRow, SoundParked}
-use Rattle.lt_model.specs.SoundNode.{numbers_of}
 use Rattle.lt_spec.specs.Families.{home}
 use Rattle.lt_spec.specs.Log.{Logged}
 use Rattle.lt_spec.specs.World.{World}

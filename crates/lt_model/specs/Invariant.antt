@@ -14,7 +14,8 @@ use Rattle.lt_lists.specs.Below.{sum_below}
 use Rattle.lt_spec.specs.World.{World}
 use Rattle.lt_spec.specs.Families.{home}
 use Rattle.lt_spec.specs.Holdings.{Holding, holding, holdings, wanted, times_held}
-use Rattle.lt_model.specs.SoundNode.{ClientsKept, numbers_of}
+use Rattle.lt_modes.specs.Fits.{numbers_of}
+use Rattle.lt_model.specs.SoundNode.{ClientsKept}
 use Rattle.lt_spec.specs.Facts.{state_at, place_count}
 use Rattle.lt_modes.specs.Queue.{times_in}
 use Rattle.lt_model.specs.Moments.{Moment, Between, is_moving, is_unfrozen}

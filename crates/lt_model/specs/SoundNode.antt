@@ -1,20 +1,12 @@
 -- What holds of a node and of the world's numbers.
-use Rattle.std.specs.Prelude.{◌&&◌, ◌==◌, ◌≤◌, ◌<◌, false, ℕ, ◌+◌, length, map, count_by, is_none}
+use Rattle.std.specs.Prelude.{◌&&◌, ◌==◌, ◌≤◌, ◌<◌, false, ℕ, ◌+◌, length, count_by, is_none}
 use Rattle.lt_modes.specs.declared.ask.Ask.{Ask}
-use Rattle.lt_modes.specs.Script.{ScriptData, ClientData}
+use Rattle.lt_modes.specs.Script.{ScriptData}
 use Rattle.lt_modes.specs.Held.{locks_of}
-use Rattle.lt_modes.specs.Fits.{Numbers}
+use Rattle.lt_modes.specs.Fits.{numbers_of}
 use Rattle.lt_modes.specs.Sound.{SoundSet}
 use Rattle.lt_lists.specs.Below.{sum_below}
 use Rattle.lt_spec.specs.NodeMove.{NodeState}
-
--- the numbers of a script
-abbrev pub numbers_of : ScriptData → Numbers
-numbers_of script = record {
-  nodes = script.nodes;
-  sets = length script.sets;
-  homes = map (λ (client : ClientData). client.node) script.clients;
-}
 
 -- how many asks of the client are unanswered, over all sets
 abbrev pub unanswered_asks : ScriptData → NodeState → ℕ → ℕ

@@ -1,11 +1,10 @@
 -- Sets of the five modes by the table of six and by that of five: tables that the check computes.
-use Rattle.std.proofs.Common.{◌≡◌, ◌∙◌, Bool, true, false, refl, sym}
-use Rattle.std.specs.Prelude.{◌&&◌, ◌||◌, not, IsTrue}
+use Rattle.std.proofs.Common.{◌≡◌, Bool, true, false, refl}
+use Rattle.std.specs.Prelude.{◌&&◌, not, IsTrue}
 use Rattle.std.proofs.lemmas.Bool.{and_parts}
-use Rattle.lt_modes.specs.declared.mode.Mode.{Mode}
 use Rattle.lt_modes.specs.declared.mode.Mode.TheVariants.{IntentionRead, Read, Upgrade, IntentionWrite, ReadIntentionWrite, Write}
 use Rattle.lt_modes.specs.Modes.{Modes, conflicts, same_modes, has, bars, covers, has_none}
-use Rattle.lt_modes.specs.FiveModes.{conflicts_of_five, is_of_five, five_of, has_five_alone, bars_of_five, covers_of_five, has_below_write, TableAsBefore, TakingAsBefore, BarsAsBefore, SixthByOthers, CoversAsBefore, SameBarsAsBefore, NoneBarredAsBefore}
+use Rattle.lt_modes.specs.FiveModes.{five_of, has_five_alone, bars_of_five, covers_of_five, has_below_write, TableAsBefore, TakingAsBefore, BarsAsBefore, SixthByOthers, CoversAsBefore, SameBarsAsBefore, NoneBarredAsBefore}
 use Rattle.lt_modes.proofs.ModeAlgebra.{same_modes-true}
 
 abbrev same_bool : Bool → Bool → Bool
@@ -65,6 +64,7 @@ every_set_at test s h e =
     (both_at (λ a. both (λ b. both (λ c. both (λ d. both (λ x. test (five a b c d x)))))) s.intention_read e)))))
 
 pub table_kept : TableAsBefore
+unfolding conflicts
 table_kept IntentionRead IntentionRead p q = refl
 table_kept IntentionRead Read p q = refl
 table_kept IntentionRead Upgrade p q = refl
@@ -101,13 +101,16 @@ pub taking_kept : TakingAsBefore
 taking_kept mode f = table_kept mode mode f f
 
 pub bars_kept : BarsAsBefore
+unfolding conflicts
 bars_kept s h = same_modes-true _ _ (every_set_at (λ s. same_modes (five_of (bars s)) (bars_of_five s)) s h refl)
 
 pub sixth_by_others : SixthByOthers
+unfolding conflicts
 sixth_by_others s h =
     same_bool_eq _ _ (every_set_at (λ s. same_bool (has ReadIntentionWrite (bars s)) (has_below_write (bars_of_five s))) s h refl)
 
 pub covers_kept : CoversAsBefore
+unfolding conflicts
 covers_kept s IntentionRead h f = same_bool_eq _ _ (every_set_at (λ s. same_bool (covers s IntentionRead) (covers_of_five s IntentionRead)) s h refl)
 covers_kept s Read h f = same_bool_eq _ _ (every_set_at (λ s. same_bool (covers s Read) (covers_of_five s Read)) s h refl)
 covers_kept s Upgrade h f = same_bool_eq _ _ (every_set_at (λ s. same_bool (covers s Upgrade) (covers_of_five s Upgrade)) s h refl)
@@ -116,10 +119,12 @@ covers_kept s ReadIntentionWrite h f = cc
 covers_kept s Write h f = same_bool_eq _ _ (every_set_at (λ s. same_bool (covers s Write) (covers_of_five s Write)) s h refl)
 
 pub same_kept : SameBarsAsBefore
+unfolding conflicts
 same_kept s t h k =
     same_bool_eq _ _
     (every_set_at (λ t. same_bool (same_modes (bars s) (bars t)) (same_modes (bars_of_five s) (bars_of_five t))) t k
     (every_set_at (λ s. every_set (λ t. same_bool (same_modes (bars s) (bars t)) (same_modes (bars_of_five s) (bars_of_five t)))) s h refl))
 
 pub none_kept : NoneBarredAsBefore
+unfolding conflicts
 none_kept s h = same_bool_eq _ _ (every_set_at (λ s. same_bool (has_none (bars s)) (has_none (bars_of_five s))) s h refl)

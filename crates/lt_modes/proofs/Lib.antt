@@ -1,3 +1,4 @@
+pub mod EachMode
 pub mod ModeAlgebra
 mod MaskLemmas
 pub mod ServingLemmas

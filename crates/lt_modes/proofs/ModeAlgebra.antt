@@ -4,10 +4,12 @@ use Rattle.std.specs.Prelude.{◌||◌, ◌&&◌, not, IsTrue}
 use Rattle.std.proofs.lemmas.Bool.{and_parts, and_from, or_cases, or_left, or_right, false_from_ne_true}
 use Rattle.lt_modes.specs.declared.mode.Mode.{Mode}
 use Rattle.lt_modes.specs.declared.mode.Mode.TheVariants.{IntentionRead, Read, Upgrade, IntentionWrite, ReadIntentionWrite, Write}
-use Rattle.lt_modes.specs.Modes.{Modes, conflicts, same_mode, same_modes, is_within, has, modes_by, any_mode, every_mode, one, bars}
+use Rattle.lt_modes.specs.Modes.{Modes, conflicts, same_mode, same_modes, is_within, has, modes_by, any_mode, every_mode, one, bars, no_modes}
+use Rattle.lt_modes.proofs.EachMode.{none_in_none}
 use Rattle.lt_modes.specs.ModeLaws.{IsSymmetric, IsEachBarred, BarsBy, UnionHasBoth, BarsByTable, CoversByTable, UnionBarsBoth, BelowItself, BelowInTurn, UnionBelow, BelowWithMore, ClearBothWays, ClearBelow, CoveredIsClear, CopyIsNotTaking}
 
 pub conflicts-sym : IsSymmetric conflicts
+unfolding conflicts
 conflicts-sym IntentionRead IntentionRead = refl
 conflicts-sym IntentionRead Read = refl
 conflicts-sym IntentionRead Upgrade = refl
@@ -46,6 +48,7 @@ conflicts-sym Write ReadIntentionWrite = refl
 conflicts-sym Write Write = refl
 
 pub each_barred : IsEachBarred conflicts
+unfolding conflicts
 each_barred mode = (Write, conflicts-sym mode Write)
 
 -- membership in a set that a test makes
@@ -194,3 +197,17 @@ same_modes-true a b e =
     by_tests true false p q = cc
     by_tests false true p q = cc
     by_tests false false p q = refl
+
+-- the empty set bars nothing, by any table
+pub bars_of_none : bars no_modes ≡ no_modes
+bars_of_none = λ i. record {
+  intention_read = none IntentionRead i;
+  read = none Read i;
+  upgrade = none Upgrade i;
+  intention_write = none IntentionWrite i;
+  read_intention_write = none ReadIntentionWrite i;
+  write = none Write i;
+}
+  where
+    none : (mode : Mode) → has mode (bars no_modes) ≡ false
+    none mode = false_from_ne_true (has mode (bars no_modes)) (λ h. let found = (bars_by_table no_modes mode).0 h in none_in_none found.0 found.2)

@@ -4,8 +4,8 @@ use Rattle.std.specs.Str.{bytes_eq}
 use Rattle.lt_modes.specs.declared.mode.Mode.{Mode}
 use Rattle.lt_modes.specs.declared.mode.Mode.TheVariants.{IntentionRead, Read, Upgrade, IntentionWrite, ReadIntentionWrite, Write}
 
--- the conflict table
-abbrev pub conflicts : Mode → Mode → Bool
+-- the conflict table; sealed: what looks at it says so (`unfolding conflicts`)
+unfoldable pub conflicts : Mode → Mode → Bool
 conflicts IntentionRead IntentionRead = false
 conflicts IntentionRead Read = false
 conflicts IntentionRead Upgrade = false
@@ -105,6 +105,10 @@ any_mode test = test IntentionRead || test Read || test Upgrade || test Intentio
 
 abbrev pub every_mode : (Mode → Bool) → Bool
 every_mode test = test IntentionRead && test Read && test Upgrade && test IntentionWrite && test ReadIntentionWrite && test Write
+
+-- the modes, in order
+abbrev pub modes_in_order : List Mode
+modes_in_order = IntentionRead ∷ Read ∷ Upgrade ∷ IntentionWrite ∷ ReadIntentionWrite ∷ Write ∷ []
 
 abbrev pub no_modes : Modes
 no_modes = modes_by (λ m. false)

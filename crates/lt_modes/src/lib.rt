@@ -19,7 +19,7 @@ pub use ask::Ask;
 pub use command::Command;
 pub use event::Event;
 pub use laws::{law_five_modes, law_modes};
-pub use mode::Mode;
+pub use mode::{MODES, Mode};
 pub use mode_set::ModeSet;
 pub use moves::{Move, Step};
 pub use parts::{Hoped, Link, Owed, Row};

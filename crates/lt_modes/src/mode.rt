@@ -15,8 +15,19 @@ pub enum Mode {
     Write,
 }
 
+/// All modes, in order.
+pub const MODES: [Mode; 6] = [
+    Mode::IntentionRead,
+    Mode::Read,
+    Mode::Upgrade,
+    Mode::IntentionWrite,
+    Mode::ReadIntentionWrite,
+    Mode::Write,
+];
+
 impl Mode {
     /// Whether two clients may not hold locks of these modes in one set at the same time.
+    #[tactic(auto, unfolding(crate::specs::Modes::conflicts))]
     pub fn conflicts(self, other: Mode) -> bool
         ensures { result ≡ conflicts self other }
     {

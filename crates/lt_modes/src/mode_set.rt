@@ -1,5 +1,5 @@
 ghost use Rattle.std.specs.Prelude.{◌≡◌};
-ghost use Rattle.lt_modes.specs.Modes.{Modes, no_modes, one, with_mode, union, has, bars, covers, has_none, is_within};
+ghost use Rattle.lt_modes.specs.Modes.{Modes, no_modes, one, with_mode, union, has, bars, covers, has_none, is_within, same_modes};
 ghost use Rattle.lt_modes.specs.FiveModes.{five_of};
 ghost use Rattle.lt_modes.specs.Masks.{bit_of};
 
@@ -67,6 +67,7 @@ impl ModeSet {
     }
 
     /// The modes that conflict with a member.
+    #[tactic(auto, unfolding(crate::specs::Modes::conflicts))]
     pub fn bars(self) -> ModeSet
         ensures { result ≡ bars self }
     {
@@ -120,11 +121,18 @@ impl ModeSet {
         }
     }
 
-    // Whether each mode of this set is in the other.
-    fn is_within(self, other: ModeSet) -> bool
+    /// Whether each mode of this set is in the other.
+    pub fn is_within(self, other: ModeSet) -> bool
         ensures { result ≡ is_within self other }
     {
         self.mask | other.mask == other.mask
+    }
+
+    /// Whether the two sets have the same modes.
+    pub fn same(self, other: ModeSet) -> bool
+        ensures { result ≡ same_modes self other }
+    {
+        self.is_within(other) && other.is_within(self)
     }
 }
 

@@ -1,13 +1,4 @@
-use super::{Mode, ModeSet};
-
-const MODES: [Mode; 6] = [
-    Mode::IntentionRead,
-    Mode::Read,
-    Mode::Upgrade,
-    Mode::IntentionWrite,
-    Mode::ReadIntentionWrite,
-    Mode::Write,
-];
+use super::{MODES, Mode, ModeSet};
 
 // The printed conflict table, a row for each mode.
 const TABLE: [[bool; 6]; 6] = [

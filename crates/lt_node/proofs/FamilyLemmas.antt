@@ -10,10 +10,10 @@ use Rattle.lt_modes.specs.Script.{ScriptData, SetData, family_at, family_of_set}
 use Rattle.lt_modes.specs.State.{SetState}
 use Rattle.lt_modes.specs.Made.{Made}
 use Rattle.lt_letter.specs.OutData.{OutData, FitsOut}
-use Rattle.lt_core.specs.declared.order.Order.TheVariants as orders
+use Rattle.lt_core.specs.declared.set_command.SetCommand.TheVariants as set_commands
 use Rattle.lt_core.specs.Bound.{RoomToSend}
 use Rattle.lt_core.specs.CoreData.{CoreData, Does}
-use Rattle.lt_core.proofs.BoundLemmas.{ends_fit, orders_fit}
+use Rattle.lt_core.proofs.BoundLemmas.{ends_fit, commands_fit}
 use Rattle.lt_lists.specs.Below.{put}
 use Rattle.lt_spec.specs.Families.{family, related}
 use Rattle.lt_spec.specs.NodeMove.{NodeState, each_touched, touched}
@@ -85,7 +85,7 @@ all_done script me rule whole old new had out n left =
 -- the end of a move fits
 pub end_fits : (dropped : Option ℕ) (stamp : Stamp) (core : CoreData) (out : OutData) → RoomToSend (most_sent core) out → FitsOut (ending dropped stamp core.set core.state) out
 end_fits None stamp core out room = ends_fit core.set stamp core.state out (record { posts = omega (arith, room.posts); events = omega (arith, room.events) })
-end_fits (Some client) stamp core out room = orders_fit stamp client orders.DropAll core.set core.state out room
+end_fits (Some client) stamp core out room = commands_fit stamp client set_commands.DropAll core.set core.state out room
 
 -- and leaves the room for more
 pub end_leaves : (dropped : Option ℕ) (stamp : Stamp) (core new : CoreData) (had out : OutData) (more : ℕ) → Does (ending dropped stamp core.set core.state) core had new out

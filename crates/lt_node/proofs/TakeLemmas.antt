@@ -4,7 +4,7 @@ use Rattle.std.proofs.lemmas.List.{length-map}
 use Rattle.lt_modes.specs.declared.stamp.Stamp.{Stamp}
 use Rattle.lt_modes.specs.Script.{ClientData}
 use Rattle.lt_modes.specs.SetMove.{take}
-use Rattle.lt_modes.specs.Fits.{fits}
+use Rattle.lt_modes.specs.Fits.{fits, numbers_of}
 use Rattle.lt_letter.specs.declared.letter.Letter.{Letter}
 use Rattle.lt_letter.specs.Seen.{letter_seen, body_seen}
 use Rattle.lt_letter.specs.Hands.{asks_in, RoomIn}
@@ -13,7 +13,7 @@ use Rattle.lt_core.specs.CoreData.{CoreData, Does, HasRoom, HasMemory, RoomForBo
 use Rattle.lt_core.specs.Bound.{RoomToSend, most, brought}
 use Rattle.lt_core.proofs.BoundLemmas.{takes_fit}
 use Rattle.lt_limits.specs.Limits.{node_within}
-use Rattle.lt_node.specs.NodeData.{NodeData, NodeDoes, IsNode, IsCoreOf, numbers_of, state_of, core_at}
+use Rattle.lt_node.specs.NodeData.{NodeData, NodeDoes, IsNode, IsCoreOf, state_of, core_at}
 use Rattle.lt_node.specs.Room.{RoomToTake}
 use Rattle.lt_node.proofs.NodeLemmas.{core_is, node_is, touch_does}
 use Rattle.lt_spec.specs.NodeMove.{node_take, take_stamp}

@@ -1,8 +1,7 @@
 -- What contracts see of a node, and what a move of it does.
-use Rattle.std.specs.Prelude.{◌≡◌, ◌<◌, ◌++◌, ℕ, List, length, map, slice_index_or}
-use Rattle.lt_modes.specs.Script.{ScriptData, ClientData}
+use Rattle.std.specs.Prelude.{◌≡◌, ◌<◌, ◌++◌, ℕ, List, length, slice_index_or}
+use Rattle.lt_modes.specs.Script.{ScriptData}
 use Rattle.lt_modes.specs.State.{first_state}
-use Rattle.lt_modes.specs.Fits.{Numbers}
 use Rattle.lt_letter.specs.OutData.{OutData}
 use Rattle.lt_core.specs.CoreData.{CoreData}
 use Rattle.lt_script.specs.Script.{IsScript}
@@ -37,14 +36,6 @@ state_of n = record {
   clock = n.clock;
   made = λ client. slice_index_or n.made client 0;
   set = λ s. (core_at n s).state;
-}
-
--- the numbers of a script
-abbrev pub numbers_of : ScriptData → Numbers
-numbers_of script = record {
-  nodes = script.nodes;
-  sets = length script.sets;
-  homes = map (λ (client : ClientData). client.node) script.clients;
 }
 
 -- with what a move made put after what was there

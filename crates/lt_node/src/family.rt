@@ -8,7 +8,7 @@ ghost use Rattle.lt_node.specs.NodeData.{IsCoreOf, first_core};
 ghost use Rattle.lt_node.specs.Family.{SetsDo, ending, with_sets};
 ghost use Rattle.lt_node.specs.Room.{HasFewLocks, most_sent};
 
-use lt_core::{Answer, Core, Order};
+use lt_core::{Answer, Core, SetCommand};
 use lt_letter::Out;
 use lt_modes::Stamp;
 use lt_script::Script;
@@ -50,7 +50,7 @@ fn end(core: &mut Core, dropped: Option<u16>, stamp: Stamp, out: &mut Out)
     match dropped {
         None => core.finish(stamp, out),
         Some(client) => {
-            core.act(client, Order::DropAll, stamp, out);
+            core.act(client, SetCommand::DropAll, stamp, out);
         }
     }
 }

@@ -1,11 +1,11 @@
 ghost use Rattle.std.specs.Prelude.{◌≡◌, ◌+◌, ◌≤◌, ◌<◌, ◌^◌, All, IsTrue, OnOk, length, map, sum_by};
-ghost use Rattle.lt_modes.specs.Fits.{fits};
+ghost use Rattle.lt_modes.specs.Fits.{fits, numbers_of};
 ghost use Rattle.lt_letter.specs.Seen.{letter_seen, body_seen};
 ghost use Rattle.lt_letter.specs.Hands.{asks_in};
 ghost use Rattle.lt_core.specs.Bound.{brought};
 ghost use Rattle.lt_core.specs.CoreData.{HasMemory};
 ghost use Rattle.lt_limits.specs.Limits.{node_within};
-ghost use Rattle.lt_node.specs.NodeData.{SameNode, state_of, numbers_of};
+ghost use Rattle.lt_node.specs.NodeData.{SameNode, state_of};
 ghost use Rattle.lt_node.specs.Room.{RoomToAct, RoomToTake, RoomForLetter, HasFewAsks, kept_of, most_sent};
 
 use crate::node::Node;

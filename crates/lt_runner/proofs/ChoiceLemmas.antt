@@ -3,15 +3,15 @@ use Rattle.std.proofs.Common.{◌≡◌, ◌≢◌, ℕ, zero, suc, Option, Some
 use Rattle.std.specs.Prelude.{nat_lt, if◌then◌else◌, IsTrue, IfSome, length}
 use Rattle.std.proofs.lemmas.Bool.{and_parts}
 use Rattle.lt_modes.specs.Script.{ScriptData}
-use Rattle.lt_modes.specs.Fits.{fits}
+use Rattle.lt_modes.specs.Fits.{fits, numbers_of}
 use Rattle.lt_letter.specs.Seen.{letter_seen}
 use Rattle.lt_limits.specs.Limits.{node_within, leaves_asks}
 use Rattle.lt_spec.specs.NodeMove.{NodeState}
 use Rattle.lt_law_plays.specs.Plays.{can_act}
-use Rattle.lt_node.specs.NodeData.{state_of, numbers_of}
+use Rattle.lt_node.specs.NodeData.{state_of}
 use Rattle.lt_runner.specs.declared.choice.Choice.TheVariants.{Nothing, Act, Take}
-use Rattle.lt_runner.specs.declared.choice.TheConstants.{LAST_CLOCK}
-use Rattle.lt_runner.specs.declared.hand.Hand.{Hand}
+use Rattle.lt_core.specs.declared.fits.TheConstants.{LAST_CLOCK}
+use Rattle.lt_runner.specs.declared.parts.Hand.{Hand}
 use Rattle.lt_runner.specs.declared.parts.Parts.{Parts}
 use Rattle.lt_runner.specs.Ready.{FitsNow}
 use Rattle.lt_runner.specs.Choices.{or_this, least_below, first_client, may_move, may_act, may_take, act_of, act_choice, choice_by, next_choice}

@@ -6,7 +6,7 @@ use Rattle.lt_modes.specs.State.{Letter}
 use Rattle.lt_mail.specs.declared.mail.Mail.{Mail}
 use Rattle.lt_mail.specs.Lanes.{sent_by, known}
 use Rattle.lt_mail.specs.Words.{out_at, in_at, on_out, on_in, taken_from, known_from, Both, IsOpenLink, AreLinked}
-use Rattle.lt_runner.specs.declared.hand.Hand.{Hand}
+use Rattle.lt_runner.specs.declared.parts.Hand.{Hand}
 use Rattle.lt_runner.specs.declared.parts.Parts.{Parts}
 use Rattle.lt_runner.specs.Hands.{in_hand, HandStays}
 use Rattle.lt_runner.specs.Kept.{RunnerInvariant}

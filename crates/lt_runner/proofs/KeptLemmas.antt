@@ -13,7 +13,7 @@ use Rattle.lt_law_recipients.specs.Peers.{NodeNames}
 use Rattle.lt_node.specs.NodeData.{state_of}
 use Rattle.lt_mail.specs.Words.{outs_count, ins_count, sent_to, taken_from}
 use Rattle.lt_mail.proofs.MailLemmas.{ends_join}
-use Rattle.lt_runner.specs.declared.hand.Hand.{Hand}
+use Rattle.lt_runner.specs.declared.parts.Hand.{Hand}
 use Rattle.lt_runner.specs.declared.parts.Parts.{Parts}
 use Rattle.lt_runner.specs.Hands.{in_hand, IsFromPeer, HandStays}
 use Rattle.lt_runner.specs.Kept.{RunnerInvariant, SameRunner, AsSeen}

@@ -19,7 +19,7 @@ use Rattle.lt_node.specs.NodeData.{NodeData, NodeDoes, state_of}
 use Rattle.lt_mail.specs.Words.{on_in, sent_to}
 use Rattle.lt_mail.specs.Lanes.{taken}
 use Rattle.lt_mail.specs.declared.lane.InLane.{InLane}
-use Rattle.lt_runner.specs.declared.hand.Hand.{Hand}
+use Rattle.lt_runner.specs.declared.parts.Hand.{Hand}
 use Rattle.lt_runner.specs.declared.parts.Parts.{Parts}
 use Rattle.lt_runner.specs.declared.choice.Choice.TheVariants as choices
 use Rattle.lt_runner.specs.Choices.{next_choice}

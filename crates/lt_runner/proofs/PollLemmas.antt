@@ -10,7 +10,7 @@ use Rattle.lt_mail.specs.Words.{on_in, on_out, out_at, in_at, taken_from, known_
 use Rattle.lt_mail.specs.Lanes.{sent_by}
 use Rattle.lt_mail.specs.declared.lane.OutLane.{OutLane}
 use Rattle.lt_mail.proofs.MailLemmas.{ends_join, ends_same}
-use Rattle.lt_runner.specs.declared.hand.Hand.{Hand}
+use Rattle.lt_runner.specs.declared.parts.Hand.{Hand}
 use Rattle.lt_runner.specs.Hands.{in_hand}
 use Rattle.lt_runner.specs.Polled.{Polled}
 

@@ -11,7 +11,7 @@ use Rattle.lt_node.specs.NodeData.{state_of}
 use Rattle.lt_mail.specs.Words.{sent_to}
 use Rattle.lt_mail.specs.Opening.{IsFresh}
 use Rattle.lt_runner.specs.declared.parts.Parts.{Parts}
-use Rattle.lt_runner.specs.declared.hand.Hand.{Hand}
+use Rattle.lt_runner.specs.declared.parts.Hand.{Hand}
 use Rattle.lt_runner.specs.Hands.{in_hand, IsFromPeer}
 use Rattle.lt_runner.specs.Kept.{RunnerInvariant}
 

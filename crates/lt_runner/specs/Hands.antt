@@ -2,7 +2,7 @@
 use Rattle.std.specs.Prelude.{◌≡◌, ◌≢◌, ◌==◌, ◌<◌, ℕ, List, [], ◌∷◌, Option, Some, None, if◌then◌else◌}
 use Rattle.lt_modes.specs.State as rules
 use Rattle.lt_letter.specs.Seen.{letter_seen}
-use Rattle.lt_runner.specs.declared.hand.Hand.{Hand}
+use Rattle.lt_runner.specs.declared.parts.Hand.{Hand}
 
 -- the letter in hand, where it came from this node
 abbrev pub in_hand : ℕ → Option Hand → List rules.Letter

@@ -1,5 +1,5 @@
 -- What a runner keeps, and how a turn ends.
-use Rattle.std.specs.Prelude.{◌≡◌, ◌≢◌, ◌<◌, ◌≤◌, ◌⊎◌, ℕ, List, [], ◌∷◌, ◌++◌, None, length}
+use Rattle.std.specs.Prelude.{◌≡◌, ◌≢◌, ◌<◌, ◌≤◌, ℕ, List, [], ◌∷◌, ◌++◌, None, length}
 use mathlib.Core.List.{IsPrefix}
 use Rattle.lt_modes.specs.State.{Letter}
 use Rattle.lt_spec.specs.Log.{Logged}
@@ -9,10 +9,10 @@ use Rattle.lt_law_recipients.specs.Peers.{NodeNames}
 use Rattle.lt_node.specs.NodeData.{state_of}
 use Rattle.lt_mail.specs.Words.{outs_count, ins_count, sent_to, taken_from, known_from, SameEnds}
 use Rattle.lt_runner.specs.declared.choice.Choice.TheVariants as choices
-use Rattle.lt_runner.specs.declared.turned.Turned.{Turned}
-use Rattle.lt_runner.specs.declared.turned.Turned.TheVariants.{Moved, Quiet, Full, NoMemory}
-use Rattle.lt_runner.specs.declared.turned.Worked.{Worked}
-use Rattle.lt_runner.specs.declared.turned.Worked.TheVariants as worked
+use Rattle.lt_runner.specs.declared.turning.Turned.{Turned}
+use Rattle.lt_runner.specs.declared.turning.Turned.TheVariants.{Moved, Quiet, Full, NoMemory}
+use Rattle.lt_runner.specs.declared.turning.Worked.{Worked}
+use Rattle.lt_runner.specs.declared.turning.Worked.TheVariants as worked
 use Rattle.lt_runner.specs.declared.parts.Parts.{Parts}
 use Rattle.lt_runner.specs.Hands.{in_hand, IsFromPeer, HandStays}
 use Rattle.lt_runner.specs.Choices.{next_choice}
@@ -69,6 +69,7 @@ pub record IsFull (p : Parts) : Type 0 where
 abbrev pub MovedOne : Parts → Parts → Type 0
 MovedOne a b = (entry : Logged) × (b.log.entries ≡ a.log.entries ++ entry ∷ [])
 
+-- how a turn ends
 abbrev pub TurnEnds : Turned → Parts → Parts → Type 0
 TurnEnds Moved a b = MovedOne a b × (length a.log.entries < a.limit)
 TurnEnds Quiet a b = AsSeen a b × RunnerIsQuiet b
@@ -85,9 +86,3 @@ abbrev pub WorkEnds : Worked → ℕ → Parts → Type 0
 WorkEnds worked.Idle patience p = 0 < patience → RunnerIsQuiet p
 WorkEnds worked.Full patience p = IsFull p
 WorkEnds worked.NoMemory patience p = Unit {0}
-
--- how one turn ends
-abbrev pub OneEnds : Worked → Parts → Parts → Type 0
-OneEnds worked.Idle a b = MovedOne a b ⊎ (AsSeen a b × RunnerIsQuiet b)
-OneEnds worked.Full a b = AsSeen a b × IsFull b
-OneEnds worked.NoMemory a b = AsSeen a b

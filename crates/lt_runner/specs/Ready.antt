@@ -1,15 +1,14 @@
 -- Room for one move of a runner.
 use Rattle.std.specs.Prelude.{◌≤◌, ◌<◌, ℕ, nat_lt, IfSome, IsTrue}
 use Rattle.lt_modes.specs.Script.{ScriptData}
-use Rattle.lt_modes.specs.Fits.{fits}
+use Rattle.lt_modes.specs.Fits.{fits, numbers_of}
 use Rattle.lt_letter.specs.Seen.{letter_seen}
 use Rattle.lt_limits.specs.Limits.{node_within}
 use Rattle.lt_spec.specs.NodeMove.{NodeState}
-use Rattle.lt_node.specs.NodeData.{numbers_of}
-use Rattle.lt_runner.specs.declared.choice.TheConstants.{LAST_CLOCK}
+use Rattle.lt_core.specs.declared.fits.TheConstants.{LAST_CLOCK}
 use Rattle.lt_node.specs.Room.{RoomToAct, RoomToTake}
 use Rattle.lt_mail.specs.Words.{HasRoomFor}
-use Rattle.lt_runner.specs.declared.hand.Hand.{Hand}
+use Rattle.lt_runner.specs.declared.parts.Hand.{Hand}
 use Rattle.lt_runner.specs.declared.parts.Parts.{Parts}
 
 -- the log and the outboxes have room for all that a move may send out

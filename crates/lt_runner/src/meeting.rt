@@ -6,9 +6,8 @@ ghost use Rattle.lt_runner.specs.Looking.{AreBeside, HasMet, LooksTo, LooksFrom,
 ghost use Rattle.lt_spec.specs.NodeMove.{node_waits};
 ghost use Rattle.lt_node.specs.NodeData.{state_of};
 
-use crate::choice::Choice;
-use crate::choosing::choose;
-use crate::hand::Hand;
+use crate::choice::{Choice, choose};
+use crate::parts::Hand;
 use crate::runner::Runner;
 use lt_mail::{Mail, beside};
 use lt_merge::Log;

@@ -1,5 +1,5 @@
 // What a runner does before a move.
-ghost use Rattle.std.specs.Prelude.{◌≡◌, ◌≢◌, ℕ, None, IsTrue, IfSome, OnOk};
+ghost use Rattle.std.specs.Prelude.{◌≡◌, None, IsTrue, IfSome, OnOk};
 ghost use Rattle.lt_limits.specs.Limits.{node_within};
 ghost use Rattle.lt_node.specs.NodeData.{state_of};
 ghost use Rattle.lt_node.specs.Room.{RoomToAct, RoomToTake};
@@ -7,9 +7,11 @@ ghost use Rattle.lt_runner.specs.declared.choice.Choice.TheVariants as choices;
 ghost use Rattle.lt_runner.specs.Choices.{next_choice};
 ghost use Rattle.lt_runner.specs.Ready.{RunnerCanAct, RunnerCanTake, CanLog, FitsNow};
 ghost use Rattle.lt_runner.specs.Kept.{RunnerInvariant, AsSeen, KnowsNoLetter};
+ghost use Rattle.lt_mail.specs.Words.{ins_count};
+ghost use Rattle.lt_runner.specs.Polled.{Polled};
 
-use crate::parts::Parts;
-use crate::polling::poll;
+use crate::parts::{Hand, Parts};
+use lt_mail::Mail;
 use std::alloc::AllocError;
 
 impl Parts<'_> {
@@ -114,4 +116,20 @@ impl Parts<'_> {
         self.log.reserve(lines)?;
         self.mail.reserve(letters)
     }
+}
+
+/// Takes a letter of the first other node that one comes from.
+#[tactic(auto, using(crate::proofs::PollLemmas::poll_starts, crate::proofs::PollLemmas::poll_skips, crate::proofs::PollLemmas::poll_goes_on, crate::proofs::PollLemmas::poll_ends))]
+pub(crate) fn poll(mail: &mut Mail, me: u8, nodes: u8) -> Option<Hand>
+    requires { ins_count mail.old ≡ nodes }
+    ensures { Polled nodes me nodes mail.old mail.new result }
+{
+    for from in 0..nodes {
+        if from != me {
+            if let Some(letter) = mail.take(from) {
+                return Some(Hand { from, letter });
+            }
+        }
+    }
+    None
 }

@@ -13,7 +13,7 @@ use Rattle.lt_script.specs.declared.fault.Fault.{Fault}
 use Rattle.lt_script.specs.declared.fault.Fault.TheVariants as faults
 use Rattle.lt_script.specs.declared.limits.TheConstants.{MAX_LINE}
 use Rattle.lt_script.specs.Script.{HasModesOf}
-use Rattle.lt_script.specs.Forms.{FormData, CommandForm, OrderData, LockOrder, TryOrder, UnlockOrder, ChangeOrder, DropOrder, form_of}
+use Rattle.lt_script.specs.Forms.{FormData, CommandForm, CommandWordsData, LockWords, TryWords, UnlockWords, ChangeWords, DropWords, form_of}
 use Rattle.lt_script.specs.Faults.{form_fault, line_fault, fault_by_form, is_plain_byte, of_version, mode_in, names_no_mode, uses_unknown, exceeds_limit, drops_elsewhere, named_command}
 
 after_tests : (a b : Bool) (x y : Fault) (o : Option Fault) → cond a (Some x) (cond b (Some y) o) ≡ None → o ≡ None
@@ -37,19 +37,19 @@ mode_own v (Some mode) e = elim (cases_Bool (is_of_version v mode)) [
   | inr other ↦ absurd (let h = rw other at e in cc)
 ]
 
-modes_own : (s : ScriptData) (order : OrderData) → names_no_mode s.version order ≡ false → HasModesOf s.version (named_command s order)
-modes_own s (LockOrder set mode) e = mode_own s.version (mode_of mode) e
-modes_own s (TryOrder set mode) e = mode_own s.version (mode_of mode) e
-modes_own s (UnlockOrder set mode) e = mode_own s.version (mode_of mode) e
-modes_own s (ChangeOrder set gives_up mode) e =
+modes_own : (s : ScriptData) (asked : CommandWordsData) → names_no_mode s.version asked ≡ false → HasModesOf s.version (named_command s asked)
+modes_own s (LockWords set mode) e = mode_own s.version (mode_of mode) e
+modes_own s (TryWords set mode) e = mode_own s.version (mode_of mode) e
+modes_own s (UnlockWords set mode) e = mode_own s.version (mode_of mode) e
+modes_own s (ChangeWords set gives_up mode) e =
     let both = or_parts (is_none (mode_in s.version gives_up)) (is_none (mode_in s.version mode)) e in
     (mode_own s.version (mode_of gives_up) both.0, mode_own s.version (mode_of mode) both.1)
-modes_own s (DropOrder other set) e = tt
+modes_own s (DropWords other set) e = tt
 
 -- a command's line without fault names modes of the version
-pub modes_clean : (v : ℕ) (s : ScriptData) (c : List ℕ) (order : OrderData) → form_fault v (Some s) (CommandForm c order) ≡ None → HasModesOf s.version (named_command s order)
-modes_clean v s c order e =
-    modes_own s order
-    (no_test (names_no_mode s.version order) faults.Mode (cond (drops_elsewhere s (CommandForm c order)) (Some faults.Node) None)
-    (after_tests (uses_unknown s (CommandForm c order)) (exceeds_limit s (CommandForm c order)) faults.Unknown faults.Limit
-        (cond (names_no_mode s.version order) (Some faults.Mode) (cond (drops_elsewhere s (CommandForm c order)) (Some faults.Node) None)) e))
+pub modes_clean : (v : ℕ) (s : ScriptData) (c : List ℕ) (asked : CommandWordsData) → form_fault v (Some s) (CommandForm c asked) ≡ None → HasModesOf s.version (named_command s asked)
+modes_clean v s c asked e =
+    modes_own s asked
+    (no_test (names_no_mode s.version asked) faults.Mode (cond (drops_elsewhere s (CommandForm c asked)) (Some faults.Node) None)
+    (after_tests (uses_unknown s (CommandForm c asked)) (exceeds_limit s (CommandForm c asked)) faults.Unknown faults.Limit
+    (cond (names_no_mode s.version asked) (Some faults.Mode) (cond (drops_elsewhere s (CommandForm c asked)) (Some faults.Node) None)) e))

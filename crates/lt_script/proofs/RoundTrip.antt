@@ -21,10 +21,10 @@ use Rattle.lt_script.specs.declared.limits.TheConstants.{MAX_LINE}
 use Rattle.lt_text.proofs.NumberLemmas.{number_decimal}
 use Rattle.lt_script.specs.Names.{is_name}
 use Rattle.lt_script.specs.Script.{IsScript, IsRequest, HasModesOf, HasTargets, most_nodes, most_clients, load_of, set_number, client_number}
-use Rattle.lt_script.specs.Forms.{NodesForm, ClientForm, CommandForm, OrderData, LockOrder, TryOrder, UnlockOrder, ChangeOrder, DropOrder, form_of, order_of}
+use Rattle.lt_script.specs.Forms.{NodesForm, ClientForm, CommandForm, CommandWordsData, LockWords, TryWords, UnlockWords, ChangeWords, DropWords, form_of, asked_of}
 use Rattle.lt_script.specs.Faults.{only_nodes, mode_in}
 use Rattle.lt_script.specs.Reading.{ScriptBody, line_step, read_from, script_body, read_body, read_of}
-use Rattle.lt_script.specs.Printing.{version_words, nodes_words, first_name, set_words, client_words, order_words, command_words, script_words, print_of}
+use Rattle.lt_script.specs.Printing.{version_words, nodes_words, first_name, set_words, client_words, asked_words, command_words, script_words, print_of}
 use Rattle.lt_script.proofs.NameLemmas.{not_in_front}
 use Rattle.lt_script.proofs.PrintedLines.{ArePrinted, printed_words, IsPrintedLine, is_printed, line_read, name_printed, number_printed, printed_line, name_begins}
 use Rattle.lt_script.proofs.ReadLemmas.{read_more, read_end}
@@ -106,8 +106,8 @@ mode_printed ReadIntentionWrite = refl
 mode_printed Write = refl
 
 -- a line that begins with a name is a command's
-command_form : (name : List ℕ) (ws : List (List ℕ)) (order : OrderData) → is_name name ≡ true → order_of ws ≡ Some order → form_of (name ∷ ws) ≡ Some (CommandForm name order)
-command_form name ws order named e =
+command_form : (name : List ℕ) (ws : List (List ℕ)) (asked : CommandWordsData) → is_name name ≡ true → asked_of ws ≡ Some asked → form_of (name ∷ ws) ≡ Some (CommandForm name asked)
+command_form name ws asked named e =
     let begins = name_begins name named in
     rw (begins.not_version, begins.not_nodes, begins.not_set, begins.not_client, e)
 
@@ -119,12 +119,12 @@ command_printed name ws named good few = record {
 }
 
 -- what stands behind the client's name
-order_printed : (s : ScriptData) → IsScript s → (client : ℕ) (command : Command) → HasTargets s.sets s.clients client command → ArePrinted (order_words s command)
-order_printed s good client (Lock set mode) targets = (refl, (name_printed (set_name s set) (good.sets_named set targets), (mode_printed mode, tt)))
-order_printed s good client (Try set mode) targets = (refl, (name_printed (set_name s set) (good.sets_named set targets), (mode_printed mode, tt)))
-order_printed s good client (Unlock set mode) targets = (refl, (name_printed (set_name s set) (good.sets_named set targets), (mode_printed mode, tt)))
-order_printed s good client (Change set gives_up mode) targets = (refl, (name_printed (set_name s set) (good.sets_named set targets), (mode_printed gives_up, (mode_printed mode, tt))))
-order_printed s good client (DropAll other set) targets = (refl, (name_printed (client_name s other) (good.clients_named other targets.1), (name_printed (set_name s set) (good.sets_named set targets.0), tt)))
+asked_printed : (s : ScriptData) → IsScript s → (client : ℕ) (command : Command) → HasTargets s.sets s.clients client command → ArePrinted (asked_words s command)
+asked_printed s good client (Lock set mode) targets = (refl, (name_printed (set_name s set) (good.sets_named set targets), (mode_printed mode, tt)))
+asked_printed s good client (Try set mode) targets = (refl, (name_printed (set_name s set) (good.sets_named set targets), (mode_printed mode, tt)))
+asked_printed s good client (Unlock set mode) targets = (refl, (name_printed (set_name s set) (good.sets_named set targets), (mode_printed mode, tt)))
+asked_printed s good client (Change set gives_up mode) targets = (refl, (name_printed (set_name s set) (good.sets_named set targets), (mode_printed gives_up, (mode_printed mode, tt))))
+asked_printed s good client (DropAll other set) targets = (refl, (name_printed (client_name s other) (good.clients_named other targets.1), (name_printed (set_name s set) (good.sets_named set targets.0), tt)))
 
 command_read : (s : ScriptData) → IsScript s → (done : List (ℕ × Command)) (client : ℕ) (command : Command) → length done < 4096 → IsRequest s.sets s.clients (client, command) → HasModesOf s.version command
     → line_step s.version (Some (commands_only s done)) (spaced (command_words s (client, command))) ≡ Ok (Some (commands_only s (done ++ (client, command) ∷ [])))
@@ -134,9 +134,9 @@ command_read s good done client (Lock set mode) few request modes =
     let named = good.clients_named client request.0 in
     let own = good.clients_found client request.0 in
     let found = good.sets_found set request.1 in
-    line_read s.version (Some st) (name ∷ order_words s (Lock set mode)) (CommandForm name (LockOrder (set_name s set) (word_of mode)))
-    (command_printed name (order_words s (Lock set mode)) named (order_printed s good client (Lock set mode) request.1) (omega arith))
-    (command_form name (order_words s (Lock set mode)) (LockOrder (set_name s set) (word_of mode)) named refl)
+    line_read s.version (Some st) (name ∷ asked_words s (Lock set mode)) (CommandForm name (LockWords (set_name s set) (word_of mode)))
+    (command_printed name (asked_words s (Lock set mode)) named (asked_printed s good client (Lock set mode) request.1) (omega arith))
+    (command_form name (asked_words s (Lock set mode)) (LockWords (set_name s set) (word_of mode)) named refl)
     (rw (own, found, lt-leb 4096 (length done) few, mode_read_in s.version mode modes))
     ∙ rw (own, found, mode_read mode) refl
 command_read s good done client (Try set mode) few request modes =
@@ -145,9 +145,9 @@ command_read s good done client (Try set mode) few request modes =
     let named = good.clients_named client request.0 in
     let own = good.clients_found client request.0 in
     let found = good.sets_found set request.1 in
-    line_read s.version (Some st) (name ∷ order_words s (Try set mode)) (CommandForm name (TryOrder (set_name s set) (word_of mode)))
-    (command_printed name (order_words s (Try set mode)) named (order_printed s good client (Try set mode) request.1) (omega arith))
-    (command_form name (order_words s (Try set mode)) (TryOrder (set_name s set) (word_of mode)) named refl)
+    line_read s.version (Some st) (name ∷ asked_words s (Try set mode)) (CommandForm name (TryWords (set_name s set) (word_of mode)))
+    (command_printed name (asked_words s (Try set mode)) named (asked_printed s good client (Try set mode) request.1) (omega arith))
+    (command_form name (asked_words s (Try set mode)) (TryWords (set_name s set) (word_of mode)) named refl)
     (rw (own, found, lt-leb 4096 (length done) few, mode_read_in s.version mode modes))
     ∙ rw (own, found, mode_read mode) refl
 command_read s good done client (Unlock set mode) few request modes =
@@ -156,36 +156,36 @@ command_read s good done client (Unlock set mode) few request modes =
     let named = good.clients_named client request.0 in
     let own = good.clients_found client request.0 in
     let found = good.sets_found set request.1 in
-    line_read s.version (Some st) (name ∷ order_words s (Unlock set mode)) (CommandForm name (UnlockOrder (set_name s set) (word_of mode)))
-    (command_printed name (order_words s (Unlock set mode)) named (order_printed s good client (Unlock set mode) request.1) (omega arith))
-    (command_form name (order_words s (Unlock set mode)) (UnlockOrder (set_name s set) (word_of mode)) named refl)
+    line_read s.version (Some st) (name ∷ asked_words s (Unlock set mode)) (CommandForm name (UnlockWords (set_name s set) (word_of mode)))
+    (command_printed name (asked_words s (Unlock set mode)) named (asked_printed s good client (Unlock set mode) request.1) (omega arith))
+    (command_form name (asked_words s (Unlock set mode)) (UnlockWords (set_name s set) (word_of mode)) named refl)
     (rw (own, found, lt-leb 4096 (length done) few, mode_read_in s.version mode modes))
     ∙ rw (own, found, mode_read mode) refl
 command_read s good done client (Change set gives_up mode) few request modes =
     let st : ScriptData = commands_only s done in
     let name : List ℕ = client_name s client in
-    let ws : List (List ℕ) = order_words s (Change set gives_up mode) in
-    let order : OrderData = ChangeOrder (set_name s set) (word_of gives_up) (word_of mode) in
+    let ws : List (List ℕ) = asked_words s (Change set gives_up mode) in
+    let asked : CommandWordsData = ChangeWords (set_name s set) (word_of gives_up) (word_of mode) in
     let named = good.clients_named client request.0 in
     let own = good.clients_found client request.0 in
     let found = good.sets_found set request.1 in
-    line_read s.version (Some st) (name ∷ ws) (CommandForm name order)
-    (command_printed name ws named (order_printed s good client (Change set gives_up mode) request.1) (omega arith))
-    (command_form name ws order named refl)
+    line_read s.version (Some st) (name ∷ ws) (CommandForm name asked)
+    (command_printed name ws named (asked_printed s good client (Change set gives_up mode) request.1) (omega arith))
+    (command_form name ws asked named refl)
     (rw (own, found, lt-leb 4096 (length done) few, mode_read_in s.version gives_up modes.0, mode_read_in s.version mode modes.1))
     ∙ rw (own, found, mode_read gives_up, mode_read mode) refl
 command_read s good done client (DropAll other set) few request modes =
     let st : ScriptData = commands_only s done in
     let name : List ℕ = client_name s client in
-    let ws : List (List ℕ) = order_words s (DropAll other set) in
-    let order : OrderData = DropOrder (client_name s other) (set_name s set) in
+    let ws : List (List ℕ) = asked_words s (DropAll other set) in
+    let asked : CommandWordsData = DropWords (client_name s other) (set_name s set) in
     let named = good.clients_named client request.0 in
     let own = good.clients_found client request.0 in
     let other_found = good.clients_found other request.1.1 in
     let found = good.sets_found set request.1.0 in
-    line_read s.version (Some st) (name ∷ ws) (CommandForm name order)
-    (command_printed name ws named (order_printed s good client (DropAll other set) request.1) (omega arith))
-    (command_form name ws order named refl)
+    line_read s.version (Some st) (name ∷ ws) (CommandForm name asked)
+    (command_printed name ws named (asked_printed s good client (DropAll other set) request.1) (omega arith))
+    (command_form name ws asked named refl)
     (rw (own, other_found, found, lt-leb 4096 (length done) few, eq-eqb (home_at s.clients other) (home_at s.clients client) request.1.2))
     ∙ rw (own, other_found, found) refl
 
@@ -240,7 +240,7 @@ commands_printed : (s : ScriptData) → IsScript s → (done rest : List (ℕ ×
 commands_printed s good done [] e = tt
 commands_printed s good done (x ∷ rest) e =
     let request = request_at s good done x rest e in (
-      (name_printed (client_name s x.0) (good.clients_named x.0 request.0), order_printed s good x.0 x.1 request.1),
+      (name_printed (client_name s x.0) (good.clients_named x.0 request.0), asked_printed s good x.0 x.1 request.1),
       commands_printed s good (done ++ x ∷ []) rest (append_assoc done (x ∷ []) rest ∙ e),
     )
 

@@ -9,7 +9,7 @@ use Rattle.lt_script.specs.declared.fault.ScriptFault.{ScriptFault}
 use Rattle.lt_script.specs.declared.limits.TheConstants.{MAX_NODES, MAX_NODES_OF_FIRST, MAX_SETS, MAX_CLIENTS, MAX_CLIENTS_OF_FIRST, MAX_CLIENTS_OF_NODE, MAX_COMMANDS, MAX_NAME, MAX_LINE}
 use Rattle.lt_script.specs.Fault.{number_of}
 use Rattle.lt_script.specs.Names.{is_reserved}
-use Rattle.lt_script.specs.Forms.{FormData, VersionForm, NodesForm, SetForm, SetWithForm, ClientForm, CommandForm, LockOrder, TryOrder, UnlockOrder, ChangeOrder, DropOrder, form_of}
+use Rattle.lt_script.specs.Forms.{FormData, VersionForm, NodesForm, SetForm, SetWithForm, ClientForm, CommandForm, LockWords, TryWords, UnlockWords, ChangeWords, DropWords, form_of}
 use Rattle.lt_script.specs.Faults.{declared, is_plain_byte, has_bad_number, has_nodes_misplaced, declares_no_name, declares_again, uses_unknown, exceeds_limit, uses_no_mode, drops_elsewhere, line_fault}
 use Rattle.lt_script.specs.Reading.{ScriptBody, is_skipped, line_step, script_body, read_of}
 
@@ -77,11 +77,11 @@ pub record FormsAre : Type 0 where
   pub set : (s : List ℕ) → form_of (codes "set" ∷ s ∷ []) ≡ Some (SetForm s)
   pub set_with : (s t : List ℕ) → form_of (codes "set" ∷ s ∷ codes "with" ∷ t ∷ []) ≡ Some (SetWithForm s t)
   pub client : (c n : List ℕ) → form_of (codes "client" ∷ c ∷ codes "at" ∷ n ∷ []) ≡ Some (ClientForm c n)
-  pub lock : (s m : List ℕ) → form_of (codes "c" ∷ codes "lock" ∷ s ∷ m ∷ []) ≡ Some (CommandForm (codes "c") (LockOrder s m))
-  pub try : (s m : List ℕ) → form_of (codes "c" ∷ codes "try" ∷ s ∷ m ∷ []) ≡ Some (CommandForm (codes "c") (TryOrder s m))
-  pub unlock : (s m : List ℕ) → form_of (codes "c" ∷ codes "unlock" ∷ s ∷ m ∷ []) ≡ Some (CommandForm (codes "c") (UnlockOrder s m))
-  pub change : (s g m : List ℕ) → form_of (codes "c" ∷ codes "change" ∷ s ∷ g ∷ m ∷ []) ≡ Some (CommandForm (codes "c") (ChangeOrder s g m))
-  pub drop : (d s : List ℕ) → form_of (codes "c" ∷ codes "drop" ∷ d ∷ s ∷ []) ≡ Some (CommandForm (codes "c") (DropOrder d s))
+  pub lock : (s m : List ℕ) → form_of (codes "c" ∷ codes "lock" ∷ s ∷ m ∷ []) ≡ Some (CommandForm (codes "c") (LockWords s m))
+  pub try : (s m : List ℕ) → form_of (codes "c" ∷ codes "try" ∷ s ∷ m ∷ []) ≡ Some (CommandForm (codes "c") (TryWords s m))
+  pub unlock : (s m : List ℕ) → form_of (codes "c" ∷ codes "unlock" ∷ s ∷ m ∷ []) ≡ Some (CommandForm (codes "c") (UnlockWords s m))
+  pub change : (s g m : List ℕ) → form_of (codes "c" ∷ codes "change" ∷ s ∷ g ∷ m ∷ []) ≡ Some (CommandForm (codes "c") (ChangeWords s g m))
+  pub drop : (d s : List ℕ) → form_of (codes "c" ∷ codes "drop" ∷ d ∷ s ∷ []) ≡ Some (CommandForm (codes "c") (DropWords d s))
 
 -- lines without a fault, each after those before it, with the script before them and the script after them
 abbrev pub AreRead : ℕ → Option ScriptData → List (List ℕ) → Option ScriptData → Type 0

@@ -16,7 +16,7 @@ use Rattle.lt_script.specs.declared.form.Form.{Form}
 use Rattle.lt_script.specs.declared.limits.TheConstants.{MAX_SETS, MAX_CLIENTS_OF_NODE, MAX_COMMANDS, MAX_LINE}
 use Rattle.lt_script.specs.Names.{is_name}
 use Rattle.lt_script.specs.Script.{most_nodes, most_clients, load_of, set_number, client_number, is_declared}
-use Rattle.lt_script.specs.Forms.{FormData, VersionForm, NodesForm, SetForm, SetWithForm, ClientForm, CommandForm, OrderData, LockOrder, TryOrder, UnlockOrder, ChangeOrder, DropOrder, form_of, form_seen}
+use Rattle.lt_script.specs.Forms.{FormData, VersionForm, NodesForm, SetForm, SetWithForm, ClientForm, CommandForm, CommandWordsData, LockWords, TryWords, UnlockWords, ChangeWords, DropWords, form_of, form_seen}
 
 -- a script of this version that declares nothing but the number of its nodes
 abbrev pub only_nodes : ℕ → ℕ → ScriptData
@@ -68,18 +68,18 @@ declares_again s (SetWithForm name t) = is_declared s name
 declares_again s (ClientForm name n) = is_declared s name
 declares_again s form = false
 
--- the order names a set or a client that wasn't declared before
-abbrev pub names_unknown : ScriptData → OrderData → Bool
-names_unknown s (LockOrder set mode) = is_none (set_number s set)
-names_unknown s (TryOrder set mode) = is_none (set_number s set)
-names_unknown s (UnlockOrder set mode) = is_none (set_number s set)
-names_unknown s (ChangeOrder set gives_up mode) = is_none (set_number s set)
-names_unknown s (DropOrder other set) = is_none (client_number s other) || is_none (set_number s set)
+-- the command names a set or a client that wasn't declared before
+abbrev pub names_unknown : ScriptData → CommandWordsData → Bool
+names_unknown s (LockWords set mode) = is_none (set_number s set)
+names_unknown s (TryWords set mode) = is_none (set_number s set)
+names_unknown s (UnlockWords set mode) = is_none (set_number s set)
+names_unknown s (ChangeWords set gives_up mode) = is_none (set_number s set)
+names_unknown s (DropWords other set) = is_none (client_number s other) || is_none (set_number s set)
 
 -- a set or a client is used that wasn't declared before
 abbrev pub uses_unknown : ScriptData → FormData → Bool
 uses_unknown s (SetWithForm name t) = is_none (set_number s t)
-uses_unknown s (CommandForm c order) = is_none (client_number s c) || names_unknown s order
+uses_unknown s (CommandForm c asked) = is_none (client_number s c) || names_unknown s asked
 uses_unknown s form = false
 
 -- there are more nodes, sets, clients or commands than a script may have
@@ -89,7 +89,7 @@ exceeds_limit s (NodesForm n) = nat_lt (most_nodes s.version) (unwrap_or (number
 exceeds_limit s (SetForm name) = nat_le MAX_SETS (length s.sets)
 exceeds_limit s (SetWithForm name t) = nat_le MAX_SETS (length s.sets)
 exceeds_limit s (ClientForm name n) = nat_le (most_clients s.version) (length s.clients) || nat_le MAX_CLIENTS_OF_NODE (load_of s.clients (unwrap_or (number n) 0))
-exceeds_limit s (CommandForm c order) = nat_le MAX_COMMANDS (length s.commands)
+exceeds_limit s (CommandForm c asked) = nat_le MAX_COMMANDS (length s.commands)
 
 -- the mode, where it is one of this version
 abbrev pub of_version : ℕ → Option Mode → Option Mode
@@ -101,15 +101,15 @@ abbrev pub mode_in : ℕ → List ℕ → Option Mode
 mode_in version word = of_version version (mode_of word)
 
 -- a word in a mode's place is no mode of this version
-abbrev pub names_no_mode : ℕ → OrderData → Bool
-names_no_mode version (LockOrder set mode) = is_none (mode_in version mode)
-names_no_mode version (TryOrder set mode) = is_none (mode_in version mode)
-names_no_mode version (UnlockOrder set mode) = is_none (mode_in version mode)
-names_no_mode version (ChangeOrder set gives_up mode) = is_none (mode_in version gives_up) || is_none (mode_in version mode)
-names_no_mode version (DropOrder other set) = false
+abbrev pub names_no_mode : ℕ → CommandWordsData → Bool
+names_no_mode version (LockWords set mode) = is_none (mode_in version mode)
+names_no_mode version (TryWords set mode) = is_none (mode_in version mode)
+names_no_mode version (UnlockWords set mode) = is_none (mode_in version mode)
+names_no_mode version (ChangeWords set gives_up mode) = is_none (mode_in version gives_up) || is_none (mode_in version mode)
+names_no_mode version (DropWords other set) = false
 
 abbrev pub uses_no_mode : ScriptData → FormData → Bool
-uses_no_mode s (CommandForm c order) = names_no_mode s.version order
+uses_no_mode s (CommandForm c asked) = names_no_mode s.version asked
 uses_no_mode s form = false
 
 abbrev pub home_by : ScriptData → Option ℕ → ℕ
@@ -122,7 +122,7 @@ home_of s name = home_by s (client_number s name)
 
 -- locks of a client of another node are dropped
 abbrev pub drops_elsewhere : ScriptData → FormData → Bool
-drops_elsewhere s (CommandForm c (DropOrder other set)) = not (home_of s other == home_of s c)
+drops_elsewhere s (CommandForm c (DropWords other set)) = not (home_of s other == home_of s c)
 drops_elsewhere s form = false
 
 -- the first fault whose test is true
@@ -175,13 +175,13 @@ family_of s name = family_by s (set_number s name)
 abbrev pub mode_at : List ℕ → Mode
 mode_at word = unwrap_or (mode_of word) IntentionRead
 
--- the command of an order
-abbrev pub named_command : ScriptData → OrderData → Command
-named_command s (LockOrder set mode) = commands.Lock (set_at s set) (mode_at mode)
-named_command s (TryOrder set mode) = commands.Try (set_at s set) (mode_at mode)
-named_command s (UnlockOrder set mode) = commands.Unlock (set_at s set) (mode_at mode)
-named_command s (ChangeOrder set gives_up mode) = commands.Change (set_at s set) (mode_at gives_up) (mode_at mode)
-named_command s (DropOrder other set) = commands.DropAll (unwrap_or (client_number s other) 0) (set_at s set)
+-- the command of these words
+abbrev pub named_command : ScriptData → CommandWordsData → Command
+named_command s (LockWords set mode) = commands.Lock (set_at s set) (mode_at mode)
+named_command s (TryWords set mode) = commands.Try (set_at s set) (mode_at mode)
+named_command s (UnlockWords set mode) = commands.Unlock (set_at s set) (mode_at mode)
+named_command s (ChangeWords set gives_up mode) = commands.Change (set_at s set) (mode_at gives_up) (mode_at mode)
+named_command s (DropWords other set) = commands.DropAll (unwrap_or (client_number s other) 0) (set_at s set)
 
 abbrev pub with_set : ScriptData → List ℕ → ℕ → ScriptData
 with_set s name family = record s { sets = s.sets ++ record { name = name; family = family } ∷ [] }
@@ -199,7 +199,7 @@ after_form s (NodesForm n) = only_nodes s.version (unwrap_or (number n) 0)
 after_form s (SetForm name) = with_set s name (length s.sets)
 after_form s (SetWithForm name t) = with_set s name (family_of s t)
 after_form s (ClientForm name n) = with_client s name (unwrap_or (number n) 0)
-after_form s (CommandForm c order) = with_command s (unwrap_or (client_number s c) 0) (named_command s order)
+after_form s (CommandForm c asked) = with_command s (unwrap_or (client_number s c) 0) (named_command s asked)
 
 -- what is found out of a line: its form, or its first fault
 abbrev pub Judges : Result Form Fault → Option Fault → Option FormData → Type 0

@@ -31,16 +31,16 @@ abbrev pub client_words : ClientData → List (List ℕ)
 client_words x = codes "client" ∷ x.name ∷ codes "at" ∷ decimal x.node ∷ []
 
 -- `lock S M`, `try S M`, `unlock S M`, `change S G M` and `drop D S`
-abbrev pub order_words : ScriptData → Command → List (List ℕ)
-order_words s (Lock set mode) = codes "lock" ∷ set_name s set ∷ word_of mode ∷ []
-order_words s (Try set mode) = codes "try" ∷ set_name s set ∷ word_of mode ∷ []
-order_words s (Unlock set mode) = codes "unlock" ∷ set_name s set ∷ word_of mode ∷ []
-order_words s (Change set gives_up mode) = codes "change" ∷ set_name s set ∷ word_of gives_up ∷ word_of mode ∷ []
-order_words s (DropAll other set) = codes "drop" ∷ client_name s other ∷ set_name s set ∷ []
+abbrev pub asked_words : ScriptData → Command → List (List ℕ)
+asked_words s (Lock set mode) = codes "lock" ∷ set_name s set ∷ word_of mode ∷ []
+asked_words s (Try set mode) = codes "try" ∷ set_name s set ∷ word_of mode ∷ []
+asked_words s (Unlock set mode) = codes "unlock" ∷ set_name s set ∷ word_of mode ∷ []
+asked_words s (Change set gives_up mode) = codes "change" ∷ set_name s set ∷ word_of gives_up ∷ word_of mode ∷ []
+asked_words s (DropAll other set) = codes "drop" ∷ client_name s other ∷ set_name s set ∷ []
 
 -- a command behind the name of its client
 abbrev pub command_words : ScriptData → ℕ × Command → List (List ℕ)
-command_words s request = client_name s request.0 ∷ order_words s request.1
+command_words s request = client_name s request.0 ∷ asked_words s request.1
 
 -- the words of each line
 abbrev pub script_words : ScriptData → List (List (List ℕ))

@@ -32,10 +32,9 @@ pub const MAX_LINE: usize = 200;
 pub(crate) fn most_nodes(version: u8) -> u8
     ensures { result ≡ most_nodes version }
 {
-    if version == 1 {
-        MAX_NODES_OF_FIRST
-    } else {
-        MAX_NODES
+    match version {
+        1 => MAX_NODES_OF_FIRST,
+        _ => MAX_NODES,
     }
 }
 
@@ -43,9 +42,8 @@ pub(crate) fn most_nodes(version: u8) -> u8
 pub(crate) fn most_clients(version: u8) -> u16
     ensures { result ≡ most_clients version }
 {
-    if version == 1 {
-        MAX_CLIENTS_OF_FIRST
-    } else {
-        MAX_CLIENTS
+    match version {
+        1 => MAX_CLIENTS_OF_FIRST,
+        _ => MAX_CLIENTS,
     }
 }

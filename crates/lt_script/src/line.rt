@@ -1,12 +1,12 @@
-ghost use Rattle.std.specs.Prelude.{◌≡◌, None, Some, OnOk};
+ghost use Rattle.std.specs.Prelude.{◌≡◌, ℕ, None, Some, OnOk};
 ghost use Rattle.std.specs.List.{list_all};
 ghost use Rattle.lt_text.specs.Text.{words};
 ghost use Rattle.lt_script.specs.Script.{is_declared};
-ghost use Rattle.lt_script.specs.Forms.{FormData, form_of, form_seen, order_seen, NodesForm, SetForm, SetWithForm, ClientForm, CommandForm};
+ghost use Rattle.lt_script.specs.Forms.{FormData, form_of, form_seen, asked_seen, NodesForm, SetForm, SetWithForm, ClientForm, CommandForm};
 ghost use Rattle.lt_script.specs.Faults.{Judges, line_fault, form_fault, is_plain_byte, names_unknown, names_no_mode, mode_in, drops_elsewhere, home_of};
 
 use crate::fault::Fault;
-use crate::form::{Form, Order, form_of};
+use crate::form::{CommandWords, Form, form_of};
 use crate::limits::{
     MAX_CLIENTS_OF_NODE, MAX_COMMANDS, MAX_LINE, MAX_SETS, most_clients, most_nodes,
 };
@@ -39,7 +39,7 @@ fn form_fault(version: u8, script: &Option<Script>, form: Form<'_>) -> Option<Fa
     ensures { result ≡ form_fault version script.now (form_seen form.entry) }
 {
     match script {
-        Some(script) => fault_after_nodes(version, script, form),
+        Some(script) => fault_after_nodes(script, form),
         None => fault_before_nodes(version, form),
     }
 }
@@ -66,21 +66,21 @@ fn first_nodes_fault(version: u8, nodes: &[u8]) -> Option<Fault>
 }
 
 // The first fault of a line where the line `nodes` was before it.
-fn fault_after_nodes(_version: u8, script: &Script, form: Form<'_>) -> Option<Fault>
-    ensures { result ≡ form_fault _version (Some script.now) (form_seen form.entry) }
+fn fault_after_nodes(script: &Script, form: Form<'_>) -> Option<Fault>
+    ensures { (version : ℕ) → result ≡ form_fault version (Some script.now) (form_seen form.entry) }
 {
     match form {
         Form::Version => Some(Fault::Nodes),
-        Form::Nodes { nodes } => later_nodes_fault(_version, script, nodes),
-        Form::Set { name } => set_fault(_version, script, name),
-        Form::SetWith { name, relative } => set_with_fault(_version, script, name, relative),
-        Form::Client { name, node } => client_fault(_version, script, name, node),
-        Form::Command { client, order } => command_fault(_version, script, client, order),
+        Form::Nodes { nodes } => later_nodes_fault(script, nodes),
+        Form::Set { name } => set_fault(script, name),
+        Form::SetWith { name, relative } => set_with_fault(script, name, relative),
+        Form::Client { name, node } => client_fault(script, name, node),
+        Form::Command { client, asked } => command_fault(script, client, asked),
     }
 }
 
-fn later_nodes_fault(_version: u8, _script: &Script, nodes: &[u8]) -> Option<Fault>
-    ensures { result ≡ form_fault _version (Some _script.now) (NodesForm nodes.now) }
+fn later_nodes_fault(_script: &Script, nodes: &[u8]) -> Option<Fault>
+    ensures { (version : ℕ) → result ≡ form_fault version (Some _script.now) (NodesForm nodes.now) }
 {
     match number(nodes) {
         None | Some(0) => Some(Fault::Number),
@@ -88,8 +88,8 @@ fn later_nodes_fault(_version: u8, _script: &Script, nodes: &[u8]) -> Option<Fau
     }
 }
 
-fn set_fault(_version: u8, script: &Script, name: &[u8]) -> Option<Fault>
-    ensures { result ≡ form_fault _version (Some script.now) (SetForm name.now) }
+fn set_fault(script: &Script, name: &[u8]) -> Option<Fault>
+    ensures { (version : ℕ) → result ≡ form_fault version (Some script.now) (SetForm name.now) }
 {
     if !is_name(name) {
         Some(Fault::Name)
@@ -102,8 +102,8 @@ fn set_fault(_version: u8, script: &Script, name: &[u8]) -> Option<Fault>
     }
 }
 
-fn set_with_fault(_version: u8, script: &Script, name: &[u8], relative: &[u8]) -> Option<Fault>
-    ensures { result ≡ form_fault _version (Some script.now) (SetWithForm name.now relative.now) }
+fn set_with_fault(script: &Script, name: &[u8], relative: &[u8]) -> Option<Fault>
+    ensures { (version : ℕ) → result ≡ form_fault version (Some script.now) (SetWithForm name.now relative.now) }
 {
     if !is_name(name) {
         Some(Fault::Name)
@@ -118,8 +118,8 @@ fn set_with_fault(_version: u8, script: &Script, name: &[u8], relative: &[u8]) -
     }
 }
 
-fn client_fault(_version: u8, script: &Script, name: &[u8], node: &[u8]) -> Option<Fault>
-    ensures { result ≡ form_fault _version (Some script.now) (ClientForm name.now node.now) }
+fn client_fault(script: &Script, name: &[u8], node: &[u8]) -> Option<Fault>
+    ensures { (version : ℕ) → result ≡ form_fault version (Some script.now) (ClientForm name.now node.now) }
 {
     let Some(node) = number(node) else {
         return Some(Fault::Number);
@@ -139,49 +139,49 @@ fn client_fault(_version: u8, script: &Script, name: &[u8], node: &[u8]) -> Opti
     }
 }
 
-fn command_fault(_version: u8, script: &Script, client: &[u8], order: Order<'_>) -> Option<Fault>
-    ensures { result ≡ form_fault _version (Some script.now) (CommandForm client.now (order_seen order.entry)) }
+fn command_fault(script: &Script, client: &[u8], asked: CommandWords<'_>) -> Option<Fault>
+    ensures { (version : ℕ) → result ≡ form_fault version (Some script.now) (CommandForm client.now (asked_seen asked.entry)) }
 {
-    if script.client_number(client).is_none() || names_unknown(script, order) {
+    if script.client_number(client).is_none() || names_unknown(script, asked) {
         Some(Fault::Unknown)
     } else if script.commands() >= MAX_COMMANDS {
         Some(Fault::Limit)
-    } else if names_no_mode(script.version(), order) {
+    } else if names_no_mode(script.version(), asked) {
         Some(Fault::Mode)
-    } else if drops_elsewhere(script, client, order) {
+    } else if drops_elsewhere(script, client, asked) {
         Some(Fault::Node)
     } else {
         None
     }
 }
 
-// Whether the order names a set or a client that wasn't declared.
-fn names_unknown(script: &Script, order: Order<'_>) -> bool
-    ensures { result ≡ names_unknown script.now (order_seen order.entry) }
+// Whether the command names a set or a client that wasn't declared.
+fn names_unknown(script: &Script, asked: CommandWords<'_>) -> bool
+    ensures { result ≡ names_unknown script.now (asked_seen asked.entry) }
 {
-    match order {
-        Order::Lock { set, .. } => script.set_number(set).is_none(),
-        Order::Try { set, .. } => script.set_number(set).is_none(),
-        Order::Unlock { set, .. } => script.set_number(set).is_none(),
-        Order::Change { set, .. } => script.set_number(set).is_none(),
-        Order::Drop { client, set } => {
+    match asked {
+        CommandWords::Lock { set, .. } => script.set_number(set).is_none(),
+        CommandWords::Try { set, .. } => script.set_number(set).is_none(),
+        CommandWords::Unlock { set, .. } => script.set_number(set).is_none(),
+        CommandWords::Change { set, .. } => script.set_number(set).is_none(),
+        CommandWords::Drop { client, set } => {
             script.client_number(client).is_none() || script.set_number(set).is_none()
         }
     }
 }
 
 // Whether a word in a mode's place is no mode of this version.
-fn names_no_mode(version: u8, order: Order<'_>) -> bool
-    ensures { result ≡ names_no_mode version (order_seen order.entry) }
+fn names_no_mode(version: u8, asked: CommandWords<'_>) -> bool
+    ensures { result ≡ names_no_mode version (asked_seen asked.entry) }
 {
-    match order {
-        Order::Lock { mode, .. } => mode_in(version, mode).is_none(),
-        Order::Try { mode, .. } => mode_in(version, mode).is_none(),
-        Order::Unlock { mode, .. } => mode_in(version, mode).is_none(),
-        Order::Change { gives_up, mode, .. } => {
+    match asked {
+        CommandWords::Lock { mode, .. } => mode_in(version, mode).is_none(),
+        CommandWords::Try { mode, .. } => mode_in(version, mode).is_none(),
+        CommandWords::Unlock { mode, .. } => mode_in(version, mode).is_none(),
+        CommandWords::Change { gives_up, mode, .. } => {
             mode_in(version, gives_up).is_none() || mode_in(version, mode).is_none()
         }
-        Order::Drop { .. } => false,
+        CommandWords::Drop { .. } => false,
     }
 }
 
@@ -199,12 +199,13 @@ fn mode_in(version: u8, word: &[u8]) -> Option<Mode>
     }
 }
 
-// Whether the order drops locks of a client of another node than this client's.
-fn drops_elsewhere(script: &Script, client: &[u8], order: Order<'_>) -> bool
-    ensures { result ≡ drops_elsewhere script.now (CommandForm client.now (order_seen order.entry)) }
+// Whether the command drops locks of a client of another node than this client's.
+fn drops_elsewhere(script: &Script, client: &[u8], asked: CommandWords<'_>) -> bool
+    ensures { result ≡ drops_elsewhere script.now (CommandForm client.now (asked_seen asked.entry)) }
 {
-    match order {
-        Order::Drop { client: other, .. } => home_of(script, other) != home_of(script, client),
+    match asked {
+        CommandWords::Drop { client: other, .. } => home_of(script, other)
+            != home_of(script, client),
         _ => false,
     }
 }

@@ -4,7 +4,7 @@ ghost use Rattle.lt_modes.specs.Modes.{word_of};
 ghost use Rattle.lt_text.specs.Text.{each_after_space};
 ghost use Rattle.lt_script.specs.Script.{IsRequest};
 ghost use Rattle.lt_script.specs.Reading.{read_of};
-ghost use Rattle.lt_script.specs.Printing.{print_of, ended_line, version_words, nodes_words, set_words, client_words, order_words, command_words};
+ghost use Rattle.lt_script.specs.Printing.{print_of, ended_line, version_words, nodes_words, set_words, client_words, asked_words, command_words};
 
 use crate::declarations::{ClientDecl, SetDecl};
 use crate::script::Script;
@@ -12,7 +12,8 @@ use lt_modes::{Command, Mode};
 use lt_text::push_number;
 use std::alloc::{AllocError, Global};
 
-/// Writes the script as `read` reads it: for version 2 the line `version 2`, and then the line `nodes`, the sets, the clients and the commands.
+/// Writes the script as `read` reads it: for version 2 the line `version 2`, and then the line `nodes`, the sets, the
+/// clients and the commands.
 pub fn print(alloc: Global, script: &Script) -> Result<Vec<u8>, AllocError>
     ensures text { IfOk result (λ text. text.items ≡ print_of script.now) }
     ensures read_back { IfOk result (λ text. read_of text.items ≡ Ok script.now) }
@@ -109,15 +110,15 @@ fn push_command(
         (out.new.items ≡ out.old.items ++ ended_line (command_words script.now request)) }
 {
     out.extend_from_slice(script.client_name(request.0))?;
-    push_order(out, script, request)?;
+    push_asked(out, script, request)?;
     push_text(out, "\n")
 }
 
 // Writes what stands behind the client's name.
-fn push_order(out: &mut Vec<u8>, script: &Script, request: (u16, Command)) -> Result<(), AllocError>
+fn push_asked(out: &mut Vec<u8>, script: &Script, request: (u16, Command)) -> Result<(), AllocError>
     requires { IsRequest script.now.sets script.now.clients request }
     ensures { OnOk result
-        (out.new.items ≡ out.old.items ++ each_after_space (order_words script.now request.1)) }
+        (out.new.items ≡ out.old.items ++ each_after_space (asked_words script.now request.1)) }
 {
     match request.1 {
         Command::Lock { set, mode } => push_set_and_mode(out, b"lock", script.set_name(set), mode),

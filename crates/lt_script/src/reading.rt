@@ -1,11 +1,11 @@
 ghost use Rattle.std.specs.Prelude.{◌≡◌, ◌⊎◌, ◌<◌, ◌≤◌, ◌+◌, ◌-◌, ◌^◌, None, Some, false, length, IfOk, OnOk};
 ghost use Rattle.lt_text.specs.Text.{lines, words};
-ghost use Rattle.lt_script.specs.Forms.{form_of, form_seen, order_seen, SetWithForm, ClientForm, CommandForm};
+ghost use Rattle.lt_script.specs.Forms.{form_of, form_seen, asked_seen, SetWithForm, ClientForm, CommandForm};
 ghost use Rattle.lt_script.specs.Faults.{declared, form_fault, after_form, named_command, set_at, mode_at};
 ghost use Rattle.lt_script.specs.Reading.{TakesLine, Reads, is_skipped, says_version, line_step, script_body, read_of};
 
 use crate::fault::{Fault, ReadError, ScriptFault};
-use crate::form::{Form, Order, form_of};
+use crate::form::{CommandWords, Form, form_of};
 use crate::limits::MAX_LINE;
 use crate::line::judge;
 use crate::script::Script;
@@ -148,7 +148,7 @@ fn apply(
     ensures { OnOk result (script.new ≡ Some (after_form (declared version script.old) (form_seen form.entry))) }
 {
     match script {
-        Some(script) => add(version, script, form),
+        Some(script) => add(script, form),
         None => {
             *script = Some(start(alloc, version, form)?);
             Ok(())
@@ -174,8 +174,8 @@ fn start(alloc: Global, version: u8, form: Form<'_>) -> Result<Script, AllocErro
 }
 
 // Adds what a line after the line `nodes` says.
-fn add(_version: u8, script: &mut Script, form: Form<'_>) -> Result<(), AllocError>
-    requires { form_fault _version (Some script.old) (form_seen form) ≡ None }
+fn add(script: &mut Script, form: Form<'_>) -> Result<(), AllocError>
+    requires { form_fault script.old.version (Some script.old) (form_seen form) ≡ None }
     ensures { OnOk result (script.new ≡ after_form script.old (form_seen form.entry)) }
 {
     match form {
@@ -184,20 +184,15 @@ fn add(_version: u8, script: &mut Script, form: Form<'_>) -> Result<(), AllocErr
             let family = script.sets();
             script.add_set(name, family)
         }
-        Form::SetWith { name, relative } => add_relative(_version, script, name, relative),
-        Form::Client { name, node } => add_client(_version, script, name, node),
-        Form::Command { client, order } => add_command(_version, script, client, order),
+        Form::SetWith { name, relative } => add_relative(script, name, relative),
+        Form::Client { name, node } => add_client(script, name, node),
+        Form::Command { client, asked } => add_command(script, client, asked),
     }
 }
 
 // Adds a set in the family of this one.
-fn add_relative(
-    _version: u8,
-    script: &mut Script,
-    name: &[u8],
-    relative: &[u8],
-) -> Result<(), AllocError>
-    requires { form_fault _version (Some script.old) (SetWithForm name.now relative.now) ≡ None }
+fn add_relative(script: &mut Script, name: &[u8], relative: &[u8]) -> Result<(), AllocError>
+    requires { form_fault script.old.version (Some script.old) (SetWithForm name.now relative.now) ≡ None }
     ensures { OnOk result (script.new ≡ after_form script.old (SetWithForm name.now relative.now)) }
 {
     let Some(set) = script.set_number(relative) else {
@@ -207,8 +202,8 @@ fn add_relative(
     script.add_set(name, family)
 }
 
-fn add_client(_version: u8, script: &mut Script, name: &[u8], node: &[u8]) -> Result<(), AllocError>
-    requires { form_fault _version (Some script.old) (ClientForm name.now node.now) ≡ None }
+fn add_client(script: &mut Script, name: &[u8], node: &[u8]) -> Result<(), AllocError>
+    requires { form_fault script.old.version (Some script.old) (ClientForm name.now node.now) ≡ None }
     ensures { OnOk result (script.new ≡ after_form script.old (ClientForm name.now node.now)) }
 {
     let node = number(node).unwrap_or(0);
@@ -217,38 +212,37 @@ fn add_client(_version: u8, script: &mut Script, name: &[u8], node: &[u8]) -> Re
 }
 
 fn add_command(
-    _version: u8,
     script: &mut Script,
     client: &[u8],
-    order: Order<'_>,
+    asked: CommandWords<'_>,
 ) -> Result<(), AllocError>
-    requires { form_fault _version (Some script.old) (CommandForm client.now (order_seen order)) ≡ None }
+    requires { form_fault script.old.version (Some script.old) (CommandForm client.now (asked_seen asked)) ≡ None }
     ensures { OnOk result
-        (script.new ≡ after_form script.old (CommandForm client.now (order_seen order.entry))) }
+        (script.new ≡ after_form script.old (CommandForm client.now (asked_seen asked.entry))) }
 {
     let client = script.client_number(client).unwrap_or(0);
-    let command = command_of(script, order);
+    let command = command_of(script, asked);
     script.add_command(client, command)
 }
 
-// The command of an order that names declared sets and clients, and modes.
-fn command_of(script: &Script, order: Order<'_>) -> Command
-    ensures { result ≡ named_command script.now (order_seen order.entry) }
+// The command of words that name declared sets and clients, and modes.
+fn command_of(script: &Script, asked: CommandWords<'_>) -> Command
+    ensures { result ≡ named_command script.now (asked_seen asked.entry) }
 {
-    match order {
-        Order::Lock { set, mode } => Command::Lock {
+    match asked {
+        CommandWords::Lock { set, mode } => Command::Lock {
             set: set_at(script, set),
             mode: mode_at(mode),
         },
-        Order::Try { set, mode } => Command::Try {
+        CommandWords::Try { set, mode } => Command::Try {
             set: set_at(script, set),
             mode: mode_at(mode),
         },
-        Order::Unlock { set, mode } => Command::Unlock {
+        CommandWords::Unlock { set, mode } => Command::Unlock {
             set: set_at(script, set),
             mode: mode_at(mode),
         },
-        Order::Change {
+        CommandWords::Change {
             set,
             gives_up,
             mode,
@@ -257,7 +251,7 @@ fn command_of(script: &Script, order: Order<'_>) -> Command
             gives_up: mode_at(gives_up),
             mode: mode_at(mode),
         },
-        Order::Drop { client, set } => Command::DropAll {
+        CommandWords::Drop { client, set } => Command::DropAll {
             client: script.client_number(client).unwrap_or(0),
             set: set_at(script, set),
         },

@@ -38,8 +38,14 @@ fn tells_the_first_fault(rt: HostRuntime) -> Result<(), Fail> {
         ("nodes 1\nset s\nclient a at 0\na grab s read\n", (4, 3)),
         ("nodes 1\nset s\u{1}\n", (2, 1)),
         ("# \u{1}\r?\nnodes 1\n", (0, 0)),
-        ("nodes 1\nset s\nclient a at 0\na lock s read_intention_write\n", (4, 10)),
-        ("version 2\nnodes 1\nset s\nclient a at 0\na lock s read_intention_write\n", (0, 0)),
+        (
+            "nodes 1\nset s\nclient a at 0\na lock s read_intention_write\n",
+            (4, 10),
+        ),
+        (
+            "version 2\nnodes 1\nset s\nclient a at 0\na lock s read_intention_write\n",
+            (0, 0),
+        ),
         ("version 3\nnodes 1\n", (1, 3)),
         ("version 02\nnodes 1\n", (1, 3)),
         ("version 2\nnodes 1\nversion 2\n", (3, 5)),
@@ -48,7 +54,10 @@ fn tells_the_first_fault(rt: HostRuntime) -> Result<(), Fail> {
         ("version 2\n", (2, 5)),
         ("\n# two\n version\t2 \r\nnodes 64\n", (0, 0)),
         ("version 2\nnodes 65\n", (2, 9)),
-        ("version 2\nnodes 1\nset s\nclient a at 0\na lock s reed\n", (5, 10)),
+        (
+            "version 2\nnodes 1\nset s\nclient a at 0\na lock s reed\n",
+            (5, 10),
+        ),
     ];
     for (text, expected) in rows {
         let found = first_fault(rt.alloc(), text.as_bytes())?;

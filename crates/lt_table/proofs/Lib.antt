@@ -1,2 +1,2 @@
-mod StampLemmas
+mod OwedLemmas
 mod EntryLemmas

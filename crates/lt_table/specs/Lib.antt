@@ -1,3 +1,2 @@
-pub mod Stamps
 pub mod TableData
 pub mod Seen

@@ -11,7 +11,7 @@ ghost use Rattle.lt_table.specs.TableData.{entry_at, put_by, ask_with, told_froz
 ghost use Rattle.lt_table.specs.Seen.{entry_seen, spare_in};
 
 use crate::entry::Entry;
-use crate::pending::Pending;
+use lt_asks::Pending;
 use lt_modes::{Mode, ModeSet, Stamp};
 use std::alloc::{AllocError, Global};
 use std::marker::Model;

@@ -1,4 +1,5 @@
-use super::{Pending, Table};
+use super::Table;
+use lt_asks::Pending;
 use lt_modes::{Mode, ModeSet, Stamp};
 use std::alloc::{AllocError, Global};
 use std::test::Fail;
@@ -18,22 +19,6 @@ fn listed(first: u64, second: u64) -> Pending {
     add(&mut pending, first);
     add(&mut pending, second);
     pending
-}
-
-#[test]
-fn lists_stamps_in_order(rt: HostRuntime) {
-    let mut pending = listed(5, 3);
-    add(&mut pending, 5);
-    let copy = pending.copied();
-    for (clock, left) in [(3, true), (5, true), (5, true), (5, false), (9, false)] {
-        assert_eq!(rt; pending.remove(stamp(clock)), left, "{clock}");
-    }
-    assert_eq!(rt; (pending.len(), copy.len()), (0, 3));
-    for (k, clock) in [(0, 5), (1, 3), (2, 5)] {
-        assert!(rt; k < copy.len());
-        assert_eq!(rt; copy.get(k), stamp(clock));
-    }
-    assert!(rt; copy.has(stamp(3)) && !copy.has(Stamp { clock: 3, node: 2 }));
 }
 
 // Node 1 was sent copies at clocks 3, 5 and 7, and told at clock 6 that it waits for the ask of clock 3 alone.

@@ -14,7 +14,8 @@ use Rattle.lt_node.specs.NodeData.{NodeData, with_sent}
 use Rattle.lt_world.specs.Mail.{WireData, AreDelivered}
 use Rattle.lt_world.specs.Fields.{IsWorld, Holds}
 use Rattle.lt_world.proofs.Bridge.{Did, world_moved}
-use Rattle.lt_world.proofs.Runs.{longer, longer_is_run, longer_world}
+use Rattle.lt_world.specs.Network.{run_with}
+use Rattle.lt_world.proofs.Runs.{longer_is_run, longer_world}
 
 -- what was sent out from an empty out
 pub posts_sent : (made : NodeMade) (had out : OutData) → had.posts ≡ [] → out ≡ with_sent made had → out.posts ≡ made.posts
@@ -39,7 +40,7 @@ pub holds_moved : (script : ScriptData) (run : List Logged) (q : ℕ) (step : St
     → (nodes1 : List NodeData) (boxes1 : List (List WireData)) → IsWorld script nodes1 boxes1 (opened (world_after script run) q step)
     → (had1 : OutData) → had1.posts ≡ []
     → Did script q (node_move script (world_after script run) q step) had1 n out → AreDelivered q out.posts boxes1 boxes'
-    → run' ≡ longer script run q step → out'.posts ≡ [] → out'.events ≡ []
+    → run' ≡ run_with script run q step → out'.posts ≡ [] → out'.events ≡ []
     → Holds script (slice_set nodes1 q n) boxes' out' run'
 holds_moved script run q step nodes boxes boxes' had out out' n run' h inside enabled nodes1 boxes1 opening had1 none done sent is_longer no_posts no_events = record {
   is_script = h.is_script;

@@ -5,7 +5,7 @@ use Rattle.std.proofs.lemmas.Bool.{and_parts, eqb-true, ltb-true}
 use Rattle.lt_modes.specs.declared.moves.Step.TheVariants.{Act, Take}
 use Rattle.lt_modes.specs.Script.{ScriptData}
 use Rattle.lt_modes.specs.State.{Letter}
-use Rattle.lt_modes.specs.Fits.{Numbers, fits, head_fits}
+use Rattle.lt_modes.specs.Fits.{Numbers, fits, head_fits, numbers_of}
 use Rattle.lt_script.specs.Script.{IsScript}
 use Rattle.lt_limits.specs.Limits.{node_within, leaves_asks}
 use Rattle.lt_spec.specs.Log.{Logged}
@@ -17,7 +17,7 @@ use Rattle.lt_law_invariant.proofs.KeptRuns.{letters_fit_in_runs}
 use Rattle.lt_law_limits.proofs.Within.{nodes_within, asks_placed, whole}
 use Rattle.lt_law_enabled.specs.OrderLaws.{HasLetter}
 use Rattle.lt_law_enabled.proofs.Order.{takes_where}
-use Rattle.lt_node.specs.NodeData.{NodeData, state_of, numbers_of}
+use Rattle.lt_node.specs.NodeData.{NodeData, state_of}
 use Rattle.lt_world.specs.Fields.{IsNodeOf}
 use Rattle.lt_world.specs.Moving.{IsWithin, CanAct, CanTake}
 use Rattle.lt_world.proofs.Runs.{whole_run}

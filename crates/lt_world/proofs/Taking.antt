@@ -20,7 +20,8 @@ use Rattle.lt_world.specs.Moving.{CanTake}
 use Rattle.lt_world.proofs.Bridge.{Did, did, same_node, world_same, world_put}
 use Rattle.lt_world.proofs.Premises.{can_take}
 use Rattle.lt_world.proofs.Moves.{posts_sent, entry_is, holds_moved}
-use Rattle.lt_world.proofs.Runs.{longer, posts_inside}
+use Rattle.lt_world.specs.Network.{run_with}
+use Rattle.lt_world.proofs.Runs.{posts_inside}
 
 -- a take that is enabled, whose letter is in hand
 pub record InHand (script : ScriptData) (q p : ℕ) (letter : Letter) (nodes : List NodeData) (boxes boxes' : List (List WireData)) (had : OutData) (run : List Logged) : Type 0 where
@@ -131,7 +132,7 @@ pub run_then : (script : ScriptData) (q p : ℕ) (letter : Letter) (nodes nodes'
     (n : NodeData) (out : OutData) (stamp : Stamp) (run' run'' : List Logged)
     → Begun script q p letter nodes nodes' boxes boxes1 boxes' had had' run → Took letter (node_at nodes' q) n had' out stamp → run' ≡ run
     → run'' ≡ run' ++ record { made = record { stamp = stamp; step = Take p }; events = out.events } ∷ []
-    → run'' ≡ longer script run q (Take p)
+    → run'' ≡ run_with script run q (Take p)
 run_then script q p letter nodes nodes' boxes boxes1 boxes' had had' run n out stamp run' run'' b t same entries =
     entries ∙ (ap (λ (r : List Logged). r ++ record { made = record { stamp = stamp; step = Take p }; events = out.events } ∷ []) same
     ∙ entry_is script (world_after script run) q (Take p) stamp had' out run (stamp_is script q p letter nodes nodes' boxes boxes1 boxes' had had' run n out stamp b t)

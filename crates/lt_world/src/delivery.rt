@@ -1,4 +1,4 @@
-ghost use Rattle.std.specs.Prelude.{◌≡◌, ◌<◌, ◌≤◌, ◌+◌, ℕ, [], ◌∷◌, All, length, OnOk};
+ghost use Rattle.std.specs.Prelude.{◌≡◌, ◌<◌, ℕ, [], ◌∷◌, All, length, OnOk};
 ghost use Rattle.lt_modes.specs.Made as rules;
 ghost use Rattle.lt_letter.specs.Seen.{letter_seen};
 ghost use Rattle.lt_world.specs.Mail.{SameLetters, HasRoomFrom, AreDelivered, inbox_at, wire_between, mail_in, put_wire, longer};

@@ -150,7 +150,6 @@ impl<'a> World<'a> {
         requires { client < length self.now.script.clients }
         ensures { result ≡ made_by self.now.script (world_of self.now) client }
     {
-        let home = usize::from(self.script.home(client));
-        self.network.nodes[home].made(client)
+        self.made[usize::from(client)]
     }
 }

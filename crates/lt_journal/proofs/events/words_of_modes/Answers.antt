@@ -2,7 +2,7 @@ use Rattle.std.proofs.Common.{◌≡◌, ◌∙◌, ◌++◌, ap, sym, ℕ, List
 use Rattle.std.specs.List.{flat_map}
 use Rattle.lt_modes.specs.declared.mode.Mode.TheVariants.{IntentionRead}
 use Rattle.lt_journal.specs.Words.{member_words}
-use Rattle.lt_journal.specs.declared.closing.TheConstants.{MODES}
+use Rattle.lt_modes.specs.declared.mode.TheConstants.{MODES}
 use Rattle.lt_journal.proofs.ModeWords.{words_kept}
 use Rattle.lt_journal.proofs.Steps.{text_more, flat_map-more}
 use Rattle.lt_journal.proofs.events.words_of_modes.Goals as goal

@@ -1,7 +1,7 @@
 use Rattle.std.proofs.Common.{◌<◌, ◌∙◌, length, ap, arith, rules}
 use Rattle.lt_modes.specs.HandingOver.{settled}
 use Rattle.lt_table.specs.Seen.{entry_seen, spare_of}
-use Rattle.lt_table.proofs.StampLemmas.{settled_is}
+use Rattle.lt_table.proofs.OwedLemmas.{settled_is}
 use Rattle.lt_table.proofs.EntryLemmas.{spare_set, entries_put}
 use Rattle.lt_table.proofs.table.Table.settle.Goals as goal
 

@@ -38,8 +38,8 @@ take_at-stamp-requires-clause-takes c =
     } in
     takes_then c.args.script.now c.args.node c.args.sender letter old.nodes.items new.nodes.items old.inboxes.items popped new.inboxes.items old.out new.out old.run.entries (letter_seen c.reserve_for.new.letter) begun c.reserve_for.ensures.letter
 
-pub settle-requires-clause-targets : goal.settle-requires-clause-targets
-settle-requires-clause-targets c =
+pub record_move-requires-clause-targets : goal.record_move-requires-clause-targets
+record_move-requires-clause-targets c =
     let old = c.args.self.now in
     let letter = letter_seen c.pop_front-letter.result in
     let popped = c.pop_front-letter.new.inboxes.items in
@@ -94,8 +94,8 @@ returns-clause-holds c =
     let took = took_again letter (letter_seen c.reserve_for.new.letter) (node_at new.nodes.items c.args.node) (node_at made.nodes.items c.args.node) new.out made.out c.take_at-stamp.result
     c.reserve_for.ensures.letter taken in
     holds_then c.args.script.now c.args.node c.args.sender letter old.nodes.items new.nodes.items old.inboxes.items popped new.inboxes.items old.out new.out old.run.entries
-    (node_at made.nodes.items c.args.node) made.out c.take_at-stamp.result new.run.entries c.settle.new.run.entries c.settle.new.inboxes.items c.settle.new.out made.nodes.items
-    begun took c.reserve_for.ensures.entries c.settle.ensures.entries c.take_at-stamp.ensures.others c.settle.ensures.delivered c.settle.ensures.out
+    (node_at made.nodes.items c.args.node) made.out c.take_at-stamp.result new.run.entries c.record_move.new.run.entries c.record_move.new.inboxes.items c.record_move.new.out made.nodes.items
+    begun took c.reserve_for.ensures.entries c.record_move.ensures.entries c.take_at-stamp.ensures.others c.record_move.ensures.delivered c.record_move.ensures.out
 
 pub returns-clause-ok : goal.returns-clause-ok
 returns-clause-ok c =
@@ -124,5 +124,5 @@ returns-clause-ok c =
     let took = took_again letter (letter_seen c.reserve_for.new.letter) (node_at new.nodes.items c.args.node) (node_at made.nodes.items c.args.node) new.out made.out c.take_at-stamp.result
     c.reserve_for.ensures.letter taken in
     run_then c.args.script.now c.args.node c.args.sender letter old.nodes.items new.nodes.items old.inboxes.items popped new.inboxes.items old.out new.out old.run.entries
-    (node_at made.nodes.items c.args.node) made.out c.take_at-stamp.result new.run.entries c.settle.new.run.entries
-    begun took c.reserve_for.ensures.entries c.settle.ensures.entries
+    (node_at made.nodes.items c.args.node) made.out c.take_at-stamp.result new.run.entries c.record_move.new.run.entries
+    begun took c.reserve_for.ensures.entries c.record_move.ensures.entries
