@@ -1,8 +1,9 @@
 -- The locks that a client in order may hold, as one mode at most for each set.
-use Rattle.std.specs.Prelude.{ℕ, ◌+◌, List, [], ◌∷◌, Option, Some, None}
+use Rattle.std.specs.Prelude.{Bool, false, ℕ, ◌+◌, List, [], ◌∷◌, Option, Some, None}
 use Rattle.lt_modes.specs.declared.mode.Mode.{Mode}
 use Rattle.lt_modes.specs.declared.command.Command.{Command}
 use Rattle.lt_modes.specs.declared.command.Command.TheVariants.{Lock, Try, Unlock, Change, DropAll}
+use Rattle.lt_modes.specs.Modes.{same_mode}
 use Rattle.lt_spec.specs.Holdings.{Holding, holding}
 
 -- the set that the command names
@@ -25,3 +26,8 @@ locks_from client s (mode ∷ rest) = lock_then client s mode (locks_from client
 -- the client's locks of these modes
 abbrev pub locks_in : ℕ → List (Option Mode) → List Holding
 locks_in client modes = locks_from client 0 modes
+
+-- the mode that a set may have is this one
+abbrev pub is_mode : Option Mode → Mode → Bool
+is_mode None mode = false
+is_mode (Some held) mode = same_mode mode held

@@ -1,8 +1,9 @@
-ghost use Rattle.std.specs.Prelude.{◌≡◌, ◌<◌, ◌++◌, ◌∷◌, [], ℕ, not, filter, length, IsTrue};
+ghost use Rattle.std.specs.Prelude.{◌≡◌, ◌<◌, ◌++◌, ◌∷◌, [], ℕ, not, filter, is_none, IsTrue};
+ghost use Rattle.std.specs.List.{list_all};
 ghost use Rattle.lt_spec.specs.Families.{family};
 ghost use Rattle.lt_spec.specs.Holdings.{Holding, holding, without_one, is_dropped};
 ghost use Rattle.lt_law_ordered.specs.Ordered.{are_below, holds_none, keeps_order, may_hold_after};
-ghost use Rattle.lt_order.specs.Locks.{locks_in, set_named};
+ghost use Rattle.lt_order.specs.Locks.{locks_in, set_named, is_mode};
 
 use lt_modes::{Command, Mode};
 use lt_script::{MAX_SETS, Script};
@@ -18,12 +19,14 @@ pub(crate) struct Locks {
 }
 
 impl Model for Locks {
-    ghost use Rattle.std.specs.Prelude.{List, Option};
+    ghost use Rattle.std.specs.Prelude.{◌≡◌, List, Option, length};
     ghost use Rattle.lt_modes.specs.declared.mode.Mode.{Mode as AnyMode};
 
     ghost Value = { List (Option AnyMode) };
 
     ghost view = { λ l. l.modes };
+
+    ghost invariant = { λ l. length l.modes ≡ 8 };
 }
 
 impl Locks {
@@ -40,7 +43,7 @@ impl Locks {
     pub(crate) fn is_empty(&self) -> bool
         ensures { (client : ℕ) → result ≡ holds_none (locks_in client self.now) }
     {
-        self.modes.iter().all(|mode| mode.is_none())
+        are_free(&self.modes)
     }
 
     /// Whether the client's command keeps the order. If so, the command is made: the locks are those that the client may hold
@@ -79,9 +82,7 @@ impl Locks {
         requires { set < 8 }
         ensures { (client : ℕ) → result ≡ are_below set (locks_in client self.now) }
     {
-        self.modes[usize::from(set)..]
-            .iter()
-            .all(|mode| mode.is_none())
+        are_free(&self.modes[usize::from(set)..])
     }
 
     // Adds a lock of a greater set than those of the others.
@@ -98,10 +99,8 @@ impl Locks {
         requires { set < 8 }
         ensures { (client : ℕ) → locks_in client self.new ≡ without_one (locks_in client self.old) (holding client set mode) }
     {
-        if let Some(held) = self.modes[usize::from(set)] {
-            if held == mode {
-                self.modes[usize::from(set)] = None;
-            }
+        if is_mode(self.modes[usize::from(set)], mode) {
+            self.modes[usize::from(set)] = None;
         }
     }
 
@@ -116,6 +115,23 @@ impl Locks {
             }
         }
     }
+}
+
+// Whether the set's mode is this one.
+fn is_mode(held: Option<Mode>, mode: Mode) -> bool
+    ensures { result ≡ is_mode held mode }
+{
+    match held {
+        Some(held) => mode == held,
+        None => false,
+    }
+}
+
+// Whether no set has a mode.
+fn are_free(modes: &[Option<Mode>]) -> bool
+    ensures { result ≡ list_all is_none modes.now }
+{
+    modes.iter().all(|mode| mode.is_none())
 }
 
 // The number of the first set of the set's family; 0 of a set that the script doesn't have.

@@ -1,0 +1,2 @@
+pub mod LockLists
+pub mod Orders

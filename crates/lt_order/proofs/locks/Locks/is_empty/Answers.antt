@@ -1,0 +1,11 @@
+use Rattle.std.proofs.Common.{◌≡◌, ℕ, refl, sym, ap, arith, ◌∙◌, List, Option, None, ◌++◌, ◌∷◌, [], ◌+◌}
+use Rattle.std.specs.Prelude.{slice_set, slice_index_or, filter, not}
+use Rattle.lt_modes.specs.declared.mode.Mode.{Mode}
+use Rattle.lt_spec.specs.Holdings.{Holding, holding, without_one, is_dropped}
+use Rattle.lt_law_ordered.specs.Ordered.{are_below, holds_none}
+use Rattle.lt_order.specs.Locks.{locks_in, is_mode}
+use Rattle.lt_order.proofs.locks.Locks.is_empty.Goals as goal
+use Rattle.lt_order.proofs.LockLists.{none_by_modes}
+
+pub returns : goal.returns
+returns c = λ client. c.are_free.ensures ∙ sym (none_by_modes client 0 c.self.inside.modes) ∙ ap (λ (m : List (Option Mode)). holds_none (locks_in client m)) c.self.view_is
