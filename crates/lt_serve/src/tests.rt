@@ -3,7 +3,9 @@ mod journals;
 mod meeting;
 mod pieces;
 mod refusals;
+mod sizes;
 mod threads;
+mod wide;
 
 ghost use Rattle.std.specs.Prelude.{◌<◌, ◌≤◌};
 ghost use Rattle.lt_limits.specs.declared.moves.TheConstants.{MAX_MOVES};

@@ -1,33 +1,23 @@
 //! The greatest sizes, with ample memory.
-mod wide;
-
+use super::words_of;
+use crate::{Status, serve};
 use lt_checker::{ReplayError, replay};
 use lt_io::{MemorySink, SureSource};
 use lt_journal::read as read_journal;
+use lt_runner::Open;
 use lt_script::read as read_script;
-use lt_serve::{Gate, Status, serve};
 use std::alloc::{AllocError, Global};
 use std::test::Fail;
 use std::thread::Threads;
 
-#[derive(Drop)]
-struct Open;
-
-impl Gate for Open {
-    fn pass(&self, _node: u8) {}
-}
-
 // What the words of a line come to with this input.
-fn served<R: Threads + Sync>(
+pub(super) fn served<R: Threads + Sync>(
     rt: &R,
     alloc: Global,
     line: &str,
     input: &[u8],
 ) -> Result<(Status, Vec<u8>), AllocError> {
-    let mut words = Vec::new(alloc);
-    for word in line.split(' ') {
-        words.push(String::from_str(alloc, word)?)?;
-    }
+    let words = words_of(alloc, line)?;
     let mut source = SureSource {
         bytes: Vec::from_slice(alloc, input)?,
         at: 0,
@@ -46,17 +36,17 @@ fn served<R: Threads + Sync>(
 }
 
 // A script, a line `journal` and a journal.
-fn joined(alloc: Global, script: &[u8], journal: &[u8]) -> Result<Vec<u8>, AllocError> {
+pub(super) fn joined(alloc: Global, script: &[u8], journal: &[u8]) -> Result<Vec<u8>, AllocError> {
     let mut input = Vec::from_slice(alloc, script)?;
     input.extend_from_slice(b"journal\n")?;
     input.extend_from_slice(journal)?;
     Ok(input)
 }
 
-// Words that run a script of 16 nodes, 64 clients and 4,096 commands, with the length of the journal and how many moves it tells.
+// Words that run a script of 16 nodes, 64 clients and 4,096 commands, with the length of the journal and of how many moves it is.
 const RUNS: [(&str, usize, u32); 2] = [("sim first", 347_418, 8_900), ("sim 7", 347_595, 9_263)];
 
-// What `replay` tells of a journal that is read first: the number of moves, or else the first bad line.
+// What `replay` says of a journal that is read first: the number of moves, or else the first bad line.
 fn replayed(alloc: Global, script: &[u8], journal: &[u8]) -> Result<Result<u32, u32>, Fail> {
     if script.len() > 1_048_576 || journal.len() > 2_000_000 {
         return Err(Fail::from("a long input"));
@@ -133,5 +123,40 @@ fn reads_a_long_journal(rt: HostRuntime) -> Result<(), Fail> {
     assert_eq!(rt; text.len(), 0);
     let told = replayed(alloc, script, &bytes)?;
     assert_eq!(rt; told, Err(1));
+    Ok(())
+}
+
+// A script of version 2 with 64 nodes, 8 sets, 256 clients and 4,096 commands: each client locks each set once.
+fn second_version(alloc: Global) -> Result<Vec<u8>, AllocError> {
+    let mut script = Vec::from_slice(alloc, b"version 2\nnodes 64\n")?;
+    for set in 0_u32..8 {
+        let line = format!(in alloc; "set s{set}\n")?;
+        script.extend_from_slice(line.as_bytes())?;
+    }
+    for client in 0_u32..256 {
+        let node = client % 64;
+        let line = format!(in alloc; "client c{client} at {node}\n")?;
+        script.extend_from_slice(line.as_bytes())?;
+    }
+    for client in 0_u32..256 {
+        for set in 0_u32..8 {
+            let line = format!(in alloc;
+                "c{client} lock s{set} read_intention_write\nc{client} unlock s{set} read_intention_write\n"
+            )?;
+            script.extend_from_slice(line.as_bytes())?;
+        }
+    }
+    Ok(script)
+}
+
+#[test]
+fn runs_the_greatest_script_of_version_2(rt: HostRuntime) -> Result<(), Fail> {
+    let alloc = rt.alloc();
+    let script = second_version(alloc)?;
+    let (status, journal) = served(&rt, alloc, "sim first", &script)?;
+    assert_eq!(rt; status, Status::Done);
+    let input = joined(alloc, &script, &journal)?;
+    let (status, _) = served(&rt, alloc, "check", &input)?;
+    assert_eq!(rt; status, Status::Done);
     Ok(())
 }

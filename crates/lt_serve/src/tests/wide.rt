@@ -1,6 +1,6 @@
 //! A script with all that there may be at once, and an input with many lines that are skipped.
-use super::{joined, served};
-use lt_serve::Status;
+use super::sizes::{joined, served};
+use crate::Status;
 use std::alloc::{AllocError, Global};
 use std::test::Fail;
 
