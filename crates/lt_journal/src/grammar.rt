@@ -15,7 +15,10 @@ use lt_text::{exact_number, is, next_field};
 pub fn read_line(script: &Script, line: &[u8]) -> Line
     ensures { result ≡ read_line script.now line.now }
 {
-    line_of(script, line).unwrap_or(Line::Bad)
+    match line_of(script, line) {
+        Some(line) => line,
+        None => Line::Bad,
+    }
 }
 
 // What the line says; none of a line that has none of the forms.

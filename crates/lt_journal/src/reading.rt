@@ -3,7 +3,7 @@ ghost use Rattle.lt_text.specs.Text.{lines};
 ghost use Rattle.lt_journal.specs.Grammar.{read_line, journal_of};
 
 use crate::grammar::read_line;
-use crate::line::{Line, push_line};
+use crate::line::Line;
 use lt_script::Script;
 use lt_text::next_line;
 use std::alloc::{AllocError, Global};
@@ -41,7 +41,12 @@ impl Journal {
         requires { length self.old + 1 < 2 ^ 32 }
         ensures { OnOk result (self.new ≡ self.old ++ line ∷ []) }
     {
-        push_line(&mut self.lines, line)
+        // A vector of lines grows only where the prover meets the type of events, so this takes one apart.
+        match line {
+            Line::Event(event) => self.lines.push(Line::Event(event))?,
+            other => self.lines.push(other)?,
+        }
+        Ok(())
     }
 
     /// The number of lines.

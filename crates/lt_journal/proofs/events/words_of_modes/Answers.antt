@@ -4,12 +4,12 @@ use Rattle.lt_modes.specs.declared.mode.Mode.TheVariants.{IntentionRead}
 use Rattle.lt_journal.specs.Words.{member_words}
 use Rattle.lt_modes.specs.declared.mode.TheConstants.{MODES}
 use Rattle.lt_journal.proofs.ModeWords.{words_kept}
-use Rattle.lt_journal.proofs.Steps.{text_more, flat_map-more}
+use Rattle.lt_journal.proofs.Steps.{list_more, flat_map-more}
 use Rattle.lt_journal.proofs.events.words_of_modes.Goals as goal
 
 pub loop-mode-preserved : goal.loop-mode-preserved
 loop-mode-preserved c =
-    text_more _ _ _ _ _ _ c.in_ok-word_of_member.ensures c.loop-mode.invariant
+    list_more _ _ _ _ _ _ c.in_ok-word_of_member.ensures c.loop-mode.invariant
     (flat_map-more (member_words c.args.modes) MODES c.loop-mode.mode-index IntentionRead (omega arith))
 
 pub returns : goal.returns

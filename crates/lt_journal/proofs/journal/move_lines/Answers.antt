@@ -3,7 +3,7 @@ use Rattle.std.proofs.lemmas.List.{append_assoc}
 use Rattle.lt_journal.specs.declared.line.Line.TheVariants.{Move as MoveLine}
 use Rattle.lt_journal.specs.RunLines.{event_lines}
 use Rattle.lt_journal.specs.Text.{line_text, lines_text}
-use Rattle.lt_journal.proofs.Steps.{text_more, moves_text-more}
+use Rattle.lt_journal.proofs.Steps.{list_more, moves_text-more}
 use Rattle.lt_journal.proofs.journal.move_lines.Goals as goal
 
 pub loop-k-preserved : goal.loop-k-preserved
@@ -12,7 +12,7 @@ loop-k-preserved c =
     let made = c.made.result in
     let first = line_text script (MoveLine made.stamp.clock made.stamp.node made.step) in
     let later = lines_text script (event_lines script.version c.events.result.now) in
-    text_more _ _ _ _ _ _
+    list_more _ _ _ _ _ _
     (c.in_ok-event_lines.ensures
     ∙ (ap (λ (t : List ℕ). t ++ later) c.in_ok-move_line.ensures ∙ append_assoc c.loop-k.text first later))
     c.loop-k.invariant
