@@ -16,7 +16,7 @@ use Rattle.lt_modes.specs.Held.{add_lock}
 use Rattle.lt_modes.specs.Granting.{can_grant}
 use Rattle.lt_modes.specs.SetMove.{answers, given, granted, ask_of, asked, locked, tried}
 use Rattle.lt_spec.specs.Holdings.{holding, same_holding}
-use Rattle.lt_law_accounts.proofs.Asks.{same_mode-true}
+use Rattle.lt_modes.proofs.EachMode.{same_mode-true}
 use Rattle.lt_law_accounts.proofs.RowTotals.{total, is_key, total_added}
 use Rattle.lt_law_ledgers.proofs.OwnSteps.{route_same}
 use Rattle.lt_lists.proofs.Sums.{counted_in}

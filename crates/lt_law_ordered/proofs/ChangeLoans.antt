@@ -17,7 +17,7 @@ use Rattle.lt_modes.specs.Granting.{can_grant}
 use Rattle.lt_modes.specs.SetMove.{answers, given, ask_of, asked, unlocked, change_held, changed, dropped}
 use Rattle.lt_spec.specs.Families.{is_related}
 use Rattle.lt_spec.specs.Holdings.{holding, same_holding, is_dropped}
-use Rattle.lt_law_accounts.proofs.Asks.{same_mode-true}
+use Rattle.lt_modes.proofs.EachMode.{same_mode-true}
 use Rattle.lt_law_accounts.proofs.RowTotals.{row_count, total, is_key, total_added, total_taken, total_dropped}
 use Rattle.lt_law_invariant.proofs.ClientCounts.{SomeEach, each_some}
 use Rattle.lt_law_invariant.proofs.ClientCommands.{IsIdle}

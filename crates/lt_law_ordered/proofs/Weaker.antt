@@ -11,7 +11,7 @@ use Rattle.lt_modes.specs.Held.{is_of, gather, count_of, own_modes}
 use Rattle.lt_modes.specs.Granting.{can_grant}
 use Rattle.lt_modes.specs.State.{SetState}
 use Rattle.lt_modes.proofs.ModeAlgebra.{has-modes_by, bars_by_table, covers_by_table}
-use Rattle.lt_law_accounts.proofs.Asks.{same_mode-true}
+use Rattle.lt_modes.proofs.EachMode.{same_mode-true}
 use Rattle.lt_law_accounts.proofs.ModeMembers.{has-kept, has-added}
 use Rattle.lt_lists.proofs.Members.{contains_cases}
 use Rattle.lt_law_invariant.proofs.ClientCommands.{count_within}

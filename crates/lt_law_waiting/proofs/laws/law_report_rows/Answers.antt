@@ -1,7 +1,9 @@
+use Rattle.lt_modes.specs.Modes.{conflicts}
 use Rattle.std.proofs.Common.{refl}
 use Rattle.lt_law_waiting.proofs.laws.law_report_rows.Goals as goal
 
 pub returns : goal.returns
+unfolding conflicts
 returns c = record {
   changes = refl;
   kept = refl;
