@@ -1,5 +1,5 @@
 -- A pool as it ends.
-use Rattle.std.proofs.Common.{Bool, false, get_or, slice_set, ◌≤◌, get_or-set_other, get_or-set_same, ◌≡◌, ◌≢◌, ℕ, zero, suc, ◌+◌, ◌<◌, true, List, [], ◌∷◌, ◌++◌, map, take, length, slice_index, Option, Some, None, unwrap_or, is_some, true≢false, add-one, sym, ap, ◌∙◌, subst, arith}
+use Rattle.std.proofs.Common.{Bool, false, get_or, slice_set, get_or-set_other, get_or-set_same, ◌≡◌, ℕ, zero, suc, ◌+◌, ◌<◌, true, List, [], ◌∷◌, ◌++◌, map, take, length, slice_index, Option, Some, None, unwrap_or, is_some, true≢false, add-one, sym, ap, ◌∙◌, subst, arith}
 use Rattle.std.proofs.lemmas.List.{length-map, map-append}
 use mathlib.Core.Logic.{dite}
 use mathlib.Core.Option as math
@@ -28,10 +28,10 @@ module _ {T : Type 0} (continues : T → T → Type 0) (firsts : List T) where
       let counted = f.counted in
       let no_out : length v.out ≡ 0 = omega arith in
       dite (ℕ_discrete (slice_index s.words (i + 1)) 0)
-        (λ z. z)
-        (λ nz. let o = r.taken i li nz in absurd (dite (ℕ_discrete o.seat id)
-          (λ e. subst (Has i) (ap (λ (x : View T). x.claimed) (one_live s.views o.seat id o.view v o.is is e) ∙ none) o.has)
-          (λ ne. none_in_none o.view.number v.out no_out (f.others o.seat o.view o.is ne))))
+      (λ z. z)
+      (λ nz. let o = r.taken i li nz in absurd (dite (ℕ_discrete o.seat id)
+      (λ e. subst (Has i) (ap (λ (x : View T). x.claimed) (one_live s.views o.seat id o.view v o.is is e) ∙ none) o.has)
+      (λ ne. none_in_none o.view.number v.out no_out (f.others o.seat o.view o.is ne))))
 
   -- what lies in the slots at the end
   pub record Left (slots : List (Option T)) : Type 0 where
@@ -47,14 +47,14 @@ module _ {T : Type 0} (continues : T → T → Type 0) (firsts : List T) where
       let wide : length slots ≡ length firsts = sym end.3 ∙ r.rows in
       let free = all_free s id v r record { there = end.1.1; live = live } nought none joined in
       let home : (i : ℕ) → i < length slots → Home continues firsts s.homes i = λ i li.
-            let inside = subst (λ n. i < n) wide li in r.free i inside (free i inside) in
+      let inside = subst (λ n. i < n) wide li in r.free i inside (free i inside) in
       record {
         wide = wide;
         full = λ i li. let h = home i li in (h.item, end.4 i (Some h.item) h.there);
         fits = λ i y e.
-          let h = home i (there_below slots i (Some y) e) in
-          let one = math.some-injective (Some h.item) (Some y) (sym (end.4 i (Some h.item) h.there) ∙ e) in
-          subst (ContinuesAt continues firsts i) (some_is h.item y one) h.fits;
+            let h = home i (there_below slots i (Some y) e) in
+            let one = math.some-injective (Some h.item) (Some y) (sym (end.4 i (Some h.item) h.there) ∙ e) in
+            subst (ContinuesAt continues firsts i) (some_is h.item y one) h.fits;
       }
 
 module _ {T : Type 0} (continues : T → T → Type 0) where
@@ -73,7 +73,7 @@ module _ {T : Type 0} (continues : T → T → Type 0) where
       → EachContinues continues firsts ys
   left_continue firsts ys slots e left =
       each_continues firsts ys (sym (length-map ys Some) ∙ (ap length e ∙ left.wide))
-        (λ i y there. left.fits i y (ap (λ zs. get_elem? zs i) (sym e) ∙ there))
+      (λ i y there. left.fits i y (ap (λ zs. get_elem? zs i) (sym e) ∙ there))
 
 module _ {A : Type 0} where
   take_one_more : (xs : List A) (i : ℕ) (z : A) → get_elem? xs i ≡ math.some z → take (suc i) xs ≡ take i xs ++ z ∷ []
@@ -86,7 +86,7 @@ module _ {T : Type 0} where
       → map Some items ≡ take i slots → map Some (items ++ x ∷ []) ≡ take (i + 1) slots
   one_more slots i items x there e =
       map-append Some items (x ∷ [])
-        ∙ (ap (λ zs. zs ++ Some x ∷ []) e ∙ (sym (take_one_more slots i (Some x) there) ∙ ap (λ n. take n slots) (sym (add-one i))))
+      ∙ (ap (λ zs. zs ++ Some x ∷ []) e ∙ (sym (take_one_more slots i (Some x) there) ∙ ap (λ n. take n slots) (sym (add-one i))))
 
   pub never_none : (slots : List (Option T)) (i : ℕ) → AllSome slots → get_elem? slots i ≡ math.some None → ⊥
   never_none slots i full e =
@@ -98,13 +98,13 @@ module _ (full after : List Bool) (i : ℕ) where
   pub still_full : (n : ℕ) → after ≡ slice_set full i false → Filled full i n → Filled after (i + 1) n
   still_full n e f =
       subst (λ (bs : List Bool). Filled bs (i + 1) n) (sym e)
-        (λ k low high. get_or-set_other full i k false false (λ is. omega arith) ∙ f k (omega arith) high)
+      (λ k low high. get_or-set_other full i k false false (λ is. omega arith) ∙ f k (omega arith) high)
 
   -- those before it were empty
   pub now_empty : after ≡ slice_set full i false → i < length full → ((k : ℕ) → k < i → get_or full k false ≡ false)
       → (k : ℕ) → k < i + 1 → get_or after k false ≡ false
   now_empty e inside f =
       subst (λ (bs : List Bool). (k : ℕ) → k < i + 1 → get_or bs k false ≡ false) (sym e)
-        (λ k h. dite (ℕ_discrete k i)
-          (λ is. ap (λ x. get_or (slice_set full i false) x false) is ∙ get_or-set_same full i false false inside)
-          (λ ne. get_or-set_other full i k false false ne ∙ f k (omega arith)))
+      (λ k h. dite (ℕ_discrete k i)
+      (λ is. ap (λ x. get_or (slice_set full i false) x false) is ∙ get_or-set_same full i false false inside)
+      (λ ne. get_or-set_other full i k false false ne ∙ f k (omega arith)))

@@ -43,41 +43,41 @@ module _ {T : Type 0} where
       let one = slice_set homes i (math.some None) in
       let two = slice_set one x math.none in
       subst (λ (c : Hands T). Swaps homes c i x others) (sym is)
-        record {
-          valid = (tt, (set_else homes i x (math.some None) ne ∙ there, set_else one x i math.none (λ e. ne (sym e)) ∙ set_here homes i (math.some None) li));
-          carried = refl;
-          wide = length-set two i math.none ∙ (length-set one x math.none ∙ length-set homes i (math.some None));
-          else = λ j ni nx. set_else two i j math.none ni ∙ (set_else one x j math.none nx ∙ set_else homes i j (math.some None) ni);
-        }
+      record {
+        valid = (tt, (set_else homes i x (math.some None) ne ∙ there, set_else one x i math.none (λ e. ne (sym e)) ∙ set_here homes i (math.some None) li));
+        carried = refl;
+        wide = length-set two i math.none ∙ (length-set one x math.none ∙ length-set homes i (math.some None));
+        else = λ j ni nx. set_else two i j math.none ni ∙ (set_else one x j math.none nx ∙ set_else homes i j (math.some None) ni);
+      }
 
   pub brings : (homes : Homes T) (i : ℕ) (slots : List ℕ) → Has i slots → AllDiffer slots
       → ((j : ℕ) → Has j slots → j < length homes) → Brings homes i slots
   brings homes i [] has differ below = absurd has
   brings homes i (x ∷ xs) has differ below =
       dite (ℕ_discrete i x)
-        (λ e. record {
-          act = keeps;
-          valid = tt;
-          carried = ap (λ y. (y, None) ∷ empty_hands xs) (sym e) ∙ ap (λ t. empty_hands (i ∷ cond t xs (x ∷ without i xs))) (sym (eq-eqb i x e));
-          wide = refl;
-          else = λ j not. refl;
-        })
-        (λ ne.
-          let later : Has i xs = ⊎_elim (λ e. absurd (ne e)) (λ t. t) has in
-          let given = slice_set homes x (math.some None) in
-          let as_wide : length given ≡ length homes = length-set homes x (math.some None) in
-          let rest = brings given i xs later differ.1 (λ j h. subst (λ n. j < n) (sym as_wide) (below j (inr h))) in
-          let back = swaps (homes_after given (empty_hands xs) rest.act) (carried_after (empty_hands xs) rest.act) i x (empty_hands (without i xs))
-                rest.carried
-                (subst (λ n. i < n) (sym (rest.wide ∙ as_wide)) (below i has))
-                (λ e. ne (sym e))
-                (rest.else x differ.0 ∙ set_here homes x (math.some None) (below x (inl refl))) in
-          record {
-            act = chain gives (chain rest.act (swap i x));
-            valid = (tt, (rest.valid, back.valid));
-            carried = back.carried ∙ ap (λ t. empty_hands (i ∷ cond t xs (x ∷ without i xs))) (sym (ne_eqb i x ne));
-            wide = back.wide ∙ (rest.wide ∙ as_wide);
-            else = λ j not.
-              back.else j (λ e. not (inr (subst (λ y. Has y xs) (sym e) later))) (λ e. not (inl e))
-                ∙ (rest.else j (λ h. not (inr h)) ∙ set_else homes x j (math.some None) (λ e. not (inl e)));
-          })
+      (λ e. record {
+        act = keeps;
+        valid = tt;
+        carried = ap (λ y. (y, None) ∷ empty_hands xs) (sym e) ∙ ap (λ t. empty_hands (i ∷ cond t xs (x ∷ without i xs))) (sym (eq-eqb i x e));
+        wide = refl;
+        else = λ j not. refl;
+      })
+      (λ ne.
+      let later : Has i xs = ⊎_elim (λ e. absurd (ne e)) (λ t. t) has in
+      let given = slice_set homes x (math.some None) in
+      let as_wide : length given ≡ length homes = length-set homes x (math.some None) in
+      let rest = brings given i xs later differ.1 (λ j h. subst (λ n. j < n) (sym as_wide) (below j (inr h))) in
+      let back = swaps (homes_after given (empty_hands xs) rest.act) (carried_after (empty_hands xs) rest.act) i x (empty_hands (without i xs))
+      rest.carried
+      (subst (λ n. i < n) (sym (rest.wide ∙ as_wide)) (below i has))
+      (λ e. ne (sym e))
+      (rest.else x differ.0 ∙ set_here homes x (math.some None) (below x (inl refl))) in
+      record {
+        act = chain gives (chain rest.act (swap i x));
+        valid = (tt, (rest.valid, back.valid));
+        carried = back.carried ∙ ap (λ t. empty_hands (i ∷ cond t xs (x ∷ without i xs))) (sym (ne_eqb i x ne));
+        wide = back.wide ∙ (rest.wide ∙ as_wide);
+        else = λ j not.
+            back.else j (λ e. not (inr (subst (λ y. Has y xs) (sym e) later))) (λ e. not (inl e))
+            ∙ (rest.else j (λ h. not (inr h)) ∙ set_else homes x j (math.some None) (λ e. not (inl e)));
+      })

@@ -1,5 +1,5 @@
 -- A pool as it begins.
-use Rattle.std.proofs.Common.{◌≡◌, ◌≤◌, ◌≢◌, ℕ, zero, suc, ◌+◌, ◌<◌, List, [], ◌∷◌, map, take, length, slice_get, replicate, Option, Some, sym, refl, ap, ◌∙◌, subst, arith}
+use Rattle.std.proofs.Common.{◌≡◌, ◌≤◌, ℕ, zero, suc, ◌+◌, ◌<◌, List, [], ◌∷◌, map, take, length, slice_get, replicate, Option, Some, sym, refl, ap, ◌∙◌, subst, arith}
 use Rattle.std.proofs.lemmas.List.{length-map, length-replicate, get_or-replicate, take-replicate}
 use mathlib.Core.Option as math
 use lib.ListN.{get_elem?}
@@ -29,7 +29,7 @@ module _ {T : Type 0} (continues : T → T → Type 0) (firsts : List T) where
     free = λ i li z. let h = item_there firsts i li in record { item = h.0; there = h.1; fits = (h.0, h.2, itself h.0) };
     taken = λ i li nz. absurd (nz (get_or-replicate (count + 1) (i + 1) 0 0 (omega arith)));
     knows = λ j v p. subst (Knows firsts (replicate (count + 1) 0)) (only_first (first_view firsts) v j p).1
-      record { told = refl; claims = λ i h. absurd h; differ = tt; refusals = tt };
+        record { told = refl; claims = λ i h. absurd h; differ = tt; refusals = tt };
     apart = λ j k v w pj pk e. (only_first (first_view firsts) v j pj).0 ∙ sym (only_first (first_view firsts) w k pk).0;
     first = record {
       view = first_view firsts;
@@ -47,8 +47,8 @@ module _ {T : Type 0} (continues : T → T → Type 0) (firsts : List T) where
   opens items slots words count noughts same full wide few itself =
       let as_many : count + 1 ≤ 256 = omega arith in
       let start : take (count + 1) words ≡ replicate (count + 1) 0 =
-            ap (take (count + 1)) noughts ∙ take-replicate (count + 1) 256 0 as_many in
+      ap (take (count + 1)) noughts ∙ take-replicate (count + 1) 256 0 as_many in
       let filled : slots ≡ map Some firsts = full ∙ ap (map Some) (sym same) in
       subst (λ (ws : List ℕ). Kept continues firsts (opening ws slots (first_view firsts))) (sym start)
-        (subst (λ (xs : List (Option T)). Kept continues firsts (opening (replicate (count + 1) 0) xs (first_view firsts))) (sym filled)
-          (opens_with_noughts count (ap length same ∙ sym wide) itself))
+      (subst (λ (xs : List (Option T)). Kept continues firsts (opening (replicate (count + 1) 0) xs (first_view firsts))) (sym filled)
+      (opens_with_noughts count (ap length same ∙ sym wide) itself))

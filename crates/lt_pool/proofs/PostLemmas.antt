@@ -4,7 +4,7 @@ use Rattle.std.proofs.lemmas.List.{length_push}
 use Rattle.atomic_table.specs.Table.{State, Splits, Joins}
 use Rattle.atomic_table.proofs.Lists.{set_else, at_longer}
 use Rattle.lt_pool.specs.declared.view.View.{View}
-use Rattle.lt_pool.specs.Numbers.{Has, without}
+use Rattle.lt_pool.specs.Numbers.{Has}
 use Rattle.lt_pool.specs.Views.{split_more, split_off, joined_more, spent_view}
 use Rattle.lt_pool.specs.Rule.{IsLive, Knows, Kept}
 use Rattle.lt_pool.proofs.NumberLemmas.{has_without, without_keeps, length-without}
@@ -54,53 +54,53 @@ module _ {T : Type 0} (continues : T → T → Type 0) (firsts : List T) where
       let f = first_is s id v r is nought in
       let old_apart = apart_stays s.views id v w is refl r.apart in
       let old_below : (j : ℕ) (u : View T) → IsLive views j u → u.number ≤ v.splits = λ j u p. ⊎_elim
-            (λ t. let none : u.number ≡ 0 = sym (ap number_of t.1) ∙ nought in omega arith)
-            (λ t. (f.below u.number (f.others j u t.1 t.0)).1)
-            (live_set s.views id j w u p) in
+      (λ t. let none : u.number ≡ 0 = sym (ap number_of t.1) ∙ nought in omega arith)
+      (λ t. (f.below u.number (f.others j u t.1 t.0)).1)
+      (live_set s.views id j w u p) in
       let not_new : (j : ℕ) (u : View T) → IsLive views j u → u.number ≡ v.splits + 1 → ⊥ = λ j u p e.
-            let low = old_below j u p in absurd (omega arith) in
+      let low = old_below j u p in absurd (omega arith) in
       record {
         wide = r.wide;
         rows = r.rows;
         free = r.free;
         taken = λ i li nz.
-          let o = owner_stays s.views id i v w is live (λ h. h) (r.taken i li nz) in
-          record { seat = o.seat; view = o.view; is = push_live views new o.view o.seat o.is; has = o.has };
+            let o = owner_stays s.views id i v w is live (λ h. h) (r.taken i li nz) in
+            record { seat = o.seat; view = o.view; is = push_live views new o.view o.seat o.is; has = o.has };
         knows = λ j u p. ⊎_elim
-          (λ old. ⊎_elim
+            (λ old. ⊎_elim
             (λ t. subst (Knows firsts s.words) t.1 record { told = k.told; claims = k.claims; differ = k.differ; refusals = k.refusals })
             (λ t. r.knows j u t.1)
             (live_set s.views id j w u old))
-          (λ t. subst (Knows firsts s.words) t.1 record { told = k.told; claims = λ i h. absurd h; differ = tt; refusals = tt })
-          (live_push views new u j p);
+            (λ t. subst (Knows firsts s.words) t.1 record { told = k.told; claims = λ i h. absurd h; differ = tt; refusals = tt })
+            (live_push views new u j p);
         apart = λ j i a b pj pi e. ⊎_elim
-          (λ oj. ⊎_elim
+            (λ oj. ⊎_elim
             (λ oi. old_apart j i a b oj oi e)
             (λ ni. absurd (not_new j a oj (e ∙ sym (ap number_of ni.1))))
             (live_push views new b i pi))
-          (λ nj. ⊎_elim
+            (λ nj. ⊎_elim
             (λ oi. absurd (not_new i b oi (sym e ∙ sym (ap number_of nj.1))))
             (λ ni. nj.0 ∙ sym ni.0)
             (live_push views new b i pi))
-          (live_push views new a j pj);
+            (live_push views new a j pj);
         first =
-          let counted = f.counted in
-          record {
-            view = w;
-            is = push_live views new w 0 (subst (λ x. IsLive views x w) f.place (set_live s.views id v w is live));
-            number = nought;
-            others = λ j u p ne. ⊎_elim
-              (λ old. ⊎_elim
-                (λ t. absurd (ne (t.0 ∙ f.place)))
-                (λ t. inr (f.others j u t.1 t.0))
-                (live_set s.views id j w u old))
-              (λ t. inl (sym (ap number_of t.1)))
-              (live_push views new u j p);
-            below = λ n. ⊎_elim
-              (λ (e : n ≡ v.splits + 1). (omega arith, omega arith))
-              (λ h. let b = f.below n h in let low = b.0 in let high = b.1 in (low, omega arith));
-            counted = omega arith;
-          };
+            let counted = f.counted in
+            record {
+              view = w;
+              is = push_live views new w 0 (subst (λ x. IsLive views x w) f.place (set_live s.views id v w is live));
+              number = nought;
+              others = λ j u p ne. ⊎_elim
+                  (λ old. ⊎_elim
+                  (λ t. absurd (ne (t.0 ∙ f.place)))
+                  (λ t. inr (f.others j u t.1 t.0))
+                  (live_set s.views id j w u old))
+                  (λ t. inl (sym (ap number_of t.1)))
+                  (live_push views new u j p);
+              below = λ n. ⊎_elim
+                  (λ (e : n ≡ v.splits + 1). (omega arith, omega arith))
+                  (λ h. let b = f.below n h in let low = b.0 in let high = b.1 in (low, omega arith));
+              counted = omega arith;
+            };
       }
 
   pub joins : (id : ℕ) (v : View T) (other : ℕ) (w : View T) → v.live ≡ true → v.number ≡ 0 → w.live ≡ true → w.claimed ≡ []
@@ -114,37 +114,37 @@ module _ {T : Type 0} (continues : T → T → Type 0) (firsts : List T) where
       let f = first_is s id v r is nought in
       let both_apart = apart_stays s.views id v both is refl r.apart in
       let lives : (j : ℕ) (u : View T) → IsLive (slice_set views other spent_view) j u → (j ≢ other) × IsLive views j u = λ j u p. ⊎_elim
-            (λ t. absurd (true≢false (sym p.live ∙ sym (ap (λ (x : View T). x.live) t.1))))
-            (λ t. t)
-            (live_set views other j spent_view u p) in
+      (λ t. absurd (true≢false (sym p.live ∙ sym (ap (λ (x : View T). x.live) t.1))))
+      (λ t. t)
+      (live_set views other j spent_view u p) in
       record {
         wide = r.wide;
         rows = r.rows;
         free = r.free;
         taken = λ i li nz.
-          let o = owner_stays s.views id i v both is live (λ h. h) (r.taken i li nz) in
-          let not_other : o.seat ≢ other = λ e. subst (Has i)
-                (ap (λ (x : View T). x.claimed) (one_live views o.seat other o.view w o.is record { there = there; live = alive } e) ∙ none) o.has in
-          record { seat = o.seat; view = o.view; is = else_live views other o.seat o.view spent_view not_other o.is; has = o.has };
+            let o = owner_stays s.views id i v both is live (λ h. h) (r.taken i li nz) in
+            let not_other : o.seat ≢ other = λ e. subst (Has i)
+            (ap (λ (x : View T). x.claimed) (one_live views o.seat other o.view w o.is record { there = there; live = alive } e) ∙ none) o.has in
+            record { seat = o.seat; view = o.view; is = else_live views other o.seat o.view spent_view not_other o.is; has = o.has };
         knows = λ j u p. ⊎_elim
-          (λ t. subst (Knows firsts s.words) t.1 record { told = k.told; claims = k.claims; differ = k.differ; refusals = k.refusals })
-          (λ t. r.knows j u t.1)
-          (live_set s.views id j both u (lives j u p).1);
+            (λ t. subst (Knows firsts s.words) t.1 record { told = k.told; claims = k.claims; differ = k.differ; refusals = k.refusals })
+            (λ t. r.knows j u t.1)
+            (live_set s.views id j both u (lives j u p).1);
         apart = λ j i a b pj pi e. both_apart j i a b (lives j a pj).1 (lives i b pi).1 e;
         first =
-          let counted = f.counted in
-          let one_less = length-without w.number v.out (f.others other w was apart) in
-          let one_more = length_push v.joined w.number in
-          record {
-            view = both;
-            is = subst (λ x. IsLive (slice_set views other spent_view) x both) f.place
-              (else_live views other id both spent_view (λ e. apart (sym e)) (set_live s.views id v both is live));
-            number = nought;
-            others = λ j u p ne. let l = lives j u p in ⊎_elim
-              (λ t. absurd (ne (t.0 ∙ f.place)))
-              (λ t. without_keeps w.number u.number v.out (λ e. l.0 (r.apart j other u w t.1 was e)) (f.others j u t.1 t.0))
-              (live_set s.views id j both u l.1);
-            below = λ n h. f.below n (has_without w.number n v.out h);
-            counted = omega arith;
-          };
+            let counted = f.counted in
+            let one_less = length-without w.number v.out (f.others other w was apart) in
+            let one_more = length_push v.joined w.number in
+            record {
+              view = both;
+              is = subst (λ x. IsLive (slice_set views other spent_view) x both) f.place
+                  (else_live views other id both spent_view (λ e. apart (sym e)) (set_live s.views id v both is live));
+              number = nought;
+              others = λ j u p ne. let l = lives j u p in ⊎_elim
+                  (λ t. absurd (ne (t.0 ∙ f.place)))
+                  (λ t. without_keeps w.number u.number v.out (λ e. l.0 (r.apart j other u w t.1 was e)) (f.others j u t.1 t.0))
+                  (live_set s.views id j both u l.1);
+              below = λ n h. f.below n (has_without w.number n v.out h);
+              counted = omega arith;
+            };
       }

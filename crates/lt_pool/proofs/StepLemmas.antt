@@ -1,5 +1,5 @@
 -- Each step on the word of a slot keeps the rule.
-use Rattle.std.proofs.Common.{◌≡◌, ◌≢◌, ℕ, ◌+◌, ◌-◌, ◌<◌, eqb, true, List, [], ◌∷◌, ◌++◌, length, slice_index, slice_set, Option, Some, None, sym, refl, ap, ◌∙◌, subst, inl, inr, ⊎_elim, length-set, arith}
+use Rattle.std.proofs.Common.{◌≡◌, ◌≢◌, ℕ, ◌+◌, ◌-◌, ◌<◌, eqb, true, List, [], ◌∷◌, ◌++◌, length, slice_index, slice_set, Option, Some, sym, refl, ap, ◌∙◌, subst, inl, inr, ⊎_elim, length-set, arith}
 use mathlib.Core.Logic.{dite}
 use mathlib.Core.Option as math
 use native.Mathlib.Decide.{ℕ_discrete}
@@ -13,9 +13,9 @@ use Rattle.lt_pool.specs.Numbers.{Has, without, AllDiffer}
 use Rattle.lt_pool.specs.Items.{ContinuesAt}
 use Rattle.lt_pool.specs.Views.{claimed_more, refused_more, claimed_less, brought_forward}
 use Rattle.lt_pool.specs.Rule.{NoneReadZero, IsLive, Owner, Knows, Home, Kept, empty_hands}
-use Rattle.lt_pool.specs.Steps.{Mine, Claims, Forwards, Releases, Takes, forwarded, released}
+use Rattle.lt_pool.specs.Steps.{Mine, Claims, Forwards, Releases, Takes, forwarded}
 use Rattle.lt_pool.proofs.NumberLemmas.{has_without, without_keeps, without_it, differ_without}
-use Rattle.lt_pool.proofs.ViewLemmas.{SamePost, word_here, word_else, live_set, set_live, one_live, apart_stays, first_stays, owner_stays}
+use Rattle.lt_pool.proofs.ViewLemmas.{SamePost, word_here, word_else, live_set, set_live, apart_stays, first_stays, owner_stays}
 use Rattle.lt_pool.proofs.Forwarding.{Homes, brings}
 
 none_zero_push : (refused : List (ℕ × ℕ)) (i word : ℕ) → word ≢ 0 → NoneReadZero refused → NoneReadZero (refused ++ (i, word) ∷ [])
@@ -74,9 +74,9 @@ module _ {T : Type 0} (continues : T → T → Type 0) (firsts : List T) where
     free = free;
     taken = taken;
     knows = λ j u pj. ⊎_elim
-      (λ t. subst (Knows firsts words) t.1 mine)
-      (λ t. others j u t.0 t.1)
-      (live_set s.views id j w u pj);
+        (λ t. subst (Knows firsts words) t.1 mine)
+        (λ t. others j u t.0 t.1)
+        (live_set s.views id j w u pj);
     apart = apart_stays s.views id v w is same.number r.apart;
     first = first_stays s.views id v w is same r.first;
   }
@@ -91,25 +91,25 @@ module _ {T : Type 0} (continues : T → T → Type 0) (firsts : List T) where
       let w = record v { claimed = claimed; refused = refused } in
       let k = r.knows id v is in
       after_step s id v w s.words homes r is (same_post v claimed refused is.live) refl rows
-        (λ i li free. let h = r.free i li free in record { item = h.item; there = else i (not_free s id i v r is free) ∙ h.there; fits = h.fits })
-        (λ i li ne. owner_stays s.views id i v w is is.live (forth i) (r.taken i li ne))
-        record { told = k.told; claims = λ i h. k.claims i (back i h); differ = differ; refusals = refusals }
-        (λ j u ne. r.knows j u)
+      (λ i li free. let h = r.free i li free in record { item = h.item; there = else i (not_free s id i v r is free) ∙ h.there; fits = h.fits })
+      (λ i li ne. owner_stays s.views id i v w is is.live (forth i) (r.taken i li ne))
+      record { told = k.told; claims = λ i h. k.claims i (back i h); differ = differ; refusals = refusals }
+      (λ j u ne. r.knows j u)
 
   refuses : (s : State (Option T) (View T)) (id i word : ℕ) (v : View T) → Rule s → IsLive s.views id v → word ≢ 0
       → Rule record { words = s.words; homes = s.homes; views = slice_set s.views id (refused_more i word v) }
   refuses s id i word v r is ne =
       let k = r.knows id v is in
       view_changes s id v v.claimed (v.refused ++ (i, word) ∷ []) s.homes r is (λ j h. h) (λ j h. h) k.differ
-        (none_zero_push v.refused i word ne k.refusals) refl (λ j not. refl)
+      (none_zero_push v.refused i word ne k.refusals) refl (λ j not. refl)
 
   goes_out : (s : State (Option T) (View T)) (id i : ℕ) (v : View T) → i < length firsts → Rule s → IsLive s.views id v
       → slice_index s.words (i + 1) ≡ 0
       → Rule record {
-          words = slice_set s.words (i + 1) (v.number + 1);
-          homes = slice_set s.homes i math.none;
-          views = slice_set s.views id (claimed_more i v);
-        }
+        words = slice_set s.words (i + 1) (v.number + 1);
+        homes = slice_set s.homes i math.none;
+        views = slice_set s.views id (claimed_more i v);
+      }
   goes_out s id i v li r is free =
       let w = claimed_more i v in
       let n = v.number + 1 in
@@ -118,31 +118,31 @@ module _ {T : Type 0} (continues : T → T → Type 0) (firsts : List T) where
       let here : slice_index words (i + 1) ≡ n = word_here s.words i n (omega arith) in
       let k = r.knows id v is in
       after_step s id v w words (slice_set s.homes i math.none) r is (same_post v (i ∷ v.claimed) v.refused is.live)
-        (length-set s.words (i + 1) n) (length-set s.homes i math.none)
-        (λ j lj z. dite (ℕ_discrete j i)
-          (λ e. let nought : n ≡ 0 = sym here ∙ (ap (λ x. slice_index words (x + 1)) (sym e) ∙ z) in absurd (omega arith))
-          (λ ne. let h = r.free j lj (sym (word_else s.words i j n ne) ∙ z) in
-            record { item = h.item; there = set_else s.homes i j math.none ne ∙ h.there; fits = h.fits }))
-        (λ j lj nz. dite (ℕ_discrete j i)
-          (λ e. record { seat = id; view = w; is = set_live s.views id v w is is.live; has = inl e })
-          (λ ne. owner_stays s.views id j v w is is.live (λ h. inr h) (r.taken j lj (λ z. nz (word_else s.words i j n ne ∙ z)))))
-        record {
-          told = k.told;
-          claims = λ j. ⊎_elim
+      (length-set s.words (i + 1) n) (length-set s.homes i math.none)
+      (λ j lj z. dite (ℕ_discrete j i)
+      (λ e. let nought : n ≡ 0 = sym here ∙ (ap (λ x. slice_index words (x + 1)) (sym e) ∙ z) in absurd (omega arith))
+      (λ ne. let h = r.free j lj (sym (word_else s.words i j n ne) ∙ z) in
+      record { item = h.item; there = set_else s.homes i j math.none ne ∙ h.there; fits = h.fits }))
+      (λ j lj nz. dite (ℕ_discrete j i)
+      (λ e. record { seat = id; view = w; is = set_live s.views id v w is is.live; has = inl e })
+      (λ ne. owner_stays s.views id j v w is is.live (λ h. inr h) (r.taken j lj (λ z. nz (word_else s.words i j n ne ∙ z)))))
+      record {
+        told = k.told;
+        claims = λ j. ⊎_elim
             (λ (e : j ≡ i). (subst (λ x. x < length firsts) (sym e) li, ap (λ x. slice_index words (x + 1)) e ∙ here))
             (λ h. (knows_else firsts s.words i n v (not_free s id i v r is free) k).claims j h);
-          differ = (not_free s id i v r is free, k.differ);
-          refusals = k.refusals;
-        }
-        (λ j u ne uis. knows_else firsts s.words i n u (not_free s j i u r uis free) (r.knows j u uis))
+        differ = (not_free s id i v r is free, k.differ);
+        refusals = k.refusals;
+      }
+      (λ j u ne uis. knows_else firsts s.words i n u (not_free s j i u r uis free) (r.knows j u uis))
 
   comes_home : (s : State (Option T) (View T)) (id i : ℕ) (v : View T) (item : T) → i < length firsts → Has i v.claimed
       → ContinuesAt continues firsts i item → Rule s → IsLive s.views id v
       → Rule record {
-          words = slice_set s.words (i + 1) 0;
-          homes = slice_set s.homes i (math.some (Some item));
-          views = slice_set s.views id (claimed_less i v);
-        }
+        words = slice_set s.words (i + 1) 0;
+        homes = slice_set s.homes i (math.some (Some item));
+        views = slice_set s.views id (claimed_less i v);
+      }
   comes_home s id i v item li has fits r is =
       let w = claimed_less i v in
       let words = slice_set s.words (i + 1) 0 in
@@ -152,23 +152,23 @@ module _ {T : Type 0} (continues : T → T → Type 0) (firsts : List T) where
       let here : slice_index words (i + 1) ≡ 0 = word_here s.words i 0 (omega arith) in
       let k = r.knows id v is in
       after_step s id v w words homes r is (same_post v (without i v.claimed) v.refused is.live)
-        (length-set s.words (i + 1) 0) (length-set s.homes i (math.some (Some item)))
-        (λ j lj z. dite (ℕ_discrete j i)
-          (λ e. subst (Home continues firsts homes) (sym e)
-            record { item = item; there = set_here s.homes i (math.some (Some item)) (omega arith); fits = fits })
-          (λ ne. let h = r.free j lj (sym (word_else s.words i j 0 ne) ∙ z) in
-            record { item = h.item; there = set_else s.homes i j (math.some (Some item)) ne ∙ h.there; fits = h.fits }))
-        (λ j lj nz. dite (ℕ_discrete j i)
-          (λ e. absurd (nz (ap (λ x. slice_index words (x + 1)) e ∙ here)))
-          (λ ne. owner_stays s.views id j v w is is.live (without_keeps i j v.claimed ne) (r.taken j lj (λ z. nz (word_else s.words i j 0 ne ∙ z)))))
-        record {
-          told = k.told;
-          claims = λ j h. let c = k.claims j (has_without i j v.claimed h) in
+      (length-set s.words (i + 1) 0) (length-set s.homes i (math.some (Some item)))
+      (λ j lj z. dite (ℕ_discrete j i)
+      (λ e. subst (Home continues firsts homes) (sym e)
+      record { item = item; there = set_here s.homes i (math.some (Some item)) (omega arith); fits = fits })
+      (λ ne. let h = r.free j lj (sym (word_else s.words i j 0 ne) ∙ z) in
+      record { item = h.item; there = set_else s.homes i j (math.some (Some item)) ne ∙ h.there; fits = h.fits }))
+      (λ j lj nz. dite (ℕ_discrete j i)
+      (λ e. absurd (nz (ap (λ x. slice_index words (x + 1)) e ∙ here)))
+      (λ ne. owner_stays s.views id j v w is is.live (without_keeps i j v.claimed ne) (r.taken j lj (λ z. nz (word_else s.words i j 0 ne ∙ z)))))
+      record {
+        told = k.told;
+        claims = λ j h. let c = k.claims j (has_without i j v.claimed h) in
             (c.0, word_else s.words i j 0 (λ e. without_it i v.claimed k.differ (subst (λ x. Has x (without i v.claimed)) e h)) ∙ c.1);
-          differ = differ_without i v.claimed k.differ;
-          refusals = k.refusals;
-        }
-        (λ j u ne uis. knows_else firsts s.words i 0 u (λ h. ne (not_both s j id i u v r uis is h has)) (r.knows j u uis))
+        differ = differ_without i v.claimed k.differ;
+        refusals = k.refusals;
+      }
+      (λ j u ne uis. knows_else firsts s.words i 0 u (λ h. ne (not_both s j id i u v r uis is h has)) (r.knows j u uis))
 
   -- a step that left the word as it was
   same_word : (s : State (Option T) (View T)) (i : ℕ) (homes : Homes T) (views : List (View T))
@@ -179,31 +179,43 @@ module _ {T : Type 0} (continues : T → T → Type 0) (firsts : List T) where
 
   claims_by : (slots id i : ℕ) (m : Mine T) → i < length firsts → m.0.live ≡ true → m.0.firsts ≡ firsts
       → Allows Rule slots id m (i + 1) (λ n. either (eqb n 0) (m.0.number + 1) n)
-          (Claims continues (step slots (i + 1) 0 (m.0.number + 1) math.none) m)
+      (Claims continues (step slots (i + 1) 0 (m.0.number + 1) math.none) m)
   claims_by slots id i m li live told s r rows here fits =
       let is : IsLive s.views id m.0 = record { there = here; live = live } in
       let mine = m.0.number + 1 in
       let word = slice_index s.words (i + 1) in
       exchanged word 0 mine
-        (λ n. (w : View T) × (a : Act (Option T)) × Valid s.homes m.1 a × Rule (stepped s (i + 1) n id m.1 w a)
-          × Claims continues (step slots (i + 1) 0 mine math.none) m word (w, carried_after m.1 a))
-        (λ free.
-          let h = r.free i li free in
-          let fits = subst (λ (f : List T). ContinuesAt continues f i h.item) (sym told) h.fits in
-          (claimed_more i m.0, takes i (Some h.item), h.there, goes_out s id i m.0 li r is free,
-            ((λ z. subst (λ j. Takes continues j m (claimed_more i m.0, (i, Some h.item) ∷ m.1)) (sym (slot_back i)) (h.item, refl, fits)),
-            (λ not. absurd (not free)))))
-        (λ ne.
-          let w = refused_more i word m.0 in
-          (w, keeps, tt, same_word s i s.homes (slice_set s.views id w) (refuses s id i word m.0 r is ne),
-            ((λ z. absurd (ne z)),
-            (λ not. ap (λ j. (refused_more j word m.0, m.1)) (sym (slot_back i))))))
+      (λ n. (w : View T) × (a : Act (Option T)) × Valid s.homes m.1 a × Rule (stepped s (i + 1) n id m.1 w a)
+      × Claims continues (step slots (i + 1) 0 mine math.none) m word (w, carried_after m.1 a))
+      (λ free.
+      let h = r.free i li free in
+      let fits = subst (λ (f : List T). ContinuesAt continues f i h.item) (sym told) h.fits in (
+        claimed_more i m.0,
+        takes i (Some h.item),
+        h.there,
+        goes_out s id i m.0 li r is free,
+        (
+          (λ z. subst (λ j. Takes continues j m (claimed_more i m.0, (i, Some h.item) ∷ m.1)) (sym (slot_back i)) (h.item, refl, fits)),
+          (λ not. absurd (not free)),
+        ),
+      ))
+      (λ ne.
+      let w = refused_more i word m.0 in (
+        w,
+        keeps,
+        tt,
+        same_word s i s.homes (slice_set s.views id w) (refuses s id i word m.0 r is ne),
+        (
+          (λ z. absurd (ne z)),
+          (λ not. ap (λ j. (refused_more j word m.0, m.1)) (sym (slot_back i))),
+        ),
+      ))
 
   pub claims : (slots id i mine : ℕ) (m : Mine T) → i < length firsts → m.0.live ≡ true → m.0.firsts ≡ firsts → mine ≡ m.0.number + 1
       → Allows Rule slots id m (i + 1) (λ n. either (eqb n 0) mine n) (Claims continues (step slots (i + 1) 0 mine math.none) m)
   claims slots id i mine m li live told same =
       subst (λ n. Allows Rule slots id m (i + 1) (λ x. either (eqb x 0) n x) (Claims continues (step slots (i + 1) 0 n math.none) m))
-        (sym same) (claims_by slots id i m li live told)
+      (sym same) (claims_by slots id i m li live told)
 
   pub forwards : (slots id i : ℕ) (m : Mine T) → m.1 ≡ empty_hands m.0.claimed → m.0.live ≡ true → Has i m.0.claimed
       → Allows Rule slots id m (i + 1) (λ n. n) (Forwards (step slots (i + 1) 0 0 math.none) m)
@@ -216,17 +228,17 @@ module _ {T : Type 0} (continues : T → T → Type 0) (firsts : List T) where
       let w = brought_forward i v in
       let homes = homes_after s.homes (empty_hands v.claimed) b.act in
       let kept = view_changes s id v (i ∷ without i v.claimed) v.refused homes r is
-            (λ j. ⊎_elim (λ e. subst (λ x. Has x v.claimed) (sym e) has) (has_without i j v.claimed))
-            (λ j h. dite (ℕ_discrete j i) (λ e. inl e) (λ ne. inr (without_keeps i j v.claimed ne h)))
-            (without_it i v.claimed k.differ, differ_without i v.claimed k.differ)
-            k.refusals b.wide b.else in
+      (λ j. ⊎_elim (λ e. subst (λ x. Has x v.claimed) (sym e) has) (has_without i j v.claimed))
+      (λ j h. dite (ℕ_discrete j i) (λ e. inl e) (λ ne. inr (without_keeps i j v.claimed ne h)))
+      (without_it i v.claimed k.differ, differ_without i v.claimed k.differ)
+      k.refusals b.wide b.else in
       let told : Forwards (step slots (i + 1) 0 0 math.none) m (slice_index s.words (i + 1)) (w, carried_after (empty_hands v.claimed) b.act) =
-            ap (λ c. (w, c)) b.carried ∙ ap (λ j. forwarded j m) (sym (slot_back i)) in
+      ap (λ c. (w, c)) b.carried ∙ ap (λ j. forwarded j m) (sym (slot_back i)) in
       subst
-        (λ c. (u : View T) × (a : Act (Option T)) × Valid s.homes c a × Rule (stepped s (i + 1) (slice_index s.words (i + 1)) id c u a)
-          × Forwards (step slots (i + 1) 0 0 math.none) m (slice_index s.words (i + 1)) (u, carried_after c a))
-        (sym hands)
-        (w, b.act, b.valid, same_word s i homes (slice_set s.views id w) kept, told)
+      (λ c. (u : View T) × (a : Act (Option T)) × Valid s.homes c a × Rule (stepped s (i + 1) (slice_index s.words (i + 1)) id c u a)
+      × Forwards (step slots (i + 1) 0 0 math.none) m (slice_index s.words (i + 1)) (u, carried_after c a))
+      (sym hands)
+      (w, b.act, b.valid, same_word s i homes (slice_set s.views id w) kept, told)
 
   pub releases : (slots id i : ℕ) (m : Mine T) (item : T) → m.0.live ≡ true → Has i m.0.claimed
       → m.1 ≡ (i, Some item) ∷ rest m.1 → ContinuesAt continues firsts i item → i < length firsts
@@ -236,7 +248,7 @@ module _ {T : Type 0} (continues : T → T → Type 0) (firsts : List T) where
       let kept = comes_home s id i m.0 item li has fits r record { there = here; live = live } in
       let told : Releases (step slots (i + 1) 0 0 math.none) m 0 (w, rest m.1) = ap (λ j. (claimed_less j m.0, rest m.1)) (sym (slot_back i)) in
       subst
-        (λ c. (u : View T) × (a : Act (Option T)) × Valid s.homes c a × Rule (stepped s (i + 1) 0 id c u a)
-          × Releases (step slots (i + 1) 0 0 math.none) m 0 (u, carried_after c a))
-        (sym front)
-        (w, gives, tt, kept, told)
+      (λ c. (u : View T) × (a : Act (Option T)) × Valid s.homes c a × Rule (stepped s (i + 1) 0 id c u a)
+      × Releases (step slots (i + 1) 0 0 math.none) m 0 (u, carried_after c a))
+      (sym front)
+      (w, gives, tt, kept, told)

@@ -63,15 +63,15 @@ module _ {T : Type 0} where
   apart_stays views id v w is same apart j k a b pj pk e =
       let number : View T → ℕ = λ x. x.number in
       ⊎_elim
-        (λ tj. ⊎_elim
-          (λ tk. tj.0 ∙ sym tk.0)
-          (λ tk. tj.0 ∙ apart id k v b is tk.1 (sym same ∙ (ap number tj.1 ∙ e)))
-          (live_set views id k w b pk))
-        (λ tj. ⊎_elim
-          (λ tk. apart j id a v tj.1 is (e ∙ (ap number (sym tk.1) ∙ same)) ∙ sym tk.0)
-          (λ tk. apart j k a b tj.1 tk.1 e)
-          (live_set views id k w b pk))
-        (live_set views id j w a pj)
+      (λ tj. ⊎_elim
+      (λ tk. tj.0 ∙ sym tk.0)
+      (λ tk. tj.0 ∙ apart id k v b is tk.1 (sym same ∙ (ap number tj.1 ∙ e)))
+      (live_set views id k w b pk))
+      (λ tj. ⊎_elim
+      (λ tk. apart j id a v tj.1 is (e ∙ (ap number (sym tk.1) ∙ same)) ∙ sym tk.0)
+      (λ tk. apart j k a b tj.1 tk.1 e)
+      (live_set views id k w b pk))
+      (live_set views id j w a pj)
 
   -- the first post itself goes on
   first_goes_on : (views : List (View T)) (id : ℕ) (v w : View T) → IsLive views id v → SamePost v w → id ≡ 0
@@ -88,9 +88,9 @@ module _ {T : Type 0} where
         is = subst (λ k. IsLive (slice_set views id w) k w) z (set_live views id v w is same.live);
         number = same.number ∙ (ap (λ (x : View T). x.number) (sym one) ∙ f.number);
         others = λ j u pj ne. ⊎_elim
-          (λ t. absurd (ne (t.0 ∙ z)))
-          (λ t. subst (Has u.number) out (f.others j u t.1 ne))
-          (live_set views id j w u pj);
+            (λ t. absurd (ne (t.0 ∙ z)))
+            (λ t. subst (Has u.number) out (f.others j u t.1 ne))
+            (live_set views id j w u pj);
         below = λ n h. let b = f.below n (subst (Has n) (sym out) h) in (b.0, subst (λ k. n ≤ k) splits b.1);
         counted = omega arith;
       }
@@ -99,28 +99,28 @@ module _ {T : Type 0} where
       → First views → First (slice_set views id w)
   first_stays views id v w is same f =
       dite (ℕ_discrete id 0)
-        (λ z. first_goes_on views id v w is same z f)
-        (λ nz. record {
-          view = f.view;
-          is = else_live views id 0 f.view w (λ e. nz (sym e)) f.is;
-          number = f.number;
-          others = λ j u pj ne. ⊎_elim
+      (λ z. first_goes_on views id v w is same z f)
+      (λ nz. record {
+        view = f.view;
+        is = else_live views id 0 f.view w (λ e. nz (sym e)) f.is;
+        number = f.number;
+        others = λ j u pj ne. ⊎_elim
             (λ t. subst (λ k. Has k f.view.out) (sym same.number ∙ ap (λ (x : View T). x.number) t.1) (f.others id v is nz))
             (λ t. f.others j u t.1 ne)
             (live_set views id j w u pj);
-          below = f.below;
-          counted = f.counted;
-        })
+        below = f.below;
+        counted = f.counted;
+      })
 
   -- an owner of slot i stays one where its view changes and keeps the slot
   pub owner_stays : (views : List (View T)) (id i : ℕ) (v w : View T) → IsLive views id v → w.live ≡ true
       → (Has i v.claimed → Has i w.claimed) → Owner views i → Owner (slice_set views id w) i
   owner_stays views id i v w is live keeps o =
       dite (ℕ_discrete o.seat id)
-        (λ e. record {
-          seat = id;
-          view = w;
-          is = set_live views id v w is live;
-          has = keeps (subst (λ (x : View T). Has i x.claimed) (one_live views o.seat id o.view v o.is is e) o.has);
-        })
-        (λ ne. record { seat = o.seat; view = o.view; is = else_live views id o.seat o.view w ne o.is; has = o.has })
+      (λ e. record {
+        seat = id;
+        view = w;
+        is = set_live views id v w is live;
+        has = keeps (subst (λ (x : View T). Has i x.claimed) (one_live views o.seat id o.view v o.is is e) o.has);
+      })
+      (λ ne. record { seat = o.seat; view = o.view; is = else_live views id o.seat o.view w ne o.is; has = o.has })

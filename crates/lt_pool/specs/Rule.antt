@@ -1,5 +1,5 @@
 -- The rule of a pool's table: what holds between any two steps.
-use Rattle.std.specs.Prelude.{◌≡◌, ◌≢◌, ◌+◌, ◌<◌, ◌≤◌, ℕ, true, List, [], ◌∷◌, Option, Some, None, length, map, slice_index}
+use Rattle.std.specs.Prelude.{◌≡◌, ◌≢◌, ◌+◌, ◌<◌, ◌≤◌, ℕ, true, List, Option, Some, None, length, map, slice_index}
 use Rattle.std.specs.List.{AllByRecursion}
 use mathlib.Core.Option as math
 use mathlib.Core.Option.{some}

@@ -1,5 +1,5 @@
 -- What the steps on the word of a slot tell, of a post's view and the slots that its seat has, before and after.
-use Rattle.std.specs.Prelude.{◌≡◌, ◌≢◌, ◌-◌, ℕ, List, ◌∷◌, Option, Some}
+use Rattle.std.specs.Prelude.{◌≡◌, ◌≢◌, ◌-◌, ℕ, ◌∷◌, Option, Some}
 use Rattle.atomic_table.specs.Table.{Me, Step, rest}
 use Rattle.lt_pool.specs.declared.view.View.{View}
 use Rattle.lt_pool.specs.Numbers.{without}

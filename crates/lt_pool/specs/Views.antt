@@ -3,7 +3,7 @@ use Rattle.std.specs.Prelude.{◌+◌, ℕ, true, false, List, [], ◌∷◌, �
 use Rattle.atomic_table.specs.Seated.{TableId}
 use Rattle.lt_pool.specs.declared.view.View.{View}
 use Rattle.lt_pool.specs.Numbers.{without}
-use Rattle.lt_pool.specs.PoolData.{PoolData, PostData}
+use Rattle.lt_pool.specs.PoolData.{PostData}
 
 module _ {T : Type 0} where
   -- what contracts see of the post with this view

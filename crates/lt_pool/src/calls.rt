@@ -10,7 +10,7 @@ use crate::same::Same;
 impl<T: Same> Pool<T> {
     /// Takes the item of a slot out of the pool, in one step on the slot's word.
     ///
-    /// Where the slot isn't free, the error is the word that this step read: the number plus 1 of the post that has it.
+    /// Where the slot isn't free, the error is the word that this step read.
     pub fn claim(&self, post: &mut Post<T>, slot: u8) -> Result<T, u64>
         requires of { post.old.pool ≡ self.now }
         requires inside { slot < length self.now.firsts }
@@ -18,12 +18,9 @@ impl<T: Same> Pool<T> {
         ensures ok { OnOk result (post.new ≡ after_claim slot post.old) }
         ensures err { IfErr result (λ word. (word ≢ 0) × (post.new ≡ after_refusal slot word post.old)) }
     {
+        let i = usize::from(slot);
         self.mark(&mut post.seat, slot, post.number)?;
-        match self
-            .table
-            .shared
-            .exchange(&mut post.seat, usize::from(slot), None)
-        {
+        match self.table.shared.exchange(&mut post.seat, i, None) {
             Some(item) => Ok(item),
             None => unreachable!(),
         }
@@ -36,12 +33,9 @@ impl<T: Same> Pool<T> {
         requires item { ContinuesAt T.continues self.now.firsts slot item }
         ensures { post.new ≡ after_give slot post.old }
     {
+        let i = usize::from(slot);
         self.bring_forward(&mut post.seat, slot);
-        drop(self.table.shared.exchange(
-            &mut post.seat,
-            usize::from(slot),
-            Some(item),
-        ));
+        drop(self.table.shared.exchange(&mut post.seat, i, Some(item)));
         self.release(&mut post.seat, slot);
     }
 }

@@ -32,8 +32,6 @@ impl<T: Same> Pool<T> {
         ensures { post.new ≡ after_join other.number post.old }
     {
         let Post { seat, .. } = other;
-        self.table
-            .shared
-            .join_seat::<JoinIn>(&mut post.seat, seat);
+        self.table.shared.join_seat::<JoinIn>(&mut post.seat, seat);
     }
 }

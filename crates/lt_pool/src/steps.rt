@@ -30,7 +30,8 @@ impl<T: Same> Pool<T> {
     {
         let mine = u64::from(number) + 1;
         let word = usize::from(slot) + 1;
-        let found = self.table.shared.compare_exchange::<Claim>(seat, word, 0, mine);
+        let shared = &self.table.shared;
+        let found = shared.compare_exchange::<Claim>(seat, word, 0, mine);
         if found != 0 {
             return Err(found);
         }
@@ -47,9 +48,8 @@ impl<T: Same> Pool<T> {
         ensures of { seat.new.table_id ≡ seat.old.table_id }
         ensures forwarded { seat.new.me ≡ forwarded slot seat.old.me }
     {
-        self.table
-            .shared
-            .load::<Forward>(seat, usize::from(slot) + 1);
+        let word = usize::from(slot) + 1;
+        self.table.shared.load::<Forward>(seat, word);
     }
 
     // Makes a slot free whose item lies before the others that the seat has.
@@ -62,8 +62,7 @@ impl<T: Same> Pool<T> {
         ensures of { seat.new.table_id ≡ seat.old.table_id }
         ensures released { seat.new.me ≡ released slot seat.old.me }
     {
-        self.table
-            .shared
-            .store::<Release>(seat, usize::from(slot) + 1, 0);
+        let word = usize::from(slot) + 1;
+        self.table.shared.store::<Release>(seat, word, 0);
     }
 }

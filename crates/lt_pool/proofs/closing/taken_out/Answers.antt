@@ -22,7 +22,7 @@ loop-i-preserved g c =
       full = λ k low high. still_full _ _ _ _ taken.1 before.full k low (subst (λ n. k < n) taken.2 high);
       emptied = now_empty _ _ _ taken.1 inside before.emptied;
       items = ap (map Some) c.push_reserved.ensures.items
-        ∙ (one_more _ _ _ _ (c.take.ensures.value ∙ ap some c.in-Some.is) before.items ∙ ap (take (c.loop-i.i + 1)) (sym taken.0));
+          ∙ (one_more _ _ _ _ (c.take.ensures.value ∙ ap some c.in-Some.is) before.items ∙ ap (take (c.loop-i.i + 1)) (sym taken.0));
       count = search rules;
       room = search rules;
     }

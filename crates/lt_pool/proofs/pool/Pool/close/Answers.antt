@@ -15,5 +15,5 @@ returns-clause-ok g c =
     let closed = c.close_with.ensures.values in
     let left = leaves g.T.Same.continues _ _ _ _ _ c.post.invariant.0 (search rules) (search rules) (search rules) closed.2 in
     subst (λ (firsts : List g.row.T.Denot). EachContinues g.T.Same.continues firsts c.taken_out.result.items)
-      (ap (λ (p : PoolData g.row.T.Denot). p.firsts) c.self.view_is)
-      (left_continue g.T.Same.continues _ _ _ c.taken_out.ensures left)
+    (ap (λ (p : PoolData g.row.T.Denot). p.firsts) c.self.view_is)
+    (left_continue g.T.Same.continues _ _ _ c.taken_out.ensures left)

@@ -5,5 +5,5 @@ use Rattle.lt_pool.proofs.pool.Pool.new.Goals as goal
 pub new-requires : goal.new-requires
 new-requires g c =
     opens g.T.Same.continues _ c.args.items.items _ _ _ c.zeros-words.ensures
-      (ap (λ (v : Vec g.row.T.Denot Global). v.items) c.of-firsts.ensures)
-      c.in_ok-slots.ensures (search rules) c.requires g.T.Same.continues_itself
+    (ap (λ (v : Vec g.row.T.Denot Global). v.items) c.of-firsts.ensures)
+    c.in_ok-slots.ensures (search rules) c.requires g.T.Same.continues_itself
