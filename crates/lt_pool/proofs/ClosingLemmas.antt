@@ -1,5 +1,5 @@
 -- A pool as it ends.
-use Rattle.std.proofs.Common.{Bool, false, get_or, slice_set, get_or-set_other, get_or-set_same, ◌≡◌, ℕ, zero, suc, ◌+◌, ◌<◌, true, List, [], ◌∷◌, ◌++◌, map, take, length, slice_index, Option, Some, None, unwrap_or, is_some, true≢false, add-one, sym, ap, ◌∙◌, subst, arith}
+use Rattle.std.proofs.Common.{Bool, false, get_or, slice_set, get_or-set_other, get_or-set_same, ◌≡◌, ℕ, zero, suc, ◌+◌, ◌<◌, true, List, [], ◌∷◌, ◌++◌, map, take, length, slice_index, Option, Some, unwrap_or, add-one, sym, ap, ◌∙◌, subst, arith}
 use Rattle.std.proofs.lemmas.List.{length-map, map-append}
 use mathlib.Core.Logic.{dite}
 use mathlib.Core.Option as math
@@ -87,11 +87,6 @@ module _ {T : Type 0} where
   one_more slots i items x there e =
       map-append Some items (x ∷ [])
       ∙ (ap (λ zs. zs ++ Some x ∷ []) e ∙ (sym (take_one_more slots i (Some x) there) ∙ ap (λ n. take n slots) (sym (add-one i))))
-
-  pub never_none : (slots : List (Option T)) (i : ℕ) → AllSome slots → get_elem? slots i ≡ math.some None → ⊥
-  never_none slots i full e =
-      let h = full i (there_below slots i None e) in
-      true≢false (ap (λ (o : Option T). is_some o) (math.some-injective (Some h.0) None (sym h.1 ∙ e)))
 
 module _ (full after : List Bool) (i : ℕ) where
   -- the slots from i on were full before slot i was emptied

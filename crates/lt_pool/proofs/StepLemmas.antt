@@ -1,5 +1,5 @@
 -- Each step on the word of a slot keeps the rule.
-use Rattle.std.proofs.Common.{◌≡◌, ◌≢◌, ℕ, ◌+◌, ◌-◌, ◌<◌, eqb, true, List, [], ◌∷◌, ◌++◌, length, slice_index, slice_set, Option, Some, sym, refl, ap, ◌∙◌, subst, inl, inr, ⊎_elim, length-set, arith}
+use Rattle.std.proofs.Common.{◌≡◌, ◌≢◌, ◌⊎◌, ℕ, ◌+◌, ◌-◌, ◌<◌, eqb, true, List, [], ◌∷◌, ◌++◌, length, slice_index, slice_set, Option, Some, sym, refl, ap, ◌∙◌, subst, inl, inr, ⊎_elim, length-set, arith}
 use mathlib.Core.Logic.{dite}
 use mathlib.Core.Option as math
 use native.Mathlib.Decide.{ℕ_discrete}
@@ -14,6 +14,7 @@ use Rattle.lt_pool.specs.Items.{ContinuesAt}
 use Rattle.lt_pool.specs.Views.{claimed_more, refused_more, claimed_less, brought_forward}
 use Rattle.lt_pool.specs.Rule.{NoneReadZero, IsLive, Owner, Knows, Home, Kept, empty_hands}
 use Rattle.lt_pool.specs.Steps.{Mine, Claims, Forwards, Releases, Takes, forwarded}
+use Rattle.lt_pool.specs.PoolLaws.{AtHome, InOneHand}
 use Rattle.lt_pool.proofs.NumberLemmas.{has_without, without_keeps, without_it, differ_without}
 use Rattle.lt_pool.proofs.ViewLemmas.{SamePost, word_here, word_else, live_set, set_live, apart_stays, first_stays, owner_stays}
 use Rattle.lt_pool.proofs.Forwarding.{Homes, brings}
@@ -60,6 +61,14 @@ module _ {T : Type 0} (continues : T → T → Type 0) (firsts : List T) where
       let theirs = ((r.knows k w wis).claims i hw).1 in
       let same : v.number + 1 ≡ w.number + 1 = sym mine ∙ theirs in
       r.apart j k v w vis wis (omega arith)
+
+  pub in_one_place : (s : State (Option T) (View T)) → Rule s → (i : ℕ) → i < length firsts
+      → AtHome continues firsts s i ⊎ InOneHand s i
+  in_one_place s r i li =
+      dite (ℕ_discrete (slice_index s.words (i + 1)) 0)
+      (λ free. inl record { item = r.free i li free; nobody = λ j v is. not_free s j i v r is free })
+      (λ nz. let o = r.taken i li nz in
+      inr record { owner = o; only = λ j v is has. not_both s j o.seat i v o.view r is o.is has o.has })
 
   -- a step of seat `id`, whose view becomes w
   after_step : (s : State (Option T) (View T)) (id : ℕ) (v w : View T) (words : List ℕ) (homes : Homes T)

@@ -4,3 +4,4 @@ pub mod PoolData
 pub mod Views
 pub mod Rule
 pub mod Steps
+pub mod PoolLaws

@@ -1,6 +1,8 @@
 // How a pool is taken apart again.
-ghost use Rattle.std.specs.Prelude.{◌≡◌, ◌≤◌, [], length, map, Some, IfOk, IfErr, vec_capacity};
-ghost use Rattle.std.specs.Mem.Slots.{slots_items, slots_len, IsFull};
+ghost use Rattle.std.specs.Prelude.{◌≡◌, ◌≤◌, ◌<◌, false, [], length, map, Some, slice_index_or, slice_set, IsTrue, IfOk, IfErr, vec_capacity};
+ghost use Rattle.std.specs.Mem.Slots.{slots_items, slots_filled, slots_len, IsFull};
+ghost use mathlib.Core.Option.{some};
+ghost use lib.ListN.{get_elem?};
 ghost use Rattle.lt_pool.specs.Items.{EachContinues, AllSome};
 
 use crate::pool::{Pool, Post};
@@ -36,11 +38,24 @@ fn taken_out<T: Drop>(mut closed: Closed<Option<T>, Global>, mut items: Vec<T>) 
     ensures { map Some result.items ≡ slots_items closed.slots }
 {
     for i in 0..closed.slot_count() {
-        match closed.take(i) {
-            Some(item) => items.push_reserved(item),
-            None => unreachable!(),
-        }
+        items.push_reserved(take_item(&mut closed, i));
     }
     closed.free();
     items
+}
+
+// Takes the item of slot i out.
+fn take_item<T: Drop>(closed: &mut Closed<Option<T>, Global>, i: usize) -> T
+    requires inside { i < slots_len closed.old.slots }
+    requires full { IsTrue (slice_index_or (slots_filled closed.old.slots) i false) }
+    requires item { (item : T) × (get_elem? (slots_items closed.old.slots) i ≡ some (Some item)) }
+    ensures item { get_elem? (slots_items closed.old.slots) i ≡ some (Some result) }
+    ensures items { slots_items closed.new.slots ≡ slots_items closed.old.slots }
+    ensures filled { slots_filled closed.new.slots ≡ slice_set (slots_filled closed.old.slots) i false }
+    ensures count { slots_len closed.new.slots ≡ slots_len closed.old.slots }
+{
+    match closed.take(i) {
+        Some(item) => item,
+        None => unreachable!(),
+    }
 }

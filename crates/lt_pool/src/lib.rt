@@ -3,6 +3,7 @@
 
 mod calls;
 mod closing;
+mod laws;
 mod opening;
 mod pool;
 mod posts;
@@ -13,5 +14,6 @@ mod steps;
 mod tests;
 mod view;
 
+pub use laws::law_one_place;
 pub use pool::{Pool, Post};
 pub use same::Same;
