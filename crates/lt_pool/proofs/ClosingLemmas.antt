@@ -39,8 +39,9 @@ module _ {T : Type 0} (continues : T → T → Type 0) (firsts : List T) where
     pub full : AllSome slots
     pub fits : (i : ℕ) (y : T) → get_elem? slots i ≡ math.some (Some y) → ContinuesAt continues firsts i y
 
-  pub leaves : (id : ℕ) (v : View T) (words : List ℕ) (slots : List (Option T)) → v.live ≡ true → v.number ≡ 0 → v.claimed ≡ []
-      → length v.joined ≡ v.splits → Final (Seen (Kept continues firsts) id v) words slots → Left slots
+  pub leaves : (id : ℕ) (v : View T) (words : List ℕ) (slots : List (Option T))
+      → v.live ≡ true → v.number ≡ 0 → v.claimed ≡ [] → length v.joined ≡ v.splits
+      → Final (Seen (Kept continues firsts) id v) words slots → Left slots
   leaves id v words slots live nought none joined end =
       let s = end.0 in
       let r = end.1.0 in
@@ -67,7 +68,8 @@ module _ {T : Type 0} (continues : T → T → Type 0) where
   each_continues (x ∷ xs) (y ∷ ys) e fits zero =
       let here = fits 0 y (λ i. math.some (Some y)) in
       subst (λ z. continues z y) (sym (some_is x here.0 here.1)) here.2
-  each_continues (x ∷ xs) (y ∷ ys) e fits (suc k) = each_continues xs ys (omega arith) (λ i z there. fits (suc i) z there) k
+  each_continues (x ∷ xs) (y ∷ ys) e fits (suc k) =
+      each_continues xs ys (omega arith) (λ i z there. fits (suc i) z there) k
 
   pub left_continue : (firsts ys : List T) (slots : List (Option T)) → map Some ys ≡ slots → Left continues firsts slots
       → EachContinues continues firsts ys
@@ -86,7 +88,8 @@ module _ {T : Type 0} where
       → map Some items ≡ take i slots → map Some (items ++ x ∷ []) ≡ take (i + 1) slots
   one_more slots i items x there e =
       map-append Some items (x ∷ [])
-      ∙ (ap (λ zs. zs ++ Some x ∷ []) e ∙ (sym (take_one_more slots i (Some x) there) ∙ ap (λ n. take n slots) (sym (add-one i))))
+      ∙ (ap (λ zs. zs ++ Some x ∷ []) e
+      ∙ (sym (take_one_more slots i (Some x) there) ∙ ap (λ n. take n slots) (sym (add-one i))))
 
 module _ (full after : List Bool) (i : ℕ) where
   -- the slots from i on were full before slot i was emptied

@@ -44,10 +44,17 @@ module _ {T : Type 0} where
       let two = slice_set one x math.none in
       subst (λ (c : Hands T). Swaps homes c i x others) (sym is)
       record {
-        valid = (tt, (set_else homes i x (math.some None) ne ∙ there, set_else one x i math.none (λ e. ne (sym e)) ∙ set_here homes i (math.some None) li));
+        valid = (
+          tt,
+          (
+            set_else homes i x (math.some None) ne ∙ there,
+            set_else one x i math.none (λ e. ne (sym e)) ∙ set_here homes i (math.some None) li,
+          ),
+        );
         carried = refl;
         wide = length-set two i math.none ∙ (length-set one x math.none ∙ length-set homes i (math.some None));
-        else = λ j ni nx. set_else two i j math.none ni ∙ (set_else one x j math.none nx ∙ set_else homes i j (math.some None) ni);
+        else = λ j ni nx.
+            set_else two i j math.none ni ∙ (set_else one x j math.none nx ∙ set_else homes i j (math.some None) ni);
       }
 
   pub brings : (homes : Homes T) (i : ℕ) (slots : List ℕ) → Has i slots → AllDiffer slots
@@ -58,7 +65,8 @@ module _ {T : Type 0} where
       (λ e. record {
         act = keeps;
         valid = tt;
-        carried = ap (λ y. (y, None) ∷ empty_hands xs) (sym e) ∙ ap (λ t. empty_hands (i ∷ cond t xs (x ∷ without i xs))) (sym (eq-eqb i x e));
+        carried = ap (λ y. (y, None) ∷ empty_hands xs) (sym e)
+            ∙ ap (λ t. empty_hands (i ∷ cond t xs (x ∷ without i xs))) (sym (eq-eqb i x e));
         wide = refl;
         else = λ j not. refl;
       })
@@ -67,7 +75,10 @@ module _ {T : Type 0} where
       let given = slice_set homes x (math.some None) in
       let as_wide : length given ≡ length homes = length-set homes x (math.some None) in
       let rest = brings given i xs later differ.1 (λ j h. subst (λ n. j < n) (sym as_wide) (below j (inr h))) in
-      let back = swaps (homes_after given (empty_hands xs) rest.act) (carried_after (empty_hands xs) rest.act) i x (empty_hands (without i xs))
+      let others = empty_hands (without i xs) in
+      let homes_then = homes_after given (empty_hands xs) rest.act in
+      let hands_then = carried_after (empty_hands xs) rest.act in
+      let back = swaps homes_then hands_then i x others
       rest.carried
       (subst (λ n. i < n) (sym (rest.wide ∙ as_wide)) (below i has))
       (λ e. ne (sym e))

@@ -11,7 +11,9 @@ use Rattle.lt_pool.specs.Rule.{IsLive, Knows, Kept}
 module _ {T : Type 0} where
   -- what lies in slot i as the pool begins
   item_there : (xs : List T) (i : ℕ) → i < length xs
-      → (x : T) × (get_elem? (map math.some (map Some xs)) i ≡ math.some (math.some (Some x))) × (slice_get xs i ≡ Some x)
+      → (x : T)
+      × (get_elem? (map math.some (map Some xs)) i ≡ math.some (math.some (Some x)))
+      × (slice_get xs i ≡ Some x)
   item_there [] i h = absurd (omega arith)
   item_there (x ∷ xs) zero h = (x, refl, refl)
   item_there (x ∷ xs) (suc i) h = item_there xs i (omega arith)
@@ -26,11 +28,14 @@ module _ {T : Type 0} (continues : T → T → Type 0) (firsts : List T) where
   opens_with_noughts count wide itself = record {
     wide = length-replicate (count + 1) 0 ∙ ap (λ n. n + 1) (sym wide);
     rows = length-map (map Some firsts) math.some ∙ length-map firsts Some;
-    free = λ i li z. let h = item_there firsts i li in record { item = h.0; there = h.1; fits = (h.0, h.2, itself h.0) };
+    free = λ i li z.
+        let h = item_there firsts i li in
+        record { item = h.0; there = h.1; fits = (h.0, h.2, itself h.0) };
     taken = λ i li nz. absurd (nz (get_or-replicate (count + 1) (i + 1) 0 0 (omega arith)));
     knows = λ j v p. subst (Knows firsts (replicate (count + 1) 0)) (only_first (first_view firsts) v j p).1
         record { told = refl; claims = λ i h. absurd h; differ = tt; refusals = tt };
-    apart = λ j k v w pj pk e. (only_first (first_view firsts) v j pj).0 ∙ sym (only_first (first_view firsts) w k pk).0;
+    apart = λ j k v w pj pk e.
+        (only_first (first_view firsts) v j pj).0 ∙ sym (only_first (first_view firsts) w k pk).0;
     first = record {
       view = first_view firsts;
       is = record { there = refl; live = refl };
@@ -41,14 +46,17 @@ module _ {T : Type 0} (continues : T → T → Type 0) (firsts : List T) where
     };
   }
 
-  pub opens : (items : List T) (slots : List (Option T)) (words : List ℕ) (count : ℕ) → words ≡ replicate 256 0 → firsts ≡ items
-      → slots ≡ map Some items → count ≡ length items → length items ≤ 255 → ((x : T) → continues x x)
+  pub opens : (items : List T) (slots : List (Option T)) (words : List ℕ) (count : ℕ)
+      → words ≡ replicate 256 0 → firsts ≡ items → slots ≡ map Some items → count ≡ length items
+      → length items ≤ 255 → ((x : T) → continues x x)
       → Kept continues firsts (opening (take (count + 1) words) slots (first_view firsts))
   opens items slots words count noughts same full wide few itself =
       let as_many : count + 1 ≤ 256 = omega arith in
       let start : take (count + 1) words ≡ replicate (count + 1) 0 =
       ap (take (count + 1)) noughts ∙ take-replicate (count + 1) 256 0 as_many in
       let filled : slots ≡ map Some firsts = full ∙ ap (map Some) (sym same) in
-      subst (λ (ws : List ℕ). Kept continues firsts (opening ws slots (first_view firsts))) (sym start)
-      (subst (λ (xs : List (Option T)). Kept continues firsts (opening (replicate (count + 1) 0) xs (first_view firsts))) (sym filled)
-      (opens_with_noughts count (ap length same ∙ sym wide) itself))
+      let Opens : List ℕ → List (Option T) → Type 0 = λ ws xs.
+      Kept continues firsts (opening ws xs (first_view firsts)) in
+      let empty = opens_with_noughts count (ap length same ∙ sym wide) itself in
+      subst (λ (ws : List ℕ). Opens ws slots) (sym start)
+      (subst (Opens (replicate (count + 1) 0)) (sym filled) empty)

@@ -1,263 +1,114 @@
 -- Each step on the word of a slot keeps the rule.
-use Rattle.std.proofs.Common.{◌≡◌, ◌≢◌, ◌⊎◌, ℕ, ◌+◌, ◌-◌, ◌<◌, eqb, true, List, [], ◌∷◌, ◌++◌, length, slice_index, slice_set, Option, Some, sym, refl, ap, ◌∙◌, subst, inl, inr, ⊎_elim, length-set, arith}
+use Rattle.std.proofs.Common.{◌≡◌, ℕ, ◌+◌, ◌-◌, ◌<◌, eqb, true, List, ◌∷◌, length, slice_index, slice_set, Option, Some, sym, refl, ap, ◌∙◌, subst, inl, inr, ⊎_elim, arith}
 use mathlib.Core.Logic.{dite}
 use mathlib.Core.Option as math
 use native.Mathlib.Decide.{ℕ_discrete}
-use lib.ListN.{get_elem?}
 use lib.Seq.{set-get_or}
 use prog.Atomic.{either}
-use Rattle.atomic_table.specs.Table.{State, Act, Valid, step, keeps, takes, gives, stepped, rest, homes_after, carried_after, Allows}
-use Rattle.atomic_table.proofs.Lists.{set_here, set_else, exchanged}
+use Rattle.atomic_table.specs.Table.{State, Act, Step, Valid, step, keeps, takes, gives, stepped, rest, homes_after, carried_after, Allows}
+use Rattle.atomic_table.proofs.Lists.{exchanged}
 use Rattle.lt_pool.specs.declared.view.View.{View}
-use Rattle.lt_pool.specs.Numbers.{Has, without, AllDiffer}
+use Rattle.lt_pool.specs.Numbers.{Has, without}
 use Rattle.lt_pool.specs.Items.{ContinuesAt}
 use Rattle.lt_pool.specs.Views.{claimed_more, refused_more, claimed_less, brought_forward}
-use Rattle.lt_pool.specs.Rule.{NoneReadZero, IsLive, Owner, Knows, Home, Kept, empty_hands}
+use Rattle.lt_pool.specs.Rule.{IsLive, Kept, empty_hands}
 use Rattle.lt_pool.specs.Steps.{Mine, Claims, Forwards, Releases, Takes, forwarded}
-use Rattle.lt_pool.specs.PoolLaws.{AtHome, InOneHand}
 use Rattle.lt_pool.proofs.NumberLemmas.{has_without, without_keeps, without_it, differ_without}
-use Rattle.lt_pool.proofs.ViewLemmas.{SamePost, word_here, word_else, live_set, set_live, apart_stays, first_stays, owner_stays}
+use Rattle.lt_pool.proofs.RuleLemmas.{refuses, goes_out, comes_home, view_changes}
 use Rattle.lt_pool.proofs.Forwarding.{Homes, brings}
-
-none_zero_push : (refused : List (ℕ × ℕ)) (i word : ℕ) → word ≢ 0 → NoneReadZero refused → NoneReadZero (refused ++ (i, word) ∷ [])
-none_zero_push [] i word ne h = (ne, tt)
-none_zero_push (x ∷ xs) i word ne h = (h.0, none_zero_push xs i word ne h.1)
 
 -- the slot of the word after that of slot i
 slot_back : (i : ℕ) → (i + 1) - 1 ≡ i
 slot_back i = omega arith
 
 module _ {T : Type 0} where
-  same_post : (v : View T) (claimed : List ℕ) (refused : List (ℕ × ℕ)) → v.live ≡ true
-      → SamePost v (record v { claimed = claimed; refused = refused })
-  same_post v claimed refused live = record { firsts = refl; live = live; number = refl; out = refl; splits = refl; joined = refl }
+  -- a compare and exchange of 0 for `mine` on the word of slot i
+  abbrev pub claim_step : ℕ → ℕ → ℕ → Step (Option T)
+  claim_step slots i mine = step slots (i + 1) 0 mine math.none
 
-  -- what a post knows that doesn't have slot i, after the word of slot i changed
-  knows_else : (firsts : List T) (words : List ℕ) (i n : ℕ) (v : View T) → (Has i v.claimed → ⊥)
-      → Knows firsts words v → Knows firsts (slice_set words (i + 1) n) v
-  knows_else firsts words i n v not k = record {
-    told = k.told;
-    claims = λ j h. let c = k.claims j h in (c.0, word_else words i j n (λ e. not (subst (λ x. Has x v.claimed) e h)) ∙ c.1);
-    differ = k.differ;
-    refusals = k.refusals;
-  }
+  -- a load of it, or a store of 0
+  abbrev pub word_step : ℕ → ℕ → Step (Option T)
+  word_step slots i = step slots (i + 1) 0 0 math.none
 
 module _ {T : Type 0} (continues : T → T → Type 0) (firsts : List T) where
-  abbrev pub Rule : State (Option T) (View T) → Type 0
+  abbrev Rule : State (Option T) (View T) → Type 0
   Rule s = Kept continues firsts s
-
-  -- a live post has no slot whose word is 0
-  not_free : (s : State (Option T) (View T)) (j i : ℕ) (v : View T) → Rule s → IsLive s.views j v → slice_index s.words (i + 1) ≡ 0 → Has i v.claimed → ⊥
-  not_free s j i v r is free has =
-      let c = (r.knows j v is).claims i has in
-      let one_more : v.number + 1 ≡ 0 = sym c.1 ∙ free in
-      absurd (omega arith)
-
-  -- no two live posts have one slot
-  not_both : (s : State (Option T) (View T)) (j k i : ℕ) (v w : View T) → Rule s → IsLive s.views j v → IsLive s.views k w
-      → Has i v.claimed → Has i w.claimed → j ≡ k
-  not_both s j k i v w r vis wis hv hw =
-      let mine = ((r.knows j v vis).claims i hv).1 in
-      let theirs = ((r.knows k w wis).claims i hw).1 in
-      let same : v.number + 1 ≡ w.number + 1 = sym mine ∙ theirs in
-      r.apart j k v w vis wis (omega arith)
-
-  pub in_one_place : (s : State (Option T) (View T)) → Rule s → (i : ℕ) → i < length firsts
-      → AtHome continues firsts s i ⊎ InOneHand s i
-  in_one_place s r i li =
-      dite (ℕ_discrete (slice_index s.words (i + 1)) 0)
-      (λ free. inl record { item = r.free i li free; nobody = λ j v is. not_free s j i v r is free })
-      (λ nz. let o = r.taken i li nz in
-      inr record { owner = o; only = λ j v is has. not_both s j o.seat i v o.view r is o.is has o.has })
-
-  -- a step of seat `id`, whose view becomes w
-  after_step : (s : State (Option T) (View T)) (id : ℕ) (v w : View T) (words : List ℕ) (homes : Homes T)
-      → Rule s → IsLive s.views id v → SamePost v w → length words ≡ length s.words → length homes ≡ length s.homes
-      → ((i : ℕ) → i < length firsts → slice_index words (i + 1) ≡ 0 → Home continues firsts homes i)
-      → ((i : ℕ) → i < length firsts → slice_index words (i + 1) ≢ 0 → Owner (slice_set s.views id w) i)
-      → Knows firsts words w → ((j : ℕ) (u : View T) → j ≢ id → IsLive s.views j u → Knows firsts words u)
-      → Rule record { words = words; homes = homes; views = slice_set s.views id w }
-  after_step s id v w words homes r is same wide rows free taken mine others = record {
-    wide = wide ∙ r.wide;
-    rows = rows ∙ r.rows;
-    free = free;
-    taken = taken;
-    knows = λ j u pj. ⊎_elim
-        (λ t. subst (Knows firsts words) t.1 mine)
-        (λ t. others j u t.0 t.1)
-        (live_set s.views id j w u pj);
-    apart = apart_stays s.views id v w is same.number r.apart;
-    first = first_stays s.views id v w is same r.first;
-  }
-
-  -- the view changes but keeps its slots, in whatever order, and what is at home in the other slots stays
-  view_changes : (s : State (Option T) (View T)) (id : ℕ) (v : View T) (claimed : List ℕ) (refused : List (ℕ × ℕ)) (homes : Homes T)
-      → Rule s → IsLive s.views id v → ((i : ℕ) → Has i claimed → Has i v.claimed) → ((i : ℕ) → Has i v.claimed → Has i claimed)
-      → AllDiffer claimed → NoneReadZero refused
-      → length homes ≡ length s.homes → ((i : ℕ) → (Has i v.claimed → ⊥) → get_elem? homes i ≡ get_elem? s.homes i)
-      → Rule record { words = s.words; homes = homes; views = slice_set s.views id (record v { claimed = claimed; refused = refused }) }
-  view_changes s id v claimed refused homes r is back forth differ refusals rows else =
-      let w = record v { claimed = claimed; refused = refused } in
-      let k = r.knows id v is in
-      after_step s id v w s.words homes r is (same_post v claimed refused is.live) refl rows
-      (λ i li free. let h = r.free i li free in record { item = h.item; there = else i (not_free s id i v r is free) ∙ h.there; fits = h.fits })
-      (λ i li ne. owner_stays s.views id i v w is is.live (forth i) (r.taken i li ne))
-      record { told = k.told; claims = λ i h. k.claims i (back i h); differ = differ; refusals = refusals }
-      (λ j u ne. r.knows j u)
-
-  refuses : (s : State (Option T) (View T)) (id i word : ℕ) (v : View T) → Rule s → IsLive s.views id v → word ≢ 0
-      → Rule record { words = s.words; homes = s.homes; views = slice_set s.views id (refused_more i word v) }
-  refuses s id i word v r is ne =
-      let k = r.knows id v is in
-      view_changes s id v v.claimed (v.refused ++ (i, word) ∷ []) s.homes r is (λ j h. h) (λ j h. h) k.differ
-      (none_zero_push v.refused i word ne k.refusals) refl (λ j not. refl)
-
-  goes_out : (s : State (Option T) (View T)) (id i : ℕ) (v : View T) → i < length firsts → Rule s → IsLive s.views id v
-      → slice_index s.words (i + 1) ≡ 0
-      → Rule record {
-        words = slice_set s.words (i + 1) (v.number + 1);
-        homes = slice_set s.homes i math.none;
-        views = slice_set s.views id (claimed_more i v);
-      }
-  goes_out s id i v li r is free =
-      let w = claimed_more i v in
-      let n = v.number + 1 in
-      let words = slice_set s.words (i + 1) n in
-      let wide = r.wide in
-      let here : slice_index words (i + 1) ≡ n = word_here s.words i n (omega arith) in
-      let k = r.knows id v is in
-      after_step s id v w words (slice_set s.homes i math.none) r is (same_post v (i ∷ v.claimed) v.refused is.live)
-      (length-set s.words (i + 1) n) (length-set s.homes i math.none)
-      (λ j lj z. dite (ℕ_discrete j i)
-      (λ e. let nought : n ≡ 0 = sym here ∙ (ap (λ x. slice_index words (x + 1)) (sym e) ∙ z) in absurd (omega arith))
-      (λ ne. let h = r.free j lj (sym (word_else s.words i j n ne) ∙ z) in
-      record { item = h.item; there = set_else s.homes i j math.none ne ∙ h.there; fits = h.fits }))
-      (λ j lj nz. dite (ℕ_discrete j i)
-      (λ e. record { seat = id; view = w; is = set_live s.views id v w is is.live; has = inl e })
-      (λ ne. owner_stays s.views id j v w is is.live (λ h. inr h) (r.taken j lj (λ z. nz (word_else s.words i j n ne ∙ z)))))
-      record {
-        told = k.told;
-        claims = λ j. ⊎_elim
-            (λ (e : j ≡ i). (subst (λ x. x < length firsts) (sym e) li, ap (λ x. slice_index words (x + 1)) e ∙ here))
-            (λ h. (knows_else firsts s.words i n v (not_free s id i v r is free) k).claims j h);
-        differ = (not_free s id i v r is free, k.differ);
-        refusals = k.refusals;
-      }
-      (λ j u ne uis. knows_else firsts s.words i n u (not_free s j i u r uis free) (r.knows j u uis))
-
-  comes_home : (s : State (Option T) (View T)) (id i : ℕ) (v : View T) (item : T) → i < length firsts → Has i v.claimed
-      → ContinuesAt continues firsts i item → Rule s → IsLive s.views id v
-      → Rule record {
-        words = slice_set s.words (i + 1) 0;
-        homes = slice_set s.homes i (math.some (Some item));
-        views = slice_set s.views id (claimed_less i v);
-      }
-  comes_home s id i v item li has fits r is =
-      let w = claimed_less i v in
-      let words = slice_set s.words (i + 1) 0 in
-      let homes = slice_set s.homes i (math.some (Some item)) in
-      let wide = r.wide in
-      let rows = r.rows in
-      let here : slice_index words (i + 1) ≡ 0 = word_here s.words i 0 (omega arith) in
-      let k = r.knows id v is in
-      after_step s id v w words homes r is (same_post v (without i v.claimed) v.refused is.live)
-      (length-set s.words (i + 1) 0) (length-set s.homes i (math.some (Some item)))
-      (λ j lj z. dite (ℕ_discrete j i)
-      (λ e. subst (Home continues firsts homes) (sym e)
-      record { item = item; there = set_here s.homes i (math.some (Some item)) (omega arith); fits = fits })
-      (λ ne. let h = r.free j lj (sym (word_else s.words i j 0 ne) ∙ z) in
-      record { item = h.item; there = set_else s.homes i j (math.some (Some item)) ne ∙ h.there; fits = h.fits }))
-      (λ j lj nz. dite (ℕ_discrete j i)
-      (λ e. absurd (nz (ap (λ x. slice_index words (x + 1)) e ∙ here)))
-      (λ ne. owner_stays s.views id j v w is is.live (without_keeps i j v.claimed ne) (r.taken j lj (λ z. nz (word_else s.words i j 0 ne ∙ z)))))
-      record {
-        told = k.told;
-        claims = λ j h. let c = k.claims j (has_without i j v.claimed h) in
-            (c.0, word_else s.words i j 0 (λ e. without_it i v.claimed k.differ (subst (λ x. Has x (without i v.claimed)) e h)) ∙ c.1);
-        differ = differ_without i v.claimed k.differ;
-        refusals = k.refusals;
-      }
-      (λ j u ne uis. knows_else firsts s.words i 0 u (λ h. ne (not_both s j id i u v r uis is h has)) (r.knows j u uis))
 
   -- a step that left the word as it was
   same_word : (s : State (Option T) (View T)) (i : ℕ) (homes : Homes T) (views : List (View T))
       → Rule record { words = s.words; homes = homes; views = views }
       → Rule record { words = slice_set s.words (i + 1) (slice_index s.words (i + 1)); homes = homes; views = views }
   same_word s i homes views r =
-      subst (λ (words : List ℕ). Rule record { words = words; homes = homes; views = views }) (sym (set-get_or s.words (i + 1) 0)) r
+      subst (λ (words : List ℕ). Rule record { words = words; homes = homes; views = views })
+      (sym (set-get_or s.words (i + 1) 0)) r
 
   claims_by : (slots id i : ℕ) (m : Mine T) → i < length firsts → m.0.live ≡ true → m.0.firsts ≡ firsts
       → Allows Rule slots id m (i + 1) (λ n. either (eqb n 0) (m.0.number + 1) n)
-      (Claims continues (step slots (i + 1) 0 (m.0.number + 1) math.none) m)
+      (Claims continues (claim_step slots i (m.0.number + 1)) m)
   claims_by slots id i m li live told s r rows here fits =
       let is : IsLive s.views id m.0 = record { there = here; live = live } in
       let mine = m.0.number + 1 in
       let word = slice_index s.words (i + 1) in
+      let back = sym (slot_back i) in
       exchanged word 0 mine
       (λ n. (w : View T) × (a : Act (Option T)) × Valid s.homes m.1 a × Rule (stepped s (i + 1) n id m.1 w a)
-      × Claims continues (step slots (i + 1) 0 mine math.none) m word (w, carried_after m.1 a))
+      × Claims continues (claim_step slots i mine) m word (w, carried_after m.1 a))
       (λ free.
       let h = r.free i li free in
-      let fits = subst (λ (f : List T). ContinuesAt continues f i h.item) (sym told) h.fits in (
-        claimed_more i m.0,
-        takes i (Some h.item),
-        h.there,
-        goes_out s id i m.0 li r is free,
-        (
-          (λ z. subst (λ j. Takes continues j m (claimed_more i m.0, (i, Some h.item) ∷ m.1)) (sym (slot_back i)) (h.item, refl, fits)),
-          (λ not. absurd (not free)),
-        ),
-      ))
-      (λ ne.
-      let w = refused_more i word m.0 in (
-        w,
-        keeps,
-        tt,
-        same_word s i s.homes (slice_set s.views id w) (refuses s id i word m.0 r is ne),
-        (
-          (λ z. absurd (ne z)),
-          (λ not. ap (λ j. (refused_more j word m.0, m.1)) (sym (slot_back i))),
-        ),
-      ))
+      let w = claimed_more i m.0 in
+      let fits = subst (λ (f : List T). ContinuesAt continues f i h.item) (sym told) h.fits in
+      let taken = subst (λ j. Takes continues j m (w, (i, Some h.item) ∷ m.1)) back (h.item, refl, fits) in
+      let kept = goes_out continues firsts s id i m.0 li r is free in
+      (w, takes i (Some h.item), h.there, kept, ((λ z. taken), (λ nz. absurd (nz free)))))
+      (λ nz.
+      let w = refused_more i word m.0 in
+      let kept = same_word s i s.homes (slice_set s.views id w) (refuses continues firsts s id i word m.0 r is nz) in
+      let refused = ap (λ j. (refused_more j word m.0, m.1)) back in
+      (w, keeps, tt, kept, ((λ z. absurd (nz z)), (λ other. refused))))
 
-  pub claims : (slots id i mine : ℕ) (m : Mine T) → i < length firsts → m.0.live ≡ true → m.0.firsts ≡ firsts → mine ≡ m.0.number + 1
-      → Allows Rule slots id m (i + 1) (λ n. either (eqb n 0) mine n) (Claims continues (step slots (i + 1) 0 mine math.none) m)
+  pub claims : (slots id i mine : ℕ) (m : Mine T) → i < length firsts → m.0.live ≡ true → m.0.firsts ≡ firsts
+      → mine ≡ m.0.number + 1
+      → Allows Rule slots id m (i + 1) (λ n. either (eqb n 0) mine n) (Claims continues (claim_step slots i mine) m)
   claims slots id i mine m li live told same =
-      subst (λ n. Allows Rule slots id m (i + 1) (λ x. either (eqb x 0) n x) (Claims continues (step slots (i + 1) 0 n math.none) m))
-      (sym same) (claims_by slots id i m li live told)
+      subst
+      (λ n. Allows Rule slots id m (i + 1) (λ x. either (eqb x 0) n x) (Claims continues (claim_step slots i n) m))
+      (sym same)
+      (claims_by slots id i m li live told)
 
   pub forwards : (slots id i : ℕ) (m : Mine T) → m.1 ≡ empty_hands m.0.claimed → m.0.live ≡ true → Has i m.0.claimed
-      → Allows Rule slots id m (i + 1) (λ n. n) (Forwards (step slots (i + 1) 0 0 math.none) m)
+      → Allows Rule slots id m (i + 1) (λ n. n) (Forwards (word_step slots i) m)
   forwards slots id i m hands live has s r rows here fits =
       let v = m.0 in
+      let w = brought_forward i v in
+      let word = slice_index s.words (i + 1) in
       let is : IsLive s.views id v = record { there = here; live = live } in
       let k = r.knows id v is in
       let homes_wide = r.rows in
       let b = brings s.homes i v.claimed has k.differ (λ j h. subst (λ n. j < n) (sym homes_wide) (k.claims j h).0) in
-      let w = brought_forward i v in
       let homes = homes_after s.homes (empty_hands v.claimed) b.act in
-      let kept = view_changes s id v (i ∷ without i v.claimed) v.refused homes r is
+      let kept = view_changes continues firsts s id v (i ∷ without i v.claimed) v.refused homes r is
       (λ j. ⊎_elim (λ e. subst (λ x. Has x v.claimed) (sym e) has) (has_without i j v.claimed))
       (λ j h. dite (ℕ_discrete j i) (λ e. inl e) (λ ne. inr (without_keeps i j v.claimed ne h)))
       (without_it i v.claimed k.differ, differ_without i v.claimed k.differ)
       k.refusals b.wide b.else in
-      let told : Forwards (step slots (i + 1) 0 0 math.none) m (slice_index s.words (i + 1)) (w, carried_after (empty_hands v.claimed) b.act) =
+      let told : Forwards (word_step slots i) m word (w, carried_after (empty_hands v.claimed) b.act) =
       ap (λ c. (w, c)) b.carried ∙ ap (λ j. forwarded j m) (sym (slot_back i)) in
       subst
-      (λ c. (u : View T) × (a : Act (Option T)) × Valid s.homes c a × Rule (stepped s (i + 1) (slice_index s.words (i + 1)) id c u a)
-      × Forwards (step slots (i + 1) 0 0 math.none) m (slice_index s.words (i + 1)) (u, carried_after c a))
+      (λ c. (u : View T) × (a : Act (Option T)) × Valid s.homes c a × Rule (stepped s (i + 1) word id c u a)
+      × Forwards (word_step slots i) m word (u, carried_after c a))
       (sym hands)
       (w, b.act, b.valid, same_word s i homes (slice_set s.views id w) kept, told)
 
   pub releases : (slots id i : ℕ) (m : Mine T) (item : T) → m.0.live ≡ true → Has i m.0.claimed
       → m.1 ≡ (i, Some item) ∷ rest m.1 → ContinuesAt continues firsts i item → i < length firsts
-      → Allows Rule slots id m (i + 1) (λ _. 0) (λ _. Releases (step slots (i + 1) 0 0 math.none) m 0)
+      → Allows Rule slots id m (i + 1) (λ _. 0) (λ _. Releases (word_step slots i) m 0)
   releases slots id i m item live has front fits li s r rows here bound =
       let w = claimed_less i m.0 in
-      let kept = comes_home s id i m.0 item li has fits r record { there = here; live = live } in
-      let told : Releases (step slots (i + 1) 0 0 math.none) m 0 (w, rest m.1) = ap (λ j. (claimed_less j m.0, rest m.1)) (sym (slot_back i)) in
+      let kept = comes_home continues firsts s id i m.0 item li has fits r record { there = here; live = live } in
+      let told : Releases (word_step slots i) m 0 (w, rest m.1) =
+      ap (λ j. (claimed_less j m.0, rest m.1)) (sym (slot_back i)) in
       subst
       (λ c. (u : View T) × (a : Act (Option T)) × Valid s.homes c a × Rule (stepped s (i + 1) 0 id c u a)
-      × Releases (step slots (i + 1) 0 0 math.none) m 0 (u, carried_after c a))
+      × Releases (word_step slots i) m 0 (u, carried_after c a))
       (sym front)
       (w, gives, tt, kept, told)

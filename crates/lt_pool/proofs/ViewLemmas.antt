@@ -12,7 +12,8 @@ use Rattle.lt_pool.specs.Rule.{IsLive, Apart, First, Owner}
 pub word_here : (words : List ℕ) (i n : ℕ) → i + 1 < length words → slice_index (slice_set words (i + 1) n) (i + 1) ≡ n
 word_here words i n inside = get_or-set_same words (i + 1) n 0 inside
 
-pub word_else : (words : List ℕ) (i j n : ℕ) → j ≢ i → slice_index (slice_set words (i + 1) n) (j + 1) ≡ slice_index words (j + 1)
+pub word_else : (words : List ℕ) (i j n : ℕ) → j ≢ i
+    → slice_index (slice_set words (i + 1) n) (j + 1) ≡ slice_index words (j + 1)
 word_else words i j n ne = get_or-set_other words (i + 1) (j + 1) n 0 (λ e. ne (omega arith))
 
 module _ {A : Type 0} where
@@ -43,10 +44,12 @@ module _ {T : Type 0} where
   live_set views id j w u p =
       ⊎_elim (λ t. inl t) (λ t. inr (t.0, record { there = t.1; live = p.live })) (at_set views id j w u p.there)
 
-  pub set_live : (views : List (View T)) (id : ℕ) (v w : View T) → IsLive views id v → w.live ≡ true → IsLive (slice_set views id w) id w
+  pub set_live : (views : List (View T)) (id : ℕ) (v w : View T) → IsLive views id v → w.live ≡ true
+      → IsLive (slice_set views id w) id w
   set_live views id v w is live = record { there = set_here views id w (there_below views id v is.there); live = live }
 
-  pub else_live : (views : List (View T)) (id j : ℕ) (u w : View T) → j ≢ id → IsLive views j u → IsLive (slice_set views id w) j u
+  pub else_live : (views : List (View T)) (id j : ℕ) (u w : View T) → j ≢ id → IsLive views j u
+      → IsLive (slice_set views id w) j u
   else_live views id j u w ne is = record { there = set_else views id j w ne ∙ is.there; live = is.live }
 
   -- v and w are views of one live post, which split off and joined no other in between
@@ -80,7 +83,8 @@ module _ {T : Type 0} where
       let one : f.view ≡ v = one_live views 0 id f.view v f.is is (sym z) in
       let out : f.view.out ≡ w.out = ap (λ (x : View T). x.out) one ∙ sym same.out in
       let splits : f.view.splits ≡ w.splits = ap (λ (x : View T). x.splits) one ∙ sym same.splits in
-      let joined : length f.view.joined ≡ length w.joined = ap (λ (x : View T). length x.joined) one ∙ ap length (sym same.joined) in
+      let joined : length f.view.joined ≡ length w.joined =
+      ap (λ (x : View T). length x.joined) one ∙ ap length (sym same.joined) in
       let outs : length f.view.out ≡ length w.out = ap length out in
       let counted = f.counted in
       record {
@@ -105,7 +109,9 @@ module _ {T : Type 0} where
         is = else_live views id 0 f.view w (λ e. nz (sym e)) f.is;
         number = f.number;
         others = λ j u pj ne. ⊎_elim
-            (λ t. subst (λ k. Has k f.view.out) (sym same.number ∙ ap (λ (x : View T). x.number) t.1) (f.others id v is nz))
+            (λ t.
+            let number = sym same.number ∙ ap (λ (x : View T). x.number) t.1 in
+            subst (λ k. Has k f.view.out) number (f.others id v is nz))
             (λ t. f.others j u t.1 ne)
             (live_set views id j w u pj);
         below = f.below;

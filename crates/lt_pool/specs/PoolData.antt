@@ -1,5 +1,5 @@
 -- What contracts see of a pool and of its posts.
-use Rattle.std.specs.Prelude.{◌+◌, ℕ, List, [], ◌∷◌, ◌++◌}
+use Rattle.std.specs.Prelude.{◌≡◌, ◌+◌, ℕ, List, [], ◌∷◌, ◌++◌, length}
 use Rattle.atomic_table.specs.Seated.{TableId}
 use Rattle.lt_pool.specs.Numbers.{without}
 
@@ -7,6 +7,10 @@ use Rattle.lt_pool.specs.Numbers.{without}
 pub record PoolData (T : Type 0) : Type 0 where
   pub table : TableId
   pub firsts : List T
+
+-- a table for these items: it has a slot for each, a word for each slot, and one word before them
+abbrev pub IsTableOf : {T : Type 0} → List T → TableId → Type 0
+IsTableOf firsts table = (table.words ≡ table.slots + 1) × (length firsts ≡ table.slots)
 
 -- A post: the pool that it is of, and its number.
 -- The slots that it has claimed, the last one first, and its refused claims, each a slot and the word that it read.

@@ -1,5 +1,5 @@
 -- What the steps on the word of a slot tell, of a post's view and the slots that its seat has, before and after.
-use Rattle.std.specs.Prelude.{◌≡◌, ◌≢◌, ◌-◌, ℕ, ◌∷◌, Option, Some}
+use Rattle.std.specs.Prelude.{◌≡◌, ◌≢◌, ◌-◌, ℕ, true, List, ◌∷◌, Option, Some}
 use Rattle.atomic_table.specs.Table.{Me, Step, rest}
 use Rattle.lt_pool.specs.declared.view.View.{View}
 use Rattle.lt_pool.specs.Numbers.{without}
@@ -12,6 +12,16 @@ abbrev pub Mine : Type 0 → Type 0
 Mine T = Me (Option T) (View T)
 
 module _ {T : Type 0} where
+  -- a live post between its calls, with this number and these splits: the items of its slots are in its worker's hands
+  abbrev pub IsPost : ℕ → ℕ → Mine T → Type 0
+  IsPost number splits m =
+      (m.0.live ≡ true) × (m.1 ≡ empty_hands m.0.claimed) × (number ≡ m.0.number) × (splits ≡ m.0.splits)
+
+  -- slot i stands before the others that the seat has, and in it lies an item that continues its first one
+  abbrev pub HasItem : (T → T → Type 0) → List T → ℕ → Mine T → Type 0
+  HasItem continues firsts i m =
+      (item : T) × (m.1 ≡ (i, Some item) ∷ rest m.1) × ContinuesAt continues firsts i item
+
   -- slot i was free and is claimed: in it lies an item that continues its first one
   abbrev pub Takes : (T → T → Type 0) → ℕ → Mine T → Mine T → Type 0
   Takes continues i m m' =

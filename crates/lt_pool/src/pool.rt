@@ -17,14 +17,13 @@ pub struct Pool<T: Same> {
 }
 
 impl<T: Same> Model for Pool<T> {
-    ghost use Rattle.std.specs.Prelude.{◌≡◌, ◌+◌, ◌≤◌, length};
-    ghost use Rattle.lt_pool.specs.PoolData.{PoolData};
+    ghost use Rattle.lt_pool.specs.PoolData.{PoolData, IsTableOf};
 
     ghost Value = { PoolData T };
 
     ghost view = { λ p. record { table = p.table.shared.table_id; firsts = p.table.shared.key.value.items } };
 
-    ghost invariant = { λ p. (p.table.shared.table_id.words ≡ p.table.shared.table_id.slots + 1) × (length p.table.shared.key.value.items ≡ p.table.shared.table_id.slots) };
+    ghost invariant = { λ p. IsTableOf p.table.shared.key.value.items p.table.shared.table_id };
 }
 
 /// What a worker claims slots of a pool with.
@@ -36,14 +35,13 @@ pub struct Post<T: Same> {
 }
 
 impl<T: Same> Model for Post<T> {
-    ghost use Rattle.std.specs.Prelude.{◌≡◌, true};
     ghost use Rattle.lt_pool.specs.PoolData.{PostData};
     ghost use Rattle.lt_pool.specs.Views.{post_data};
-    ghost use Rattle.lt_pool.specs.Rule.{empty_hands};
+    ghost use Rattle.lt_pool.specs.Steps.{IsPost};
 
     ghost Value = { PostData T };
 
     ghost view = { λ p. post_data p.seat.table_id p.seat.me.0 };
 
-    ghost invariant = { λ p. (p.seat.me.0.live ≡ true) × (p.seat.me.1 ≡ empty_hands p.seat.me.0.claimed) × (p.number ≡ p.seat.me.0.number) × (p.splits ≡ p.seat.me.0.splits) };
+    ghost invariant = { λ p. IsPost p.number p.splits p.seat.me };
 }

@@ -1,10 +1,8 @@
 // The steps of a seat on the word of a slot.
-ghost use Rattle.std.specs.Prelude.{◌≡◌, ◌≢◌, ◌<◌, true, ◌∷◌, Option, Some, length, OnOk, IfErr};
-ghost use Rattle.atomic_table.specs.Table.{rest};
+ghost use Rattle.std.specs.Prelude.{◌≡◌, ◌≢◌, ◌<◌, true, length, OnOk, IfErr};
 ghost use Rattle.lt_pool.specs.Numbers.{Has};
-ghost use Rattle.lt_pool.specs.Items.{ContinuesAt};
 ghost use Rattle.lt_pool.specs.Rule.{empty_hands};
-ghost use Rattle.lt_pool.specs.Steps.{Takes, IsRefused, forwarded, released};
+ghost use Rattle.lt_pool.specs.Steps.{HasItem, Takes, IsRefused, forwarded, released};
 
 use crate::pool::Pool;
 use crate::rule::{Claim, Forward, Release};
@@ -57,7 +55,7 @@ impl<T: Same> Pool<T> {
         requires of { seat.old.table_id ≡ self.now.table }
         requires live { seat.old.me.0.live ≡ true }
         requires claimed { Has slot seat.old.me.0.claimed }
-        requires item { (item : T) × (seat.old.me.1 ≡ (slot, Some item) ∷ rest seat.old.me.1) × ContinuesAt T.continues self.now.firsts slot item }
+        requires item { HasItem T.continues self.now.firsts slot seat.old.me }
         requires inside { slot < length self.now.firsts }
         ensures of { seat.new.table_id ≡ seat.old.table_id }
         ensures released { seat.new.me ≡ released slot seat.old.me }

@@ -3,6 +3,8 @@ use Rattle.lt_pool.proofs.StepLemmas.{releases}
 use Rattle.lt_pool.proofs.pool.Pool.release.Goals as goal
 
 pub store-requires : goal.store-requires
-store-requires g c =
-    let held = c.requires.item in
-    (search rules, search rules, releases _ _ _ _ _ _ held.0 (search rules) (search rules) (search rules) (search rules) (search rules))
+store-requires g c = (
+  search rules,
+  search rules,
+  releases _ _ _ _ _ _ c.requires.item.0 (search rules) (search rules) (search rules) (search rules) (search rules),
+)
