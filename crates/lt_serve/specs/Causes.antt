@@ -27,7 +27,7 @@ abbrev pub limit_of : Option Command → ℕ
 limit_of (Some Check) = MAX_JOURNAL
 limit_of other = MAX_INPUT
 
--- where the bytes are told, this is the first fault of the script that the command reads
+-- if the bytes are known, this is the first fault of the script that the command reads
 abbrev pub IsRefused : Option Command → Option (List ℕ) → ScriptFault → Type 0
 IsRefused (Some Check) left fault = HasFaultBefore left fault
 IsRefused other left fault = HasFault left fault
@@ -47,7 +47,7 @@ pub record HasStatusCause (asked : Option Command) (left : Option (List ℕ)) (a
   pub read_fault : answer ≡ ReadFault → reads asked ≡ true
   pub too_long : answer ≡ TooLong → reads asked ≡ true
 
--- the answer tells what the bytes are, or what came of them
+-- the answer says what the bytes are, or what came of them
 abbrev pub HasRead : Status → Type 0
 HasRead Done = Unit {0}
 HasRead Stuck = Unit {0}

@@ -9,7 +9,7 @@ use Rattle.lt_serve.specs.declared.status.Status.{Status}
 use Rattle.lt_serve.specs.declared.status.Status.TheVariants.{Done, NoMemory}
 use Rattle.lt_serve.specs.Causes.{IsRefused, IsBad, IsEnding, reads, limit_of}
 
--- the source failed at no read and gave no more than the input may have, and its bytes are told: their script has no fault,
+-- the source failed at no read and gave no more than the input may have, and its bytes are known: their script has no fault,
 -- and the journal that `check` reads has no bad line
 pub record IsGood (command : Command) (before after : SourceState) : Type 0 where
   pub no_read_fault : Rose before.faults after.faults → ⊥

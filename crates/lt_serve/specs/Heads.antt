@@ -47,7 +47,7 @@ abbrev pub IsRoom : Option ℕ → Type 0
 IsRoom None = Unit {0}
 IsRoom (Some room) = room ≤ MAX_JOURNAL
 
--- a line that is told as bad is one of so many bytes, or the one after them
+-- a line that is called bad is one of so many bytes, or the one after them
 abbrev pub IsLineOf : ℕ → Result RunData ReplayError → Type 0
 IsLineOf size (Err (Bad line)) = line ≤ size + 1
 IsLineOf size told = Unit {0}

@@ -1,4 +1,4 @@
--- The exit status of each answer, and the line that tells it.
+-- The exit status of each answer, and the line that says it.
 use Rattle.std.specs.Prelude.{ℕ, List, [], ◌++◌, codes}
 use Rattle.std.specs.Fmt.{decimal}
 use Rattle.lt_script.specs.Fault.{text_of_fault}

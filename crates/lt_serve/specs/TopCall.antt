@@ -27,12 +27,12 @@ use Rattle.lt_serve.specs.Endings.{RanTo, StopsInTime, cut_of}
 use Rattle.lt_serve.specs.declared.schedule.Schedule.{Schedule}
 use Rattle.lt_serve.specs.Schedules.{AreInOrder, AreDrawn}
 
--- where the bytes are told, they denote this script
+-- if the bytes are known, they denote this script
 abbrev pub Denotes : Option (List ℕ) → ScriptData → Type 0
 Denotes None script = Unit {0}
 Denotes (Some bytes) script = read_of bytes ≡ Ok script
 
--- where the bytes are told, this is their first fault
+-- if the bytes are known, this is their first fault
 abbrev pub HasFault : Option (List ℕ) → ScriptFault → Type 0
 HasFault None fault = Unit {0}
 HasFault (Some bytes) fault = read_of bytes ≡ Err fault
@@ -87,22 +87,22 @@ abbrev pub Prints : ℕ → ℕ → ℕ → ℕ → Status → List Logged → L
 Prints nodes clients commands seed ending run text =
     (ending ≡ Done) × (run ≡ []) × (text ≡ print_of (script_of nodes clients commands seed))
 
--- where the bytes are told, their lines before the journal denote this script
+-- if the bytes are known, their lines before the journal denote this script
 abbrev pub DenotesBefore : Option (List ℕ) → ScriptData → Type 0
 DenotesBefore None script = Unit {0}
 DenotesBefore (Some bytes) script = read_of (take (input_parts bytes).script bytes) ≡ Ok script
 
--- where the bytes are told, this is the first fault of the lines before the journal
+-- if the bytes are known, this is the first fault of the lines before the journal
 abbrev pub HasFaultBefore : Option (List ℕ) → ScriptFault → Type 0
 HasFaultBefore None fault = Unit {0}
 HasFaultBefore (Some bytes) fault = read_of (take (input_parts bytes).script bytes) ≡ Err fault
 
--- where the bytes are told, the journal in them is that of this run of the script
+-- if the bytes are known, the journal in them is that of this run of the script
 abbrev pub IsJournalOf : Option (List ℕ) → ScriptData → List Logged → Type 0
 IsJournalOf None script run = Unit {0}
 IsJournalOf (Some bytes) script run = checked_input script (lines bytes) ≡ Ok run
 
--- where the bytes are told, this is the first line in them that is bad
+-- if the bytes are known, this is the first line in them that is bad
 abbrev pub IsBadLine : Option (List ℕ) → ScriptData → ℕ → Type 0
 IsBadLine None script line = Unit {0}
 IsBadLine (Some bytes) script line = checked_input script (lines bytes) ≡ Err line

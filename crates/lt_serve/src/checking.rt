@@ -29,7 +29,7 @@ use lt_script::{ReadError, Script, read};
 use std::alloc::{AllocError, Global};
 use std::fmt::Write;
 
-/// Reads a script and a journal, and tells whether the journal is that of a run of the script.
+/// Reads a script and a journal, and says whether the journal is that of a run of the script.
 pub(crate) fn checked<S: Source>(alloc: Global, source: &mut S) -> Result<Made, Status>
     ensures does { IfOk result (λ made. Checks made.ending (S.state source.old).left made.run.entries made.text.items) }
     ensures whole { OnOk result (IsReadWhole MAX_JOURNAL (S.state source.old) (S.state source.new)) }
@@ -46,7 +46,7 @@ pub(crate) fn checked<S: Source>(alloc: Global, source: &mut S) -> Result<Made, 
     }
 }
 
-// Reads what comes after the first bytes of an input, and answers the whole input. A script with a fault is told
+// Reads what comes after the first bytes of an input, and answers the whole input. A script with a fault is the answer
 // once all was read.
 fn judged<S: Source>(
     alloc: Global,
@@ -74,7 +74,7 @@ fn judged<S: Source>(
     Ok(answered(alloc, parts.lines, told))
 }
 
-// What a checker tells of the journal that begins with these bytes and goes on with what is left of the input.
+// What a checker says of the journal that begins with these bytes and goes on with what is left of the input.
 fn checked_journal<S: Source>(
     alloc: Global,
     source: &mut S,
@@ -91,7 +91,7 @@ fn checked_journal<S: Source>(
     Ok(checker.end())
 }
 
-// The answer to an input with so many lines before its journal, of which a checker told this.
+// The answer to an input with so many lines before its journal, of which a checker said this.
 fn answered(alloc: Global, before: u32, told: Result<Run, ReplayError>) -> Result<Made, Status>
     requires few { before ≤ MAX_JOURNAL }
     requires line { IsLineOf (2 * MAX_JOURNAL) told }
@@ -110,7 +110,7 @@ fn answered(alloc: Global, before: u32, told: Result<Run, ReplayError>) -> Resul
     }
 }
 
-// The run, with the line that tells the number of its moves.
+// The run, with the line that says the number of its moves.
 fn with_count(alloc: Global, run: Run) -> Result<Made, Status>
     ensures made { IfOk result (λ made. (made.ending ≡ Status.Done) × (made.run.entries ≡ run.entries) × (made.text.items ≡ ok_text run.entries)) }
     ensures refused { IfErr result (λ answer. answer ≡ Status.NoMemory) }

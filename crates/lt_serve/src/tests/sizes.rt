@@ -155,8 +155,10 @@ fn runs_the_greatest_script_of_version_2(rt: HostRuntime) -> Result<(), Fail> {
     let script = second_version(alloc)?;
     let (status, journal) = served(&rt, alloc, "sim first", &script)?;
     assert_eq!(rt; status, Status::Done);
+    assert_eq!(rt; journal.len(), 411_530);
     let input = joined(alloc, &script, &journal)?;
-    let (status, _) = served(&rt, alloc, "check", &input)?;
+    let (status, text) = served(&rt, alloc, "check", &input)?;
     assert_eq!(rt; status, Status::Done);
+    assert_eq!(rt; text.as_slice(), b"ok 8152\n".as_slice());
     Ok(())
 }
