@@ -4,6 +4,7 @@ use Rattle.std.specs.Fmt.{decimal}
 use Rattle.std.proofs.lemmas.Fmt.{decimal_digit}
 use Rattle.lt_modes.specs.declared.mode.Mode.TheVariants.{Read}
 use Rattle.lt_modes.specs.declared.event.Event.TheVariants.{Grant}
+use Rattle.lt_modes.specs.Modes.{conflicts}
 use Rattle.lt_spec.specs.Log.{Logged}
 use Rattle.lt_text.specs.Text.{cut_at, lines, before_space, later_fields, spaced}
 use Rattle.lt_journal.specs.declared.line.Line.{Line}
@@ -66,7 +67,7 @@ all_lines : map (written short_script) all_due ≡ codes "grant a s read" ∷ co
 all_lines = ap₂ (λ (a : List (List ℕ)) (b : List ℕ). a ++ b ∷ []) some_lines last_text
 
 pub short_rows : ShortRows
-unfolding cut_at lines before_space later_fields
+unfolding conflicts cut_at lines before_space later_fields
 short_rows = record {
   right = ap (λ (ls : List (List ℕ)). checked short_script (codes "move 1 0 act a" ∷ ls)) (sym all_lines)
       ∙ ap (verdict short_script) (reads_due short_script short_run all_due [] 1 []).1;
