@@ -9,8 +9,8 @@ ghost use Rattle.lt_core.specs.CoreData.{Does, HasRoom, RoomToAsk};
 ghost use Rattle.lt_core.specs.SetCommands.{answer_of, commanded, move_of, RoomForCommand};
 
 use crate::one_set::Core;
-use crate::set_command::{Answer, SetCommand};
 use crate::serving::give;
+use crate::set_command::{Answer, SetCommand};
 use lt_letter::{Out, Parked};
 use lt_modes::{Ask, Event, Mode, Stamp};
 

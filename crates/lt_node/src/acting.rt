@@ -63,8 +63,20 @@ impl Node<'_> {
         ensures does { NodeDoes (obey self.old.script stamp client (Some command) (state_of self.old)) self.old out.old self.new out.new }
     {
         match command {
-            Command::Lock { set, mode } => self.touch(set, client, SetCommand::Lock(mode), stamp, out),
-            Command::Try { set, mode } => self.touch(set, client, SetCommand::Try(mode), stamp, out),
+            Command::Lock { set, mode } => self.touch(
+                set,
+                client,
+                SetCommand::Lock(mode),
+                stamp,
+                out,
+            ),
+            Command::Try { set, mode } => self.touch(
+                set,
+                client,
+                SetCommand::Try(mode),
+                stamp,
+                out,
+            ),
             Command::Unlock { set, mode } => self.touch(
                 set,
                 client,
@@ -84,7 +96,14 @@ impl Node<'_> {
     }
 
     // One set obeys.
-    fn touch(&mut self, set: u8, client: u16, command: SetCommand, stamp: Stamp, out: &mut Out) -> Answer
+    fn touch(
+        &mut self,
+        set: u8,
+        client: u16,
+        command: SetCommand,
+        stamp: Stamp,
+        out: &mut Out,
+    ) -> Answer
         requires node { stamp.node ≡ self.old.me }
         requires set { set < length self.old.script.sets }
         requires ready { IsReady stamp.clock self.old.cores out.old }
