@@ -1,6 +1,5 @@
 use Rattle.std.proofs.Common.{◌≡◌, ◌<◌, ◌≤◌, ℕ, length, None, slice_index_or}
-use Rattle.std.specs.Prelude.{if◌then◌else◌, Option}
-use Rattle.lt_modes.specs.declared.mode.Mode.{Mode}
+use Rattle.std.specs.Prelude.{if◌then◌else◌}
 use Rattle.lt_spec.specs.Families.{is_related}
 use Rattle.lt_order.proofs.locks.Locks.drop_family.Given as goal
 

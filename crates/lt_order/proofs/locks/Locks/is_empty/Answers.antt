@@ -1,9 +1,7 @@
-use Rattle.std.proofs.Common.{◌≡◌, ℕ, refl, sym, ap, arith, ◌∙◌, List, Option, None, ◌++◌, ◌∷◌, [], ◌+◌}
-use Rattle.std.specs.Prelude.{slice_set, slice_index_or, filter, not}
+use Rattle.std.proofs.Common.{sym, ap, ◌∙◌, List, Option}
 use Rattle.lt_modes.specs.declared.mode.Mode.{Mode}
-use Rattle.lt_spec.specs.Holdings.{Holding, holding, without_one, is_dropped}
-use Rattle.lt_law_ordered.specs.Ordered.{are_below, holds_none}
-use Rattle.lt_order.specs.Locks.{locks_in, is_mode}
+use Rattle.lt_law_ordered.specs.Ordered.{holds_none}
+use Rattle.lt_order.specs.Locks.{locks_in}
 use Rattle.lt_order.proofs.locks.Locks.is_empty.Goals as goal
 use Rattle.lt_order.proofs.LockLists.{none_by_modes}
 
