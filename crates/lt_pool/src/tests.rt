@@ -18,9 +18,9 @@ impl Same for Named {
 #[test]
 fn a_slot_is_one_posts_at_a_time(rt: HostRuntime) -> Result<(), Fail> {
     let mut items = Vec::new(rt.alloc());
-    for name in 0..3u8 {
-        items.push(Named { name })?;
-    }
+    items.push(Named { name: 0 })?;
+    items.push(Named { name: 1 })?;
+    items.push(Named { name: 2 })?;
     let (pool, mut first) = Pool::new(rt.alloc(), items)?;
     let mut second = pool.split(&mut first);
 
@@ -43,7 +43,8 @@ fn a_slot_is_one_posts_at_a_time(rt: HostRuntime) -> Result<(), Fail> {
     let Ok(items) = pool.close(first) else {
         panic!(rt; "there is memory")
     };
+    assert!(rt; items.len() == 3);
     let names = [items[0].name, items[1].name, items[2].name];
-    assert!(rt; items.len() == 3 && names == [0, 1, 2]);
+    assert!(rt; names == [0, 1, 2]);
     Ok(())
 }
