@@ -1,2 +1,3 @@
 pub mod TableData
 pub mod Seen
+pub mod NodeCounts

@@ -80,3 +80,26 @@ fn keeps_what_was_told_to_be_frozen(rt: HostRuntime) -> Result<(), Fail> {
     assert!(rt; table.frozen_told(0).is_empty());
     Ok(())
 }
+
+#[test]
+fn counts_each_node_once(rt: HostRuntime) -> Result<(), Fail> {
+    let mut table = Table::new(rt.alloc(), 2)?;
+    table.reserve(2)?;
+    let mut pending = Pending::new();
+    pending.push(stamp(3));
+    assert_eq!(rt; table.nodes_with(Mode::Read), 0);
+    table.owe(1, stamp(2), Mode::Read);
+    assert_eq!(rt; table.nodes_with(Mode::Read), 1);
+    table.owe(1, stamp(3), Mode::Read);
+    assert_eq!(rt; table.nodes_with(Mode::Read), 1);
+    let read = ModeSet::one(Mode::Read);
+    assert!(rt; table.tell(1, read, &pending, stamp(4)));
+    assert_eq!(rt; table.nodes_with(Mode::Read), 1);
+    assert!(rt; table.tell(1, ModeSet::empty(), &pending, stamp(5)));
+    assert_eq!(rt; table.nodes_with(Mode::Read), 1);
+    assert!(rt; !table.tell(1, ModeSet::empty(), &Pending::new(), stamp(4)));
+    assert_eq!(rt; table.nodes_with(Mode::Read), 1);
+    assert!(rt; table.tell(1, ModeSet::empty(), &Pending::new(), stamp(6)));
+    assert_eq!(rt; table.nodes_with(Mode::Read), 0);
+    Ok(())
+}
