@@ -15,7 +15,7 @@ use Rattle.lt_modes.specs.Granting.{can_grant}
 use Rattle.lt_modes.specs.Serving.{queue_of_desk, queue_of, next_draw, ask_at, serve}
 use Rattle.lt_core.proofs.AskLemmas.{asks_last, asks_first, count_few}
 use Rattle.lt_core.specs.Steps.{ask_count}
-use Rattle.lt_letter.specs.OutData.{OutData, FitsOut}
+use Rattle.lt_desk.specs.OutData.{OutData, FitsOut}
 use Rattle.lt_core.specs.declared.set_command.SetCommand.{SetCommand}
 use Rattle.lt_core.specs.declared.set_command.SetCommand.TheVariants.{Lock, Try, Unlock, Change, DropAll}
 use Rattle.lt_core.specs.SetCommands.{commanded}

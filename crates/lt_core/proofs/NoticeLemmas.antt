@@ -11,7 +11,7 @@ use Rattle.lt_modes.specs.declared.event.Event.TheVariants.{Freeze}
 use Rattle.lt_modes.specs.Freezing.{freeze, freeze_with}
 use Rattle.lt_modes.specs.Places.{cons_if}
 use Rattle.lt_desk.specs.Freezes.{bits_from}
-use Rattle.lt_letter.specs.OutData.{OutData, FitsOut, out_after}
+use Rattle.lt_desk.specs.OutData.{OutData, FitsOut, out_after}
 use Rattle.lt_core.specs.Notices.{notices, node_if}
 
 -- what is sent to a node that is told or not, and then to the others

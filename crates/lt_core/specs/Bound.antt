@@ -4,7 +4,7 @@ use Rattle.lt_modes.specs.declared.stamp.Stamp.{Stamp}
 use Rattle.lt_modes.specs.State.{SetState, Desk, Letter, Body, AskBody, TellBody, CopyBody, TokenBody, FreezeBody}
 use Rattle.lt_modes.specs.SetMove.{take}
 use Rattle.lt_modes.specs.Telling.{finish}
-use Rattle.lt_letter.specs.OutData.{OutData, FitsOut}
+use Rattle.lt_desk.specs.OutData.{OutData, FitsOut}
 use Rattle.lt_core.specs.declared.set_command.SetCommand.{SetCommand}
 use Rattle.lt_core.specs.CoreData.{waiting_here}
 use Rattle.lt_core.specs.SetCommands.{move_of}

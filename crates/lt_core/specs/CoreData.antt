@@ -7,9 +7,9 @@ use Rattle.lt_modes.specs.Serving.{queue_of}
 use Rattle.lt_modes.specs.Fits.{parked_asks}
 use Rattle.lt_held.specs.HeldData.{most_locks}
 use Rattle.lt_desk.specs.DeskData.{DeskData}
-use Rattle.lt_letter.specs.declared.letter.Body.{Body}
-use Rattle.lt_letter.specs.declared.letter.Body.TheVariants.{Ask, Tell, Copy, Token, Freeze}
-use Rattle.lt_letter.specs.OutData.{OutData, out_after}
+use Rattle.lt_desk.specs.declared.letter.Body.{Body}
+use Rattle.lt_desk.specs.declared.letter.Body.TheVariants.{Ask, Tell, Copy, Token, Freeze}
+use Rattle.lt_desk.specs.OutData.{OutData, out_after}
 
 -- the node, the set and its state; for how many waiting_here asks there is room, for how many rows more, and for how many letters more that wait for the token
 pub record CoreData : Type 0 where

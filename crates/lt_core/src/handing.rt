@@ -4,13 +4,12 @@ ghost use Rattle.lt_modes.specs.Serving.{queue_of, next_draw};
 ghost use Rattle.lt_modes.specs.Freezing.{freeze};
 ghost use Rattle.lt_modes.specs.HandingOver.{hand_over, hand_over_to};
 ghost use Rattle.lt_desk.specs.Freezes.{bits_from};
-ghost use Rattle.lt_letter.specs.OutData.{FitsOut, out_after};
+ghost use Rattle.lt_desk.specs.OutData.{FitsOut, out_after};
 ghost use Rattle.lt_core.specs.CoreData.{Does, HasRoom, epoch_of};
 ghost use Rattle.lt_core.specs.Notices.{notices, node_if};
 
 use crate::one_set::Core;
-use lt_desk::{Desk, Targets};
-use lt_letter::{Body, News, Out};
+use lt_desk::{Body, Desk, News, Out, Targets};
 use lt_modes::{Event, Stamp};
 
 impl Core {

@@ -1,12 +1,12 @@
 ghost use Rattle.std.specs.Prelude.{◌≡◌, ◌+◌, ◌<◌, ◌≤◌, ◌^◌, ◌&&◌, nat_le, length, map, filter_map};
 ghost use Rattle.lt_modes.specs.Held.{locks_in};
 ghost use Rattle.lt_modes.specs.Fits.{asks_here, ask_if};
-ghost use Rattle.lt_letter.specs.Seen.{parked_seen};
+ghost use Rattle.lt_desk.specs.LetterSeen.{parked_seen};
 ghost use Rattle.lt_core.specs.Bound.{most};
 ghost use Rattle.lt_core.specs.CoreData.{waiting_here, epoch_of, freeze_number_of};
 
 use crate::one_set::{Core, asks_of};
-use lt_letter::Parked;
+use lt_desk::Parked;
 use std::collections::VecDeque;
 
 impl Core {

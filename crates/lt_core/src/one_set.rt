@@ -4,16 +4,15 @@ ghost use Rattle.lt_modes.specs.Held.{locks_of};
 ghost use Rattle.lt_modes.specs.Serving.{queue_of, waits};
 ghost use Rattle.lt_modes.specs.Fits.{has_client, parked_asks, ask_if};
 ghost use Rattle.lt_modes.specs.Made.{post_of};
-ghost use Rattle.lt_letter.specs.Seen.{letter_seen, post_seen, body_seen, parked_seen};
-ghost use Rattle.lt_letter.specs.Hands.{asks_in, RoomIn, places_in, body_spare};
+ghost use Rattle.lt_desk.specs.LetterSeen.{letter_seen, post_seen, body_seen, parked_seen};
+ghost use Rattle.lt_desk.specs.Hands.{asks_in, RoomIn, places_in, body_spare};
 ghost use Rattle.lt_core.specs.CoreData.{HasMemory, KeepsRoom, waiting_here};
 ghost use Rattle.lt_core.specs.Steps.{ask_count, is_ask_of};
 
 use crate::fits::{has_later, parks_later};
 use lt_asks::Unanswered;
-use lt_desk::Desk;
+use lt_desk::{Body, Desk, Letter, Parked, Post};
 use lt_held::Held;
-use lt_letter::{Body, Letter, Parked, Post};
 use lt_link::Links;
 use lt_modes::{Link, ModeSet, Stamp};
 use std::alloc::{AllocError, Global};
@@ -41,7 +40,7 @@ pub struct Core {
 impl Model for Core {
     ghost use Rattle.std.specs.Prelude.{◌-◌, map};
     ghost use Rattle.std.specs.VecDeque.{deque_len, deque_capacity};
-    ghost use Rattle.lt_letter.specs.Seen.{parked_seen};
+    ghost use Rattle.lt_desk.specs.LetterSeen.{parked_seen};
     ghost use Rattle.lt_core.specs.CoreData.{CoreData, desk_seen, room_by};
 
     ghost Value = { CoreData };

@@ -1,10 +1,10 @@
 ghost use Rattle.std.specs.Prelude.{◌≡◌};
 ghost use Rattle.lt_modes.specs.Telling.{make_tell, tell, attend, finish};
-ghost use Rattle.lt_letter.specs.OutData.{FitsOut};
+ghost use Rattle.lt_desk.specs.OutData.{FitsOut};
 ghost use Rattle.lt_core.specs.CoreData.{Does, HasRoom};
 
 use crate::one_set::Core;
-use lt_letter::{Out, Parked, Tell};
+use lt_desk::{Out, Parked, Tell};
 use lt_modes::Stamp;
 
 impl Core {

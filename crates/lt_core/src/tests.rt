@@ -1,5 +1,5 @@
 use crate::{Answer, Core, Numbers, SetCommand, law_room_to_send};
-use lt_letter::{Body, Letter, Out};
+use lt_desk::{Body, Letter, Out};
 use lt_modes::{Ask, Link, Mode, Stamp};
 use std::test::Fail;
 

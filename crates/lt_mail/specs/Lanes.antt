@@ -1,7 +1,7 @@
 -- What went through the ends of a ring.
 use Rattle.std.specs.Prelude.{List, ◌++◌}
 use Rattle.rtrb.specs.Ring.{sent, received, known_items, IsPair}
-use Rattle.lt_letter.specs.declared.letter.Letter.{Letter}
+use Rattle.lt_desk.specs.declared.letter.Letter.{Letter}
 use Rattle.lt_mail.specs.declared.lane.OutLane.{OutLane}
 use Rattle.lt_mail.specs.declared.lane.InLane.{InLane}
 

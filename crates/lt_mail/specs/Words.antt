@@ -3,8 +3,8 @@ use Rattle.std.specs.Prelude.{◌≡◌, ◌==◌, ◌+◌, ◌≤◌, ◌<◌, 
 use Rattle.std.specs.VecDeque.{deque_len, deque_capacity}
 use Rattle.rtrb.specs.Ring.{known_free, producer_capacity, SameProducer, SameConsumer}
 use Rattle.lt_modes.specs.State as rules
-use Rattle.lt_letter.specs.declared.letter.Letter.{Letter}
-use Rattle.lt_letter.specs.Seen.{letter_seen}
+use Rattle.lt_desk.specs.declared.letter.Letter.{Letter}
+use Rattle.lt_desk.specs.LetterSeen.{letter_seen}
 use Rattle.lt_mail.specs.declared.lane.OutLane.{OutLane}
 use Rattle.lt_mail.specs.declared.lane.InLane.{InLane}
 use Rattle.lt_mail.specs.declared.mail.Mail.{Mail}

@@ -5,7 +5,7 @@ ghost use mathlib.Core.List.{IsPrefix};
 ghost use Rattle.lt_mail.specs.Lanes.{ring_given, outbox_letters, sent_by, taken, known};
 
 use crate::lane::{InLane, OutLane};
-use lt_letter::Letter;
+use lt_desk::Letter;
 use std::alloc::AllocError;
 
 impl OutLane {

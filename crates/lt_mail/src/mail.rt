@@ -1,12 +1,12 @@
 ghost use Rattle.std.specs.Prelude.{◌≡◌, ◌≢◌, ◌+◌, ◌<◌, ◌⊎◌, ℕ, [], ◌∷◌, ◌++◌, length, IfSome, IfNone, OnOk};
 ghost use mathlib.Core.List.{IsPrefix};
-ghost use Rattle.lt_letter.specs.Seen.{letter_seen};
+ghost use Rattle.lt_desk.specs.LetterSeen.{letter_seen};
 ghost use Rattle.lt_mail.specs.Words.{out_at, in_at, outs_count, ins_count, sent_to, given_to, waiting_to, taken_from, known_from, if_to, if_from, places_to, IsFullTo, HasRoomFor, SameEnds, HasRoomAt};
 ghost use Rattle.std.specs.VecDeque.{deque_len, deque_capacity};
 ghost use Rattle.lt_mail.specs.Changes.{KeepsSent, OutChanges, InChanges, Puts, Flushes, Stays, Takes, TakesKnown, TakesNone, KnowsNone};
 
 use crate::lane::{InLane, OutLane};
-use lt_letter::Letter;
+use lt_desk::Letter;
 use std::alloc::AllocError;
 
 /// The letters that one node sends and takes: an end of a ring for each node, its own included, which stays unused.

@@ -6,7 +6,7 @@ use Rattle.lt_modes.specs.declared.event.Event.TheVariants.{Busy, DropAll as Dro
 use Rattle.lt_modes.specs.declared.command.Command.{Command}
 use Rattle.lt_modes.specs.declared.command.Command.TheVariants as commands
 use Rattle.lt_modes.specs.Script.{ScriptData}
-use Rattle.lt_letter.specs.OutData.{OutData}
+use Rattle.lt_desk.specs.OutData.{OutData}
 use Rattle.lt_core.specs.CoreData.{CoreData}
 use Rattle.lt_spec.specs.Families.{related}
 use Rattle.lt_spec.specs.NodeMove.{NodeState, NodeMade, drop_all, each_touched, answered_first, locks_in_sets, one_made, at_clock}

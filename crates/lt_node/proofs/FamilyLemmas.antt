@@ -9,7 +9,7 @@ use Rattle.lt_modes.specs.Places.{places_from}
 use Rattle.lt_modes.specs.Script.{ScriptData, SetData, family_at, family_of_set}
 use Rattle.lt_modes.specs.State.{SetState}
 use Rattle.lt_modes.specs.Made.{Made}
-use Rattle.lt_letter.specs.OutData.{OutData, FitsOut}
+use Rattle.lt_desk.specs.OutData.{OutData, FitsOut}
 use Rattle.lt_core.specs.declared.set_command.SetCommand.TheVariants as set_commands
 use Rattle.lt_core.specs.Bound.{RoomToSend}
 use Rattle.lt_core.specs.CoreData.{CoreData, Does}

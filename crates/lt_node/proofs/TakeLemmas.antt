@@ -5,10 +5,10 @@ use Rattle.lt_modes.specs.declared.stamp.Stamp.{Stamp}
 use Rattle.lt_modes.specs.Script.{ClientData}
 use Rattle.lt_modes.specs.SetMove.{take}
 use Rattle.lt_modes.specs.Fits.{fits, numbers_of}
-use Rattle.lt_letter.specs.declared.letter.Letter.{Letter}
-use Rattle.lt_letter.specs.Seen.{letter_seen, body_seen}
-use Rattle.lt_letter.specs.Hands.{asks_in, RoomIn}
-use Rattle.lt_letter.specs.OutData.{OutData, FitsOut}
+use Rattle.lt_desk.specs.declared.letter.Letter.{Letter}
+use Rattle.lt_desk.specs.LetterSeen.{letter_seen, body_seen}
+use Rattle.lt_desk.specs.Hands.{asks_in, RoomIn}
+use Rattle.lt_desk.specs.OutData.{OutData, FitsOut}
 use Rattle.lt_core.specs.CoreData.{CoreData, Does, HasRoom, HasMemory, RoomForBody, waiting_here}
 use Rattle.lt_core.specs.Bound.{RoomToSend, most, brought}
 use Rattle.lt_core.proofs.BoundLemmas.{takes_fit}

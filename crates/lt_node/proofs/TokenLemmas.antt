@@ -8,11 +8,11 @@ use Rattle.lt_modes.specs.State.{SetState, Desk}
 use Rattle.lt_modes.specs.Fits.{Numbers, fits, head_fits, body_fits, token_fits, queue_fits, are_apart, has_client, is_at_home, parked_asks}
 use Rattle.lt_lists.specs.Below.{count_below}
 use Rattle.lt_lists.proofs.Searches.{one_less}
-use Rattle.lt_letter.specs.declared.letter.Letter.{Letter}
-use Rattle.lt_letter.specs.declared.letter.Body.{Body}
-use Rattle.lt_letter.specs.declared.letter.Body.TheVariants as bodies
-use Rattle.lt_letter.specs.Seen.{body_seen, letter_seen}
-use Rattle.lt_letter.specs.Hands.{asks_in, RoomIn}
+use Rattle.lt_desk.specs.declared.letter.Letter.{Letter}
+use Rattle.lt_desk.specs.declared.letter.Body.{Body}
+use Rattle.lt_desk.specs.declared.letter.Body.TheVariants as bodies
+use Rattle.lt_desk.specs.LetterSeen.{body_seen, letter_seen}
+use Rattle.lt_desk.specs.Hands.{asks_in, RoomIn}
 use Rattle.lt_core.specs.CoreData.{CoreData, HasMemory, RoomForBody, waiting_here}
 use Rattle.lt_node.proofs.WithinLemmas.{IsWithin}
 

@@ -11,7 +11,7 @@ use Rattle.lt_modes.specs.Fits.{parked_asks, asks_here}
 use Rattle.lt_lists.proofs.Searches.{any_below_none}
 use Rattle.lt_limits.specs.Limits.{desk_within, set_within, leaves_ask, node_within, leaves_asks}
 use Rattle.lt_core.specs.CoreData.{CoreData, HasRoom, HasMemory, waiting_here, epoch_of, freeze_number_of}
-use Rattle.lt_letter.specs.OutData.{OutData}
+use Rattle.lt_desk.specs.OutData.{OutData}
 use Rattle.lt_node.specs.NodeData.{NodeData, IsNode, state_of, core_at, first_core}
 use Rattle.lt_node.specs.Room.{LeavesAsk, RoomToAct, IsReady}
 

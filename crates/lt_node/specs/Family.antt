@@ -6,7 +6,7 @@ use Rattle.lt_modes.specs.State.{SetState}
 use Rattle.lt_modes.specs.Made.{Made}
 use Rattle.lt_modes.specs.Telling.{finish}
 use Rattle.lt_modes.specs.SetMove.{drop}
-use Rattle.lt_letter.specs.OutData.{OutData}
+use Rattle.lt_desk.specs.OutData.{OutData}
 use Rattle.lt_core.specs.CoreData.{CoreData}
 use Rattle.lt_spec.specs.NodeMove.{NodeState, NodeMade}
 use Rattle.lt_node.specs.NodeData.{first_core, with_sent}

@@ -2,7 +2,7 @@
 use Rattle.std.specs.Prelude.{◌≡◌, ◌<◌, ◌++◌, ℕ, List, length, slice_index_or}
 use Rattle.lt_modes.specs.Script.{ScriptData}
 use Rattle.lt_modes.specs.State.{first_state}
-use Rattle.lt_letter.specs.OutData.{OutData}
+use Rattle.lt_desk.specs.OutData.{OutData}
 use Rattle.lt_core.specs.CoreData.{CoreData}
 use Rattle.lt_script.specs.Script.{IsScript}
 use Rattle.lt_spec.specs.NodeMove.{NodeState, NodeMade}

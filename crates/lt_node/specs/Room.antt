@@ -1,9 +1,9 @@
 -- Room for one move of a node.
 use Rattle.std.specs.Prelude.{ℕ, List, ◌+◌, ◌≤◌, ◌<◌, All, length, sum_by}
-use Rattle.lt_letter.specs.declared.letter.Letter.{Letter}
-use Rattle.lt_letter.specs.Seen.{body_seen}
-use Rattle.lt_letter.specs.Hands.{asks_in, RoomIn}
-use Rattle.lt_letter.specs.OutData.{OutData}
+use Rattle.lt_desk.specs.declared.letter.Letter.{Letter}
+use Rattle.lt_desk.specs.LetterSeen.{body_seen}
+use Rattle.lt_desk.specs.Hands.{asks_in, RoomIn}
+use Rattle.lt_desk.specs.OutData.{OutData}
 use Rattle.lt_modes.specs.State.{SetState}
 use Rattle.lt_modes.specs.Held.{locks_in}
 use Rattle.lt_held.specs.HeldData.{most_locks}

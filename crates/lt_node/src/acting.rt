@@ -1,6 +1,6 @@
 ghost use Rattle.std.specs.Prelude.{◌≡◌, ◌≢◌, ◌+◌, ◌≤◌, ◌<◌, ◌&&◌, ◌^◌, ℕ, not, All, length, slice_index_or, Some, IsTrue};
 ghost use Rattle.lt_modes.specs.State.{SetState};
-ghost use Rattle.lt_letter.specs.OutData.{OutData};
+ghost use Rattle.lt_desk.specs.OutData.{OutData};
 ghost use Rattle.lt_core.specs.Bound.{RoomToSend};
 ghost use Rattle.lt_core.specs.CoreData.{CoreData, HasRoom};
 ghost use Rattle.lt_core.specs.SetCommands.{answer_of, move_of};
@@ -16,7 +16,7 @@ ghost use Rattle.lt_node.specs.Room.{RoomToAct, IsReady, most_sent};
 use crate::family;
 use crate::node::Node;
 use lt_core::{Answer, SetCommand};
-use lt_letter::Out;
+use lt_desk::Out;
 use lt_modes::{Command, Event, Stamp};
 
 impl Node<'_> {

@@ -1,5 +1,5 @@
 ghost use Rattle.std.specs.Prelude.{◌≡◌, ◌+◌, ◌≤◌, ◌<◌, ◌^◌, ℕ, All, length, slice_index_or, sum_by};
-ghost use Rattle.lt_letter.specs.OutData.{OutData};
+ghost use Rattle.lt_desk.specs.OutData.{OutData};
 ghost use Rattle.lt_core.specs.Bound.{RoomToSend};
 ghost use Rattle.lt_core.specs.CoreData.{Does, HasRoom};
 ghost use Rattle.lt_spec.specs.Families.{related};
@@ -9,7 +9,7 @@ ghost use Rattle.lt_node.specs.Family.{SetsDo, ending, with_sets};
 ghost use Rattle.lt_node.specs.Room.{HasFewLocks, most_sent};
 
 use lt_core::{Answer, Core, SetCommand};
-use lt_letter::Out;
+use lt_desk::Out;
 use lt_modes::Stamp;
 use lt_script::Script;
 

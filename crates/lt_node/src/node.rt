@@ -1,6 +1,6 @@
 ghost use Rattle.std.specs.Prelude.{◌≡◌, ◌<◌, ◌+◌, ◌&&◌, ◌^◌, ℕ, not, length, IfOk, slice_index_or};
 ghost use Rattle.lt_modes.specs.Fits.{fits, numbers_of};
-ghost use Rattle.lt_letter.specs.Seen.{letter_seen};
+ghost use Rattle.lt_desk.specs.LetterSeen.{letter_seen};
 ghost use Rattle.lt_core.specs.Tests.{rule_numbers as numbers_seen};
 ghost use Rattle.lt_spec.specs.Families.{home};
 ghost use Rattle.lt_spec.specs.NodeMove.{node_waits, has_command, act_stamp, take_stamp};
@@ -10,7 +10,7 @@ ghost use Rattle.lt_node.specs.NodeData.{IsNode, IsCoreOf, state_of, first_core}
 
 use crate::client::{Client, clients_of, homes_of};
 use lt_core::{Core, Numbers};
-use lt_letter::Letter;
+use lt_desk::Letter;
 use lt_modes::Stamp;
 use lt_script::Script;
 use std::alloc::{AllocError, Global};

@@ -1,7 +1,7 @@
 ghost use Rattle.std.specs.Prelude.{◌≡◌, ◌+◌, ◌≤◌, ◌<◌, ◌^◌, All, IsTrue, OnOk, length, map, sum_by};
 ghost use Rattle.lt_modes.specs.Fits.{fits, numbers_of};
-ghost use Rattle.lt_letter.specs.Seen.{letter_seen, body_seen};
-ghost use Rattle.lt_letter.specs.Hands.{asks_in};
+ghost use Rattle.lt_desk.specs.LetterSeen.{letter_seen, body_seen};
+ghost use Rattle.lt_desk.specs.Hands.{asks_in};
 ghost use Rattle.lt_core.specs.Bound.{brought};
 ghost use Rattle.lt_core.specs.CoreData.{HasMemory};
 ghost use Rattle.lt_limits.specs.Limits.{node_within};
@@ -10,7 +10,7 @@ ghost use Rattle.lt_node.specs.Room.{RoomToAct, RoomToTake, RoomForLetter, HasFe
 
 use crate::node::Node;
 use lt_core::Core;
-use lt_letter::{Body, Letter, Out};
+use lt_desk::{Body, Letter, Out};
 use std::alloc::AllocError;
 
 impl Node<'_> {

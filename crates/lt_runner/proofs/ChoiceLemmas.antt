@@ -4,7 +4,7 @@ use Rattle.std.specs.Prelude.{nat_lt, if◌then◌else◌, IsTrue, IfSome, lengt
 use Rattle.std.proofs.lemmas.Bool.{and_parts}
 use Rattle.lt_modes.specs.Script.{ScriptData}
 use Rattle.lt_modes.specs.Fits.{fits, numbers_of}
-use Rattle.lt_letter.specs.Seen.{letter_seen}
+use Rattle.lt_desk.specs.LetterSeen.{letter_seen}
 use Rattle.lt_limits.specs.Limits.{node_within, leaves_asks}
 use Rattle.lt_spec.specs.NodeMove.{NodeState}
 use Rattle.lt_law_plays.specs.Plays.{can_act}

@@ -7,8 +7,8 @@ use Rattle.lt_modes.specs.declared.moves.Step.TheVariants.{Act, Take}
 use Rattle.lt_modes.specs.Fits.{Numbers, fits, head_fits, body_fits}
 use Rattle.lt_modes.specs.State.{Letter, SetState}
 use Rattle.lt_modes.specs.Made.{Post}
-use Rattle.lt_letter.specs.OutData.{OutData}
-use Rattle.lt_letter.specs.Seen.{letter_seen}
+use Rattle.lt_desk.specs.OutData.{OutData}
+use Rattle.lt_desk.specs.LetterSeen.{letter_seen}
 use Rattle.lt_spec.specs.Families.{home}
 use Rattle.lt_spec.specs.NodeMove.{NodeMade, node_act, node_take, node_waits, has_command, act_stamp, take_stamp}
 use Rattle.lt_law_plays.specs.Plays.{Cause, OfClient, OfLetter, can_act, can_make, made_of, letters_for, logged_of, used_by}

@@ -2,7 +2,7 @@
 use Rattle.std.proofs.Common.{◌≡◌, ◌≢◌, ℕ, ◌+◌, ◌<◌, inl, inr, List, [], ◌++◌, Option, Some, None, refl, sym, ap, subst, arith, ◌∙◌, append-nil}
 use Rattle.std.proofs.lemmas.Bool.{cases_eq}
 use Rattle.lt_modes.specs.State as rules
-use Rattle.lt_letter.specs.Seen.{letter_seen}
+use Rattle.lt_desk.specs.LetterSeen.{letter_seen}
 use Rattle.lt_mail.specs.declared.lane.InLane.{InLane}
 use Rattle.lt_mail.specs.declared.mail.Mail.{Mail}
 use Rattle.lt_mail.specs.Lanes.{known}

@@ -4,7 +4,7 @@ use Rattle.std.specs.Prelude.{All, ◌==◌, Bool, true, false}
 use Rattle.std.proofs.lemmas.List.Elements.{All-head, All-rest}
 use Rattle.lt_modes.specs.State.{Letter}
 use Rattle.lt_modes.specs.Made.{Post}
-use Rattle.lt_letter.specs.OutData.{OutData}
+use Rattle.lt_desk.specs.OutData.{OutData}
 use Rattle.lt_law_recipients.specs.Peers.{IsForPeer}
 use Rattle.lt_law_plays.specs.Plays.{letters_for}
 use Rattle.lt_mail.specs.declared.mail.Mail.{Mail}

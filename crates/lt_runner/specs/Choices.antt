@@ -3,7 +3,7 @@ use Rattle.std.specs.Prelude.{Bool, ◌&&◌, nat_lt, ℕ, zero, suc, Option, So
 use Rattle.lt_modes.specs.Script.{ScriptData}
 use Rattle.lt_modes.specs.State.{Letter}
 use Rattle.lt_modes.specs.Fits.{fits, numbers_of}
-use Rattle.lt_letter.specs.Seen.{letter_seen}
+use Rattle.lt_desk.specs.LetterSeen.{letter_seen}
 use Rattle.lt_limits.specs.Limits.{node_within, leaves_asks}
 use Rattle.lt_spec.specs.NodeMove.{NodeState}
 use Rattle.lt_law_plays.specs.Plays.{can_act}

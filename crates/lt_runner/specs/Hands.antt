@@ -1,7 +1,7 @@
 -- The letter in hand.
 use Rattle.std.specs.Prelude.{◌≡◌, ◌≢◌, ◌==◌, ◌<◌, ℕ, List, [], ◌∷◌, Option, Some, None, if◌then◌else◌}
 use Rattle.lt_modes.specs.State as rules
-use Rattle.lt_letter.specs.Seen.{letter_seen}
+use Rattle.lt_desk.specs.LetterSeen.{letter_seen}
 use Rattle.lt_runner.specs.declared.parts.Hand.{Hand}
 
 -- the letter in hand, where it came from this node

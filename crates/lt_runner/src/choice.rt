@@ -3,11 +3,11 @@ ghost use Rattle.std.specs.Prelude.{◌≡◌, ◌<◌, length};
 ghost use Rattle.lt_law_plays.specs.Plays.{can_act};
 ghost use Rattle.lt_node.specs.NodeData.{state_of};
 ghost use Rattle.lt_runner.specs.Choices.{may_move, may_take, first_client, act_choice, next_choice};
-ghost use Rattle.lt_letter.specs.Seen.{letter_seen};
+ghost use Rattle.lt_desk.specs.LetterSeen.{letter_seen};
 
 use crate::parts::Parts;
 use lt_core::LAST_CLOCK;
-use lt_letter::Letter;
+use lt_desk::Letter;
 use lt_node::Node;
 use lt_script::Script;
 

@@ -12,7 +12,7 @@ ghost use Rattle.lt_runner.specs.Ready.{RunnerCanAct, RunnerCanTake, CanLog, Fit
 ghost use Rattle.lt_merge.specs.Run.{with_events};
 
 use crate::parts::{Hand, Parts};
-use lt_letter::Out;
+use lt_desk::Out;
 use lt_mail::Mail;
 use lt_merge::Log;
 use lt_modes::{Move, Step};

@@ -1,4 +1,4 @@
-use lt_letter::{Letter, Out};
+use lt_desk::{Letter, Out};
 use lt_mail::Mail;
 use lt_merge::Log;
 use lt_node::Node;

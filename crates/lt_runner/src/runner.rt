@@ -11,7 +11,7 @@ ghost use Rattle.lt_runner.specs.Starts.{StartsWith};
 use crate::gate::Gate;
 use crate::parts::Parts;
 use crate::turning::{Turned, Worked};
-use lt_letter::Out;
+use lt_desk::Out;
 use lt_mail::Mail;
 use lt_merge::Log;
 use lt_node::Node;

@@ -7,7 +7,7 @@ use Rattle.std.proofs.lemmas.List.{append_assoc, map-append, length-append, leng
 use Rattle.std.proofs.lemmas.Option.{slice_get-map}
 use Rattle.std.specs.Option.{option_map}
 use Rattle.lt_lists.proofs.Members.{some_equal}
-use Rattle.lt_letter.specs.Seen.{letter_seen}
+use Rattle.lt_desk.specs.LetterSeen.{letter_seen}
 use Rattle.lt_modes.specs.Script.{ScriptData}
 use Rattle.lt_modes.specs.State.{Letter}
 use Rattle.lt_spec.specs.World.{start}

@@ -9,7 +9,7 @@ use Rattle.lt_modes.specs.Made.{Post}
 use Rattle.lt_spec.specs.Log.{Logged}
 use Rattle.lt_spec.specs.NodeMove.{NodeMade}
 use Rattle.lt_spec.specs.World.{World, world_after, is_enabled, node_move, opened, move_stamp, logged, IsRun}
-use Rattle.lt_letter.specs.OutData.{OutData}
+use Rattle.lt_desk.specs.OutData.{OutData}
 use Rattle.lt_node.specs.NodeData.{NodeData, with_sent}
 use Rattle.lt_world.specs.Mail.{WireData, AreDelivered}
 use Rattle.lt_world.specs.Fields.{IsWorld, Holds}

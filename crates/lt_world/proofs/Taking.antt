@@ -12,7 +12,7 @@ use Rattle.lt_spec.specs.NodeMove.{NodeState, NodeMade, node_take, take_stamp}
 use Rattle.lt_spec.specs.World.{World, world_after, is_enabled, node_move, take_front, front_stamp, move_stamp, opened, put_mail}
 use Rattle.lt_law_enabled.specs.OrderLaws.{HasLetter}
 use Rattle.lt_law_enabled.proofs.Order.{takes_where}
-use Rattle.lt_letter.specs.OutData.{OutData}
+use Rattle.lt_desk.specs.OutData.{OutData}
 use Rattle.lt_node.specs.NodeData.{NodeData, NodeDoes, state_of}
 use Rattle.lt_world.specs.Mail.{WireData, inbox_at, wire_between, mail_in, put_wire, SameLetters, AreDelivered}
 use Rattle.lt_world.specs.Fields.{IsNodeOf, IsWorld, Holds, OnlyMemory, node_at}

@@ -6,7 +6,7 @@ use Rattle.lt_script.specs.Script.{IsScript}
 use Rattle.lt_spec.specs.Log.{Logged}
 use Rattle.lt_spec.specs.NodeMove.{NodeState}
 use Rattle.lt_spec.specs.World.{World, world_after, made_by, is_runnable, IsRun}
-use Rattle.lt_letter.specs.OutData.{OutData}
+use Rattle.lt_desk.specs.OutData.{OutData}
 use Rattle.lt_node.specs.NodeData.{NodeData, SameNode, state_of}
 use Rattle.lt_merge.specs.Run.{RunData}
 use Rattle.lt_limits.specs.declared.moves.TheConstants.{MAX_MOVES}

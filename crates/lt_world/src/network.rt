@@ -2,7 +2,7 @@ ghost use Rattle.std.specs.Prelude.{◌≡◌, ◌<◌, ◌+◌, ◌^◌, ℕ, [
 ghost use Rattle.lt_modes.specs.Made as rules;
 ghost use Rattle.lt_modes.specs.declared.moves.Step.TheVariants.{Act, Take};
 ghost use Rattle.lt_spec.specs.World.{start, is_enabled};
-ghost use Rattle.lt_letter.specs.Seen.{letter_seen};
+ghost use Rattle.lt_desk.specs.LetterSeen.{letter_seen};
 ghost use Rattle.lt_spec.specs.NodeMove.{node_act, node_take, act_stamp, take_stamp};
 ghost use Rattle.lt_node.specs.NodeData.{NodeDoes, state_of};
 ghost use Rattle.lt_node.specs.Room.{RoomToAct, RoomToTake};
@@ -16,7 +16,7 @@ use crate::choice::Choice;
 use crate::delivery::{deliver, pop_front, put_front, reserve_from};
 use crate::inbox::Inbox;
 use crate::recording::note_events;
-use lt_letter::{Letter, Out};
+use lt_desk::{Letter, Out};
 use lt_merge::Run;
 use lt_modes::{Move, Stamp, Step};
 use lt_node::Node;

@@ -1,6 +1,6 @@
 use Rattle.std.proofs.Common.{◌≡◌, ◌<◌, ◌+◌, ◌∙◌, ℕ, List, sym, ap, arith, subst, length, slice_index_or}
 use Rattle.std.proofs.lemmas.Bool.{eq-eqb, ne_eqb}
-use Rattle.lt_letter.specs.OutData.{OutData}
+use Rattle.lt_desk.specs.OutData.{OutData}
 use Rattle.lt_modes.specs.Script.{family_at}
 use Rattle.lt_core.specs.CoreData.{CoreData, HasRoom}
 use Rattle.lt_spec.specs.Families.{family}

@@ -1,7 +1,7 @@
 use Rattle.std.proofs.Common.{sym, subst}
 use Rattle.lt_modes.specs.Made.{Made}
 use Rattle.lt_modes.specs.Telling.{finish}
-use Rattle.lt_letter.specs.OutData.{FitsOut}
+use Rattle.lt_desk.specs.OutData.{FitsOut}
 use Rattle.lt_core.specs.CoreData.{Does}
 use Rattle.lt_core.specs.SetCommands.{commanded}
 use Rattle.lt_core.proofs.CommandLemmas.{move_is}

@@ -5,7 +5,7 @@ use Rattle.lt_modes.specs.declared.event.Event.TheVariants as event
 use Rattle.lt_modes.specs.State.{SetState}
 use Rattle.lt_modes.specs.SetMove.{answers, given}
 use Rattle.lt_modes.specs.Granting.{can_grant}
-use Rattle.lt_letter.specs.OutData.{OutData, FitsOut}
+use Rattle.lt_desk.specs.OutData.{OutData, FitsOut}
 use Rattle.lt_core.proofs.one_set.Core.try_lock.Goals as goal
 
 -- there is room for the line, whether the client gets the lock or not

@@ -1,4 +1,4 @@
-use Rattle.lt_letter.specs.Seen.{letter_seen}
+use Rattle.lt_desk.specs.LetterSeen.{letter_seen}
 use Rattle.lt_world.specs.Fields.{node_at}
 use Rattle.lt_world.proofs.Taking.{InHand, Begun, Took, took_again, takes_now, takes_then, senders, targets, run_then, holds_then}
 use Rattle.lt_world.proofs.network.Network.take.Goals as goal

@@ -1,9 +1,9 @@
 ghost use Rattle.std.specs.Prelude.{◌≡◌, ◌≤◌, OnOk};
-ghost use Rattle.lt_letter.specs.Seen.{letter_seen};
-ghost use Rattle.lt_letter.specs.Hands.{asks_in, RoomIn, places_in, body_spare};
+ghost use Rattle.lt_desk.specs.LetterSeen.{letter_seen};
+ghost use Rattle.lt_desk.specs.Hands.{asks_in, RoomIn, places_in, body_spare};
 
+use crate::Desk;
 use crate::parked::Tell;
-use lt_desk::Desk;
 use lt_modes::{Ask, Link, ModeSet, Stamp};
 use std::alloc::AllocError;
 

@@ -1,5 +1,4 @@
-use crate::{Body, Letter, Out, Parked, Post};
-use lt_desk::Desk;
+use crate::{Body, Desk, Letter, Out, Parked, Post};
 use lt_modes::{Ask, Event, Link, Mode, Stamp};
 use std::test::Fail;
 

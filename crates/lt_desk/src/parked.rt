@@ -1,6 +1,6 @@
 ghost use Rattle.std.specs.Prelude.{◌≡◌};
 ghost use Rattle.lt_modes.specs.Routing.{body_of};
-ghost use Rattle.lt_letter.specs.Seen.{parked_seen, body_seen};
+ghost use Rattle.lt_desk.specs.LetterSeen.{parked_seen, body_seen};
 
 use crate::letter::Body;
 use lt_asks::Pending;

@@ -1,13 +1,13 @@
 -- Letters as the rules speak of them.
 use Rattle.lt_modes.specs.State as rules
 use Rattle.lt_modes.specs.Made.{Post as PlainPost}
-use Rattle.lt_letter.specs.declared.letter.Body.{Body}
-use Rattle.lt_letter.specs.declared.letter.Body.TheVariants.{Ask, Tell, Copy, Token, Freeze}
-use Rattle.lt_letter.specs.declared.parked.Tell.{Tell as CodeTell}
-use Rattle.lt_letter.specs.declared.parked.Parked.{Parked}
-use Rattle.lt_letter.specs.declared.parked.Parked.TheVariants.{Ask as WaitingAsk, Tell as WaitingTell}
-use Rattle.lt_letter.specs.declared.letter.Letter.{Letter}
-use Rattle.lt_letter.specs.declared.letter.Post.{Post}
+use Rattle.lt_desk.specs.declared.letter.Body.{Body}
+use Rattle.lt_desk.specs.declared.letter.Body.TheVariants.{Ask, Tell, Copy, Token, Freeze}
+use Rattle.lt_desk.specs.declared.parked.Tell.{Tell as CodeTell}
+use Rattle.lt_desk.specs.declared.parked.Parked.{Parked}
+use Rattle.lt_desk.specs.declared.parked.Parked.TheVariants.{Ask as WaitingAsk, Tell as WaitingTell}
+use Rattle.lt_desk.specs.declared.letter.Letter.{Letter}
+use Rattle.lt_desk.specs.declared.letter.Post.{Post}
 
 abbrev pub tell_seen : CodeTell → rules.Tell
 tell_seen t = record { node = t.node; modes = t.modes; pending = t.pending; stamp = t.stamp }

@@ -1,5 +1,5 @@
 ghost use Rattle.std.specs.Prelude.{◌≡◌, ◌+◌, ◌≤◌, ◌<◌, [], ◌∷◌, ◌++◌, length, OnOk, MatchOption};
-ghost use Rattle.lt_letter.specs.Seen.{post_seen};
+ghost use Rattle.lt_desk.specs.LetterSeen.{post_seen};
 
 use crate::letter::Post;
 use lt_modes::Event;
@@ -17,8 +17,8 @@ pub struct Out {
 impl Model for Out {
     ghost use Rattle.std.specs.Prelude.{map};
     ghost use Rattle.std.specs.VecDeque.{deque_capacity};
-    ghost use Rattle.lt_letter.specs.Seen.{post_seen};
-    ghost use Rattle.lt_letter.specs.OutData.{OutData};
+    ghost use Rattle.lt_desk.specs.LetterSeen.{post_seen};
+    ghost use Rattle.lt_desk.specs.OutData.{OutData};
 
     ghost Value = { OutData };
 

@@ -1,7 +1,7 @@
 -- What a letter in hand brings.
 use Rattle.std.specs.Prelude.{ℕ, ◌≤◌, length}
-use Rattle.lt_letter.specs.declared.letter.Body.{Body}
-use Rattle.lt_letter.specs.declared.letter.Body.TheVariants.{Ask, Tell, Copy, Token, Freeze}
+use Rattle.lt_desk.specs.declared.letter.Body.{Body}
+use Rattle.lt_desk.specs.declared.letter.Body.TheVariants.{Ask, Tell, Copy, Token, Freeze}
 
 -- how many asks it brings
 abbrev pub asks_in : Body → ℕ
