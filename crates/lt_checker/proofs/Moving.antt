@@ -9,8 +9,7 @@ use Rattle.lt_modes.specs.declared.moves.Step.TheVariants.{Act, Take}
 use Rattle.lt_modes.specs.Script.{ScriptData}
 use Rattle.lt_spec.specs.Log.{Logged}
 use Rattle.lt_spec.specs.Families.{home}
-use Rattle.lt_spec.specs.World.{World, start, world_after, is_runnable, is_some_letter, is_enabled, move_stamp, logged, IsRun}
-use Rattle.lt_model.proofs.Runs.{IsRunFrom-push}
+use Rattle.lt_spec.specs.World.{World, world_after, is_runnable, is_some_letter, is_enabled, move_stamp, logged}
 use Rattle.lt_script.specs.Script.{IsScript}
 use Rattle.lt_limits.specs.declared.moves.TheConstants.{MAX_MOVES}
 use Rattle.lt_merge.specs.Run.{made_at, events_at}
@@ -20,8 +19,7 @@ use Rattle.lt_journal.specs.declared.line.Line.TheVariants.{Move as MoveLine}
 use Rattle.lt_journal.specs.RunLines.{event_lines}
 use Rattle.lt_world.specs.Fields.{WorldData, world_of}
 use Rattle.lt_law_checking.specs.Checking.{closing_at_rest, moved, has_moves_left, by_move}
-use Rattle.lt_law_checking.specs.Journals.{HasFewMoves}
-use Rattle.lt_law_checking.proofs.Places.{stamp_node, is_logged, count_push, few_push}
+use Rattle.lt_law_checking.proofs.Places.{stamp_node, count_push}
 use Rattle.lt_law_checking.proofs.Heard.{come_moved}
 use Rattle.lt_checker.specs.Place.{AreCounts, IsPlace}
 
