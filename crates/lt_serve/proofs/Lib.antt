@@ -2,8 +2,6 @@ mod Answering
 mod BadLines
 mod Causing
 mod Completing
-mod Drawing
-mod Ended
 mod Feeding
 mod Journals
 mod LastLines
