@@ -3,6 +3,7 @@ use Rattle.std.proofs.Common.{◌≡◌, ℕ, List, [], ◌∷◌, ◌++◌, Som
 use Rattle.std.specs.Prelude.{◌⊎◌, ◌<◌, length, take}
 use Rattle.std.proofs.lemmas.Bool.{false≢true}
 use Rattle.lt_modes.specs.Script.{ScriptData}
+use Rattle.lt_modes.specs.Modes.{conflicts}
 use Rattle.lt_spec.specs.Log.{Logged}
 use Rattle.lt_script.specs.Reading.{read_of}
 use Rattle.lt_limits.specs.declared.moves.TheConstants.{MAX_MOVES}
@@ -20,6 +21,7 @@ use Rattle.lt_answers.proofs.Texts.{one_lock_text}
 
 -- before the move the world isn't at rest, nobody waits, and no node is full; after it nobody waits and no node is full
 at_start : (ending : Status) → EndsAs MAX_MOVES ending one_lock_script [] → ⊥
+unfolding conflicts
 at_start Done e = false≢true e.0
 at_start Stuck e = false≢true e.0
 at_start (Cut node) e = cc
@@ -32,6 +34,7 @@ at_start NoMemory e = e
 at_start (BadJournal line) e = e
 
 at_end : (ending : Status) → EndsAs MAX_MOVES ending one_lock_script (the_move ∷ []) → ending ≡ Done
+unfolding conflicts
 at_end Done e = refl
 at_end Stuck e = absurd (false≢true e.1)
 at_end (Cut node) e = cc

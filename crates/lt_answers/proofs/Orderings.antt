@@ -3,6 +3,7 @@ use Rattle.std.proofs.Common.{arith, ◌≡◌, ℕ, Ok, Some, refl, sym, ap, su
 use Rattle.std.proofs.lemmas.Bool.{false≢true}
 use Rattle.lt_modes.specs.declared.moves.Step.TheVariants.{Act}
 use Rattle.lt_modes.specs.Script.{ScriptData}
+use Rattle.lt_modes.specs.Modes.{conflicts}
 use Rattle.lt_spec.specs.Log.{Logged}
 use Rattle.lt_spec.specs.World.{start, logged, IsRun}
 use Rattle.lt_spec.specs.FixedOrder.{Turn, first_run}
@@ -38,21 +39,23 @@ not_same : try_of_a ≡ try_of_b → ⊥
 not_same e = omega (arith, ap (λ (entry : Logged). entry.made.stamp.node) e)
 
 not_second : IsAt two_tries_script (start two_tries_script) 1 try_of_a → ⊥
+unfolding conflicts
 not_second h =
     not_same (h.2 ∙ ap (λ (turn : Turn). logged two_tries_script (start two_tries_script) turn.node turn.step)
     (sym (same_turn (record { node = 1; step = Act 1 }) h.0 h.1)))
 
 not_at_first : IsAt two_tries_script (start two_tries_script) 0 try_of_b → ⊥
+unfolding conflicts
 not_at_first h =
     not_same (sym (h.2 ∙ ap (λ (turn : Turn). logged two_tries_script (start two_tries_script) turn.node turn.step)
     (sym (same_turn (record { node = 0; step = Act 0 }) h.0 h.1))))
 
 drawn_by_7 : AreDrawn 7 two_tries_script b_first
-unfolding draws.draw_of draws.seeded seeds.pcg32_seed steps.word_bytes steps.u32_at
+unfolding conflicts draws.draw_of draws.seeded seeds.pcg32_seed steps.word_bytes steps.u32_at
 drawn_by_7 = ((record { node = 1; step = Act 1 }, refl, refl), ((record { node = 0; step = Act 0 }, refl, refl), tt))
 
 drawn_by_8 : AreDrawn 8 two_tries_script a_first
-unfolding draws.draw_of draws.seeded seeds.pcg32_seed steps.word_bytes steps.u32_at
+unfolding conflicts draws.draw_of draws.seeded seeds.pcg32_seed steps.word_bytes steps.u32_at
 drawn_by_8 = ((record { node = 0; step = Act 0 }, refl, refl), ((record { node = 1; step = Act 1 }, refl, refl), tt))
 
 not_by_7 : AreDrawn 7 two_tries_script a_first → ⊥
@@ -62,6 +65,7 @@ not_by_8 : AreDrawn 8 two_tries_script b_first → ⊥
 not_by_8 h = not_at_first (subst (λ (place : ℕ). IsAt two_tries_script (start two_tries_script) place try_of_b) word_of_8 h.0)
 
 in_order : first_run two_tries_script 2 ≡ a_first
+unfolding conflicts
 in_order = refl
 
 not_swapped : b_first ≡ a_first → ⊥
@@ -78,9 +82,11 @@ its_script : (script : ScriptData) → read_of two_tries ≡ Ok script → scrip
 its_script script denoted = same_script script two_tries_script (read_of two_tries) denoted two_tries_read
 
 a_then_b : IsRun two_tries_script a_first
+unfolding conflicts
 a_then_b = (record { enabled = refl; made = refl }, (record { enabled = refl; made = refl }, tt))
 
 b_then_a : IsRun two_tries_script b_first
+unfolding conflicts
 b_then_a = (record { enabled = refl; made = refl }, (record { enabled = refl; made = refl }, tt))
 
 pub orders_say : OrdersSay

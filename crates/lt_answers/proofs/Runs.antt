@@ -5,6 +5,7 @@ use Rattle.std.proofs.lemmas.Bool.{and_parts, eqb-true, ltb-true, false≢true}
 use Rattle.lt_modes.specs.declared.moves.Step.{Step}
 use Rattle.lt_modes.specs.declared.moves.Step.TheVariants.{Act, Take}
 use Rattle.lt_modes.specs.Script.{ScriptData}
+use Rattle.lt_modes.specs.Modes.{conflicts}
 use Rattle.lt_spec.specs.Log.{Logged}
 use Rattle.lt_spec.specs.Families.{home}
 use Rattle.lt_spec.specs.World.{World, start, after, logged, is_enabled, is_runnable, has_mail, is_some_letter, IsMove, IsRun}
@@ -49,6 +50,7 @@ only_act q (Act client) h = let own = own_act before q client h in (own.0, ap Ac
 only_act q (Take p) h = absurd (no_take one_lock_script before p q refl h)
 
 none_left : (q : ℕ) (step : Step) → is_enabled one_lock_script behind q step ≡ true → ⊥
+unfolding conflicts
 none_left q (Act client) h = false≢true (own_act behind q client h).2
 none_left q (Take p) h = no_take one_lock_script behind p q refl h
 

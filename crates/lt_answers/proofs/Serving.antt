@@ -44,12 +44,12 @@ serves_say state held faults = record {
       (told.no_read_fault (λ e. cc), told.not_too_long (λ e. cc));
   told = λ answer s t k l h is input old new before after.
       let so = told MAX_MOVES Check answer.status Done (state s).left (Some checked_lock) answer.run.entries (held k) (Some old) (held l) (Some new)
-      is input before after h.tells in
+      is input before after h.did in
       (check_says.run answer.run.entries old new so, check_says.done answer.run.entries old new so);
   cut = λ answer s t k l h is input old new before after.
       cut_short_says.cut answer.run.entries old new
       (told 1 SimFirst answer.status (Cut 0) (state s).left (Some two_writers) answer.run.entries (held k) (Some old) (held l) (Some new)
-      is input before after h.tells);
+      is input before after h.did);
   bad = λ answer s t k l h line is input.
       check_says.bad line (subst₂ (λ (left : Option (List ℕ)) (a : Status). HasStatusCause (Some Check) left a) input is h.causes);
   wrong_words = λ answer s t k l h.

@@ -6,6 +6,7 @@ use Rattle.std.proofs.lemmas.Fmt.{decimal_digit}
 use Rattle.lt_modes.specs.declared.mode.Mode.TheVariants.{Write}
 use Rattle.lt_modes.specs.declared.event.Event.TheVariants.{Grant, Wait}
 use Rattle.lt_modes.specs.declared.moves.Step.TheVariants.{Act}
+use Rattle.lt_modes.specs.Modes.{conflicts}
 use Rattle.lt_journal.specs.declared.line.Line.{Line}
 use Rattle.lt_journal.specs.declared.line.Line.TheVariants.{Move as MoveLine, Event as EventLine, Held, Waiting, Owner, End}
 use Rattle.lt_journal.specs.RunLines.{run_lines}
@@ -25,6 +26,7 @@ pub three_text : decimal 3 ≡ codes "3"
 three_text = decimal_digit 3 (omega arith)
 
 pub one_lock_text : text_of one_lock_script (the_move ∷ []) None ≡ one_lock_journal
+unfolding conflicts
 one_lock_text = rw one_text (rw zero_text refl)
 
 -- its lines, one by one
@@ -34,6 +36,7 @@ two_writers_lines =
     ∷ Held 0 0 Write 1 ∷ Waiting 1 0 Write ∷ Owner 0 0 0 ∷ End 2 ∷ []
 
 two_writers_are : run_lines two_writers_script both_moves None ≡ two_writers_lines
+unfolding conflicts
 two_writers_are = refl
 
 two_writers_spelled : lines_text two_writers_script two_writers_lines ≡ two_writers_journal
@@ -43,4 +46,5 @@ pub two_writers_text : text_of two_writers_script both_moves None ≡ two_writer
 two_writers_text = ap (lines_text two_writers_script) two_writers_are ∙ two_writers_spelled
 
 pub cut_text : text_of two_writers_script first_move (Some 0) ≡ cut_journal
+unfolding conflicts
 cut_text = rw one_text (rw zero_text refl)

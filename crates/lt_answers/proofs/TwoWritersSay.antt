@@ -3,6 +3,7 @@ use Rattle.std.proofs.Common.{arith, ◌≡◌, ℕ, List, [], ◌∷◌, ◌++�
 use Rattle.std.specs.Prelude.{◌⊎◌, length}
 use Rattle.std.proofs.lemmas.Bool.{false≢true}
 use Rattle.lt_modes.specs.Script.{ScriptData}
+use Rattle.lt_modes.specs.Modes.{conflicts}
 use Rattle.lt_spec.specs.Log.{Logged}
 use Rattle.lt_spec.specs.FixedOrder.{first_run}
 use Rattle.lt_script.specs.Reading.{read_of}
@@ -25,6 +26,7 @@ two_writers_read = refl
 -- the runs in the fixed order have up to two moves
 first_runs : (run : List Logged) → run ≡ first_run two_writers_script (length run)
     → (run ≡ []) ⊎ ((run ≡ first_move) ⊎ (run ≡ both_moves))
+unfolding conflicts
 first_runs [] e = inl refl
 first_runs (a ∷ []) e = inr (inl e)
 first_runs (a ∷ b ∷ []) e = inr (inr e)
@@ -49,17 +51,20 @@ ran_first moves ending run text j =
 
 stuck_so : (run : List Logged) → EndsAs MAX_MOVES Stuck two_writers_script run → (run ≡ []) ⊎ ((run ≡ first_move) ⊎ (run ≡ both_moves))
     → text_of two_writers_script run None ≡ two_writers_journal
+unfolding conflicts
 stuck_so run e (inl is) = absurd (false≢true (subst (EndsAs MAX_MOVES Stuck two_writers_script) is e).0)
 stuck_so run e (inr (inl is)) = absurd (false≢true (subst (EndsAs MAX_MOVES Stuck two_writers_script) is e).0)
 stuck_so run e (inr (inr is)) = ap (λ (r : List Logged). text_of two_writers_script r None) is ∙ two_writers_text
 
 never_done : (run : List Logged) → EndsAs MAX_MOVES Done two_writers_script run → (run ≡ []) ⊎ ((run ≡ first_move) ⊎ (run ≡ both_moves)) → ⊥
+unfolding conflicts
 never_done run e (inl is) = false≢true (subst (EndsAs MAX_MOVES Done two_writers_script) is e).0
 never_done run e (inr (inl is)) = false≢true (subst (EndsAs MAX_MOVES Done two_writers_script) is e).0
 never_done run e (inr (inr is)) = false≢true (sym (subst (EndsAs MAX_MOVES Done two_writers_script) is e).1)
 
 never_cut : (node : ℕ) (run : List Logged) → EndsAs MAX_MOVES (Cut node) two_writers_script run
     → (run ≡ []) ⊎ ((run ≡ first_move) ⊎ (run ≡ both_moves)) → ⊥
+unfolding conflicts
 never_cut node run e (inl is) = not_none (subst (EndsAs MAX_MOVES (Cut node) two_writers_script) is e)
   where
     not_none : None ≡ Some node → ⊥
@@ -85,6 +90,7 @@ two_writers_say = record {
 -- with one move a node is full after the first
 cut_so : (node : ℕ) (run : List Logged) → EndsAs 1 (Cut node) two_writers_script run → (run ≡ []) ⊎ ((run ≡ first_move) ⊎ (run ≡ both_moves))
     → (node ≡ 0) × (run ≡ first_move)
+unfolding conflicts
 cut_so node run e (inl is) = absurd (not_none (subst (EndsAs 1 (Cut node) two_writers_script) is e))
   where
     not_none : None ≡ Some node → ⊥
