@@ -2,6 +2,7 @@
 use Rattle.std.proofs.Common.{◌≡◌, ℕ, List, [], ◌∷◌, ◌++◌, Ok, Err, Some, refl, ap, ap₂, subst, ◌∙◌}
 use Rattle.std.specs.Prelude.{Result, take, codes}
 use Rattle.lt_modes.specs.Script.{ScriptData}
+use Rattle.lt_modes.specs.Modes.{conflicts}
 use Rattle.lt_spec.specs.Log.{Logged}
 use Rattle.lt_text.specs.Text as text
 use Rattle.lt_text.specs.Text.{lines}
@@ -54,6 +55,7 @@ unfolding text.lines text.cut_at text.words
 wrong_count = refl
 
 right_answer : checked_input one_lock_script (lines checked_lock) ≡ Ok (the_move ∷ [])
+unfolding conflicts text.lines
 right_answer =
     ap₂ (λ (before : ℕ) (all : List (List ℕ)). counted_from before (checked one_lock_script all)) right_count right_lines
     ∙ ap (counted_from 5) short_rows.right

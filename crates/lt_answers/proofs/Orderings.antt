@@ -19,7 +19,7 @@ use Rattle.lt_answers.specs.TwoOrders.{OrdersSay, two_tries, two_tries_script, t
 use Rattle.lt_answers.proofs.Results.{same_script}
 
 two_tries_read : read_of two_tries ≡ Ok two_tries_script
-unfolding reading.read_from text.lines text.cut_at reading.line_step text.words
+unfolding reading.script_body reading.read_from text.lines text.cut_at reading.line_step text.words
 two_tries_read = refl
 
 -- the first of two moves that each seed draws

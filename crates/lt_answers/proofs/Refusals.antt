@@ -22,7 +22,7 @@ words_say = record {
     not_none e = cc
 
 pub no_mode_read : read_of no_mode ≡ Err (record { line = 4; fault = faults.Mode })
-unfolding reading.read_from text.lines text.cut_at reading.line_step text.words
+unfolding reading.script_body reading.read_from text.lines text.cut_at reading.line_step text.words
 no_mode_read = refl
 
 pub fault_says : FaultSays

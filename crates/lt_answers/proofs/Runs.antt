@@ -15,7 +15,7 @@ use Rattle.lt_text.specs.Text as text
 use Rattle.lt_answers.specs.Examples.{one_lock, one_lock_script, the_move}
 
 pub one_lock_read : read_of one_lock ≡ Ok one_lock_script
-unfolding reading.read_from text.lines text.cut_at reading.line_step text.words
+unfolding reading.script_body reading.read_from text.lines text.cut_at reading.line_step text.words
 one_lock_read = refl
 
 abbrev before : World

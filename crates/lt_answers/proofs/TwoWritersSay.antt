@@ -20,7 +20,7 @@ use Rattle.lt_answers.specs.Examples.{two_writers, two_writers_script, two_write
 use Rattle.lt_answers.proofs.Texts.{two_writers_text, cut_text}
 
 two_writers_read : read_of two_writers ≡ Ok two_writers_script
-unfolding reading.read_from text.lines text.cut_at reading.line_step text.words
+unfolding reading.script_body reading.read_from text.lines text.cut_at reading.line_step text.words
 two_writers_read = refl
 
 -- the runs in the fixed order have up to two moves
