@@ -4,6 +4,7 @@ use lt_modes::{Ask, Link, Mode, Stamp};
 use std::test::Fail;
 
 #[test]
+#[tactic(auto, unfolding(lt_modes::specs::Modes::conflicts))]
 fn a_lock_at_the_desk(rt: HostRuntime) -> Result<(), Fail> {
     let mut core = Core::new(rt.alloc(), 2, 3, 0, 5)?;
     let mut out = Out::new(rt.alloc());
