@@ -4,6 +4,7 @@ ghost use Rattle.lt_nest.specs.declared.locks.Ask.{Ask as AnyAsk};
 ghost use Rattle.lt_nest.specs.Forest.{is_open};
 ghost use Rattle.lt_nest.specs.Locks.{is_against, entry_is_against, ask_is_against, is_free, is_ask_of};
 ghost use Rattle.lt_nest.specs.Serving.{first_free};
+ghost use Rattle.lt_nest.specs.Calls.{holder_is_against, asker_is_against, waits_in};
 ghost use Rattle.lt_nest.specs.Kept.{IsForest};
 
 use crate::forest::{Transaction, is_open, is_own};
@@ -77,4 +78,44 @@ pub(crate) fn keep_asks(queue: &mut Vec<Ask>, transactions: &[Transaction])
     ensures len { vec_len queue.new ≤ vec_len queue.old }
 {
     queue.retain(|ask| is_open(transactions, ask.owner));
+}
+
+/// Whether x waits in a set with these entries and this queue, and y is in its way: an entry or an earlier ask of y
+/// stands against the ask of x.
+pub(crate) fn waits_for(
+    transactions: &[Transaction],
+    entries: &[Entry],
+    queue: &[Ask],
+    x: u16,
+    y: u16,
+) -> bool
+    requires { IsForest transactions.now }
+    ensures { result ≡ waits_in transactions.now x y (record { entries = entries.now; queue = queue.now }) }
+{
+    match ask_place(queue, x) {
+        Some(k) => {
+            let mode = queue[k].mode;
+            holder_bars(transactions, entries, x, mode, y)
+                || asker_bars(transactions, &queue[..k], x, mode, y)
+        }
+        None => false,
+    }
+}
+
+// Whether an entry of y stands against the mode for x.
+fn holder_bars(transactions: &[Transaction], entries: &[Entry], x: u16, mode: Mode, y: u16) -> bool
+    requires { IsForest transactions.now }
+    ensures { result ≡ list_any (holder_is_against transactions.now x mode y) entries.now }
+{
+    entries.iter().any(|entry| {
+        entry.owner == y && is_against(transactions, x, mode, entry.owner, entry.mode)
+    })
+}
+
+// Whether an ask of y stands against the mode for x.
+fn asker_bars(transactions: &[Transaction], asks: &[Ask], x: u16, mode: Mode, y: u16) -> bool
+    requires { IsForest transactions.now }
+    ensures { result ≡ list_any (asker_is_against transactions.now x mode y) asks.now }
+{
+    asks.iter().any(|ask| ask.owner == y && is_against(transactions, x, mode, ask.owner, ask.mode))
 }

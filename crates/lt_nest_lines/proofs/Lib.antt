@@ -1,0 +1,4 @@
+pub mod ReadLines
+pub mod SetsAsked
+pub mod Pieces
+pub mod Sizes

@@ -1,0 +1,5 @@
+pub mod Forms
+pub mod Input
+pub mod Play
+pub mod Written
+pub mod Rows
