@@ -1,4 +1,5 @@
-ghost use Rattle.std.specs.Prelude.{◌≡◌, ◌<◌, length, IfOk, IfSome, ForSome};
+ghost use Rattle.std.specs.Prelude.{◌≡◌, ◌<◌, length, IfOk, IfSome};
+ghost use Rattle.std.specs.Option.{ForSome};
 ghost use Rattle.lt_modes.specs.Modes.{mode_of};
 ghost use Rattle.lt_nest_lines.specs.Forms.{form_seen};
 ghost use Rattle.lt_nest_lines.specs.Input.{AsksWithin, TakesLine, count_of, place_of, set_line, begin_line, order_line, begin_in, commit_order, abort_order, lock_order, try_order, after_form};

@@ -5,7 +5,7 @@ ghost use Rattle.lt_nest_lines.specs.Forms.{form_seen, form_of, set_form, transa
 use lt_text::{is, next_word};
 
 /// A line by its form, with its words.
-#[derive(Clone, Copy, Debug)]
+#[derive(Clone, Copy)]
 pub enum Form<'a> {
     Set {
         set: &'a [u8],

@@ -12,7 +12,7 @@ use std::marker::Model;
 /// The sets and transactions that lines declare, and what the other lines order.
 ///
 /// Sets and transactions have numbers from 0, as they are declared.
-#[derive(Debug, Drop)]
+#[derive(Drop)]
 pub struct Input {
     sets: Vec<Name>,
     transactions: Vec<Name>,

@@ -11,14 +11,14 @@ mod name;
 mod order;
 mod play;
 mod reading;
-mod report;
 #[cfg(test)]
 mod tests;
 mod words;
+mod writing;
 
 pub use input::Input;
 pub use laws::law_rows;
 pub use limits::{MAX_LINES, MAX_SETS, MAX_TRANSACTIONS};
 pub use order::Order;
 pub use reading::{ReadError, read};
-pub use report::report;
+pub use writing::report;

@@ -7,7 +7,7 @@ use std::alloc::{AllocError, Global};
 use std::marker::Model;
 
 /// The name of a set or a transaction.
-#[derive(Debug, Drop)]
+#[derive(Drop)]
 pub(crate) struct Name {
     bytes: Vec<u8>,
 }

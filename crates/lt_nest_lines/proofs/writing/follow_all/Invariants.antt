@@ -1,6 +1,6 @@
 use Rattle.std.proofs.Common.{◌≡◌, ◌≤◌, ◌++◌, drop, length}
 use Rattle.lt_nest_lines.specs.Written.{after_orders, orders_text}
-use Rattle.lt_nest_lines.proofs.report.follow_all.Given as goal
+use Rattle.lt_nest_lines.proofs.writing.follow_all.Given as goal
 
 abbrev pub invariant-loop-order : goal.invariant-loop-order
 invariant-loop-order l = record {
