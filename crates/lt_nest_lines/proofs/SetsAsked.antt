@@ -42,3 +42,12 @@ transaction_added d name order kept few lines within = record {
   few_lines = omega (arith, lines, length_push d.orders order);
   within = All-push (AsksWithin (length d.sets)) d.orders order kept.within within;
 }
+
+-- also where its order isn't there yet
+pub transaction_named : (d : InputData) (name : List ℕ) → IsInput d → length d.transactions < MAX_TRANSACTIONS → IsInput (record d { transactions = d.transactions ++ name ∷ [] })
+transaction_named d name kept few = record {
+  few_sets = kept.few_sets;
+  few_transactions = omega (arith, few, length_push d.transactions name);
+  few_lines = kept.few_lines;
+  within = kept.within;
+}

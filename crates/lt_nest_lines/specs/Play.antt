@@ -1,7 +1,6 @@
 -- What an order does to the nest, and what is written of it.
 use Rattle.std.specs.Prelude.{ℕ, Bool, true, false, ◌==◌, List, [], ◌∷◌, ◌++◌, Option, Some, None, length, position, codes, slice_index_or, unwrap_or}
 use Rattle.std.specs.List.{flat_map}
-use Rattle.lt_modes.specs.declared.mode.Mode.{Mode}
 use Rattle.lt_modes.specs.Modes.{word_of}
 use Rattle.lt_text.specs.Text.{spaced}
 use Rattle.lt_nest.specs.declared.answers.Asked.{Asked}

@@ -234,12 +234,12 @@ impl Play {
         ensures state { OnOk result (self.new ≡ taken self.old) }
         ensures text { OnOk result (out.new.items ≡ out.old.items ++ told_text input.now self.old) }
     {
-        tell_grants(&mut self.nest, &self.numbers, input, out)
+        push_grants(&mut self.nest, &self.numbers, input, out)
     }
 }
 
 // Takes the grants that were not told yet, and writes a line of each.
-fn tell_grants(
+fn push_grants(
     nest: &mut Nest,
     numbers: &[Option<u16>],
     input: &Input,

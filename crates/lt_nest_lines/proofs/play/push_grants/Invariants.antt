@@ -1,7 +1,7 @@
 use Rattle.std.proofs.Common.{◌≡◌, ◌++◌, [], length}
 use Rattle.lt_nest.specs.Calls.{NestState}
 use Rattle.lt_nest_lines.specs.Play.{grants_text}
-use Rattle.lt_nest_lines.proofs.play.tell_grants.Given as goal
+use Rattle.lt_nest_lines.proofs.play.push_grants.Given as goal
 
 abbrev pub without_grants : NestState → NestState
 without_grants st = record st { grants = [] }
