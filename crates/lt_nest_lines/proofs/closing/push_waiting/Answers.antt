@@ -1,4 +1,4 @@
-use Rattle.std.proofs.Common.{◌≡◌, ◌∙◌, ◌++◌, ap, ℕ, Option}
+use Rattle.std.proofs.Common.{◌∙◌, ◌++◌, ap, ℕ, Option}
 use Rattle.lt_modes.specs.declared.mode.Mode.{Mode}
 use Rattle.lt_nest_lines.specs.Written.{waiting_line, waiting_by}
 use Rattle.lt_nest_lines.proofs.Pieces.{piece_more, each_below-more}

@@ -1,4 +1,4 @@
-use Rattle.std.proofs.Common.{◌≡◌, ◌<◌, length, sym, subst}
+use Rattle.std.proofs.Common.{◌<◌, length, sym, subst}
 use Rattle.lt_nest_lines.specs.declared.limits.TheConstants.{MAX_SETS, MAX_LINES}
 use Rattle.lt_nest_lines.specs.Input.{InputData, count_of}
 use Rattle.lt_nest_lines.proofs.SetsAsked.{set_added}
