@@ -1,5 +1,5 @@
 -- One order after the other.
-use Rattle.std.proofs.Common.{◌≡◌, ℕ, ◌+◌, ◌<◌, ◌≤◌, List, [], ◌∷◌, ◌++◌, length, refl, sym, ap, subst, arith, ◌∙◌, drop, append_assoc, append-nil}
+use Rattle.std.proofs.Common.{◌≡◌, ℕ, ◌+◌, ◌<◌, List, [], ◌++◌, length, sym, ap, subst, ◌∙◌, drop, append_assoc, append-nil}
 use Rattle.std.specs.Prelude.{All, slice_index_or}
 use Rattle.std.proofs.lemmas.List.{drop_more}
 use Rattle.std.proofs.lemmas.List.Elements.{All-get_or}
@@ -7,7 +7,6 @@ use Rattle.lt_nest_lines.specs.declared.order.Order.{Order}
 use Rattle.lt_nest_lines.specs.Input.{InputData, AsksWithin}
 use Rattle.lt_nest_lines.specs.Play.{PlayState, after_order, order_text}
 use Rattle.lt_nest_lines.specs.Written.{after_orders, orders_text}
-use Rattle.lt_nest_lines.proofs.Sizes.{Grows, order_grows}
 
 pub state_more : (p now last : PlayState) (orders : List Order) (k : ℕ) (d : Order) → k < length orders → now ≡ after_order p (slice_index_or orders k d)
     → after_orders p (drop k orders) ≡ last → after_orders now (drop (k + 1) orders) ≡ last

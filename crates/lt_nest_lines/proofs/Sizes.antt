@@ -1,8 +1,8 @@
 -- How many sets, transactions and calls there are after an order.
-use Rattle.std.proofs.Common.{◌≡◌, ℕ, ◌+◌, ◌<◌, ◌≤◌, arith, List, length, Bool, true, false, Option, Some, None, refl}
+use Rattle.std.proofs.Common.{◌≡◌, ℕ, ◌+◌, ◌≤◌, arith, length, Bool, true, false, Option, Some, None, refl}
 use Rattle.std.proofs.lemmas.List.{length_push}
 use Rattle.lt_nest.specs.declared.answers.Asked.TheVariants.{Waits, False}
-use Rattle.lt_nest.specs.Calls.{NestState, has_parent, after_begin, asked, after_asked, commit_answer, abort_answer}
+use Rattle.lt_nest.specs.Calls.{has_parent, asked, commit_answer, abort_answer}
 use Rattle.lt_nest.proofs.NestStays.{length_asked}
 use Rattle.lt_nest.proofs.NestSizes.{commit_sizes, abort_sizes}
 use Rattle.lt_nest_lines.specs.declared.order.Order.{Order}

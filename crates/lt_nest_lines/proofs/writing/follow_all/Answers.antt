@@ -1,5 +1,6 @@
-use Rattle.std.proofs.Common.{rules, ◌≡◌, ◌<◌, ◌≤◌, ◌++◌, ℕ, List, [], length, arith, sym, ap, ◌∙◌, drop}
+use Rattle.std.proofs.Common.{◌≡◌, ◌++◌, ℕ, List, [], length, arith, sym, ◌∙◌, drop}
 use Rattle.std.specs.Prelude.{slice_index_or}
+use Rattle.std.proofs.lemmas.List.{drop_all}
 use Rattle.lt_nest_lines.specs.declared.order.Order.{Order}
 use Rattle.lt_nest_lines.specs.declared.order.Order.TheVariants.{Begin}
 use Rattle.lt_nest_lines.specs.Play.{PlayState, after_order}
@@ -18,7 +19,7 @@ loop-order-preserved c =
     let orders : List Order = c.args.orders.now in
     let k : ℕ = c.loop-order.order-index in
     let p : PlayState = c.loop-order.play in
-    let now : PlayState = c.follow.new.play in
+    let now : PlayState = c.follow.new.self in
     let state = c.in_ok-follow.ensures.state in
     let grows : Grows p (after_order p (slice_index_or orders k Begin)) = order_grows p (slice_index_or orders k Begin) in
     record {
@@ -32,10 +33,10 @@ loop-order-preserved c =
 
 pub returns-clause-state : goal.returns-clause-state
 returns-clause-state c =
-    let none : drop c.loop-order.order-index c.args.orders.now ≡ [] = search rules in
+    let none : drop c.loop-order.order-index c.args.orders.now ≡ [] = drop_all c.loop-order.order-index c.args.orders.now c.loop-order-test.false in
     sym (all_followed c.loop-order.play (drop c.loop-order.order-index c.args.orders.now) none) ∙ c.loop-order.invariant.state
 
 pub returns-clause-text : goal.returns-clause-text
 returns-clause-text c =
-    let none : drop c.loop-order.order-index c.args.orders.now ≡ [] = search rules in
+    let none : drop c.loop-order.order-index c.args.orders.now ≡ [] = drop_all c.loop-order.order-index c.args.orders.now c.loop-order-test.false in
     sym (nothing_left c.args.input.now c.loop-order.play (drop c.loop-order.order-index c.args.orders.now) c.loop-order.out.items none) ∙ c.loop-order.invariant.text
