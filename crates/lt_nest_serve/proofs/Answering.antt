@@ -78,7 +78,6 @@ written_serves state held write_faults words answer text before after sink sink_
   ];
 }
 
-
 refusal_complete : (answer : Answer) (before after : SourceState) → IsRefusal before.left answer → TellsSource answer before after → IsGood before after → answer ≢ NoMemory → answer ≡ Done
 refusal_complete (Refused line) before after h tells good memory = absurd (good.none_refused line h)
 refusal_complete TooLong before after h tells good memory = absurd (good.not_too_long (rose (MAX_INPUT + 1) before.given after.given (tells.too_long refl)))

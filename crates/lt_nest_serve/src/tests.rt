@@ -32,10 +32,22 @@ fn answers_each_input(rt: HostRuntime) -> Result<(), Fail> {
     let alloc = rt.alloc();
     let good = "set s\nt begin\nt lock s write\n";
     let rows: [(&str, &[u64], &[u64], Answer, &str); 4] = [
-        (good, &[], &[], Answer::Done, "begin t\ngrant t s write\nheld t s write 1\nend 3\n"),
+        (
+            good,
+            &[],
+            &[],
+            Answer::Done,
+            "begin t\ngrant t s write\nheld t s write 1\nend 3\n",
+        ),
         (good, &[], &[2], Answer::WriteFault, "begi"),
         (good, &[2], &[], Answer::ReadFault, ""),
-        ("set s\ns begin\n", &[], &[], Answer::Refused { line: 2 }, ""),
+        (
+            "set s\ns begin\n",
+            &[],
+            &[],
+            Answer::Refused { line: 2 },
+            "",
+        ),
     ];
     for (text, read_fails, write_fails, expected, written) in rows {
         let mut from = source(alloc, text, read_fails)?;

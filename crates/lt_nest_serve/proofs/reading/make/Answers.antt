@@ -1,4 +1,4 @@
-use Rattle.std.proofs.Common.{◌≡◌, sym, subst, List, ℕ}
+use Rattle.std.proofs.Common.{sym, subst, List, ℕ}
 use Rattle.std.proofs.lemmas.Result.{IfOk-weaker, IfErr-weaker}
 use Rattle.lt_nest_serve.specs.Serves.{Left}
 use Rattle.lt_nest_serve.proofs.Answering.{text_written, fault_refusal, fault_reading}

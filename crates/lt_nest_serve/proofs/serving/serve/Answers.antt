@@ -1,12 +1,14 @@
-use Rattle.std.proofs.Common.{rules, ◌≡◌, ◌<◌, length}
+use Rattle.std.proofs.Common.{rules, ◌≡◌, ◌<◌, length, sym, subst, List, ℕ}
+use Rattle.lt_nest_serve.specs.Serves.{IsWritten}
 use Rattle.lt_nest_serve.proofs.Answering.{usage_serves, written_serves, refusal_serves}
 use Rattle.lt_nest_serve.proofs.serving.serve.Goals as goal
 
 pub returns-in-Ok : goal.returns-in-Ok
 returns-in-Ok g c =
     let none : length c.args.words.now ≡ 0 = search rules in
-    written_serves g.S.Source.state g.K.Sink.held g.K.Sink.faults (length c.args.words.now) c.write_text.result c.in-Ok.text.items
-    c.args.source.now c.make.new.source c.args.sink.now c.write_text.new.sink none c.write_text.ensures.written c.in-Ok.ensures.text c.in-Ok.ensures.whole
+    let is = subst (λ (text : List ℕ). IsWritten (g.S.Source.state c.args.source.now).left text) (sym c.deref.ensures.value) c.in-Ok.ensures.text in
+    written_serves g.S.Source.state g.K.Sink.held g.K.Sink.faults (length c.args.words.now) c.write_text.result c.deref.result.now
+    c.args.source.now c.make.new.source c.args.sink.now c.write_text.new.sink none c.write_text.ensures.written is c.in-Ok.ensures.whole
     c.write_text.ensures.all c.write_text.ensures.part c.write_text.ensures.writing
 
 pub returns-in-Err : goal.returns-in-Err
