@@ -2,13 +2,13 @@
 use Rattle.std.proofs.Common.{◌≡◌, ◌<◌, ◌≤◌, ◌+◌, ℕ, List, Option, Some, None, refl, sym, subst, arith, inl, inr}
 use Rattle.std.specs.Prelude.{◌⊎◌, ◌≢◌}
 use Rattle.std.specs.Io.KnownBytes.{Appends}
-use Rattle.lt_io.specs.FaultCounts.{Counts, Rose, RoseBy, count_after}
+use Rattle.lt_io.specs.FaultCounts.{Counts, RoseBy, count_after}
 use Rattle.lt_io.specs.Source.{SourceState}
 use Rattle.lt_io.specs.Sink.{AppendsPart}
 use Rattle.lt_nest_serve.specs.declared.reading.TheConstants.{MAX_INPUT}
 use Rattle.lt_nest_serve.specs.declared.answer.Answer.{Answer}
 use Rattle.lt_nest_serve.specs.declared.answer.Answer.TheVariants.{Done, Usage, Refused, TooLong, ReadFault, WriteFault, NoMemory}
-use Rattle.lt_nest_serve.specs.Serves.{IsTextOf, IsWritten, Left, IsRefusedAt, TellsSource, IsReadWhole, TellsSink, WritesNothing, IsFaultOf, IsRefusal, IsGood, Serves}
+use Rattle.lt_nest_serve.specs.Serves.{IsTextOf, IsWritten, Left, TellsSource, IsReadWhole, TellsSink, WritesNothing, IsFaultOf, IsRefusal, IsGood, Serves}
 
 at_least : (a b : ℕ) → b ≡ a → a ≤ b
 at_least a b e = omega (arith, e)
