@@ -3,7 +3,7 @@
 # drawn script of 16 nodes, 64 clients and 4,096 commands; for the same without its first line, so that no run is kept;
 # and for inputs of 1 MiB and of 48 MiB that go on after the journal's end with the same lines over and over. Those have a
 # bad line and are read to their end all the same, so what they take more than the first is what the reading takes, and
-# should be nothing. What the first takes more than the second is the run that is kept, so many bytes for each move. A
+# should be nothing. What the first takes more than the second is the run that is kept: bytes for each move. A
 # program may be named as one word, in place of the one that ./build makes.
 top=$(CDPATH='' cd -- "$(dirname -- "$0")/.." && pwd) || exit 1
 program=${1:-$top/crates/lockrun/out/lockrun}

@@ -7,7 +7,7 @@ crate=$top/crates/bench_journal
 program=$crate/out/bench_journal
 [ -x "$program" ] || { echo "bench: run ./build first" >&2; exit 1; }
 
-# The microseconds that it takes to make the journal of so many moves so many times.
+# The microseconds that it takes to make the journal of $1 moves $2 times.
 taken() {
   start=$(date +%s%N)
   "$program" "$1" "$2" <"$crate/stdin" >/dev/null || exit 1
@@ -15,7 +15,7 @@ taken() {
   echo $(((end - start) / 1000))
 }
 
-# Prints the rate for so many moves, whose journal is made so many times more than once.
+# Prints the rate for $1 moves, whose journal is made $2 times more than once.
 rate() {
   bytes=$("$program" "$1" 1 <"$crate/stdin" | wc -c) || exit 1
   once=$(taken "$1" 1) || exit 1

@@ -1,7 +1,8 @@
 #!/bin/sh
 # Prints how long `run` takes for a script of 16 nodes, 64 clients and 4,096 commands with 1, 2 and 4 processors, and how
-# long `sim first` takes for the same script: milliseconds, the least of several times, with the moves made. A program
-# may be named as one word, in place of the one that ./build makes.
+# long `sim first` takes for the same script: milliseconds, the least of several times, with the moves made. Then the
+# most memory that `run` takes for a script of version 2 with 64 nodes, 256 clients and 4,096 commands. A program may be
+# named as one word, in place of the one that ./build makes.
 top=$(CDPATH='' cd -- "$(dirname -- "$0")/.." && pwd) || exit 1
 program=${1:-$top/crates/lockrun/out/lockrun}
 times=${2:-9}
@@ -40,3 +41,12 @@ for last in 0 1 3; do
     measure "$last" run
   fi
 done
+
+python3 "$top/tests/drawing.py" 64 256 4096 1 2 >"$room/script" || exit 1
+# shellcheck disable=SC2086 # the program may be a command with words
+python3 -c '
+import resource, subprocess, sys
+done = subprocess.run(sys.argv[1:], stdout=subprocess.DEVNULL)
+most = resource.getrusage(resource.RUSAGE_CHILDREN).ru_maxrss
+print(f"64 nodes, 256 clients: run takes at most {most} KiB of memory")
+sys.exit(done.returncode)' $program run <"$room/script"

@@ -1,8 +1,8 @@
 #!/bin/sh
 # Prints how many bytes of script a second the program reads: of 64 KiB and 1 MiB of comments, whose numbers should be
-# near each other, and of 4,096 commands of 64 clients, behind which stands a line with a fault, so that they are read
-# and not run. It is the least time of several runs, with the least one of the shortest script taken off. A program
-# may be named, in place of the one that ./build makes.
+# near each other, and of 4,096 commands of 64 clients, and of 256 in version 2, behind which stands a line with a fault,
+# so that they are read and not run. It is the least time of several runs, with the least one of the shortest script
+# taken off. A program may be named, in place of the one that ./build makes.
 top=$(CDPATH='' cd -- "$(dirname -- "$0")/.." && pwd) || exit 1
 program=${1:-$top/crates/lockrun/out/lockrun}
 times=${2:-200}
@@ -10,7 +10,7 @@ times=${2:-200}
 input=$(mktemp) || exit 1
 trap 'rm -f "$input"' EXIT
 
-# A script of so many bytes: declarations, and comments.
+# A script of $1 bytes: declarations, and comments.
 script() {
   awk -v size="$1" 'BEGIN {
     print "nodes 1\nset page"; n = 17
@@ -51,3 +51,5 @@ printf 'nodes 1\nset page\nfault\n' >"$input"
 idle=$(least 2) || exit 1
 { python3 "$top/tests/drawing.py" 16 64 4096 1 && echo fault; } >"$input" || exit 1
 rate 2 "$idle" '4096 commands of 64 clients'
+{ python3 "$top/tests/drawing.py" 64 256 4096 1 2 && echo fault; } >"$input" || exit 1
+rate 2 "$idle" '4096 commands of 256 clients'

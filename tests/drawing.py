@@ -3,23 +3,26 @@
 import random
 import sys
 
-MODES = ['intention_read', 'read', 'upgrade', 'intention_write', 'write']
-MOST = {'nodes': 16, 'sets': 8, 'clients': 64, 'of_node': 16, 'commands': 4096}
-USAGE = """usage: drawing.py NODES CLIENTS COMMANDS SEED
+MODES = {1: ['intention_read', 'read', 'upgrade', 'intention_write', 'write'],
+         2: ['intention_read', 'read', 'upgrade', 'intention_write', 'read_intention_write', 'write']}
+MOST = {'sets': 8, 'of_node': 16, 'commands': 4096}
+MOST_NODES, MOST_CLIENTS = {1: 16, 2: 64}, {1: 64, 2: 256}   # by version
+USAGE = """usage: drawing.py NODES CLIENTS COMMANDS SEED [VERSION]
 
-Prints a script with eight sets, whose clients each hold some locks, in the order of the sets, and give them up."""
+Prints a script with eight sets, whose clients each hold some locks, in the order of the sets, and give them up. The
+version of the script is 1 or 2, and 1 if none is given."""
 
 
 class Drawing:
     """A script that grows line by line."""
 
-    def __init__(self, draw, nodes, sets, clients, commands):
-        self.draw, self.room = draw, commands
+    def __init__(self, draw, nodes, sets, clients, commands, version=1):
+        self.draw, self.room, self.modes = draw, commands, MODES[version]
         self.sets = [f's{k}' for k in range(sets)]
         self.clients = [f'c{k}' for k in range(clients)]
         self.node_of = {}
         self.todo = {client: [] for client in self.clients}
-        self.lines = [f'nodes {nodes}']
+        self.lines = ['version 2'] * (version - 1) + [f'nodes {nodes}']
         self.declare(nodes)
 
     def declare(self, nodes):
@@ -33,7 +36,7 @@ class Drawing:
             self.lines.append(f'client {client} at {node}')
 
     def add(self, client, *group):
-        """Commands of a client; where there is no room for all, one that gives up what is hardly held."""
+        """Commands of a client; if there is no room for all, one that gives up what is hardly held."""
         if len(group) > self.room:
             group = [f'unlock {self.sets[0]} read']
         self.room -= len(group)
@@ -58,7 +61,7 @@ class Drawing:
 def tidy(drawing, client):
     """One lock, and it is given up; or an upgrade that becomes a write; or a try."""
     draw, name = drawing.draw, drawing.draw.choice(drawing.sets)
-    mode, kind = draw.choice(MODES), draw.randrange(5)
+    mode, kind = draw.choice(drawing.modes), draw.randrange(5)
     if kind == 0:
         drawing.add(client, f'lock {name} upgrade', f'change {name} upgrade write', f'unlock {name} write')
     else:
@@ -69,7 +72,7 @@ def ordered(drawing, client):
     """Some locks in the order of the sets, and all are given up: nobody waits for ever."""
     draw = drawing.draw
     places = sorted(draw.sample(range(len(drawing.sets)), draw.randint(1, min(4, len(drawing.sets)))))
-    held = [f'{drawing.sets[place]} {draw.choice(MODES)}' for place in places]
+    held = [f'{drawing.sets[place]} {draw.choice(drawing.modes)}' for place in places]
     drawing.add(client, *[f'lock {lock}' for lock in held], *[f'unlock {lock}' for lock in reversed(held)])
 
 
@@ -78,12 +81,12 @@ def wild(drawing, client):
     draw, name = drawing.draw, drawing.draw.choice(drawing.sets)
     kind = draw.choice(['lock', 'lock', 'try', 'unlock', 'unlock', 'change', 'drop'])
     if kind == 'change':
-        drawing.add(client, f'change {name} {draw.choice(MODES)} {draw.choice(MODES)}')
+        drawing.add(client, f'change {name} {draw.choice(drawing.modes)} {draw.choice(drawing.modes)}')
     elif kind == 'drop':
         beside = [other for other in drawing.clients if drawing.node_of[other] == drawing.node_of[client]]
         drawing.add(client, f'drop {draw.choice(beside)} {name}')
     else:
-        drawing.add(client, f'{kind} {name} {draw.choice(MODES)}')
+        drawing.add(client, f'{kind} {name} {draw.choice(drawing.modes)}')
 
 
 def mixed(drawing, client):
@@ -94,13 +97,13 @@ def mixed(drawing, client):
         drawing.add(client, f'drop {client} {drawing.draw.choice(drawing.sets)}')
 
 
-def draw_script(seed):
+def draw_script(seed, version=1):
     """The script of a number: its size and kind are drawn too."""
     draw = random.Random(seed)
-    nodes = draw.choice([1, 2, 3, 4, draw.randint(1, MOST['nodes']), MOST['nodes']])
-    clients = min(draw.choice([0, 2, 5, 16, draw.randint(1, MOST['clients'])]), nodes * MOST['of_node'])
+    nodes = draw.choice([1, 2, 3, 4, draw.randint(1, MOST_NODES[version]), MOST_NODES[version]])
+    clients = min(draw.choice([0, 2, 5, 16, draw.randint(1, MOST_CLIENTS[version])]), nodes * MOST['of_node'])
     commands = draw.choice([0, 4, 16, 64, 64, 256, 256, draw.randint(0, MOST['commands'])])
-    drawing = Drawing(draw, nodes, draw.choice([0, 1, 1, 1, 2, 4, MOST['sets']]), clients, commands)
+    drawing = Drawing(draw, nodes, draw.choice([0, 1, 1, 1, 2, 4, MOST['sets']]), clients, commands, version)
     drawing.fill(draw.choice([tidy, ordered, wild, mixed]))
     return drawing.text()
 
@@ -118,11 +121,11 @@ def with_fault(text, seed):
 
 def main(words):
     """Prints the script of the words."""
-    if len(words) != 4 or not all(word.isdecimal() for word in words):
+    if len(words) not in (4, 5) or not all(word.isdecimal() for word in words) or words[4:] not in ([], ['1'], ['2']):
         print(USAGE, file=sys.stderr)
         return 1
-    nodes, clients, commands, seed = map(int, words)
-    drawing = Drawing(random.Random(seed), nodes, MOST['sets'], clients, commands)
+    nodes, clients, commands, seed, *version = map(int, words)
+    drawing = Drawing(random.Random(seed), nodes, MOST['sets'], clients, commands, *version)
     drawing.fill(ordered)
     print(drawing.text(), end='')
     return 0

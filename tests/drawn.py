@@ -21,13 +21,14 @@ def words_of():
     parser.add_argument('--words', default='sim first', help='the words that both are given')
     parser.add_argument('--count', type=int, default=300, help='how many scripts')
     parser.add_argument('--seed', type=int, default=1, help='the number of the first one')
-    parser.add_argument('--keep', default='drawn.script', help='where the first script goes whose answers differ')
+    parser.add_argument('--version', type=int, choices=(1, 2), default=1, help='the version of the scripts')
+    parser.add_argument('--keep', default='drawn.script', help='the file for the first script whose answers differ')
     return parser.parse_args()
 
 
-def script_of(seed):
+def script_of(seed, version):
     """The bytes of a script; each tenth one has a fault."""
-    text = draw_script(seed)
+    text = draw_script(seed, version)
     return (with_fault(text, seed) if seed % 10 == 0 else text).encode('latin-1')
 
 
@@ -43,7 +44,7 @@ def main():
     statuses, moves, lines, wrong = Counter(), 0, 0, []
 
     def both(seed):
-        data = script_of(seed)
+        data = script_of(seed, args.version)
         return seed, data, answer(args.program, args.words, data), answer(args.reference, args.words, data)
 
     with ThreadPoolExecutor() as pool:

@@ -1,7 +1,8 @@
 #!/bin/sh
-# Tests of all examples: both tools run on each; the pictures of docs/ are those that the tool draws; and where the
+# Tests of all examples: both tools run on each; the pictures of docs/ are those that the tool draws; and if the
 # program is built, it makes each journal, with the right status, accepts it, and refuses it at each line that is
-# exchanged for another; a word that isn't text gets the line of usage. Where none is built, the runs left out are counted.
+# exchanged for another; a word that isn't text gets the line of usage, which the wrapper prints too. If none is built,
+# the runs left out are counted.
 cd "$(dirname "$0")/.." || exit 1
 program=crates/lockrun/out/lockrun
 room=$(mktemp -d) || exit 1
@@ -67,6 +68,8 @@ refuses_bytes() {
   if [ $status -ne 1 ] || [ ! -s "$room/wanted" ] || ! cmp -s "$room/wanted" "$room/printed"; then
     fail "lockrun says something else of a word that isn't text"
   fi
+  ./lockrun >"$room/printed" 2>&1
+  cmp -s "$room/wanted" "$room/printed" || fail "the wrapper says something else of no words"
 }
 refuses_bytes
 

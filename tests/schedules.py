@@ -25,14 +25,15 @@ def words_of():
     parser.add_argument('--clients', type=int, default=64)
     parser.add_argument('--commands', type=int, default=1024)
     parser.add_argument('--seed', type=int, default=1, help='the number that the script is drawn from')
+    parser.add_argument('--version', type=int, choices=(1, 2), default=1, help='the version of the script')
     parser.add_argument('--mixed', action='store_true', help='commands of all kinds: clients may wait at the end')
-    parser.add_argument('--keep', default='schedules.input', help='where the first input goes that is refused')
+    parser.add_argument('--keep', default='schedules.input', help='the file for the first input that is refused')
     return parser.parse_args()
 
 
 def script_of(args):
     """The bytes of the script."""
-    drawing = Drawing(random.Random(args.seed), args.nodes, 8, args.clients, args.commands)
+    drawing = Drawing(random.Random(args.seed), args.nodes, 8, args.clients, args.commands, args.version)
     drawing.fill(mixed if args.mixed else ordered)
     return drawing.text().encode()
 

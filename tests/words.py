@@ -14,7 +14,7 @@ ONE_RUN = b'nodes 1\nset s\nclient a at 0\na lock s write\na unlock s write\n'
 MANY_RUNS = (b'nodes 2\nset s\nclient a at 0\nclient b at 1\nclient c at 0\n'
              b'a lock s write\nb lock s read\nc try s read\na unlock s write\n')
 FORMS = ['run', 'check', 'sim first', 'sim SEED', 'soak SEED'] + 3 * ['make NODES CLIENTS COMMANDS SEED']
-# Numbers at the limits, on both sides; so many clients that few nodes haven't room for them.
+# Numbers at the limits, on both sides; more clients than a few nodes have room for.
 RIGHT = {
     'NODES': ['1', '2', '3', '16', '000000016'],
     'CLIENTS': ['1', '16', '17', '32', '33', '48', '49', '64', '000000064'],

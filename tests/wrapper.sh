@@ -26,14 +26,21 @@ case $(head -n 1 "$0.input") in
 esac
 exit 0'
 
-# The stand-in for the toolchain: an empty input has a fault.
+# The stand-in for the toolchain: an empty input has a fault. It says more than the program, and its own status may be
+# another one than the program's; the first line of the input may ask for that.
 toolchain='#!/bin/sh
 shift 2
 [ -d /dev/stdin ] && exit 99
 printf "<%s>" "$@"; echo
 echo "checked: ended status=2" >&2
+echo "races: not looked for, since a kit has no ThreadSanitizer" >&2
 case "$1" in make) echo "run=ended status=0" >&2; exit 0 ;; esac
-[ -n "$(cat)" ] || { echo "lockrun: line 1: S5" >&2; echo "run=ended status=2" >&2; exit 2; }
+input=$(cat)
+case $input in
+  "") echo "lockrun: line 1: S5" >&2; echo "run=ended status=2" >&2; exit 2 ;;
+  "# no answer") echo "interpreter: no-answer: it took too long" >&2; exit 6 ;;
+  "# stuck") echo "run=ended status=3" >&2; exit 1 ;;
+esac
 echo "run=ended status=0" >&2'
 
 build() {
@@ -65,21 +72,40 @@ mkdir "$room/with-rt" && mv "$room/rt" "$room/with-rt/rt"
 with_rt=$room/with-rt:$PATH
 # A path with all but the toolchain.
 mkdir "$room/no-rt"
-for tool in sh cat grep sed awk tr mktemp rm dirname readlink; do
+for tool in sh cat grep sed awk tr mktemp rm dirname readlink head; do
   ln -s "$(command -v $tool)" "$room/no-rt/$tool"
 done
 
-# Help and version; all other words, and none, go to the program as they are.
-expect '--help has status 0' 'status 0' "$(said "$top/lockrun" --help | tail -n 1)"
+# Help and version; words that can be no command are answered at once, and all others go to the program as they are.
+for word in --help -h help; do
+  expect "$word has status 0" 'status 0' "$(said "$top/lockrun" $word | tail -n 1)"
+done
+expect '--help names the limits' 2 "$("$top/lockrun" --help | grep -c -e '64 clients on up to 16 nodes' -e '256 clients on up to 64')"
 for word in 'sim first' 'sim SEED' run check 'make NODES CLIENTS COMMANDS SEED' 'soak SEED'; do
   expect "--help names $word" 1 "$("$top/lockrun" --help | grep -c "^  ./lockrun $word  ")"
 done
 expect '--version' "lockrun $(sed -n 's/^version=//p' "$here/lockrun")
 status 0" "$(said "$top/lockrun" --version)"
-expect 'odd words' '<sim><two words><><--help>
-status 0' "$(said "$top/lockrun" sim 'two words' '' --help </dev/null)"
-expect 'no words' '<>
-status 0' "$(said "$top/lockrun" </dev/null)"
+usage='lockrun: usage: run | sim first | sim SEED | check | make NODES CLIENTS COMMANDS SEED | soak SEED
+status 1'
+no_command() { expect "no command: $*" "$usage" "$(PATH=$room/no-rt && said "$room/bare/lockrun" "$@" </dev/null)"; }
+no_command
+no_command ''
+no_command simulate first
+no_command sim
+no_command sim 'two words'
+no_command sim first --help
+no_command sim 7x
+no_command soak
+no_command soak -7
+no_command make 2 3 8
+no_command make 2 3 eight 7
+no_command run now
+for words in 'sim 99999999999999999999' 'make 17 1 1 1' 'soak 007' 'check'; do
+  # shellcheck disable=SC2086 # a call may be more words
+  expect "a command, or the program says why not: $words" "$(printf '<%s>' $words)
+status 0" "$(said "$top/lockrun" $words </dev/null)"
+done
 
 # The input reaches the program byte by byte, with a terminal and without.
 awk 'BEGIN { for (k = 0; k < 256; k++) printf "%c", k; printf "# no line end\r" }' >"$room/bytes"
@@ -91,8 +117,8 @@ status 3' "$(echo '# stuck' | said "$top/lockrun" sim first)"
 
 # A program that was built starts with no other tool than the one that reads the list of its sources.
 mkdir "$room/only-cat" && ln -s "$(command -v cat)" "$room/only-cat/cat"
-expect 'no search before the program' '<make>
-status 0' "$(PATH=$room/only-cat && said "$top/lockrun" make </dev/null)"
+expect 'no search before the program' '<make><1><1><1><1>
+status 0' "$(PATH=$room/only-cat && said "$top/lockrun" make 1 1 1 1 </dev/null)"
 
 # The wrapper may be called by links, from anywhere, and with CDPATH.
 ln -s "$top/lockrun" "$room/link" && ln -s link "$room/second" && ln -s "$top" "$room/folder"
@@ -113,8 +139,23 @@ expect 'a folder as input' 'status 4' "$(said "$top/lockrun" run 2>/dev/null </ 
 expect 'a folder as input, unproved' 'lockrun: not proved: no program is built from these sources (./build proves and builds it)
 lockrun: read fault
 status 4' "$(PATH=$with_rt && said "$room/bare/lockrun" run </ | grep -v '^<')"
-expect 'a folder as input that nothing reads, unproved' '<make>
-status 0' "$(PATH=$with_rt && said "$room/bare/lockrun" make </ | grep -v '^lockrun: not')"
+expect 'a folder as input that nothing reads, unproved' '<make><1><1><1><1>
+status 0' "$(PATH=$with_rt && said "$room/bare/lockrun" make 1 1 1 1 </ | grep -v '^lockrun: not')"
+expect 'no input at all, unproved' 'lockrun: read fault
+status 4' "$(PATH=$with_rt && said "$room/bare/lockrun" run <&- | grep -v -e '^<' -e '^lockrun: not')"
+
+# What the trial runner says of itself is left out, and its own status isn't taken for the program's.
+unproved() { PATH=$with_rt && export PATH && said "$room/bare/lockrun" "$@" | grep -v '^lockrun: not'; }
+expect 'the status, unproved' '<sim><first>
+status 3' "$(echo '# stuck' | unproved sim first)"
+expect 'no answer, unproved' 'lockrun: the trial runner gave no answer; ./build makes the program
+status 125' "$(echo '# no answer' | unproved sim first)"
+expect 'a full disk, unproved' 'lockrun: write fault
+status 5' "$(echo x | (PATH=$with_rt && said sh -c "'$room/bare/lockrun' run >/dev/full") | grep -v '^lockrun: not')"
+expect 'no output at all, unproved' 'lockrun: write fault
+status 5' "$(echo x | (PATH=$with_rt && said sh -c "'$room/bare/lockrun' run >&-") | grep -v '^lockrun: not')"
+expect 'no folder can be made' 'lockrun: no folder can be made for what is kept while it runs
+status 125' "$(echo x | (TMPDIR=$room/none && export TMPDIR && unproved run))"
 
 # Without a program that was built from the sources as they are, the toolchain runs them.
 expect 'unproved' 'lockrun: not proved: no program is built from these sources (./build proves and builds it)
@@ -136,7 +177,7 @@ rm "$top/crates/lockrun/out/sources" && is_stale 'the list of sources is gone'
 mkdir -p "$top/crates/lockrun/must-fail" && touch "$top/crates/lockrun/must-fail/x.edit"
 expect 'what no program is made from' '<run>' "$(said "$top/lockrun" run </dev/null | head -n 1)"
 
-# What a refused script is told: only where standard error is a terminal.
+# How a refused script is explained: only if standard error is a terminal.
 printf '# refuse 5 10\nnodes 1\nset s\nclient a at 0\na lock s reed\n' >"$room/refused"
 expect 'refused' 'lockrun: line 5: S10
 status 2' "$(said "$top/lockrun" sim 7 <"$room/refused" | tail -n 2)"
@@ -153,12 +194,20 @@ status 2' "$(on_terminal "'$top/lockrun' sim 7 <'$room/refused'; echo status \$?
   expect 'the status, on a terminal' '<sim><first>
 # stuck
 status 3' "$(on_terminal "echo '# stuck' | '$top/lockrun' sim first; echo status \$?")"
-  expect 'words that read nothing leave the input, on a terminal' '<make>
-left' "$(on_terminal "echo left | { '$top/lockrun' make; cat; }")"
+  expect 'words that read nothing leave the input, on a terminal' '<make><1><1><1><1>
+left' "$(on_terminal "echo left | { '$top/lockrun' make 1 1 1 1; cat; }")"
+  expect 'no words, on a terminal' 'lockrun: ./lockrun --help says more
+status 1' "$(on_terminal "'$top/lockrun'; echo status \$?" | tail -n 2)"
+  on_terminal "yes | '$top/lockrun' sim first" >/dev/null
+  expect 'an endless input, on a terminal' 1048577 "$(wc -c <"$top/crates/lockrun/out/lockrun.input")"
+  expect 'no folder can be made, on a terminal' 'lockrun: no folder can be made for what is kept while it runs
+status 125' "$(on_terminal "TMPDIR='$room/none' '$top/lockrun' run; echo status \$?")"
+  expect 'no answer, on a terminal, unproved' 'lockrun: the trial runner gave no answer; ./build makes the program
+status 125' "$(on_terminal "echo '# no answer' | PATH='$with_rt' '$room/bare/lockrun' run; echo status \$?" | tail -n 2)"
 }
 if [ "$(on_terminal 'test -t 2 && echo yes')" = yes ]; then on_a_terminal; else echo "tests/wrapper.sh: no terminal can be made here"; fi
 
-# Each fault: the script, the line, the fault, where the caret stands, and how many there are.
+# Each fault: the script, the line, the fault, the place of the caret, and how many carets there are.
 fault() {
   expect "fault $3 in line $2 of: $1" "$4 $5 $6" "$(printf "$1" | "$here/tools/explain" "$2" "$3" | awk '
     NR == 2 { match($0, /\^+/); at = RSTART - 2; long = RLENGTH }
@@ -172,12 +221,12 @@ fault "$head"'a lock s\n' 5 3 10 1 'the form is: CLIENT lock SET MODE'
 fault "$head"'a  change\ts read write more\r\n' 5 3 24 4 'the form is: CLIENT change SET MODE MODE'
 fault 'nodes 2\nclient a on 0\n' 2 3 10 2 'the form is: client NAME at NODE'
 fault 'nodes 2\nset\n' 2 3 5 1 'the forms are: set NAME, and set NAME with SET'
-fault 'nodes 2\nlock\n' 2 3 1 4 'no line of a script: nodes, set, client, or a client with its command'
+fault 'nodes 2\nlock\n' 2 3 1 4 'no line of a script: version, nodes, set, client, or a client with its command'
 fault 'nodes 0\n' 1 4 7 1 'a script has 1 to 16 nodes'
 fault 'nodes two\n' 1 4 7 3 'not a number: 1 to 9 digits'
 fault 'nodes 2\nclient a at 2\n' 2 4 13 1 'not a node of this script, which has nodes 0 to 1'
 fault 'set s\n' 1 5 1 3 'the first line must be `nodes NUMBER`'
-fault "$head"'nodes 2\n' 5 5 1 5 'the number of nodes is given once, first of all'
+fault "$head"'nodes 2\n' 5 5 1 5 'the number of nodes is given once, before all sets and clients'
 fault 'nodes 1\nset 9s\n' 2 6 5 2 'not a name: 1 to 32 letters, digits, _, - and ., a letter first, and not nodes, set, client, journal or version'
 fault "$head"'client s at 0\n' 5 7 8 1 'declared before, in line 2'
 fault 'nodes 1\nset s\na lock s read\n' 3 8 1 1 'no client of this name was declared before'
@@ -186,6 +235,17 @@ fault "$head"'a drop b t\n' 5 8 10 1 'no set of this name was declared before'
 fault 'nodes 17\n' 1 9 7 2 'a script has at most 16 nodes'
 fault "$head"'a change s read ride\n' 5 10 17 4 'not a mode: intention_read, read, upgrade, intention_write or write'
 fault "$head"'a drop b s\n' 5 11 8 1 'b is on node 1, and a on node 0: a client drops the locks of a client of its own node'
+second='version 2\n'"$head"
+fault 'version 3\n' 1 3 9 1 'the form is: version 2'
+fault 'version\n' 1 3 9 1 'the form is: version 2'
+fault 'version 02\n' 1 3 9 2 'the form is: version 2'
+fault 'version 2 2\n' 1 3 11 1 'the form is: version 2'
+fault 'nodes 1\nversion 2\n' 2 5 1 7 'the version is given once, before all other lines'
+fault 'version 2\nset s\n' 2 5 1 3 'the first line must be `nodes NUMBER`, after the version'
+fault 'version 2\nnodes 0\n' 2 4 7 1 'a script of version 2 has 1 to 64 nodes'
+fault 'version 2\nnodes 65\n' 2 9 7 2 'a script of version 2 has at most 64 nodes'
+fault "$head"'a lock s read_intention_write\n' 5 10 10 20 'a mode of version 2 alone: the first line would be `version 2`'
+fault "$second"'a change s read_intention_write ride\n' 6 10 33 4 'not a mode: intention_read, read, upgrade, intention_write, read_intention_write or write'
 expect 'a script without a line' '  the script has no line `nodes NUMBER`' "$(printf '# nothing\n' | "$here/tools/explain" 2 5)"
 
 echo "tests/wrapper.sh: $tests tests, $failed failed"

@@ -2,8 +2,8 @@
 # before it have none. The forms and the faults are those of docs/FORMATS.md.
 
 BEGIN {
-  split("intention_read read upgrade intention_write write", list, " ")
-  for (k in list) is_mode[list[k]] = 1
+  version = 1
+  modes = "intention_read, read, upgrade, intention_write"
   form["lock"] = "CLIENT lock SET MODE"
   form["try"] = "CLIENT try SET MODE"
   form["unlock"] = "CLIENT unlock SET MODE"
@@ -31,6 +31,7 @@ function split_words(text,    n, at) {
 
 # Keeps what a line without fault declares.
 function declare() {
+  if (word[1] == "version") { version = 2; return }
   if (word[1] == "nodes") { nodes = word[2] + 0; return }
   if (word[1] != "set" && word[1] != "client") return
   kind[word[2]] = word[1]
@@ -50,30 +51,48 @@ function explain() {
   else if (fault == 2) { from = 201; width = 1; said = "the line is longer than 200 bytes" }
   else if (fault == 3) explain_form()
   else if (fault == 4) explain_number()
-  else if (fault == 5) point(1, word[1] == "nodes" ? "the number of nodes is given once, first of all" \
-                                                   : "the first line must be `nodes NUMBER`")
+  else if (fault == 5) explain_order()
   else if (fault == 6) point(2, "not a name: 1 to 32 letters, digits, _, - and ., a letter first, " \
                                 "and not nodes, set, client, journal or version")
   else if (fault == 7) point(2, "declared before, in line " declared_in[word[2]])
   else if (fault == 8) explain_unknown()
   else if (fault == 9) explain_limit()
-  else if (fault == 10) point(word[2] == "change" && word[4] in is_mode ? 5 : 4, \
-                              "not a mode: intention_read, read, upgrade, intention_write or write")
+  else if (fault == 10) explain_mode(word[2] == "change" && is_mode(word[4]) ? 5 : 4)
   else if (fault == 11) point(3, word[3] " is on node " node_of[word[3]] ", and " word[1] " on node " \
                                  node_of[word[1]] ": a client drops the locks of a client of its own node")
 }
 
+# Whether a word is a mode word of the script's version.
+function is_mode(text) {
+  if (text == "read_intention_write") return version == 2
+  return text ~ /^(intention_read|read|upgrade|intention_write|write)$/
+}
+
+function explain_mode(k) {
+  if (word[k] == "read_intention_write") point(k, "a mode of version 2 alone: the first line would be `version 2`")
+  else if (version == 2) point(k, "not a mode: " modes ", read_intention_write or write")
+  else point(k, "not a mode: " modes " or write")
+}
+
+# A line in the wrong place.
+function explain_order() {
+  if (word[1] == "version") point(1, "the version is given once, before all other lines")
+  else if (word[1] == "nodes") point(1, "the number of nodes is given once, before all sets and clients")
+  else point(1, "the first line must be `nodes NUMBER`" (version == 2 ? ", after the version" : ""))
+}
+
 # No form at all: the first word that none of the forms has.
 function explain_form() {
-  if (word[1] == "nodes") point(count < 2 ? 2 : 3, "the form is: nodes NUMBER")
+  if (word[1] == "version") point(count < 3 || word[2] != "2" ? 2 : 3, "the form is: version 2")
+  else if (word[1] == "nodes") point(count < 2 ? 2 : 3, "the form is: nodes NUMBER")
   else if (word[1] == "set") point(odd_word("with", 4), "the forms are: set NAME, and set NAME with SET")
   else if (word[1] == "client") point(odd_word("at", 4), "the form is: client NAME at NODE")
-  else if (count == 1) point(1, "no line of a script: nodes, set, client, or a client with its command")
+  else if (count == 1) point(1, "no line of a script: version, nodes, set, client, or a client with its command")
   else if (!(word[2] in form)) point(2, "not a command: lock, try, unlock, change or drop")
   else point(count < 4 + (word[2] == "change") ? count + 1 : 5 + (word[2] == "change"), "the form is: " form[word[2]])
 }
 
-# The first word that is wrong or missing, where the third is to be `wanted` and there are so many words.
+# The first word that is wrong or missing, if the third is to be `wanted` and there are to be `words` of them.
 function odd_word(wanted, words) {
   if (count > 2 && word[3] != wanted) return 3
   return count < words ? count + 1 : words + 1
@@ -82,7 +101,7 @@ function odd_word(wanted, words) {
 function explain_number(    k) {
   k = word[1] == "nodes" ? 2 : 4
   if (word[k] !~ /^[0-9]+$/ || length(word[k]) > 9) point(k, "not a number: 1 to 9 digits")
-  else if (k == 2) point(k, "a script has 1 to 16 nodes")
+  else if (k == 2) point(k, "a script" of_version() " has 1 to " most_nodes() " nodes")
   else point(k, "not a node of this script, which has " (nodes == 1 ? "node 0 alone" : "nodes 0 to " nodes - 1))
 }
 
@@ -99,11 +118,15 @@ function unknown(k, wanted) {
   else point(k, "no " wanted " of this name was declared before")
 }
 
+function most_nodes() { return version == 2 ? 64 : 16 }
+function most_clients() { return version == 2 ? 256 : 64 }
+function of_version() { return version == 2 ? " of version 2" : "" }
+
 function explain_limit() {
-  if (word[1] == "nodes") point(2, "a script has at most 16 nodes")
+  if (word[1] == "nodes") point(2, "a script" of_version() " has at most " most_nodes() " nodes")
   else if (word[1] == "set") point(2, "a script has at most 8 sets")
   else if (word[1] != "client") point(2, "a script has at most 4,096 commands")
-  else if (clients >= 64) point(2, "a script has at most 64 clients")
+  else if (clients >= most_clients()) point(2, "a script" of_version() " has at most " most_clients() " clients")
   else point(4, "a node has at most 16 clients")
 }
 

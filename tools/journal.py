@@ -1,17 +1,21 @@
 """Reads scripts and journals. The forms are those of docs/FORMATS.md."""
+import os
 import re
 import sys
 from dataclasses import dataclass, field
 from pathlib import Path
 from typing import NamedTuple, Optional
 
-MOST_NODES = 16
-MODES = ['intention_read', 'read', 'upgrade', 'intention_write', 'write']
+MOST_NODES = {1: 16, 2: 64}   # by version
+SECOND = 'version 2'
+SIXTH = 'read_intention_write'
+MODES = ['intention_read', 'read', 'upgrade', 'intention_write', SIXTH, 'write']
 CONFLICTS = {
     'intention_read': {'write'},
-    'read': {'intention_write', 'write'},
-    'upgrade': {'upgrade', 'intention_write', 'write'},
-    'intention_write': {'read', 'upgrade', 'write'},
+    'read': {'intention_write', SIXTH, 'write'},
+    'upgrade': {'upgrade', 'intention_write', SIXTH, 'write'},
+    'intention_write': {'read', 'upgrade', SIXTH, 'write'},
+    SIXTH: {'read', 'upgrade', 'intention_write', SIXTH, 'write'},
     'write': set(MODES),
 }
 SHOWN = ('copy', 'freeze', 'token')
@@ -32,10 +36,15 @@ class Fault(Exception):
 
 @dataclass
 class Script:
+    version: int = 1
     nodes: int = 0
     family: dict = field(default_factory=dict)    # of each set, in order
     node_of: dict = field(default_factory=dict)   # of each client, in order
     commands: dict = field(default_factory=dict)  # of each client
+
+    def has_mode(self, word):
+        """Whether a word is a mode word of the script's version."""
+        return word in MODES and (self.version == 2 or word != SIXTH)
 
     def family_of(self, name):
         """The sets of the family of a set, in order."""
@@ -131,8 +140,10 @@ def read_script(data):
 
 def read_script_line(script, words):
     """Takes the words of one line into the script."""
-    if words[0] == 'nodes' and len(words) == 2:
-        script.nodes = within(words[1], 1, MOST_NODES)
+    if words == SECOND.split() and script == Script():
+        script.version = 2
+    elif words[0] == 'nodes' and len(words) == 2:
+        script.nodes = within(words[1], 1, MOST_NODES[script.version])
     elif words[0] == 'set' and (len(words) == 2 or words[2] == 'with'):
         script.family[words[1]] = script.family[words[3]] if words[2:] else words[1]
     elif words[0] == 'client' and words[2] == 'at':
@@ -165,7 +176,7 @@ def has_form(script, words, form):
     tests = {
         'c': lambda word: word in script.node_of,
         's': lambda word: word in script.family,
-        'm': lambda word: word in MODES,
+        'm': script.has_mode,
         'n': is_number,
         'p': lambda word: is_number(word) and int(word) < script.nodes,
         'f': lambda word: word in ('true', 'false'),
@@ -187,7 +198,11 @@ def is_number(word):
 def read_journal(name, script, data):
     """The moves and the closing lines of a text."""
     journal = Journal(name, script, [], [])
-    for number, line in enumerate(lines_of(data), 1):
+    first = [SECOND] if script.version == 2 else []
+    lines = lines_of(data)
+    if lines[:len(first)] != first:
+        raise unfit(1, f'the first line is `{SECOND}`, as in the script')
+    for number, line in list(enumerate(lines, 1))[len(first):]:
         words = line.split(' ')
         if words[0] == 'move' and not journal.closing:
             journal.moves.append(read_move(script, words, number, len(journal.moves) + 1))
@@ -218,25 +233,24 @@ def unfit(line, what):
 
 # ---------------------------------------------------------------- the command line
 
-def serve(tool, usage, write):
+def serve(tool, usage, write, words, more=''):
     """Reads a script and its journal, and prints what `write` makes of them."""
-    if len(sys.argv) != 3:
-        print(f'usage: {tool} SCRIPT JOURNAL\n\n{usage}', file=sys.stdout if is_help() else sys.stderr)
-        return 0 if is_help() else 1
+    if len(words) != 2:
+        is_help = words in (['--help'], ['-h'])
+        print(f'usage: {tool} SCRIPT JOURNAL{more}\n\n{usage}', file=sys.stdout if is_help else sys.stderr)
+        return 0 if is_help else 1
     try:
-        script = read_script(text_of(sys.argv[1]))
-        text = write(read_journal(Path(sys.argv[1]).stem, script, text_of(sys.argv[2])))
+        script = read_script(text_of(words[0]))
+        text = write(read_journal(Path(words[0]).stem, script, text_of(words[1])))
+        print(text, end='', flush=True)
     except (Fault, OSError) as fault:
+        is_write = isinstance(fault, OSError) and fault.filename is None
         what = f'{fault.filename}: {fault.strerror}' if isinstance(fault, OSError) else fault
-        print(f'{tool}: {what}', file=sys.stderr)
+        print(f'{tool}: {"write fault" if is_write else what}', file=sys.stderr)
+        if is_write:
+            os.dup2(os.open(os.devnull, os.O_WRONLY), 1)   # what is left of the text goes nowhere
         return 1
-    print(text, end='')
     return 0
-
-
-def is_help():
-    """Whether the words ask for help."""
-    return sys.argv[1:] in (['--help'], ['-h'])
 
 
 def text_of(path):

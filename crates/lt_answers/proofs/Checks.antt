@@ -2,17 +2,17 @@
 use Rattle.std.proofs.Common.{◌≡◌, ℕ, List, [], ◌∷◌, ◌++◌, Ok, Err, Some, refl, ap, ap₂, subst, ◌∙◌}
 use Rattle.std.specs.Prelude.{Result, take, codes}
 use Rattle.lt_modes.specs.Script.{ScriptData}
-use Rattle.lt_runs.specs.Log.{Logged}
+use Rattle.lt_spec.specs.Log.{Logged}
 use Rattle.lt_text.specs.Text as text
 use Rattle.lt_text.specs.Text.{lines}
 use Rattle.lt_script.specs.declared.fault.ScriptFault.{ScriptFault}
 use Rattle.lt_script.specs.declared.fault.Fault.TheVariants as faults
 use Rattle.lt_script.specs.Reading.{read_of}
 use Rattle.lt_journal.specs.Split as split
-use Rattle.lt_journal.specs.Split.{parts_of}
-use Rattle.lt_checking.specs.Checking.{checked}
-use Rattle.lt_checking.specs.Input.{checked_input, counted_from, journal_in, lines_before}
-use Rattle.lt_checking.proofs.RowAnswers.{short_rows}
+use Rattle.lt_journal.specs.Split.{input_parts}
+use Rattle.lt_law_checking.specs.Checking.{checked}
+use Rattle.lt_law_checking.specs.Input.{checked_input, counted_from, journal_in, lines_before}
+use Rattle.lt_law_checking.proofs.RowAnswers.{short_rows}
 use Rattle.lt_serve.specs.declared.status.Status.TheVariants.{Done}
 use Rattle.lt_serve.specs.Causes.{IsBad}
 use Rattle.lt_serve.specs.TopCall.{Checks, HasFaultBefore, ok_text}
@@ -23,16 +23,16 @@ use Rattle.lt_answers.proofs.Runs.{one_lock_read}
 use Rattle.lt_answers.proofs.Refusals.{no_mode_read}
 use Rattle.lt_answers.proofs.Texts.{one_text}
 
-right_before : take (parts_of checked_lock).script checked_lock ≡ one_lock
-unfolding text.lines text.cut_at text.words split.after_line
+right_before : take (input_parts checked_lock).script checked_lock ≡ one_lock
+unfolding text.lines text.cut_at text.words split.after_first_line
 right_before = refl
 
-wrong_before : take (parts_of wrong_mode).script wrong_mode ≡ one_lock
-unfolding text.lines text.cut_at text.words split.after_line
+wrong_before : take (input_parts wrong_mode).script wrong_mode ≡ one_lock
+unfolding text.lines text.cut_at text.words split.after_first_line
 wrong_before = refl
 
-no_mode_before : take (parts_of checked_no_mode).script checked_no_mode ≡ no_mode
-unfolding text.lines text.cut_at text.words split.after_line
+no_mode_before : take (input_parts checked_no_mode).script checked_no_mode ≡ no_mode
+unfolding text.lines text.cut_at text.words split.after_first_line
 no_mode_before = refl
 
 right_lines : journal_in (lines checked_lock)
@@ -64,14 +64,14 @@ wrong_answer =
     ∙ ap (counted_from 5) short_rows.wrong_mode
 
 -- the script of an input that begins with the one lock
-one_script : (input : List ℕ) (script : ScriptData) → take (parts_of input).script input ≡ one_lock
-    → read_of (take (parts_of input).script input) ≡ Ok script → script ≡ one_lock_script
+one_script : (input : List ℕ) (script : ScriptData) → take (input_parts input).script input ≡ one_lock
+    → read_of (take (input_parts input).script input) ≡ Ok script → script ≡ one_lock_script
 one_script input script before denoted =
     same_script script one_lock_script (read_of one_lock) (subst (λ (bytes : List ℕ). read_of bytes ≡ Ok script) before denoted) one_lock_read
 
 -- so the answer is that to the one lock's script
-answered : (input : List ℕ) (script : ScriptData) (answer : Result (List Logged) ℕ) → take (parts_of input).script input ≡ one_lock
-    → read_of (take (parts_of input).script input) ≡ Ok script → checked_input script (lines input) ≡ answer
+answered : (input : List ℕ) (script : ScriptData) (answer : Result (List Logged) ℕ) → take (input_parts input).script input ≡ one_lock
+    → read_of (take (input_parts input).script input) ≡ Ok script → checked_input script (lines input) ≡ answer
     → checked_input one_lock_script (lines input) ≡ answer
 answered input script answer before denoted e =
     subst (λ (s : ScriptData). checked_input s (lines input) ≡ answer) (one_script input script before denoted) e

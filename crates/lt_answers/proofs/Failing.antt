@@ -3,7 +3,7 @@ use Rattle.std.proofs.Common.{arith, ◌≡◌, ℕ, ◌+◌, List, Some, refl}
 use Rattle.std.specs.Prelude.{length}
 use Rattle.std.proofs.lemmas.Bool.{false≢true}
 use Rattle.lt_io.specs.FaultCounts.{Rose, RoseBy}
-use Rattle.lt_runs.specs.Log.{Logged}
+use Rattle.lt_spec.specs.Log.{Logged}
 use Rattle.lt_limits.specs.declared.moves.TheConstants.{MAX_MOVES}
 use Rattle.lt_script.specs.declared.fault.ScriptFault.{ScriptFault}
 use Rattle.lt_script.specs.Reading.{read_of}

@@ -18,6 +18,7 @@ use Rattle.lt_answers.proofs.Texts.{zero_text, one_text, three_text}
 
 abbrev the_script : ScriptData
 the_script = record {
+  version = 1;
   nodes = 1;
   sets = four_sets;
   clients = record { name = codes "c0"; node = 0 } ∷ [];

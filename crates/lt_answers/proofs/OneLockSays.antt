@@ -3,7 +3,7 @@ use Rattle.std.proofs.Common.{◌≡◌, ℕ, List, [], ◌∷◌, ◌++◌, Som
 use Rattle.std.specs.Prelude.{◌⊎◌, ◌<◌, length, take}
 use Rattle.std.proofs.lemmas.Bool.{false≢true}
 use Rattle.lt_modes.specs.Script.{ScriptData}
-use Rattle.lt_runs.specs.Log.{Logged}
+use Rattle.lt_spec.specs.Log.{Logged}
 use Rattle.lt_script.specs.Reading.{read_of}
 use Rattle.lt_limits.specs.declared.moves.TheConstants.{MAX_MOVES}
 use Rattle.lt_words.specs.declared.command.Command.{Command}
@@ -12,7 +12,7 @@ use Rattle.lt_journal.specs.Text.{text_of}
 use Rattle.lt_serve.specs.declared.status.Status.{Status}
 use Rattle.lt_serve.specs.declared.status.Status.TheVariants.{Done, Stuck, Usage, Refused, TooLong, ReadFault, WriteFault, NoMemory, Cut, BadJournal}
 use Rattle.lt_serve.specs.Endings.{EndsAs, RanTo, cut_of}
-use Rattle.lt_serve.specs.TopCall.{Journals, Does}
+use Rattle.lt_serve.specs.TopCall.{Journals, JournalsBy}
 use Rattle.lt_answers.proofs.Results.{same_script}
 use Rattle.lt_answers.specs.Examples.{one_lock, one_lock_script, one_lock_journal, the_move, OnlyJournal, OneLock}
 use Rattle.lt_answers.proofs.Runs.{one_lock_read, only_runs}
@@ -61,7 +61,7 @@ journals_so ending run text j =
 
 -- so a command that journals a run of the script can only be done, with this journal
 only_journal : (command : Command)
-    → ((ending : Status) (run : List Logged) (text : List ℕ) → Does MAX_MOVES command ending (Some one_lock) run text
+    → ((ending : Status) (run : List Logged) (text : List ℕ) → JournalsBy MAX_MOVES command ending (Some one_lock) run text
     → Journals MAX_MOVES ending (Some one_lock) run text)
     → OnlyJournal command one_lock one_lock_journal
 only_journal command journals = record {

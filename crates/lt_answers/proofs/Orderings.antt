@@ -3,9 +3,9 @@ use Rattle.std.proofs.Common.{arith, ◌≡◌, ℕ, Ok, Some, refl, sym, ap, su
 use Rattle.std.proofs.lemmas.Bool.{false≢true}
 use Rattle.lt_modes.specs.declared.moves.Step.TheVariants.{Act}
 use Rattle.lt_modes.specs.Script.{ScriptData}
-use Rattle.lt_runs.specs.Log.{Logged}
-use Rattle.lt_runs.specs.World.{start, logged, IsRun}
-use Rattle.lt_runs.specs.FixedOrder.{Turn, first_run}
+use Rattle.lt_spec.specs.Log.{Logged}
+use Rattle.lt_spec.specs.World.{start, logged, IsRun}
+use Rattle.lt_spec.specs.FixedOrder.{Turn, first_run}
 use Rattle.lt_text.specs.Text as text
 use Rattle.lt_script.specs.Reading.{read_of}
 use Rattle.lt_script.specs.Reading as reading
@@ -13,7 +13,7 @@ use Rattle.lt_gen.specs.Draws.{seeded, draw_of}
 use Rattle.lt_gen.specs.Draws as draws
 use Rattle.rand_core.specs.Pcg32Seed as seeds
 use Rattle.rand_core.specs.Steps as steps
-use Rattle.lt_serve.specs.Orders.{AreDrawn, IsAt}
+use Rattle.lt_serve.specs.Schedules.{AreDrawn, IsAt}
 use Rattle.lt_answers.specs.TwoOrders.{OrdersSay, two_tries, two_tries_script, try_of_a, try_of_b, a_first, b_first}
 use Rattle.lt_answers.proofs.Results.{same_script}
 

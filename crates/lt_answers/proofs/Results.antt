@@ -2,7 +2,7 @@
 use Rattle.std.proofs.Common.{◌≡◌, ℕ, List, Ok, Err, Some}
 use Rattle.std.specs.Prelude.{Result}
 use Rattle.lt_modes.specs.Script.{ScriptData}
-use Rattle.lt_runs.specs.Log.{Logged}
+use Rattle.lt_spec.specs.Log.{Logged}
 use Rattle.lt_script.specs.declared.fault.ScriptFault.{ScriptFault}
 
 pub same_bytes : (a b : List ℕ) → Some a ≡ Some b → a ≡ b

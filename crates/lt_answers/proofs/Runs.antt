@@ -5,9 +5,9 @@ use Rattle.std.proofs.lemmas.Bool.{and_parts, eqb-true, ltb-true, false≢true}
 use Rattle.lt_modes.specs.declared.moves.Step.{Step}
 use Rattle.lt_modes.specs.declared.moves.Step.TheVariants.{Act, Take}
 use Rattle.lt_modes.specs.Script.{ScriptData}
-use Rattle.lt_runs.specs.Log.{Logged}
-use Rattle.lt_runs.specs.Families.{home}
-use Rattle.lt_runs.specs.World.{World, start, after, logged, is_enabled, is_runnable, has_mail, is_some_letter, IsMove, IsRun}
+use Rattle.lt_spec.specs.Log.{Logged}
+use Rattle.lt_spec.specs.Families.{home}
+use Rattle.lt_spec.specs.World.{World, start, after, logged, is_enabled, is_runnable, has_mail, is_some_letter, IsMove, IsRun}
 use Rattle.lt_script.specs.Reading.{read_of}
 use Rattle.lt_script.specs.Reading as reading
 use Rattle.lt_text.specs.Text as text

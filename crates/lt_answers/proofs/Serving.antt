@@ -2,15 +2,15 @@
 use Rattle.std.proofs.Common.{◌≡◌, ℕ, List, Some, refl, sym, subst, subst₂}
 use Rattle.std.specs.Prelude.{Option}
 use Rattle.lt_io.specs.Source.{SourceState}
-use Rattle.lt_runs.specs.Log.{Logged}
+use Rattle.lt_spec.specs.Log.{Logged}
 use Rattle.lt_limits.specs.declared.moves.TheConstants.{MAX_MOVES}
 use Rattle.lt_words.specs.declared.command.Command.{Command}
 use Rattle.lt_words.specs.declared.command.Command.TheVariants.{SimFirst, Check}
 use Rattle.lt_serve.specs.declared.status.Status.{Status}
 use Rattle.lt_serve.specs.declared.status.Status.TheVariants.{Done, Cut}
-use Rattle.lt_serve.specs.Causes.{HasCause, TellsSource, TellsSink, WritesNothing, limit_of}
+use Rattle.lt_serve.specs.Causes.{HasStatusCause, SaysOfSource, SaysOfSink, WritesNothing, limit_of}
 use Rattle.lt_serve.specs.Complete.{IsComplete}
-use Rattle.lt_serve.specs.TopCall.{Tells}
+use Rattle.lt_serve.specs.TopCall.{Did}
 use Rattle.lt_answers.specs.Examples.{two_writers}
 use Rattle.lt_answers.specs.OtherAnswers.{checked_lock, untouched}
 use Rattle.lt_answers.specs.Failures.{read_whole}
@@ -21,10 +21,10 @@ use Rattle.lt_answers.proofs.TwoWritersSay.{cut_short_says}
 
 -- what an answer says of this input and these bytes of the sink
 told : (moves : ℕ) (command : Command) (a b : Status) (left input : Option (List ℕ)) (run : List Logged) (held old lastly new : Option (List ℕ))
-    → a ≡ b → left ≡ input → held ≡ old → lastly ≡ new → Tells moves (Some command) a left run held lastly → Tells moves (Some command) b input run old new
+    → a ≡ b → left ≡ input → held ≡ old → lastly ≡ new → Did moves (Some command) a left run held lastly → Did moves (Some command) b input run old new
 told moves command a b left input run held old lastly new same read before after t =
-    subst₂ (λ (x : Status) (y : Option (List ℕ)). Tells moves (Some command) x y run old new) same read
-    (subst₂ (λ (x y : Option (List ℕ)). Tells moves (Some command) a left run x y) before after t)
+    subst₂ (λ (x : Status) (y : Option (List ℕ)). Did moves (Some command) x y run old new) same read
+    (subst₂ (λ (x y : Option (List ℕ)). Did moves (Some command) a left run x y) before after t)
 
 complete_so : (a : Status) (before after : SourceState) (first last : ℕ) → before ≡ untouched (Some checked_lock) → after ≡ read_whole checked_lock
     → first ≡ 0 → last ≡ 0 → IsComplete (Some Check) a before after first last
@@ -38,9 +38,9 @@ serves_say state held faults = record {
   unwritten = λ answer s t k l h is. h.unwritten (subst WritesNothing (sym is) tt);
   unread = λ answer s t k l h. h.unread refl;
   writing = λ answer s t k l h is.
-      (subst (λ (a : Status). TellsSink a (faults k) (faults l)) is h.writing).no_write_fault (λ e. cc);
+      (subst (λ (a : Status). SaysOfSink a (faults k) (faults l)) is h.writing).no_write_fault (λ e. cc);
   reading = λ answer s t k l h is.
-      let told = subst (λ (a : Status). TellsSource (limit_of (Some SimFirst)) a (state s) (state t)) is (h.reading refl) in
+      let told = subst (λ (a : Status). SaysOfSource (limit_of (Some SimFirst)) a (state s) (state t)) is (h.reading refl) in
       (told.no_read_fault (λ e. cc), told.not_too_long (λ e. cc));
   told = λ answer s t k l h is input old new before after.
       let so = told MAX_MOVES Check answer.status Done (state s).left (Some checked_lock) answer.run.entries (held k) (Some old) (held l) (Some new)
@@ -51,7 +51,7 @@ serves_say state held faults = record {
       (told 1 SimFirst answer.status (Cut 0) (state s).left (Some two_writers) answer.run.entries (held k) (Some old) (held l) (Some new)
       is input before after h.tells);
   bad = λ answer s t k l h line is input.
-      check_says.bad line (subst₂ (λ (left : Option (List ℕ)) (a : Status). HasCause (Some Check) left a) input is h.causes);
+      check_says.bad line (subst₂ (λ (left : Option (List ℕ)) (a : Status). HasStatusCause (Some Check) left a) input is h.causes);
   wrong_words = λ answer s t k l h.
       let usage = h.causes.no_command refl in
       (usage, h.unread refl, h.unwritten (subst WritesNothing (sym usage) tt));

@@ -3,8 +3,8 @@ use Rattle.std.proofs.Common.{arith, ◌≡◌, ℕ, List, [], ◌∷◌, ◌++�
 use Rattle.std.specs.Prelude.{◌⊎◌, length}
 use Rattle.std.proofs.lemmas.Bool.{false≢true}
 use Rattle.lt_modes.specs.Script.{ScriptData}
-use Rattle.lt_runs.specs.Log.{Logged}
-use Rattle.lt_runs.specs.FixedOrder.{first_run}
+use Rattle.lt_spec.specs.Log.{Logged}
+use Rattle.lt_spec.specs.FixedOrder.{first_run}
 use Rattle.lt_script.specs.Reading.{read_of}
 use Rattle.lt_script.specs.Reading as reading
 use Rattle.lt_text.specs.Text as text

@@ -4,20 +4,20 @@ use Rattle.lt_modes.specs.declared.mode.Mode.TheVariants.{Read, Write}
 use Rattle.lt_modes.specs.declared.command.Command.TheVariants.{Lock}
 use Rattle.lt_modes.specs.declared.moves.Step.TheVariants.{Act}
 use Rattle.lt_modes.specs.Script.{ScriptData}
-use Rattle.lt_runs.specs.World.{start, logged}
-use Rattle.lt_runs.specs.Log.{Logged}
-use Rattle.lt_runs.specs.FixedOrder.{first_run}
+use Rattle.lt_spec.specs.World.{start, logged}
+use Rattle.lt_spec.specs.Log.{Logged}
+use Rattle.lt_spec.specs.FixedOrder.{first_run}
 use Rattle.lt_limits.specs.declared.moves.TheConstants.{MAX_MOVES}
 use Rattle.lt_words.specs.declared.command.Command.{Command}
 use Rattle.lt_words.specs.declared.command.Command.TheVariants.{Run, SimFirst, Sim}
 use Rattle.lt_serve.specs.declared.status.Status.{Status}
 use Rattle.lt_serve.specs.declared.status.Status.TheVariants.{Done, Stuck, WriteFault, Cut}
-use Rattle.lt_serve.specs.TopCall.{Tells}
+use Rattle.lt_serve.specs.TopCall.{Did}
 
 -- what an answer to a command with this input says, where a node makes up to so many moves
 -- and the sink is known to have held `old` before and to hold `new` now
 abbrev pub Says : ℕ → Command → Status → List ℕ → List Logged → List ℕ → List ℕ → Type 0
-Says moves command status input run old new = Tells moves (Some command) status (Some input) run (Some old) (Some new)
+Says moves command status input run old new = Did moves (Some command) status (Some input) run (Some old) (Some new)
 
 -- with this answer to the command, this text is written
 abbrev pub Writes : ℕ → Command → Status → List ℕ → List ℕ → Type 0
@@ -42,6 +42,7 @@ one_lock = codes "nodes 1\nset s\nclient a at 0\na lock s read\n"
 
 abbrev pub one_lock_script : ScriptData
 one_lock_script = record {
+  version = 1;
   nodes = 1;
   sets = record { name = codes "s"; family = 0 } ∷ [];
   clients = record { name = codes "a"; node = 0 } ∷ [];
@@ -73,6 +74,7 @@ two_writers = codes "nodes 1\nset s\nclient a at 0\nclient b at 0\na lock s writ
 
 abbrev pub two_writers_script : ScriptData
 two_writers_script = record {
+  version = 1;
   nodes = 1;
   sets = record { name = codes "s"; family = 0 } ∷ [];
   clients = record { name = codes "a"; node = 0 } ∷ record { name = codes "b"; node = 0 } ∷ [];

@@ -1,7 +1,7 @@
 -- What the answers say where something fails, before which answers nothing is written, and which answers come where nothing fails.
 use Rattle.std.specs.Prelude.{◌≡◌, ◌≢◌, ℕ, List, [], Some, None, length}
 use Rattle.lt_io.specs.Source.{SourceState}
-use Rattle.lt_runs.specs.Log.{Logged}
+use Rattle.lt_spec.specs.Log.{Logged}
 use Rattle.lt_limits.specs.declared.moves.TheConstants.{MAX_MOVES}
 use Rattle.lt_script.specs.declared.fault.ScriptFault.{ScriptFault}
 use Rattle.lt_words.specs.declared.command.Command.{Command}

@@ -5,14 +5,14 @@ use Rattle.lt_modes.specs.declared.command.Command.TheVariants.{Try}
 use Rattle.lt_modes.specs.declared.event.Event.TheVariants.{Try as Tried}
 use Rattle.lt_modes.specs.declared.moves.Step.TheVariants.{Act}
 use Rattle.lt_modes.specs.Script.{ScriptData}
-use Rattle.lt_runs.specs.Log.{Logged}
-use Rattle.lt_runs.specs.World.{IsRun}
+use Rattle.lt_spec.specs.Log.{Logged}
+use Rattle.lt_spec.specs.World.{IsRun}
 use Rattle.lt_limits.specs.declared.moves.TheConstants.{MAX_MOVES}
 use Rattle.lt_merge.specs.Merging.{AreRising}
 use Rattle.lt_words.specs.declared.command.Command.{Command}
 use Rattle.lt_words.specs.declared.command.Command.TheVariants.{Run, SimFirst, Sim}
 use Rattle.lt_serve.specs.declared.status.Status.TheVariants.{Done}
-use Rattle.lt_serve.specs.Orders.{AreDrawn}
+use Rattle.lt_serve.specs.Schedules.{AreDrawn}
 use Rattle.lt_answers.specs.Examples.{Says}
 
 -- each of two nodes has a client that tries a lock
@@ -21,6 +21,7 @@ two_tries = codes "nodes 2\nset s\nclient a at 0\nclient b at 1\na try s read\nb
 
 abbrev pub two_tries_script : ScriptData
 two_tries_script = record {
+  version = 1;
   nodes = 2;
   sets = record { name = codes "s"; family = 0 } ∷ [];
   clients = record { name = codes "a"; node = 0 } ∷ record { name = codes "b"; node = 1 } ∷ [];

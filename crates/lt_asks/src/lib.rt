@@ -1,8 +1,10 @@
-//! The unanswered asks of a node's clients in one lock set: a part of a node.
+//! The unanswered asks of a node's clients in one lock set, and their stamps: a part of a node.
 #![tactic(auto)]
 
+mod pending;
 #[cfg(test)]
 mod tests;
 mod unanswered;
 
+pub use pending::Pending;
 pub use unanswered::Unanswered;

@@ -1,12 +1,12 @@
 ghost use Rattle.std.specs.Prelude.{◌≡◌, ◌<◌, [], ◌∷◌, ◌++◌, length, position, IfOk, IfSome};
 ghost use Rattle.std.specs.List.{list_any};
-ghost use Rattle.lt_modes.specs.Queue.{without, has_stamp, same_ask, same_choice, same_flag};
+ghost use Rattle.lt_modes.specs.Queue.{without, has_stamp, same_ask};
 ghost use Rattle.lt_modes.specs.Fits.{has_client};
 ghost use Rattle.lt_modes.specs.Routing.{is_behind};
 ghost use Rattle.lt_modes.specs.HandingOver.{stamps_of};
 
-use lt_modes::{Ask, Mode, Stamp};
-use lt_table::Pending;
+use crate::pending::Pending;
+use lt_modes::{Ask, Stamp};
 use std::alloc::{AllocError, Global};
 use std::marker::Model;
 
@@ -75,7 +75,7 @@ impl Unanswered {
     pub fn has(&self, ask: &Ask) -> bool
         ensures { result ≡ list_any (same_ask ask.now) self.now }
     {
-        self.asks.iter().any(|own| same_ask(ask, own))
+        self.asks.iter().any(|own| is_same(ask, own))
     }
 
     /// Whether one of the asks is of the client.
@@ -100,32 +100,15 @@ fn place(asks: &[Ask], stamp: Stamp) -> Option<usize>
     ensures place { result ≡ position (has_stamp stamp) asks.now }
     ensures within { IfSome result (λ k. k < length asks.now) }
 {
-    asks.iter().position(|ask| ask.stamp.clock == stamp.clock && ask.stamp.node == stamp.node)
+    asks.iter().position(|ask| ask.stamp == stamp)
 }
 
 // Whether the asks are equal in all fields.
-fn same_ask(a: &Ask, b: &Ask) -> bool
+fn is_same(a: &Ask, b: &Ask) -> bool
     ensures { result ≡ same_ask a.now b.now }
 {
-    (b.stamp.clock == a.stamp.clock && b.stamp.node == a.stamp.node)
+    b.stamp == a.stamp
         && (a.client == b.client
             && (a.node == b.node
-                && (a.mode == b.mode
-                    && (same_choice(a.gives_up, b.gives_up) && same_flag(a.holder, b.holder)))))
-}
-
-fn same_choice(a: Option<Mode>, b: Option<Mode>) -> bool
-    ensures { result ≡ same_choice a b }
-{
-    match (a, b) {
-        (None, None) => true,
-        (Some(a), Some(b)) => a == b,
-        _ => false,
-    }
-}
-
-fn same_flag(a: bool, b: bool) -> bool
-    ensures { result ≡ same_flag a b }
-{
-    if a { b } else { !b }
+                && (a.mode == b.mode && (a.gives_up == b.gives_up && a.holder == b.holder))))
 }

@@ -1,5 +1,4 @@
 mod Keeping
 mod Moving
-mod ClosingLines
 mod DueLines
 mod LeftLines

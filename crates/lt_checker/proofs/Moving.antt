@@ -1,5 +1,5 @@
 -- What the next move makes of a place.
-use Rattle.std.proofs.Common.{◌≡◌, ℕ, suc, ◌+◌, ◌-◌, ◌<◌, ◌==◌, ◌&&◌, not, cond, Bool, true, false, nat_lt, List, [], ◌∷◌, ◌++◌, length, set, get_or, slice_get, Some, None, map, refl, sym, ap, ap₂, subst, ◌∙◌, inl, inr, arith, length-set, get_or-set_same, get_or-set_other}
+use Rattle.std.proofs.Common.{◌≡◌, ℕ, suc, ◌+◌, ◌-◌, ◌<◌, ◌==◌, ◌&&◌, not, cond, Bool, true, false, nat_lt, List, [], ◌∷◌, ◌++◌, length, set, get_or, slice_get, Some, None, refl, sym, ap, ap₂, subst, ◌∙◌, inl, inr, arith, length-set, get_or-set_same, get_or-set_other}
 use Rattle.std.specs.Option.{option_map}
 use Rattle.std.proofs.lemmas.Bool.{cases_eq, eq-eqb, ne_eqb, eqb-true, ltb-true, and_parts, and_from}
 use Rattle.std.proofs.lemmas.List.{length_push}
@@ -7,21 +7,22 @@ use Rattle.lt_modes.specs.declared.moves.Move.{Move}
 use Rattle.lt_modes.specs.declared.moves.Step.{Step}
 use Rattle.lt_modes.specs.declared.moves.Step.TheVariants.{Act, Take}
 use Rattle.lt_modes.specs.Script.{ScriptData}
-use Rattle.lt_runs.specs.Log.{Logged}
-use Rattle.lt_runs.specs.Families.{home}
-use Rattle.lt_runs.specs.World.{World, start, world_after, is_runnable, is_some_letter, is_enabled, move_stamp, logged, IsRun}
+use Rattle.lt_spec.specs.Log.{Logged}
+use Rattle.lt_spec.specs.Families.{home}
+use Rattle.lt_spec.specs.World.{World, start, world_after, is_runnable, is_some_letter, is_enabled, move_stamp, logged, IsRun}
 use Rattle.lt_model.proofs.Runs.{IsRunFrom-push}
 use Rattle.lt_script.specs.Script.{IsScript}
 use Rattle.lt_limits.specs.declared.moves.TheConstants.{MAX_MOVES}
 use Rattle.lt_merge.specs.Run.{made_at, events_at}
 use Rattle.lt_modes.specs.declared.event.Event.{Event}
 use Rattle.lt_journal.specs.declared.line.Line.{Line}
-use Rattle.lt_journal.specs.declared.line.Line.TheVariants.{Move as MoveLine, Event as EventLine}
+use Rattle.lt_journal.specs.declared.line.Line.TheVariants.{Move as MoveLine}
+use Rattle.lt_journal.specs.RunLines.{event_lines}
 use Rattle.lt_world.specs.Fields.{WorldData, world_of}
-use Rattle.lt_checking.specs.Checking.{closing_at_rest, moved, may_move, by_move}
-use Rattle.lt_checking.specs.Journals.{HasFewMoves}
-use Rattle.lt_checking.proofs.Places.{stamp_node, is_logged, count_push, few_push}
-use Rattle.lt_checking.proofs.Heard.{come_moved}
+use Rattle.lt_law_checking.specs.Checking.{closing_at_rest, moved, has_moves_left, by_move}
+use Rattle.lt_law_checking.specs.Journals.{HasFewMoves}
+use Rattle.lt_law_checking.proofs.Places.{stamp_node, is_logged, count_push, few_push}
+use Rattle.lt_law_checking.proofs.Heard.{come_moved}
 use Rattle.lt_checker.specs.Place.{AreCounts, IsPlace}
 
 -- a move that is enabled is one of a node of the script
@@ -66,7 +67,7 @@ counts_more script counts run entry q were is_q inside = record {
 pub record IsStepped (script : ScriptData) (world : WorldData) (counts : List ℕ) (node : ℕ) (step : Step) (next : WorldData) : Type 0 where
   pub place : IsPlace script world counts []
   pub enabled : is_enabled script (world_after script world.run) node step ≡ true
-  pub may : may_move world.run node ≡ true
+  pub may : has_moves_left world.run node ≡ true
   pub next_is : next ≡ record world { run = world.run ++ logged script (world_after script world.run) node step ∷ [] }
 
 pub inside : (script : ScriptData) (world : WorldData) (counts : List ℕ) (node : ℕ) (step : Step) → IsPlace script world counts []
@@ -89,19 +90,6 @@ stepped script world counts node step next place enabled may next_is = record {
 next_run : (script : ScriptData) (world : WorldData) (counts : List ℕ) (node : ℕ) (step : Step) (next : WorldData) → IsStepped script world counts node step next
     → next.run ≡ world.run ++ logged script (world_after script world.run) node step ∷ []
 next_run script world counts node step next s = ap (λ (w : WorldData). w.run) s.next_is
-
-pub next_is_run : (script : ScriptData) (world : WorldData) (counts : List ℕ) (node : ℕ) (step : Step) (next : WorldData) → IsStepped script world counts node step next
-    → IsRun script next.run
-next_is_run script world counts node step next s =
-    subst (IsRun script) (sym (next_run script world counts node step next s))
-    (IsRunFrom-push script (start script) world.run (logged script (world_after script world.run) node step) s.place.come.1.is_run
-    (is_logged script (world_after script world.run) node step s.enabled))
-
-pub next_few : (script : ScriptData) (world : WorldData) (counts : List ℕ) (node : ℕ) (step : Step) (next : WorldData) → IsStepped script world counts node step next
-    → HasFewMoves next.run
-next_few script world counts node step next s =
-    subst HasFewMoves (sym (next_run script world counts node step next s))
-    (few_push world.run (logged script (world_after script world.run) node step) node s.place.come.1.few (stamp_node (world_after script world.run) node step) s.may)
 
 last_get : (run : List Logged) (entry : Logged) → slice_get (run ++ entry ∷ []) (length run) ≡ Some entry
 last_get [] entry = refl
@@ -131,7 +119,7 @@ pub wrong_clock : (script : ScriptData) (run : List Logged) (clock node : ℕ) (
 wrong_clock script run clock node step apart =
     let w = world_after script run in
     ap (λ (b : Bool). cond b (Some (moved script run (logged script w node step))) None)
-    (no_next (is_enabled script w node step) (clock == (move_stamp w node step).clock) (may_move run node) (ne_eqb clock (move_stamp w node step).clock apart))
+    (no_next (is_enabled script w node step) (clock == (move_stamp w node step).clock) (has_moves_left run node) (ne_eqb clock (move_stamp w node step).clock apart))
 
 pub right_move : (script : ScriptData) (world : WorldData) (counts : List ℕ) (node : ℕ) (step : Step) (next : WorldData) (clock : ℕ) → IsStepped script world counts node step next
     → clock ≡ (move_stamp (world_after script world.run) node step).clock
@@ -139,8 +127,8 @@ pub right_move : (script : ScriptData) (world : WorldData) (counts : List ℕ) (
 right_move script world counts node step next clock s same =
     let w = world_after script world.run in
     ap (λ (b : Bool). cond b (Some (moved script world.run (logged script w node step))) None)
-    (and_from (is_enabled script w node step) ((clock == (move_stamp w node step).clock) && may_move world.run node) s.enabled
-    (and_from (clock == (move_stamp w node step).clock) (may_move world.run node) (eq-eqb clock (move_stamp w node step).clock same) s.may))
+    (and_from (is_enabled script w node step) ((clock == (move_stamp w node step).clock) && has_moves_left world.run node) s.enabled
+    (and_from (clock == (move_stamp w node step).clock) (has_moves_left world.run node) (eq-eqb clock (move_stamp w node step).clock same) s.may))
 
 -- the events that stand last in the run are those of the move
 pub last_events : (run : List Logged) (entry : Logged) (k : ℕ) (events : List Event) → suc k ≡ length (run ++ entry ∷ []) → events_at (run ++ entry ∷ []) k ≡ Some events → entry.events ≡ events
@@ -152,14 +140,14 @@ last_events run entry k events last is =
 -- the next run, with the lines that are then due, is the place after the move
 pub next_place : (script : ScriptData) (world : WorldData) (counts : List ℕ) (node : ℕ) (step : Step) (next : WorldData) (k : ℕ) (events : List Event) (due : List Line)
     → IsStepped script world counts node step next → suc k ≡ length next.run → events_at next.run k ≡ Some events
-    → due ≡ map EventLine events ++ closing_at_rest script next.run
+    → due ≡ event_lines script.version events ++ closing_at_rest script next.run
     → moved script world.run (logged script (world_after script world.run) node step) ≡ record { run = next.run; due = due }
 next_place script world counts node step next k events due s last is due_is =
     let run_is = next_run script world counts node step next s in
     let entry = logged script (world_after script world.run) node step in
     let told = last_events world.run entry k events (last ∙ ap (λ (r : List Logged). length r) run_is) (ap (λ (r : List Logged). events_at r k) (sym run_is) ∙ is) in
-    let same : map EventLine entry.events ++ closing_at_rest script (world.run ++ entry ∷ []) ≡ due =
-    ap₂ (λ (es : List Event) (r : List Logged). map EventLine es ++ closing_at_rest script r) told (sym run_is) ∙ sym due_is in
+    let same : event_lines script.version entry.events ++ closing_at_rest script (world.run ++ entry ∷ []) ≡ due =
+    ap₂ (λ (es : List Event) (r : List Logged). event_lines script.version es ++ closing_at_rest script r) told (sym run_is) ∙ sym due_is in
     λ i. record { run = sym run_is i; due = same i }
 
 -- and a reader can come to it

@@ -2,9 +2,9 @@
 use Rattle.std.specs.Prelude.{◌≡◌, ℕ, List, Option, Some, None, Result, Ok, Err}
 use Rattle.std.specs.Option.{option_map}
 use Rattle.lt_modes.specs.Script.{ScriptData}
-use Rattle.lt_runs.specs.Log.{Logged}
+use Rattle.lt_spec.specs.Log.{Logged}
 use Rattle.lt_merge.specs.Run.{RunData}
-use Rattle.lt_checking.specs.Feeding.{Feed, new_feed, fed_piece}
+use Rattle.lt_law_checking.specs.Feeding.{Feed, new_feed, fed_piece}
 use Rattle.lt_checker.specs.Place.{ReaderData}
 use Rattle.lt_checker.specs.declared.error.ReplayError.{ReplayError}
 use Rattle.lt_checker.specs.declared.error.ReplayError.TheVariants.{Memory, Bad}
@@ -37,7 +37,7 @@ abbrev pub StandsFor : CheckerData → List ℕ → Type 0
 StandsFor checker bytes = checker.feed ≡ Some (fed_piece checker.script (new_feed checker.script) bytes)
 
 -- the answer tells this run, or this bad line, or that memory was refused
-abbrev pub Answers : Result (List Logged) ℕ → Result RunData ReplayError → Type 0
-Answers told (Ok run) = told ≡ Ok run.entries
-Answers told (Err Memory) = Unit {0}
-Answers told (Err (Bad line)) = told ≡ Err line
+abbrev pub IsAnswer : Result (List Logged) ℕ → Result RunData ReplayError → Type 0
+IsAnswer told (Ok run) = told ≡ Ok run.entries
+IsAnswer told (Err Memory) = Unit {0}
+IsAnswer told (Err (Bad line)) = told ≡ Err line

@@ -1,14 +1,14 @@
 -- Where a checker is among the lines, and what one line more makes of it.
 use Rattle.std.specs.Prelude.{◌≡◌, ◌<◌, ℕ, List, Bool, true, false, Option, Some, None, length, slice_index, count_by}
 use Rattle.lt_modes.specs.Script.{ScriptData}
-use Rattle.lt_runs.specs.Log.{Logged}
-use Rattle.lt_runs.specs.World.{is_of_node}
+use Rattle.lt_spec.specs.Log.{Logged}
+use Rattle.lt_spec.specs.World.{is_of_node}
 use Rattle.lt_journal.specs.declared.line.Line.{Line}
 use Rattle.lt_script.specs.Script.{IsScript}
 use Rattle.lt_limits.specs.declared.moves.TheConstants.{MAX_MOVES}
 use Rattle.lt_world.specs.Fields.{WorldData}
-use Rattle.lt_checking.specs.Checking.{Place, Reader}
-use Rattle.lt_checking.specs.Journals.{HasCome}
+use Rattle.lt_law_checking.specs.Checking.{Place, Reader}
+use Rattle.lt_law_checking.specs.Journals.{HasCome}
 
 -- the counts are those of the moves that each node of the script made
 pub record AreCounts (script : ScriptData) (counts : List ℕ) (run : List Logged) : Type 0 where
@@ -29,9 +29,9 @@ LedTo next true run due = next ≡ Some (record { run = run; due = due })
 LedTo next false run due = next ≡ None
 
 -- the place, while no line was bad
-abbrev pub place_of : Bool → List Logged → List Line → Option Place
-place_of true run due = None
-place_of false run due = Some (record { run = run; due = due })
+abbrev pub place_now : Bool → List Logged → List Line → Option Place
+place_now true run due = None
+place_now false run due = Some (record { run = run; due = due })
 
 -- where no line was bad, the fields are those of a place
 abbrev pub KeepsPlace : Bool → ScriptData → WorldData → List ℕ → List Line → Type 0

@@ -1,14 +1,15 @@
 ghost use Rattle.std.specs.Prelude.{◌≡◌, [], ◌∷◌, ◌++◌, ℕ, List, take, Some, None, Err, IsNone, IsErr, IfOk, OnOk, OnErr};
 ghost use Rattle.lt_text.specs.Text.{lines, without_return};
-ghost use Rattle.lt_checking.specs.Checking.{checked, read_on};
-ghost use Rattle.lt_checking.specs.Feeding.{Feed, new_feed, fed_piece, last_ended, ended};
-ghost use Rattle.lt_checker.specs.Checker.{CheckerData, StandsFor, Answers, with_piece, spent};
+ghost use Rattle.lt_law_checking.specs.Checking.{checked, read_on};
+ghost use Rattle.lt_law_checking.specs.Feeding.{Feed, new_feed, fed_piece, last_ended, ended};
+ghost use Rattle.lt_checker.specs.Checker.{CheckerData, StandsFor, IsAnswer, with_piece, spent};
 
 use crate::error::ReplayError;
 use crate::reader::Reader;
 use arrayvec::ArrayVec;
 use lt_merge::Run;
 use lt_script::Script;
+use lt_text::trim_return;
 use std::alloc::{AllocError, Global};
 use std::marker::Model;
 
@@ -64,8 +65,8 @@ impl<'a> Checker<'a> {
 
     /// The run whose journal the bytes are, or the first bad line.
     pub fn end(self) -> Result<Run, ReplayError>
-        ensures answers { (bytes : List ℕ) → StandsFor self.entry bytes → Answers (checked self.entry.script (lines bytes)) result }
-        ensures ended { (feed : Feed) → self.entry.feed ≡ Some feed → Answers (ended self.entry.script feed) result }
+        ensures answers { (bytes : List ℕ) → StandsFor self.entry bytes → IsAnswer (checked self.entry.script (lines bytes)) result }
+        ensures ended { (feed : Feed) → self.entry.feed ≡ Some feed → IsAnswer (ended self.entry.script feed) result }
         ensures refused { IsNone self.entry.feed → result ≡ Err ReplayError.Memory }
     {
         let Checker {
@@ -132,17 +133,5 @@ fn keep(rest: &mut ArrayVec<u8, 201>, byte: u8)
 {
     if !rest.is_full() {
         rest.push(byte);
-    }
-}
-
-// The line without a carriage return at its end.
-fn trim_return(line: &[u8]) -> &[u8]
-    ensures { result.now ≡ without_return line.now }
-{
-    if !line.is_empty() && line[line.len() - 1] == b'\r' {
-        let (front, _) = line.split_at(line.len() - 1);
-        front
-    } else {
-        line
     }
 }

@@ -1,16 +1,10 @@
-ghost use Rattle.std.specs.Prelude.{◌≡◌, [], ◌∷◌, ◌++◌, map, OnOk};
-ghost use Rattle.lt_modes.specs.Script.{ScriptData};
-ghost use Rattle.lt_runs.specs.World.{IsRun};
-ghost use Rattle.lt_script.specs.Script.{IsScript};
-ghost use Rattle.lt_journal.specs.declared.line.Line.TheVariants.{Event as EventLine};
-ghost use Rattle.lt_journal.specs.Grammar.{journal_of};
-ghost use Rattle.lt_checking.specs.Checking.{closing_at_rest};
-ghost use Rattle.lt_checking.specs.Journals.{HasFewMoves};
+ghost use Rattle.std.specs.Prelude.{◌≡◌, [], ◌∷◌, ◌++◌, OnOk};
+ghost use Rattle.lt_journal.specs.RunLines.{first_lines, event_lines};
+ghost use Rattle.lt_law_checking.specs.Checking.{closing_at_rest};
 
-use lt_journal::{Line, read_line, write_closing};
+use lt_journal::{Line, closing_lines, shown_event};
 use lt_modes::Event;
 use lt_script::Script;
-use lt_text::next_line;
 use lt_world::World;
 use std::alloc::{AllocError, Global};
 use std::collections::VecDeque;
@@ -27,24 +21,36 @@ fn push(due: &mut VecDeque<Line>, line: Line) -> Result<(), AllocError>
     Ok(())
 }
 
-/// Adds the lines of the events.
-pub(crate) fn push_events(due: &mut VecDeque<Line>, events: &[Event]) -> Result<(), AllocError>
-    ensures { OnOk result (due.new.items ≡ due.old.items ++ map EventLine events.now) }
+/// Adds the line before all moves, where the script has version 2.
+pub(crate) fn push_first(due: &mut VecDeque<Line>, script: &Script) -> Result<(), AllocError>
+    ensures { OnOk result (due.new.items ≡ due.old.items ++ first_lines script.now.version) }
 {
-    for event in events {
-        push(due, Line::Event(*event))?;
+    if script.version() != 1 {
+        push(due, Line::Version)?;
     }
     Ok(())
 }
 
-// Adds what the lines of the text say.
-fn push_lines(due: &mut VecDeque<Line>, script: &Script, text: &[u8]) -> Result<(), AllocError>
-    ensures { OnOk result (due.new.items ≡ due.old.items ++ journal_of script.now text.now) }
+/// Adds the lines of the events, as a journal of the script's version shows them.
+pub(crate) fn push_events(
+    due: &mut VecDeque<Line>,
+    script: &Script,
+    events: &[Event],
+) -> Result<(), AllocError>
+    ensures { OnOk result (due.new.items ≡ due.old.items ++ event_lines script.now.version events.now) }
 {
-    let mut rest = text;
-    while let Some((line, after)) = next_line(rest) {
-        push(due, read_line(script, line))?;
-        rest = after;
+    for event in events {
+        push(due, Line::Event(shown_event(script.version(), *event)))?;
+    }
+    Ok(())
+}
+
+// Adds these lines.
+fn push_all(due: &mut VecDeque<Line>, lines: &[Line]) -> Result<(), AllocError>
+    ensures { OnOk result (due.new.items ≡ due.old.items ++ lines.now) }
+{
+    for line in lines {
+        push(due, *line)?;
     }
     Ok(())
 }
@@ -56,15 +62,12 @@ pub(crate) fn push_closing(
     script: &Script,
     world: &World,
 ) -> Result<(), AllocError>
-    requires is_script { IsScript script.now }
-    requires script { world.now.script ≡ script.now }
-    requires is_run { IsRun script.now world.now.run }
-    requires few { HasFewMoves world.now.run }
+    requires { world.now.script ≡ script.now }
     ensures { OnOk result (due.new.items ≡ due.old.items ++ closing_at_rest script.now world.now.run) }
 {
     if world.at_rest() {
-        let text = write_closing(alloc, script, world.run(), None)?;
-        push_lines(due, script, &text)?;
+        let lines = closing_lines(alloc, script, world.run())?;
+        push_all(due, &lines)?;
     }
     Ok(())
 }

@@ -1,10 +1,10 @@
 ghost use Rattle.std.specs.Prelude.{◌≡◌, [], IfOk, IsTrue};
-ghost use Rattle.lt_checking.specs.Checking.{by_move, after};
+ghost use Rattle.lt_law_checking.specs.Checking.{by_move, place_after};
 ghost use Rattle.lt_checker.specs.Place.{IsPlace, LedTo};
 
 use crate::counts::Counts;
 use crate::due::{push_closing, push_events};
-use lt_journal::{Line, read_line, write_line};
+use lt_journal::{Line, Text, read_line, write_words};
 use lt_script::Script;
 use lt_world::{Choice, World};
 use std::alloc::{AllocError, Global};
@@ -13,25 +13,28 @@ use std::collections::VecDeque;
 /// Goes on by one line, and tells whether it isn't bad: whether it is the first line that is due, or where none is
 /// due the line of a next move.
 ///
-/// After a bad line nothing is known of what is kept.
+/// After a bad line nothing is known of what is kept. The words of a line that is due are written into `words`, whose
+/// memory is kept from line to line.
 pub(crate) fn follow(
     alloc: Global,
     script: &Script,
     world: &mut World,
     counts: &mut Counts,
     due: &mut VecDeque<Line>,
+    words: &mut Text,
     line: &[u8],
 ) -> Result<bool, AllocError>
     requires { IsPlace script.now world.old counts.old due.old.items }
     ensures place { IfOk result (λ good. IsTrue good → IsPlace script.now world.new counts.new due.new.items) }
     ensures led { IfOk result (λ good.
-        LedTo (after script.now (record { run = world.old.run; due = due.old.items }) line.now) good world.new.run due.new.items) }
+        LedTo (place_after script.now (record { run = world.old.run; due = due.old.items }) line.now) good world.new.run due.new.items) }
 {
     let Some(expected) = due.pop_front() else {
         return next_move(alloc, script, world, counts, due, read_line(script, line));
     };
-    let words = write_line(alloc, script, expected)?;
-    Ok(line == words.as_slice())
+    words.clear();
+    write_words(words, script, expected)?;
+    Ok(line == words.bytes())
 }
 
 // Makes the move that the line tells, where it is the next one.
@@ -61,7 +64,7 @@ fn next_move(
     if world.run().made(last).stamp.clock != clock {
         return Ok(false);
     }
-    push_events(due, world.run().events(last))?;
+    push_events(due, script, world.run().events(last))?;
     push_closing(alloc, due, script, world)?;
     Ok(true)
 }

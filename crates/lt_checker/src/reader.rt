@@ -1,13 +1,13 @@
 ghost use Rattle.std.specs.Prelude.{◌≡◌, IfOk};
 ghost use Rattle.lt_script.specs.Script.{IsScript};
-ghost use Rattle.lt_checking.specs.Checking.{first_reader, read_on, verdict};
-ghost use Rattle.lt_checker.specs.Checker.{Answers};
+ghost use Rattle.lt_law_checking.specs.Checking.{first_reader, read_on, verdict};
+ghost use Rattle.lt_checker.specs.Checker.{IsAnswer};
 
 use crate::counts::Counts;
-use crate::due::push_closing;
+use crate::due::{push_closing, push_first};
 use crate::error::ReplayError;
 use crate::following::follow;
-use lt_journal::Line;
+use lt_journal::{Line, Text};
 use lt_limits::MAX_MOVES;
 use lt_merge::Run;
 use lt_script::Script;
@@ -25,6 +25,8 @@ pub(crate) struct Reader<'a> {
     world: World<'a>,
     counts: Counts,
     due: VecDeque<Line>,
+    // The words of the last line that was due.
+    words: Text,
     good: u32,
     // A line was bad: the one after the good ones.
     bad: bool,
@@ -33,13 +35,13 @@ pub(crate) struct Reader<'a> {
 impl<'a> Model for Reader<'a> {
     ghost use Rattle.std.specs.Prelude.{◌<◌, ◌+◌, ◌^◌};
     ghost use Rattle.lt_script.specs.Script.{IsScript};
-    ghost use Rattle.lt_checker.specs.Place.{ReaderData, KeepsPlace, place_of};
+    ghost use Rattle.lt_checker.specs.Place.{ReaderData, KeepsPlace, place_now};
 
     ghost Value = { ReaderData };
 
     ghost view = { λ r. record {
       script = r.script.now;
-      reader = record { place = place_of r.bad r.world.run r.due.items; good = r.good };
+      reader = record { place = place_now r.bad r.world.run r.due.items; good = r.good };
     } };
 
     ghost invariant = { λ r. IsScript r.script.now × (r.good + 1 < 2 ^ 32) × KeepsPlace r.bad r.script.now r.world r.counts r.due.items };
@@ -53,6 +55,7 @@ impl<'a> Reader<'a> {
         let world = World::new(alloc, script, MAX_MOVES)?;
         let counts = Counts::new(alloc, script)?;
         let mut due = VecDeque::new(alloc);
+        push_first(&mut due, script)?;
         push_closing(alloc, &mut due, script, &world)?;
         Ok(Reader {
             alloc,
@@ -60,6 +63,7 @@ impl<'a> Reader<'a> {
             world,
             counts,
             due,
+            words: Text::new(alloc),
             good: 0,
             bad: false,
         })
@@ -79,10 +83,19 @@ impl<'a> Reader<'a> {
             mut world,
             mut counts,
             mut due,
+            mut words,
             good,
             ..
         } = self;
-        let is_good = follow(alloc, script, &mut world, &mut counts, &mut due, line)?;
+        let is_good = follow(
+            alloc,
+            script,
+            &mut world,
+            &mut counts,
+            &mut due,
+            &mut words,
+            line,
+        )?;
         if good == u32::MAX - 1 {
             return Err(AllocError);
         }
@@ -92,6 +105,7 @@ impl<'a> Reader<'a> {
             world,
             counts,
             due,
+            words,
             good: if is_good { good + 1 } else { good },
             bad: !is_good,
         })
@@ -99,7 +113,7 @@ impl<'a> Reader<'a> {
 
     /// The run, where all its lines are there.
     pub(crate) fn finish(self) -> Result<Run, ReplayError>
-        ensures answers { Answers (verdict self.entry.script self.entry.reader) result }
+        ensures answers { IsAnswer (verdict self.entry.script self.entry.reader) result }
         ensures is_script { IsScript self.entry.script }
     {
         if self.bad || !self.due.is_empty() || !self.world.at_rest() {

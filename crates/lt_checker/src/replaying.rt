@@ -1,8 +1,8 @@
 ghost use Rattle.std.specs.Prelude.{◌≡◌, ℕ, List, map, IfOk};
 ghost use Rattle.lt_journal.specs.Grammar.{read_line};
-ghost use Rattle.lt_checking.specs.Checking.{written, reader_after, checked};
-ghost use Rattle.lt_checking.specs.Said.{checked_said};
-ghost use Rattle.lt_checker.specs.Checker.{Answers};
+ghost use Rattle.lt_law_checking.specs.Checking.{written, reader_after, checked};
+ghost use Rattle.lt_law_checking.specs.Said.{checked_said};
+ghost use Rattle.lt_checker.specs.Checker.{IsAnswer};
 
 use crate::error::ReplayError;
 use crate::reader::Reader;
@@ -13,9 +13,9 @@ use std::alloc::{AllocError, Global};
 
 /// The run whose journal this is, or the first bad line of the journal.
 pub fn replay(alloc: Global, script: &Script, journal: &Journal) -> Result<Run, ReplayError>
-    ensures said { Answers (checked_said script.now journal.now) result }
+    ensures said { IsAnswer (checked_said script.now journal.now) result }
     ensures read { (all : List (List ℕ)) → journal.now ≡ map (read_line script.now) all
-        → Answers (checked script.now all) result }
+        → IsAnswer (checked script.now all) result }
 {
     read_all(alloc, script, journal)?.finish()
 }

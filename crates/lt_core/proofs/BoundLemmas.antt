@@ -5,22 +5,22 @@ use Rattle.std.specs.Prelude.{insert, ◌&&◌, not, fold, filter_map, nat_lt}
 use Rattle.std.proofs.lemmas.List.Edits.{length-insert}
 use Rattle.lt_modes.specs.declared.mode.Mode.{Mode}
 use Rattle.lt_modes.specs.declared.parts.Hoped.{Hoped}
-use Rattle.lt_modes.specs.Modes.{bars, same_modes, is_taking, Modes}
+use Rattle.lt_modes.specs.Modes.{bars, same_modes, excludes_itself, Modes}
 use Rattle.lt_modes.specs.State.{Parked, ParkedAsk, ParkedTell, Letter, Body, AskBody, TellBody, CopyBody, TokenBody, FreezeBody, SetState, Desk}
 use Rattle.lt_modes.specs.Held.{held_modes, count_of, take_lock}
 use Rattle.lt_modes.specs.Queue.{place, after_holders_from}
 use Rattle.lt_modes.specs.Tells.{told}
 use Rattle.lt_modes.specs.Records.{entry_of}
 use Rattle.lt_modes.specs.Granting.{can_grant}
-use Rattle.lt_modes.specs.Serving.{queue_of_desk, queue_of, next_move, ask_at, serve}
+use Rattle.lt_modes.specs.Serving.{queue_of_desk, queue_of, next_draw, ask_at, serve}
 use Rattle.lt_core.proofs.AskLemmas.{asks_last, asks_first, count_few}
 use Rattle.lt_core.specs.Steps.{ask_count}
-use Rattle.lt_letter.specs.OutData.{OutData, FitsOut}
-use Rattle.lt_core.specs.declared.order.Order.{Order}
-use Rattle.lt_core.specs.declared.order.Order.TheVariants.{Lock, Try, Unlock, Change, DropAll}
-use Rattle.lt_core.specs.Orders.{ordered}
-use Rattle.lt_core.specs.Bound.{RoomToSend, brought, EndsFit, OrdersFit, TakesFit, most, nodes_of}
-use Rattle.lt_core.proofs.OrderLemmas.{move_is}
+use Rattle.lt_desk.specs.OutData.{OutData, FitsOut}
+use Rattle.lt_core.specs.declared.set_command.SetCommand.{SetCommand}
+use Rattle.lt_core.specs.declared.set_command.SetCommand.TheVariants.{Lock, Try, Unlock, Change, DropAll}
+use Rattle.lt_core.specs.SetCommands.{commanded}
+use Rattle.lt_core.specs.Bound.{RoomToSend, brought, EndsFit, CommandsFit, TakesFit, most, nodes_of}
+use Rattle.lt_core.proofs.CommandLemmas.{move_is}
 use Rattle.lt_modes.specs.Made.{silent, Made, then_do}
 use Rattle.lt_modes.specs.Routing.{dealt, Way, Parks, Goes, way, sent_on, route_by, learn}
 use Rattle.lt_modes.specs.Telling.{make_tell, tell_of, finish, finish_by, attend}
@@ -49,7 +49,7 @@ most_attended set stamp s =
     let frozen : AtMost (nodes_of s.desk) second = subst (λ n. AtMost n second) (nodes_served (length (queue_of s)) set stamp s) (most_frozen set stamp first.state first.state.desk) in
     most_then (length (queue_of s) + nodes_of s.desk) 1 (then_do first (freeze set stamp)) (hand_over set stamp)
     (most_then (length (queue_of s)) (nodes_of s.desk) first (freeze set stamp) (most_served (length (queue_of s)) set stamp s) frozen)
-    (most_for set stamp second.state (next_move stamp.node second.state))
+    (most_for set stamp second.state (next_draw stamp.node second.state))
 
 -- one letter at most leads an ask or a tell on
 most_way : (set : ℕ) (stamp : Stamp) (item : Parked) (s : SetState) (w : Way) → (length (sent_on set stamp item s w).posts ≤ 1) × (length (sent_on set stamp item s w).events ≤ 0)
@@ -108,7 +108,7 @@ waits_reversed me item s false hoped = omega arith
 waits_sent : (set : ℕ) (stamp : Stamp) (item : Parked) (s : SetState) (w : Way) → most (sent_on set stamp item s w).state ≤ most s + 1
 waits_sent set stamp item s Parks = omega (arith, asks_last s.parked item, count_few item)
 waits_sent set stamp (ParkedAsk ask) s (Goes to marked) =
-    waits_reversed stamp.node (ParkedAsk ask) s (is_taking ask.mode && not (ask.node == stamp.node)) (Some (record { node = ask.node; stamp = ask.stamp }))
+    waits_reversed stamp.node (ParkedAsk ask) s (excludes_itself ask.mode && not (ask.node == stamp.node)) (Some (record { node = ask.node; stamp = ask.stamp }))
 waits_sent set stamp (ParkedTell tell) s (Goes to marked) = omega arith
 
 waits_routed : (set : ℕ) (stamp : Stamp) (marked : Bool) (item : Parked) (s : SetState) (d : Option Desk) → s.desk ≡ d → most (route_by set stamp marked item s d).state ≤ most s + 1
@@ -125,7 +125,7 @@ most_move n set stamp s first h =
     let m = most_then 1 (most first.state) first (finish set stamp) h.0 (most_finished set stamp first.state) in
     (omega (arith, m.0, h.1), omega (arith, m.1, h.1))
 
--- what an order does before the end of its move
+-- what a command does before the end of its move
 most_routed_ask : (set : ℕ) (stamp : Stamp) (ask : Ask) (s : SetState) → Starts 1 s (asked set stamp ask s)
 most_routed_ask set stamp ask s =
     let t : SetState = record s { pending = s.pending ++ ask ∷ [] } in
@@ -157,12 +157,12 @@ most_changed : (set : ℕ) (stamp : Stamp) (client : ℕ) (gives_up mode : Mode)
 most_changed set stamp client gives_up mode s true = ((omega arith, omega arith), omega arith)
 most_changed set stamp client gives_up mode s false = most_change_held set stamp client gives_up mode s (can_grant stamp.node s client mode)
 
-most_ordered : (stamp : Stamp) (client : ℕ) (order : Order) (set : ℕ) (s : SetState) → Starts 1 s (ordered stamp client order set s)
-most_ordered stamp client (Lock mode) set s = most_locked set stamp client mode s (can_grant stamp.node s client mode)
-most_ordered stamp client (Try mode) set s = most_tried set client mode s (can_grant stamp.node s client mode)
-most_ordered stamp client (Unlock mode) set s = most_unlocked set client mode s (count_of s.held client mode == 0)
-most_ordered stamp client (Change gives_up mode) set s = most_changed set stamp client gives_up mode s (count_of s.held client gives_up == 0)
-most_ordered stamp client DropAll set s = ((omega arith, omega arith), omega arith)
+most_commanded : (stamp : Stamp) (client : ℕ) (command : SetCommand) (set : ℕ) (s : SetState) → Starts 1 s (commanded stamp client command set s)
+most_commanded stamp client (Lock mode) set s = most_locked set stamp client mode s (can_grant stamp.node s client mode)
+most_commanded stamp client (Try mode) set s = most_tried set client mode s (can_grant stamp.node s client mode)
+most_commanded stamp client (Unlock mode) set s = most_unlocked set client mode s (count_of s.held client mode == 0)
+most_commanded stamp client (Change gives_up mode) set s = most_changed set stamp client gives_up mode s (count_of s.held client gives_up == 0)
+most_commanded stamp client DropAll set s = ((omega arith, omega arith), omega arith)
 
 -- what a letter does before the end of its move
 waits_fold : (items : List Parked) (desk : Desk)
@@ -209,11 +209,11 @@ fits_most n made out a room = record {
 pub ends_fit : EndsFit
 ends_fit set stamp s out room = fits_most (most s) (finish set stamp s) out (most_finished set stamp s) room
 
-pub orders_fit : OrdersFit
-orders_fit stamp client order set s out room =
-    let first = ordered stamp client order set s in
-    subst (λ (made : Made). FitsOut made out) (sym (move_is stamp client order set s))
-    (fits_most (most s + 1 + 1) (then_do first (finish set stamp)) out (most_move 1 set stamp s first (most_ordered stamp client order set s))
+pub commands_fit : CommandsFit
+commands_fit stamp client command set s out room =
+    let first = commanded stamp client command set s in
+    subst (λ (made : Made). FitsOut made out) (sym (move_is stamp client command set s))
+    (fits_most (most s + 1 + 1) (then_do first (finish set stamp)) out (most_move 1 set stamp s first (most_commanded stamp client command set s))
     (record { posts = omega (arith, room.posts); events = omega (arith, room.events) }))
 
 pub takes_fit : TakesFit

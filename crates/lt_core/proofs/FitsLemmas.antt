@@ -9,9 +9,9 @@ use Rattle.lt_modes.specs.State.{SetState}
 use Rattle.std.proofs.lemmas.List.{drop_more}
 use Rattle.lt_modes.specs.Queue.{no_ask}
 use Rattle.lt_modes.specs.Fits.{has_client, are_apart, is_known, ask_if}
-use Rattle.lt_letter.specs.declared.parked.Parked.{Parked}
-use Rattle.lt_letter.specs.declared.parked.Parked.TheVariants.{Ask as WaitingAsk, Tell as WaitingTell}
-use Rattle.lt_letter.specs.Seen.{parked_seen}
+use Rattle.lt_desk.specs.declared.parked.Parked.{Parked}
+use Rattle.lt_desk.specs.declared.parked.Parked.TheVariants.{Ask as WaitingAsk, Tell as WaitingTell}
+use Rattle.lt_desk.specs.LetterSeen.{parked_seen}
 use Rattle.lt_core.specs.Tests.{is_known_item, is_apart_from}
 
 -- from a place on

@@ -2,7 +2,7 @@ pub mod AskLemmas
 pub mod RoomLemmas
 pub mod ServingLemmas
 pub mod NoticeLemmas
-pub mod OrderLemmas
+pub mod CommandLemmas
 pub mod BoundLemmas
 pub mod FitsLemmas
 pub mod PremiseLemmas

@@ -1,7 +1,8 @@
 -- The nodes of a mask, one after the other.
-use Rattle.std.proofs.Common.{◌≡◌, ◌∙◌, ℕ, suc, ◌+◌, ◌-◌, ◌<◌, ◌≤◌, Bool, true, false, List, [], ◌∷◌, ◌++◌, length, refl, sym, ap, subst, arith, append_assoc, append-nil, length-append, map, Option}
+use Rattle.std.proofs.Common.{◌≡◌, ◌∙◌, ℕ, zero, suc, ◌+◌, ◌-◌, ◌<◌, ◌≤◌, Bool, true, false, List, [], ◌∷◌, ◌++◌, length, refl, sym, ap, subst, arith, append_assoc, append-nil, length-append, map, Option}
 use Rattle.std.specs.Prelude.{◌==◌}
 use Rattle.std.specs.Int.{bit_at}
+use Rattle.std.proofs.lemmas.Nat.Bits.{bit_at-zero}
 use Rattle.lt_modes.specs.Modes.{Modes}
 use Rattle.lt_modes.specs.State.{SetState, Desk, FreezeBody}
 use Rattle.lt_modes.specs.declared.stamp.Stamp.{Stamp}
@@ -10,7 +11,7 @@ use Rattle.lt_modes.specs.declared.event.Event.TheVariants.{Freeze}
 use Rattle.lt_modes.specs.Freezing.{freeze, freeze_with}
 use Rattle.lt_modes.specs.Places.{cons_if}
 use Rattle.lt_desk.specs.Freezes.{bits_from}
-use Rattle.lt_letter.specs.OutData.{OutData, FitsOut, out_after}
+use Rattle.lt_desk.specs.OutData.{OutData, FitsOut, out_after}
 use Rattle.lt_core.specs.Notices.{notices, node_if}
 
 -- what is sent to a node that is told or not, and then to the others
@@ -67,6 +68,17 @@ told_fits set stamp s frozen number mask x n out had h left fits =
     fits_begin set stamp s frozen number (bit_at mask x == 1) x rest out
     (fits_same (notices set stamp s frozen number (cons_if (bit_at mask x == 1) x rest)) (notices set stamp s frozen number (bits_from n 0 mask)) out had
     (ap (λ told. out_after (notices set stamp s frozen number told) out) (sym (nodes_from mask x n h)) ∙ left) fits)
+
+no_nodes : (n x : ℕ) → bits_from n x 0 ≡ []
+no_nodes zero x = refl
+no_nodes (suc n) x = ap (λ (b : ℕ). cons_if (b == 1) x (bits_from n (x + 1) 0)) (bit_at-zero x) ∙ no_nodes n (x + 1)
+
+-- where the mask has no node, nothing is sent
+pub told_none : (set : ℕ) (stamp : Stamp) (s : SetState) (frozen : Modes) (number mask n : ℕ) (out : OutData) → mask ≡ 0
+    → out ≡ out_after (notices set stamp s frozen number (bits_from n 0 mask)) out
+told_none set stamp s frozen number mask n out none =
+    sym (ap (λ told. out_after (notices set stamp s frozen number told) out) (ap (bits_from n 0) none ∙ no_nodes n 0)
+    ∙ rw (append-nil out.posts, append-nil out.events) refl)
 
 -- ---- a freeze is what the desk's call and the notices make
 

@@ -3,12 +3,12 @@ use Rattle.std.proofs.Common.{ℕ, ◌≤◌, Option, Some, None, false, arith}
 use Rattle.lt_modes.specs.State.{SetState, Desk}
 use Rattle.lt_modes.specs.Fits.{Numbers}
 use Rattle.lt_modes.specs.Sound.{SoundDesk}
-use Rattle.lt_core.specs.CoreData.{epoch_of, number_of}
+use Rattle.lt_core.specs.CoreData.{epoch_of, freeze_number_of}
 use Rattle.lt_core.specs.Premises.{MovesHaveRoom}
 
 -- epoch and freeze number of a sound desk are no later than the clock
 desk_early : (numbers : Numbers) (clock : ℕ) (s : SetState) (d : Option Desk) → SoundDesk numbers false false clock s d
-    → (epoch_of d ≤ clock) × (number_of d ≤ clock)
+    → (epoch_of d ≤ clock) × (freeze_number_of d ≤ clock)
 desk_early numbers clock s None h = (omega arith, omega arith)
 desk_early numbers clock s (Some desk) h = (h.1, h.2)
 

@@ -4,7 +4,7 @@ use Rattle.lt_modes.specs.declared.stamp.Stamp.{Stamp}
 use Rattle.lt_modes.specs.State.{SetState}
 use Rattle.lt_modes.specs.Made.{Made, silent, then_do}
 use Rattle.lt_modes.specs.Serving.{queue_of, next_service, ask_at, serve, serve_one, serve_local, serve_copy, serve_up_to}
-use Rattle.lt_letter.specs.OutData.{OutData, out_after, FitsOut}
+use Rattle.lt_desk.specs.OutData.{OutData, out_after, FitsOut}
 use Rattle.lt_core.specs.CoreData.{CoreData, Does}
 use Rattle.lt_core.proofs.RoomLemmas.{queue_out, queue_owed}
 

@@ -4,10 +4,10 @@ use Rattle.lt_modes.specs.declared.stamp.Stamp.{Stamp}
 use Rattle.lt_modes.specs.State.{SetState, Desk, Letter, Body, AskBody, TellBody, CopyBody, TokenBody, FreezeBody}
 use Rattle.lt_modes.specs.SetMove.{take}
 use Rattle.lt_modes.specs.Telling.{finish}
-use Rattle.lt_letter.specs.OutData.{OutData, FitsOut}
-use Rattle.lt_core.specs.declared.order.Order.{Order}
-use Rattle.lt_core.specs.CoreData.{waiting}
-use Rattle.lt_core.specs.Orders.{move_of}
+use Rattle.lt_desk.specs.OutData.{OutData, FitsOut}
+use Rattle.lt_core.specs.declared.set_command.SetCommand.{SetCommand}
+use Rattle.lt_core.specs.CoreData.{waiting_here}
+use Rattle.lt_core.specs.SetCommands.{move_of}
 
 -- the nodes that the desk knows, where it is here
 abbrev pub nodes_of : Option Desk → ℕ
@@ -17,7 +17,7 @@ nodes_of (Some desk) = length desk.entries
 -- so many letters at most, and so many event lines, come from the end of a move: one for each ask that waits,
 -- one for each node, and the token or a tell
 abbrev pub most : SetState → ℕ
-most s = waiting s + nodes_of s.desk + 1
+most s = waiting_here s + nodes_of s.desk + 1
 
 -- so many asks and nodes come with what a letter says
 abbrev pub brought : Body → ℕ
@@ -36,12 +36,12 @@ pub record RoomToSend (n : ℕ) (out : OutData) : Type 0 where
 abbrev pub EndsFit : Type 0
 EndsFit = (set : ℕ) (stamp : Stamp) (s : SetState) (out : OutData) → RoomToSend (most s) out → FitsOut (finish set stamp s) out
 
--- what an order makes fits
-abbrev pub OrdersFit : Type 0
-OrdersFit =
-    (stamp : Stamp) (client : ℕ) (order : Order) (set : ℕ) (s : SetState) (out : OutData)
+-- what a command makes fits
+abbrev pub CommandsFit : Type 0
+CommandsFit =
+    (stamp : Stamp) (client : ℕ) (command : SetCommand) (set : ℕ) (s : SetState) (out : OutData)
     → RoomToSend (most s + 2) out
-    → FitsOut (move_of stamp client order set s) out
+    → FitsOut (move_of stamp client command set s) out
 
 -- what a letter makes where it is taken fits
 abbrev pub TakesFit : Type 0

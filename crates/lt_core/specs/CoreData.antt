@@ -7,11 +7,11 @@ use Rattle.lt_modes.specs.Serving.{queue_of}
 use Rattle.lt_modes.specs.Fits.{parked_asks}
 use Rattle.lt_held.specs.HeldData.{most_locks}
 use Rattle.lt_desk.specs.DeskData.{DeskData}
-use Rattle.lt_letter.specs.declared.letter.Body.{Body}
-use Rattle.lt_letter.specs.declared.letter.Body.TheVariants.{Ask, Tell, Copy, Token, Freeze}
-use Rattle.lt_letter.specs.OutData.{OutData, out_after}
+use Rattle.lt_desk.specs.declared.letter.Body.{Body}
+use Rattle.lt_desk.specs.declared.letter.Body.TheVariants.{Ask, Tell, Copy, Token, Freeze}
+use Rattle.lt_desk.specs.OutData.{OutData, out_after}
 
--- the node, the set and its state; for how many waiting asks there is room, for how many rows more, and for how many letters more that wait for the token
+-- the node, the set and its state; for how many waiting_here asks there is room, for how many rows more, and for how many letters more that wait for the token
 pub record CoreData : Type 0 where
   pub node : ℕ
   pub set : ℕ
@@ -37,24 +37,24 @@ pub record Does (made : Made) (old : CoreData) (had : OutData) (new : CoreData) 
   pub sent : out ≡ out_after made had
 
 -- how many asks wait here: in the queue, and parked
-abbrev pub waiting : SetState → ℕ
-waiting s = length (queue_of s) + length (parked_asks s)
+abbrev pub waiting_here : SetState → ℕ
+waiting_here s = length (queue_of s) + length (parked_asks s)
 
 abbrev pub epoch_of : Option Desk → ℕ
 epoch_of None = 0
 epoch_of (Some desk) = desk.epoch
 
-abbrev pub number_of : Option Desk → ℕ
-number_of None = 0
-number_of (Some desk) = desk.number
+abbrev pub freeze_number_of : Option Desk → ℕ
+freeze_number_of None = 0
+freeze_number_of (Some desk) = desk.number
 
 -- in a move with this clock there is room for what waits here and k asks and tells more
 pub record HasRoom (k clock : ℕ) (core : CoreData) : Type 0 where
-  pub rows : waiting core.state + k ≤ core.room
+  pub rows : waiting_here core.state + k ≤ core.room
   pub parked : k ≤ core.parked_room
-  pub locks : locks_in core.state.held + waiting core.state + k ≤ most_locks
+  pub locks : locks_in core.state.held + waiting_here core.state + k ≤ most_locks
   pub epoch : epoch_of core.state.desk < clock
-  pub number : number_of core.state.desk < clock
+  pub number : freeze_number_of core.state.desk < clock
 
 -- room for an ask of one more client, too
 pub record RoomToAsk (clock : ℕ) (core : CoreData) : Type 0 where
@@ -63,10 +63,10 @@ pub record RoomToAsk (clock : ℕ) (core : CoreData) : Type 0 where
 
 -- room for this desk, which a letter brings
 pub record RoomForDesk (clock : ℕ) (core : CoreData) (d : DeskData) : Type 0 where
-  pub places : waiting core.state + length d.desk.queue + 1 ≤ d.room
-  pub owed : waiting core.state + length d.desk.queue + 1 ≤ d.spare
-  pub rows : waiting core.state + length d.desk.queue + 1 ≤ core.row_room
-  pub locks : locks_in core.state.held + waiting core.state + length d.desk.queue + 1 ≤ most_locks
+  pub places : waiting_here core.state + length d.desk.queue + 1 ≤ d.room
+  pub owed : waiting_here core.state + length d.desk.queue + 1 ≤ d.spare
+  pub rows : waiting_here core.state + length d.desk.queue + 1 ≤ core.row_room
+  pub locks : locks_in core.state.held + waiting_here core.state + length d.desk.queue + 1 ≤ most_locks
   pub epoch : d.desk.epoch < clock
   pub number : d.desk.number < clock
 
@@ -80,8 +80,8 @@ RoomForBody clock core (Freeze news) = Unit {0}
 
 -- memory for one move, to which a letter brings so many asks
 pub record HasMemory (brought : ℕ) (core : CoreData) : Type 0 where
-  pub asks : waiting core.state + brought + 2 ≤ core.room
-  pub rows : waiting core.state + brought + 2 ≤ core.row_room
+  pub asks : waiting_here core.state + brought + 2 ≤ core.room
+  pub rows : waiting_here core.state + brought + 2 ≤ core.row_room
   pub parked : 2 ≤ core.parked_room
 
 -- there is room for no less than before

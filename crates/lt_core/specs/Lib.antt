@@ -1,6 +1,6 @@
 pub mod CoreData
 pub mod Steps
-pub mod Orders
+pub mod SetCommands
 pub mod Bound
 pub mod Tests
 pub mod Notices

@@ -5,8 +5,8 @@ use Rattle.lt_modes.specs.State.{SetState, Parked, ParkedAsk, ParkedTell}
 use Rattle.lt_modes.specs.Fits as rules
 use Rattle.lt_core.specs.declared.numbers.Numbers.{Numbers}
 
-abbrev pub numbers_of : Numbers → rules.Numbers
-numbers_of n = record { nodes = n.nodes; sets = n.sets; homes = n.homes.now }
+abbrev pub rule_numbers : Numbers → rules.Numbers
+rule_numbers n = record { nodes = n.nodes; sets = n.sets; homes = n.homes.now }
 
 -- an ask that is known, or a tell
 abbrev pub is_known_item : ℕ → SetState → Parked → Bool

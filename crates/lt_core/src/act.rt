@@ -3,46 +3,46 @@ ghost use Rattle.lt_modes.specs.Held.{locks_in, locks_of, count_of};
 ghost use Rattle.lt_modes.specs.Granting.{can_grant};
 ghost use Rattle.lt_modes.specs.SetMove.{given, ask_of, asked, locked, tried, unlocked, changed, change_held, dropped};
 ghost use Rattle.lt_held.specs.HeldData.{most_locks};
-ghost use Rattle.lt_letter.specs.OutData.{FitsOut};
-ghost use Rattle.lt_core.specs.declared.order.Answer.TheVariants.{Granted, Waits, True, False, Unlocked, NotHeld, Changed};
+ghost use Rattle.lt_desk.specs.OutData.{FitsOut};
+ghost use Rattle.lt_core.specs.declared.set_command.Answer.TheVariants.{Granted, Waits, True, False, Unlocked, NotHeld, Changed};
 ghost use Rattle.lt_core.specs.CoreData.{Does, HasRoom, RoomToAsk};
-ghost use Rattle.lt_core.specs.Orders.{answer_of, ordered, move_of, RoomForOrder};
+ghost use Rattle.lt_core.specs.SetCommands.{answer_of, commanded, move_of, RoomForCommand};
 
 use crate::one_set::Core;
-use crate::order::{Answer, Order};
 use crate::serving::give;
-use lt_letter::{Out, Parked};
+use crate::set_command::{Answer, SetCommand};
+use lt_desk::{Out, Parked};
 use lt_modes::{Ask, Event, Mode, Stamp};
 
 impl Core {
-    /// A client's order: one move.
-    pub fn act(&mut self, client: u16, order: Order, stamp: Stamp, out: &mut Out) -> Answer
+    /// A client's command: one move.
+    pub fn act(&mut self, client: u16, command: SetCommand, stamp: Stamp, out: &mut Out) -> Answer
         requires node { stamp.node ≡ self.old.node }
-        requires room { RoomForOrder stamp.clock self.old order }
-        requires fits { FitsOut (move_of stamp client order self.old.set self.old.state) out.old }
-        ensures answer { result ≡ answer_of stamp.node client order self.old.state }
-        ensures does { Does (move_of stamp client order self.old.set self.old.state) self.old out.old self.new out.new }
+        requires room { RoomForCommand stamp.clock self.old command }
+        requires fits { FitsOut (move_of stamp client command self.old.set self.old.state) out.old }
+        ensures answer { result ≡ answer_of stamp.node client command self.old.state }
+        ensures does { Does (move_of stamp client command self.old.set self.old.state) self.old out.old self.new out.new }
     {
-        let answer = self.obey(client, order, stamp, out);
+        let answer = self.obey(client, command, stamp, out);
         self.finish(stamp, out);
         answer
     }
 
-    // What the order does, before the end of the move.
-    fn obey(&mut self, client: u16, order: Order, stamp: Stamp, out: &mut Out) -> Answer
+    // What the command does, before the end of the move.
+    fn obey(&mut self, client: u16, command: SetCommand, stamp: Stamp, out: &mut Out) -> Answer
         requires node { stamp.node ≡ self.old.node }
-        requires room { RoomForOrder stamp.clock self.old order }
-        requires fits { FitsOut (ordered stamp client order self.old.set self.old.state) out.old }
-        ensures answer { result ≡ answer_of stamp.node client order self.old.state }
-        ensures does { Does (ordered stamp client order self.old.set self.old.state) self.old out.old self.new out.new }
+        requires room { RoomForCommand stamp.clock self.old command }
+        requires fits { FitsOut (commanded stamp client command self.old.set self.old.state) out.old }
+        ensures answer { result ≡ answer_of stamp.node client command self.old.state }
+        ensures does { Does (commanded stamp client command self.old.set self.old.state) self.old out.old self.new out.new }
         ensures room { HasRoom 1 stamp.clock self.new }
     {
-        match order {
-            Order::Lock(mode) => self.lock(client, mode, stamp, out),
-            Order::Try(mode) => self.try_lock(client, mode, stamp, out),
-            Order::Unlock(mode) => self.unlock(client, mode, stamp, out),
-            Order::Change(gives_up, mode) => self.change(client, gives_up, mode, stamp, out),
-            Order::DropAll => Answer::Dropped(self.drop_all(client, stamp)),
+        match command {
+            SetCommand::Lock(mode) => self.lock(client, mode, stamp, out),
+            SetCommand::Try(mode) => self.try_lock(client, mode, stamp, out),
+            SetCommand::Unlock(mode) => self.unlock(client, mode, stamp, out),
+            SetCommand::Change(gives_up, mode) => self.change(client, gives_up, mode, stamp, out),
+            SetCommand::DropAll => Answer::Dropped(self.drop_all(client, stamp)),
         }
     }
 

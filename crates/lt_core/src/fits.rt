@@ -3,24 +3,23 @@ ghost use Rattle.std.specs.List.{list_all};
 ghost use Rattle.lt_modes.specs.Queue.{no_ask};
 ghost use Rattle.lt_modes.specs.Fits.{fits, head_fits, body_fits, ask_fits, copy_fits, token_fits, tell_fits, queue_fits, is_pending, is_known, is_at_home, has_client, asks_here, parked_asks, are_apart, ask_if};
 ghost use Rattle.lt_modes.specs.State.{ParkedAsk};
-ghost use Rattle.lt_letter.specs.declared.parked.Parked.{Parked as AnyParked};
-ghost use Rattle.lt_letter.specs.Seen.{letter_seen, body_seen, tell_seen, parked_seen};
-ghost use Rattle.lt_core.specs.Tests.{numbers_of, is_known_item, is_apart_from};
+ghost use Rattle.lt_desk.specs.declared.parked.Parked.{Parked as AnyParked};
+ghost use Rattle.lt_desk.specs.LetterSeen.{letter_seen, body_seen, tell_seen, parked_seen};
+ghost use Rattle.lt_core.specs.Tests.{rule_numbers, is_known_item, is_apart_from};
 
 use crate::numbers::Numbers;
 use crate::one_set::{Core, is_of};
-use lt_desk::Desk;
-use lt_letter::{Body, Letter, Parked, Tell};
+use lt_desk::{Body, Desk, Letter, Parked, Tell};
 use lt_modes::Ask;
 use std::collections::VecDeque;
 
-// The bound of the clocks.
-const LAST_CLOCK: u64 = 4_294_967_295;
+/// The greatest clock: no move is made at it, and no letter of it is taken.
+pub const LAST_CLOCK: u64 = 4_294_967_295;
 
 impl Core {
     /// Whether the node, with this clock, can be sent the letter. Takes no memory.
     pub fn fits(&self, clock: u64, letter: &Letter, numbers: &Numbers) -> bool
-        ensures { result ≡ fits (numbers_of numbers.now) self.now.node clock self.now.state (letter_seen letter.now) }
+        ensures { result ≡ fits (rule_numbers numbers.now) self.now.node clock self.now.state (letter_seen letter.now) }
     {
         head_fits(clock, letter, numbers)
             && self.body_fits(letter.stamp.clock, &letter.body, numbers)
@@ -28,7 +27,7 @@ impl Core {
 
     // Whether what it says can be said to this node, in a letter with this clock.
     fn body_fits(&self, clock: u64, body: &Body, numbers: &Numbers) -> bool
-        ensures { result ≡ body_fits (numbers_of numbers.now) self.now.node self.now.state clock (body_seen body.now) }
+        ensures { result ≡ body_fits (rule_numbers numbers.now) self.now.node self.now.state clock (body_seen body.now) }
     {
         match body {
             Body::Ask { ask, .. } => self.ask_fits(ask, numbers),
@@ -40,13 +39,13 @@ impl Core {
     }
 
     fn ask_fits(&self, ask: &Ask, numbers: &Numbers) -> bool
-        ensures { result ≡ ask_fits (numbers_of numbers.now) self.now.node self.now.state ask.now }
+        ensures { result ≡ ask_fits (rule_numbers numbers.now) self.now.node self.now.state ask.now }
     {
         numbers.is_at_home(ask) && (self.is_known(ask) && !self.has_ask_of(ask.client))
     }
 
     fn copy_fits(&self, ask: &Ask, numbers: &Numbers) -> bool
-        ensures { result ≡ copy_fits (numbers_of numbers.now) self.now.node self.now.state ask.now }
+        ensures { result ≡ copy_fits (rule_numbers numbers.now) self.now.node self.now.state ask.now }
     {
         numbers.is_at_home(ask)
             && (ask.node == self.links.me()
@@ -54,7 +53,7 @@ impl Core {
     }
 
     fn token_fits(&self, clock: u64, desk: &Desk, numbers: &Numbers) -> bool
-        ensures { result ≡ token_fits (numbers_of numbers.now) self.now.node self.now.state clock desk.now.desk }
+        ensures { result ≡ token_fits (rule_numbers numbers.now) self.now.node self.now.state clock desk.now.desk }
     {
         self.desk.is_none()
             && (self.firm().epoch <= desk.epoch()
@@ -65,7 +64,7 @@ impl Core {
 
     // Whether the asks that the desk brings fit those that are parked here.
     fn queue_fits(&self, desk: &Desk, numbers: &Numbers) -> bool
-        ensures { result ≡ queue_fits (numbers_of numbers.now) self.now.node self.now.state desk.now.desk.queue }
+        ensures { result ≡ queue_fits (rule_numbers numbers.now) self.now.node self.now.state desk.now.desk.queue }
     {
         are_at_home(desk, numbers) && (self.are_apart(desk) && self.are_known(desk))
     }
@@ -154,7 +153,7 @@ impl Core {
 }
 
 fn head_fits(clock: u64, letter: &Letter, numbers: &Numbers) -> bool
-    ensures { result ≡ head_fits (numbers_of numbers.now) clock (letter_seen letter.now) }
+    ensures { result ≡ head_fits (rule_numbers numbers.now) clock (letter_seen letter.now) }
 {
     u16::from(letter.set) < numbers.sets
         && (letter.link.node < numbers.nodes
@@ -169,7 +168,7 @@ fn is_early(clock: u64) -> bool
 }
 
 fn tell_fits(clock: u64, tell: &Tell, numbers: &Numbers) -> bool
-    ensures { result ≡ tell_fits (numbers_of numbers.now) clock (tell_seen tell.now) }
+    ensures { result ≡ tell_fits (rule_numbers numbers.now) clock (tell_seen tell.now) }
 {
     tell.node < numbers.nodes && tell.stamp.clock <= clock
 }
@@ -177,7 +176,7 @@ fn tell_fits(clock: u64, tell: &Tell, numbers: &Numbers) -> bool
 // Whether the asks of the desk's queue are of clients of their nodes.
 #[tactic(auto, using(crate::proofs::FitsLemmas::all_step))]
 fn are_at_home(desk: &Desk, numbers: &Numbers) -> bool
-    ensures { result ≡ list_all (is_at_home (numbers_of numbers.now)) desk.now.desk.queue }
+    ensures { result ≡ list_all (is_at_home (rule_numbers numbers.now)) desk.now.desk.queue }
 {
     for k in 0..desk.len() {
         if !numbers.is_at_home(&desk.ask(k)) {

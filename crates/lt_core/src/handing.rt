@@ -1,16 +1,15 @@
 ghost use Rattle.std.specs.Prelude.{◌≡◌, ◌+◌, ◌≤◌, ◌<◌, length, Some, None, IfSome, slice_index_or};
 ghost use Rattle.lt_modes.specs.Queue.{no_ask};
-ghost use Rattle.lt_modes.specs.Serving.{queue_of, next_move};
+ghost use Rattle.lt_modes.specs.Serving.{queue_of, next_draw};
 ghost use Rattle.lt_modes.specs.Freezing.{freeze};
 ghost use Rattle.lt_modes.specs.HandingOver.{hand_over, hand_over_to};
 ghost use Rattle.lt_desk.specs.Freezes.{bits_from};
-ghost use Rattle.lt_letter.specs.OutData.{FitsOut, out_after};
+ghost use Rattle.lt_desk.specs.OutData.{FitsOut, out_after};
 ghost use Rattle.lt_core.specs.CoreData.{Does, HasRoom, epoch_of};
 ghost use Rattle.lt_core.specs.Notices.{notices, node_if};
 
 use crate::one_set::Core;
-use lt_desk::{Desk, Targets};
-use lt_letter::{Body, News, Out};
+use lt_desk::{Body, Desk, News, Out, Targets};
 use lt_modes::{Event, Stamp};
 
 impl Core {
@@ -38,6 +37,9 @@ impl Core {
         requires fits { FitsOut (notices self.now.set stamp self.now.state targets.now.modes targets.now.number (bits_from nodes 0 targets.now.nodes)) out.old }
         ensures { out.new ≡ out_after (notices self.now.set stamp self.now.state targets.now.modes targets.now.number (bits_from nodes 0 targets.now.nodes)) out.old }
     {
+        if targets.nodes == 0 {
+            return;
+        }
         for x in 0..nodes {
             self.send_notice(x, targets, stamp, out);
         }
@@ -73,7 +75,7 @@ impl Core {
         requires fits { FitsOut (hand_over self.old.set stamp self.old.state) out.old }
         ensures does { Does (hand_over self.old.set stamp self.old.state) self.old out.old self.new out.new }
     {
-        if let Some(k) = self.next_move() {
+        if let Some(k) = self.next_draw() {
             if let Some(desk) = self.desk.take() {
                 self.send_desk(k, desk, stamp, out);
             }
@@ -81,12 +83,12 @@ impl Core {
     }
 
     // The place of the ask to whose node the desk moves.
-    fn next_move(&self) -> Option<u32>
-        ensures next { result ≡ next_move self.now.node self.now.state }
+    fn next_draw(&self) -> Option<u32>
+        ensures next { result ≡ next_draw self.now.node self.now.state }
         ensures within { IfSome result (λ k. k < length (queue_of self.now.state)) }
     {
         match &self.desk {
-            Some(desk) => desk.next_move(self.links.me(), &self.held, self.pending.stamps()),
+            Some(desk) => desk.next_draw(self.links.me(), &self.held, self.pending.stamps()),
             None => None,
         }
     }

@@ -1,12 +1,12 @@
 ghost use Rattle.std.specs.Prelude.{◌≡◌, ◌+◌, ◌<◌, ◌≤◌, ◌^◌, ◌&&◌, nat_le, length, map, filter_map};
 ghost use Rattle.lt_modes.specs.Held.{locks_in};
 ghost use Rattle.lt_modes.specs.Fits.{asks_here, ask_if};
-ghost use Rattle.lt_letter.specs.Seen.{parked_seen};
+ghost use Rattle.lt_desk.specs.LetterSeen.{parked_seen};
 ghost use Rattle.lt_core.specs.Bound.{most};
-ghost use Rattle.lt_core.specs.CoreData.{waiting, epoch_of, number_of};
+ghost use Rattle.lt_core.specs.CoreData.{waiting_here, epoch_of, freeze_number_of};
 
 use crate::one_set::{Core, asks_of};
-use lt_letter::Parked;
+use lt_desk::Parked;
 use std::collections::VecDeque;
 
 impl Core {
@@ -30,7 +30,7 @@ impl Core {
 
     /// Whether the desk is elsewhere, or neither its epoch nor its freeze number is above the clock.
     pub fn is_desk_within(&self, clock: u64) -> bool
-        ensures { result ≡ (nat_le (epoch_of self.now.state.desk) clock && nat_le (number_of self.now.state.desk) clock) }
+        ensures { result ≡ (nat_le (epoch_of self.now.state.desk) clock && nat_le (freeze_number_of self.now.state.desk) clock) }
     {
         match &self.desk {
             Some(desk) => desk.epoch() <= clock && desk.freeze_number() <= clock,
@@ -47,9 +47,9 @@ impl Core {
 
     /// How many letters, and event lines, the end of a move may send.
     pub fn most_sent(&self) -> u32
-        requires { waiting self.now.state + 65 < 2 ^ 32 }
+        requires { waiting_here self.now.state + 65 < 2 ^ 32 }
         ensures most { result ≡ most self.now.state }
-        ensures within { result ≤ waiting self.now.state + 65 }
+        ensures within { result ≤ waiting_here self.now.state + 65 }
     {
         let nodes = match &self.desk {
             Some(desk) => desk.nodes(),

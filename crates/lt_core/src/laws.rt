@@ -1,10 +1,10 @@
-ghost use Rattle.lt_core.specs.Bound.{EndsFit, OrdersFit, TakesFit};
+ghost use Rattle.lt_core.specs.Bound.{EndsFit, CommandsFit, TakesFit};
 ghost use Rattle.lt_core.specs.Premises.{MovesHaveRoom};
 
 /// So many places suffice for the letters and the event lines of a move.
 pub fn law_room_to_send()
     ensures ends { EndsFit }
-    ensures orders { OrdersFit }
+    ensures commands { CommandsFit }
     ensures takes { TakesFit }
 {}
 

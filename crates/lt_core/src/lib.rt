@@ -9,15 +9,16 @@ mod keeping;
 mod laws;
 mod numbers;
 mod one_set;
-mod order;
 mod routing;
 mod serving;
+mod set_command;
 mod taking;
 mod telling;
 #[cfg(test)]
 mod tests;
 
+pub use fits::LAST_CLOCK;
 pub use laws::{law_room_to_move, law_room_to_send};
 pub use numbers::Numbers;
 pub use one_set::Core;
-pub use order::{Answer, Order};
+pub use set_command::{Answer, SetCommand};

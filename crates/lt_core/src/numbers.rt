@@ -1,6 +1,6 @@
 ghost use Rattle.std.specs.Prelude.{◌≡◌};
 ghost use Rattle.lt_modes.specs.Fits.{is_at_home};
-ghost use Rattle.lt_core.specs.Tests.{numbers_of};
+ghost use Rattle.lt_core.specs.Tests.{rule_numbers};
 
 use lt_modes::Ask;
 
@@ -16,7 +16,7 @@ pub struct Numbers<'a> {
 impl Numbers<'_> {
     /// Whether the ask is of a client of its node.
     pub(crate) fn is_at_home(&self, ask: &Ask) -> bool
-        ensures { result ≡ is_at_home (numbers_of self.now) ask.now }
+        ensures { result ≡ is_at_home (rule_numbers self.now) ask.now }
     {
         let client = usize::from(ask.client);
         ask.node < self.nodes && (client < self.homes.len() && self.homes[client] == ask.node)

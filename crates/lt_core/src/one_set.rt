@@ -4,16 +4,15 @@ ghost use Rattle.lt_modes.specs.Held.{locks_of};
 ghost use Rattle.lt_modes.specs.Serving.{queue_of, waits};
 ghost use Rattle.lt_modes.specs.Fits.{has_client, parked_asks, ask_if};
 ghost use Rattle.lt_modes.specs.Made.{post_of};
-ghost use Rattle.lt_letter.specs.Seen.{letter_seen, post_seen, body_seen, parked_seen};
-ghost use Rattle.lt_letter.specs.Hands.{asks_in, RoomIn, places_in, spare_in};
-ghost use Rattle.lt_core.specs.CoreData.{HasMemory, KeepsRoom, waiting};
+ghost use Rattle.lt_desk.specs.LetterSeen.{letter_seen, post_seen, body_seen, parked_seen};
+ghost use Rattle.lt_desk.specs.Hands.{asks_in, RoomIn, places_in, body_spare};
+ghost use Rattle.lt_core.specs.CoreData.{HasMemory, KeepsRoom, waiting_here};
 ghost use Rattle.lt_core.specs.Steps.{ask_count, is_ask_of};
 
 use crate::fits::{has_later, parks_later};
 use lt_asks::Unanswered;
-use lt_desk::Desk;
+use lt_desk::{Body, Desk, Letter, Parked, Post};
 use lt_held::Held;
-use lt_letter::{Body, Letter, Parked, Post};
 use lt_link::Links;
 use lt_modes::{Link, ModeSet, Stamp};
 use std::alloc::{AllocError, Global};
@@ -41,7 +40,7 @@ pub struct Core {
 impl Model for Core {
     ghost use Rattle.std.specs.Prelude.{◌-◌, map};
     ghost use Rattle.std.specs.VecDeque.{deque_len, deque_capacity};
-    ghost use Rattle.lt_letter.specs.Seen.{parked_seen};
+    ghost use Rattle.lt_desk.specs.LetterSeen.{parked_seen};
     ghost use Rattle.lt_core.specs.CoreData.{CoreData, desk_seen, room_by};
 
     ghost Value = { CoreData };
@@ -99,7 +98,7 @@ impl Core {
 
     /// Makes room for one move that takes no letter.
     pub fn reserve(&mut self) -> Result<(), AllocError>
-        requires few { waiting self.old.state + 2 < 2 ^ 32 }
+        requires few { waiting_here self.old.state + 2 < 2 ^ 32 }
         ensures state { self.new.state ≡ self.old.state }
         ensures place { (self.new.node ≡ self.old.node) × (self.new.set ≡ self.old.set) }
         ensures room { OnOk result (HasMemory 0 self.new) }
@@ -110,14 +109,14 @@ impl Core {
 
     /// Makes room for the move that takes the letter, here and in the desk that it brings.
     pub fn reserve_for(&mut self, letter: &mut Letter) -> Result<(), AllocError>
-        requires few { waiting self.old.state + asks_in letter.old.body + 2 < 2 ^ 32 }
+        requires few { waiting_here self.old.state + asks_in letter.old.body + 2 < 2 ^ 32 }
         ensures state { self.new.state ≡ self.old.state }
         ensures place { (self.new.node ≡ self.old.node) × (self.new.set ≡ self.old.set) }
         ensures letter { letter_seen letter.new ≡ letter_seen letter.old }
         ensures room { OnOk result (HasMemory (asks_in letter.new.body) self.new) }
-        ensures desk { OnOk result (RoomIn (waiting self.new.state + asks_in letter.new.body + 2) letter.new.body) }
+        ensures desk { OnOk result (RoomIn (waiting_here self.new.state + asks_in letter.new.body + 2) letter.new.body) }
         ensures kept { KeepsRoom self.old self.new }
-        ensures desk_kept { (places_in letter.old.body ≤ places_in letter.new.body) × (spare_in letter.old.body ≤ spare_in letter.new.body) }
+        ensures desk_kept { (places_in letter.old.body ≤ places_in letter.new.body) × (body_spare letter.old.body ≤ body_spare letter.new.body) }
     {
         let brought = letter.asks();
         let asks = self.waiting() + brought + 2;
@@ -128,7 +127,7 @@ impl Core {
 
     // Makes room for one move, to which a letter brings so many asks.
     fn reserve_with(&mut self, brought: u32) -> Result<(), AllocError>
-        requires few { waiting self.old.state + brought + 2 < 2 ^ 32 }
+        requires few { waiting_here self.old.state + brought + 2 < 2 ^ 32 }
         ensures state { self.new.state ≡ self.old.state }
         ensures place { (self.new.node ≡ self.old.node) × (self.new.set ≡ self.old.set) }
         ensures room { OnOk result (HasMemory brought self.new) }
@@ -145,8 +144,8 @@ impl Core {
 
     /// How many asks wait here, in the queue and for the token.
     pub fn waiting(&self) -> u32
-        requires { waiting self.now.state < 2 ^ 32 }
-        ensures { result ≡ waiting self.now.state }
+        requires { waiting_here self.now.state < 2 ^ 32 }
+        ensures { result ≡ waiting_here self.now.state }
     {
         let here = match &self.desk {
             Some(desk) => desk.len(),

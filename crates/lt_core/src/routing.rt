@@ -1,14 +1,13 @@
 ghost use Rattle.std.specs.Prelude.{◌≡◌, ◌+◌, ◌≤◌, ◌<◌, ℕ, length, None};
 ghost use Rattle.lt_modes.specs.Routing.{route, sent_on, Goes, reversed, way, learn, dealt};
-ghost use Rattle.lt_letter.specs.Seen.{parked_seen};
-ghost use Rattle.lt_letter.specs.OutData.{FitsOut};
+ghost use Rattle.lt_desk.specs.LetterSeen.{parked_seen};
+ghost use Rattle.lt_desk.specs.OutData.{FitsOut};
 ghost use Rattle.lt_link.specs.Routes.{way_of};
 ghost use Rattle.lt_core.specs.CoreData.{Does, HasRoom};
 ghost use Rattle.lt_core.specs.Steps.{ask_count};
 
 use crate::one_set::Core;
-use lt_desk::Desk;
-use lt_letter::{Letter, Out, Parked, Post};
+use lt_desk::{Desk, Letter, Out, Parked, Post};
 use lt_link::{Kind, Route};
 use lt_modes::{Link, Stamp};
 

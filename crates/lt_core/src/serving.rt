@@ -2,13 +2,13 @@ ghost use Rattle.std.specs.Prelude.{◌≡◌, ◌+◌, ◌≤◌, ◌<◌, leng
 ghost use Rattle.lt_modes.specs.Held.{add_lock, locks_in};
 ghost use Rattle.lt_modes.specs.Serving.{queue_of, put_queue, next_service, ask_at, answer_event, serve_one, serve_copy, serve, give_up};
 ghost use Rattle.lt_held.specs.HeldData.{most_locks};
-ghost use Rattle.lt_letter.specs.OutData.{FitsOut};
+ghost use Rattle.lt_desk.specs.OutData.{FitsOut};
 ghost use Rattle.lt_core.specs.CoreData.{Does, HasRoom};
 ghost use Rattle.lt_core.specs.Steps.{answer_ask};
 
 use crate::one_set::Core;
+use lt_desk::{Body, Out};
 use lt_held::{Held, law_rows};
-use lt_letter::{Body, Out};
 use lt_modes::{Ask, Event, Mode, Stamp};
 
 impl Core {

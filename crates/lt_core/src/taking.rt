@@ -4,14 +4,13 @@ ghost use Rattle.lt_modes.specs.Fits.{ask_if};
 ghost use Rattle.lt_modes.specs.Routing.{dealt};
 ghost use Rattle.lt_modes.specs.Taking.{take_token, take_copy, take_freeze, arrive};
 ghost use Rattle.lt_modes.specs.SetMove.{take};
-ghost use Rattle.lt_letter.specs.Seen.{parked_seen, letter_seen};
-ghost use Rattle.lt_letter.specs.OutData.{FitsOut};
+ghost use Rattle.lt_desk.specs.LetterSeen.{parked_seen, letter_seen};
+ghost use Rattle.lt_desk.specs.OutData.{FitsOut};
 ghost use Rattle.lt_core.specs.CoreData.{Does, HasRoom, RoomForDesk, RoomForBody};
 
 use crate::one_set::Core;
 use crate::routing::deal;
-use lt_desk::Desk;
-use lt_letter::{Body, Letter, News, Out, Parked};
+use lt_desk::{Body, Desk, Letter, News, Out, Parked};
 use lt_modes::{Ask, Stamp};
 use std::collections::VecDeque;
 

@@ -1,12 +1,11 @@
 ghost use Rattle.std.specs.Prelude.{◌≡◌};
-ghost use Rattle.lt_modes.specs.Modes.{same_modes, is_within};
 ghost use Rattle.lt_modes.specs.Telling.{make_tell, tell, attend, finish};
-ghost use Rattle.lt_letter.specs.OutData.{FitsOut};
+ghost use Rattle.lt_desk.specs.OutData.{FitsOut};
 ghost use Rattle.lt_core.specs.CoreData.{Does, HasRoom};
 
 use crate::one_set::Core;
-use lt_letter::{Out, Parked, Tell};
-use lt_modes::{Mode, ModeSet, Stamp};
+use lt_desk::{Out, Parked, Tell};
+use lt_modes::Stamp;
 
 impl Core {
     /// The end of a move: the desk's turn where it is here, else a tell where one is due.
@@ -42,7 +41,7 @@ impl Core {
         requires fits { FitsOut (tell self.old.set stamp self.old.state) out.old }
         ensures does { Does (tell self.old.set stamp self.old.state) self.old out.old self.new out.new }
     {
-        if !same(self.held.modes().bars(), self.charge.bars()) {
+        if !self.held.modes().bars().same(self.charge.bars()) {
             self.make_tell(stamp, out);
         }
     }
@@ -64,21 +63,4 @@ impl Core {
         };
         self.route(false, Parked::Tell(tell), stamp, out);
     }
-}
-
-// Whether the sets have the same members.
-fn same(a: ModeSet, b: ModeSet) -> bool
-    ensures { result ≡ same_modes a b }
-{
-    is_within(a, b) && is_within(b, a)
-}
-
-fn is_within(a: ModeSet, b: ModeSet) -> bool
-    ensures { result ≡ is_within a b }
-{
-    (!a.has(Mode::IntentionRead) || b.has(Mode::IntentionRead))
-        && (!a.has(Mode::Read) || b.has(Mode::Read))
-        && (!a.has(Mode::Upgrade) || b.has(Mode::Upgrade))
-        && (!a.has(Mode::IntentionWrite) || b.has(Mode::IntentionWrite))
-        && (!a.has(Mode::Write) || b.has(Mode::Write))
 }

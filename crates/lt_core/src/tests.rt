@@ -1,5 +1,5 @@
-use crate::{Answer, Core, Numbers, Order, law_room_to_send};
-use lt_letter::{Body, Letter, Out};
+use crate::{Answer, Core, Numbers, SetCommand, law_room_to_send};
+use lt_desk::{Body, Letter, Out};
 use lt_modes::{Ask, Link, Mode, Stamp};
 use std::test::Fail;
 
@@ -11,7 +11,7 @@ fn a_lock_at_the_desk(rt: HostRuntime) -> Result<(), Fail> {
     out.reserve(5, 5)?;
     law_room_to_send();
     let stamp = Stamp { clock: 1, node: 0 };
-    let answer = core.act(1, Order::Lock(Mode::Read), stamp, &mut out);
+    let answer = core.act(1, SetCommand::Lock(Mode::Read), stamp, &mut out);
     assert_eq!(rt; answer, Answer::Granted);
     assert_eq!(rt; core.held_count(1), 1);
     assert!(rt; core.has_desk());

@@ -3,23 +3,23 @@ use Rattle.std.specs.Prelude.{ℕ, ◌<◌, ◌==◌, List, Option, Some, None, 
 use Rattle.lt_modes.specs.declared.ask.Ask.{Ask}
 use Rattle.lt_modes.specs.State.{SetState}
 use Rattle.lt_modes.specs.Queue.{no_ask}
-use Rattle.lt_modes.specs.Serving.{queue_of, next_service, next_move}
+use Rattle.lt_modes.specs.Serving.{queue_of, next_service, next_draw}
 use Rattle.lt_desk.specs.declared.pick.Pick.{Pick}
-use Rattle.lt_desk.specs.declared.pick.Pick.TheVariants.{Nothing, Local, Copy, Move}
+use Rattle.lt_desk.specs.declared.pick.Pick.TheVariants.{Nothing, Local, Copy, HandOver}
 
 -- a service is local where its ask is of node `me`; the desk moves only where there is no service
 abbrev pub picked_by : ℕ → List Ask → Option ℕ → Option ℕ → Pick
 picked_by me queue (Some k) move = if (slice_index_or queue k no_ask).node == me then Local k else Copy k
-picked_by me queue None (Some k) = Move k
+picked_by me queue None (Some k) = HandOver k
 picked_by me queue None None = Nothing
 
 -- the next service; where there is none, the next move of the desk
 abbrev pub picked : ℕ → SetState → Pick
-picked me s = picked_by me (queue_of s) (next_service me s) (next_move me s)
+picked me s = picked_by me (queue_of s) (next_service me s) (next_draw me s)
 
 -- its place is one of a queue of this length
-abbrev pub IsWithin : ℕ → Pick → Type 0
-IsWithin n Nothing = Unit {0}
-IsWithin n (Local k) = k < n
-IsWithin n (Copy k) = k < n
-IsWithin n (Move k) = k < n
+abbrev pub IsInQueue : ℕ → Pick → Type 0
+IsInQueue n Nothing = Unit {0}
+IsInQueue n (Local k) = k < n
+IsInQueue n (Copy k) = k < n
+IsInQueue n (HandOver k) = k < n

@@ -1,7 +1,7 @@
 ghost use Rattle.std.specs.Prelude.{◌≡◌, ◌<◌, length, IfSome};
-ghost use Rattle.lt_modes.specs.Serving.{is_free, is_local, is_clear_at_home, is_copy, is_served, next_service, may_draw, next_move};
-ghost use Rattle.lt_desk.specs.Picks.{picked, IsWithin};
-ghost use Rattle.lt_desk.specs.Sights.{state_of, desk_of};
+ghost use Rattle.lt_modes.specs.Serving.{is_free, is_local, is_clear_at_home, is_copy, is_served, next_service, may_draw, next_draw};
+ghost use Rattle.lt_desk.specs.Picks.{picked, IsInQueue};
+ghost use Rattle.lt_desk.specs.Sights.{sight_state, desk_of};
 
 use crate::pick::Pick;
 use crate::sight::Sight;
@@ -9,8 +9,8 @@ use lt_modes::{Ask, ModeSet};
 
 impl Sight<'_> {
     pub(crate) fn pick(&self) -> Pick
-        ensures next { result ≡ picked self.now.me (state_of self.now) }
-        ensures within { IsWithin (length self.now.queue.now.asks) result }
+        ensures next { result ≡ picked self.now.me (sight_state self.now) }
+        ensures within { IsInQueue (length self.now.queue.now.asks) result }
     {
         if let Some(k) = self.next_service() {
             if self.queue.get(k).node == self.me {
@@ -18,8 +18,8 @@ impl Sight<'_> {
             } else {
                 Pick::Copy(k)
             }
-        } else if let Some(k) = self.next_move() {
-            Pick::Move(k)
+        } else if let Some(k) = self.next_draw() {
+            Pick::HandOver(k)
         } else {
             Pick::Nothing
         }
@@ -28,7 +28,7 @@ impl Sight<'_> {
     // The place of the ask that is served next: granted where its node is the desk's, else sent a copy.
     #[tactic(auto, using(crate::proofs::PlaceLemmas::next_found, crate::proofs::PlaceLemmas::next_later))]
     pub(crate) fn next_service(&self) -> Option<u32>
-        ensures place { result ≡ next_service self.now.me (state_of self.now) }
+        ensures place { result ≡ next_service self.now.me (sight_state self.now) }
         ensures within { IfSome result (λ k. k < length self.now.queue.now.asks) }
     {
         let mut before = ModeSet::empty();
@@ -43,9 +43,9 @@ impl Sight<'_> {
     }
 
     // The place of the ask to whose node the desk moves, once no service is left.
-    #[tactic(auto, using(crate::proofs::PlaceLemmas::move_found, crate::proofs::PlaceLemmas::move_later))]
-    pub(crate) fn next_move(&self) -> Option<u32>
-        ensures place { result ≡ next_move self.now.me (state_of self.now) }
+    #[tactic(auto, using(crate::proofs::PlaceLemmas::draw_found, crate::proofs::PlaceLemmas::draw_later))]
+    pub(crate) fn next_draw(&self) -> Option<u32>
+        ensures place { result ≡ next_draw self.now.me (sight_state self.now) }
         ensures within { IfSome result (λ k. k < length self.now.queue.now.asks) }
     {
         let mut before = ModeSet::empty();
@@ -60,40 +60,40 @@ impl Sight<'_> {
     }
 
     fn is_served(&self, before: ModeSet, ask: &Ask) -> bool
-        ensures { result ≡ is_served self.now.me (state_of self.now) (desk_of self.now) before ask.now }
+        ensures { result ≡ is_served self.now.me (sight_state self.now) (desk_of self.now) before ask.now }
     {
         self.is_free(before, ask) && (self.is_local(ask) || self.is_copy(ask))
     }
 
     fn may_draw(&self, before: ModeSet, k: u32, ask: &Ask) -> bool
-        ensures { result ≡ may_draw self.now.me (state_of self.now) (desk_of self.now) before k ask.now }
+        ensures { result ≡ may_draw self.now.me (sight_state self.now) (desk_of self.now) before k ask.now }
     {
         ask.node != self.me && self.is_free(before, ask) && (k == 0 || self.is_clear_at_home(ask))
     }
 
     // Whether neither another node nor an ask before it conflicts; `before` are the modes of those asks.
     fn is_free(&self, before: ModeSet, ask: &Ask) -> bool
-        ensures { result ≡ is_free self.now.me (state_of self.now) (desk_of self.now) before ask.now }
+        ensures { result ≡ is_free self.now.me (sight_state self.now) (desk_of self.now) before ask.now }
     {
         !before.bars().has(ask.mode) && !self.others(ask.node).bars().has(ask.mode)
     }
 
     // Whether the ask is of the desk's node, and neither another client nor a copy on its way conflicts there.
     fn is_local(&self, ask: &Ask) -> bool
-        ensures { result ≡ is_local self.now.me (state_of self.now) (desk_of self.now) ask.now }
+        ensures { result ≡ is_local self.now.me (sight_state self.now) (desk_of self.now) ask.now }
     {
         ask.node == self.me && self.is_clear_here(ask.client, ask.mode)
     }
 
     // Whether the ask is of another node, the other nodes cover it, and its own node has no mode that conflicts.
     fn is_copy(&self, ask: &Ask) -> bool
-        ensures { result ≡ is_copy self.now.me (state_of self.now) (desk_of self.now) ask.now }
+        ensures { result ≡ is_copy self.now.me (sight_state self.now) (desk_of self.now) ask.now }
     {
         ask.node != self.me && self.others(ask.node).covers(ask.mode) && self.is_clear_at_home(ask)
     }
 
     fn is_clear_at_home(&self, ask: &Ask) -> bool
-        ensures { result ≡ is_clear_at_home self.now.me (state_of self.now) (desk_of self.now) ask.now }
+        ensures { result ≡ is_clear_at_home self.now.me (sight_state self.now) (desk_of self.now) ask.now }
     {
         !self.modes_at(ask.node).bars().has(ask.mode)
     }

@@ -14,7 +14,7 @@ use Rattle.lt_text.proofs.NumberLemmas.{decimal_are_digits}
 use Rattle.lt_script.specs.Names.{is_name, is_name_byte}
 use Rattle.lt_script.specs.Script.{is_declared}
 use Rattle.lt_script.proofs.NameLemmas.{found_never}
-use Rattle.lt_gen.specs.Generator.{client_name, client_at, clients_of, four_sets}
+use Rattle.lt_gen.specs.Generator.{drawn_client, client_at, clients_of, four_sets}
 
 digits_in_names : (ds : List ℕ) → are_digits ds ≡ true → list_all is_name_byte ds ≡ true
 digits_in_names [] e = refl
@@ -30,7 +30,7 @@ no_letter (d ∷ ds) letter rest digits high =
     let bounds = and_parts (nat_le 48 d) (nat_le d 57) first.0 in
     rw (ne_eqb d letter (λ e. omega (arith, leb-true d 57 bounds.1))) refl
 
-pub name_made : (n : ℕ) → n < 100 → is_name (client_name n) ≡ true
+pub name_made : (n : ℕ) → n < 100 → is_name (drawn_client n) ≡ true
 name_made n small =
     let digits = decimal_are_digits n (omega arith) in
     rw (
@@ -40,17 +40,17 @@ name_made n small =
     ) refl
 
 -- two clients have two names
-apart : (m n : ℕ) → m < 100 → n < 100 → m ≢ n → bytes_eq (client_name m) (client_name n) ≡ false
+apart : (m n : ℕ) → m < 100 → n < 100 → m ≢ n → bytes_eq (drawn_client m) (drawn_client n) ≡ false
 apart m n low high differ =
-    false_from_ne_true (bytes_eq (client_name m) (client_name n)) (λ same.
-    differ (decimal_injective m n (omega arith) (omega arith) (append_cancel_left (codes "c") (decimal m) (decimal n) ((bytes_eq-Decides (client_name m) (client_name n)).0 same))))
+    false_from_ne_true (bytes_eq (drawn_client m) (drawn_client n)) (λ same.
+    differ (decimal_injective m n (omega arith) (omega arith) (append_cancel_left (codes "c") (decimal m) (decimal n) ((bytes_eq-Decides (drawn_client m) (drawn_client n)).0 same))))
 
 -- no earlier client has the name of this one
-none_before : (nodes m n : ℕ) → m ≤ n → n < 100 → position (λ (x : ClientData). bytes_eq x.name (client_name n)) (clients_of nodes m) ≡ None
+none_before : (nodes m n : ℕ) → m ≤ n → n < 100 → position (λ (x : ClientData). bytes_eq x.name (drawn_client n)) (clients_of nodes m) ≡ None
 unfolding clients_of
 none_before nodes zero n below small = refl
 none_before nodes (suc m) n below small =
-    found_never (λ (x : ClientData). bytes_eq x.name (client_name n)) (clients_of nodes m) (client_at nodes m) (none_before nodes m n (omega arith) small) (apart m n (omega arith) small (λ e. omega arith))
+    found_never (λ (x : ClientData). bytes_eq x.name (drawn_client n)) (clients_of nodes m) (client_at nodes m) (none_before nodes m n (omega arith) small) (apart m n (omega arith) small (λ e. omega arith))
 
-pub name_is_new : (s : ScriptData) (n : ℕ) → s.sets ≡ four_sets → s.clients ≡ clients_of s.nodes n → n < 100 → is_declared s (client_name n) ≡ false
+pub name_is_new : (s : ScriptData) (n : ℕ) → s.sets ≡ four_sets → s.clients ≡ clients_of s.nodes n → n < 100 → is_declared s (drawn_client n) ≡ false
 name_is_new s n sets clients small = rw (sets, clients, none_before s.nodes n n (omega arith) small) refl

@@ -1,39 +1,47 @@
 -- What is made is a script.
-use Rattle.std.proofs.Common.{◌≡◌, ℕ, zero, suc, ◌+◌, ◌-◌, ◌*◌, ◌%◌, ◌<◌, ◌≤◌, ◌≢◌, ◌==◌, nat_lt, nat_le, List, [], length, refl, sym, mod-lt, inl, inr, arith, length-append}
+use Rattle.std.specs.Prelude.{IsTrue}
+use Rattle.std.proofs.Common.{◌≡◌, ℕ, zero, suc, ◌+◌, ◌-◌, ◌*◌, ◌%◌, ◌<◌, ◌≤◌, ◌==◌, List, [], length, refl, sym, mod-lt, inl, inr, arith, length-append}
 use Rattle.std.specs.List.{AllByRecursion}
-use Rattle.std.proofs.lemmas.Bool.{cases_eq, cases_Bool, eq-eqb, ne_eqb, leb-true}
+use Rattle.std.proofs.lemmas.Bool.{cases_eq, cases_Bool, eq-eqb, ne_eqb}
 use Rattle.std.proofs.lemmas.List.Elements.{All-from_recursion}
-use Rattle.std.proofs.lemmas.Nat.{mod_below}
 use Rattle.rand_pcg.specs.Lcg.{Lcg}
-use Rattle.rand_pcg.specs.Pcg.{pcg32}
 use Rattle.lt_modes.specs.Script.{ScriptData, SetData, ClientData}
-use Rattle.lt_lists.proofs.AllLemmas.{all_append}
-use Rattle.lt_script.specs.Script.{IsScript, IsRequest}
+use Rattle.lt_lists.proofs.AllLemmas.{all_append, all_map}
+use Rattle.lt_modes.specs.declared.command.Command.{Command}
+use Rattle.lt_script.specs.Script.{IsScript, IsRequest, HasModesOf}
 use Rattle.lt_script.proofs.ScriptLemmas.{set_added, client_added}
-use Rattle.lt_gen.specs.declared.group.Group.{Group}
-use Rattle.lt_gen.specs.declared.group.Group.TheVariants.{Last, Lock, Try, Upgrade, Change}
-use Rattle.lt_gen.specs.Draws.{draw_of, seeded}
-use Rattle.lt_gen.specs.Groups.{group_of, group_by, set_of, commands_of, requests_of}
-use Rattle.lt_gen.specs.Generator.{four_sets, client_at, clients_of, requests_in, CanMake, HasSizes, script_of}
+use Rattle.lt_gen.specs.Draws.{seeded}
+use Rattle.lt_gen.specs.Groups.{group_of, group_commands, requests_of}
+use Rattle.lt_gen.specs.Sizes.{can_make}
+use Rattle.lt_gen.specs.Generator.{four_sets, client_at, clients_of, requests_in, HasSizes, script_of}
 use Rattle.lt_gen.proofs.ClientNames.{name_made, name_is_new}
 use Rattle.lt_gen.proofs.Loads.{clients_counted, load_fits}
+use Rattle.lt_gen.proofs.GroupLemmas.{group_targets, group_modes, set_drawn, five_drawn, few_drawn}
+use Rattle.lt_gen.proofs.SizeLemmas.{sizes_of}
 use Rattle.lt_gen.proofs.Turns.{some_commands, requests_counted}
+
+-- the request names modes of version 1
+abbrev NamesFirstModes : ℕ × Command → Type 0
+NamesFirstModes request = HasModesOf 1 request.1
 
 -- the nodes, these sets and these clients, and no commands
 without_commands : ℕ → List SetData → List ClientData → ScriptData
-without_commands nodes sets clients = record { nodes = nodes; sets = sets; clients = clients; commands = [] }
+without_commands nodes sets clients = record { version = 1; nodes = nodes; sets = sets; clients = clients; commands = [] }
 
 no_sets : (nodes : ℕ) → 0 < nodes → nodes ≤ 16 → IsScript (without_commands nodes [] [])
 unfolding without_commands
 no_sets nodes some few = record {
+  version = inl refl;
   some_node = some;
-  few_nodes = few;
+  few_nodes = omega (arith, few);
+  nodes_of_version = few;
   few_sets = omega arith;
   sets_named = λ set inside. absurd (omega arith);
   sets_found = λ set inside. absurd (omega arith);
   families_not_later = λ set inside. absurd (omega arith);
   families_first = λ set inside. absurd (omega arith);
   few_clients = omega arith;
+  clients_of_version = omega arith;
   clients_named = λ client inside. absurd (omega arith);
   clients_found = λ client inside. absurd (omega arith);
   clients_no_sets = λ client inside. absurd (omega arith);
@@ -41,6 +49,7 @@ no_sets nodes some few = record {
   loads = λ node. omega arith;
   few_commands = omega arith;
   requests = All-from_recursion (IsRequest [] []) [] tt;
+  modes = All-from_recursion NamesFirstModes [] tt;
 }
 
 sets_are : (nodes : ℕ) → 0 < nodes → nodes ≤ 16 → IsScript (without_commands nodes four_sets [])
@@ -60,46 +69,6 @@ clients_are nodes (suc n) some few small fits =
     client_added s (client_at nodes n) (clients_are nodes n some few (omega arith) (omega arith)) (name_made n (omega arith)) (name_is_new s n refl refl (omega arith))
     (omega (arith, clients_counted nodes n)) (mod-lt n some) (load_fits nodes n some (omega arith))
 
-group_set : (left set kind : ℕ) (g : Lcg) → set_of (group_by left set kind g).0 ≡ set
-group_set left set kind g = elim (cases_Bool (nat_lt kind 2)) [
-  | inl low ↦ rw low refl
-  | inr high ↦ rw high (elim (cases_Bool (kind == 2)) [
-    | inl two ↦ rw two (elim (cases_Bool (nat_le 3 left)) [ inl three ↦ rw three refl | inr less ↦ rw less refl ])
-    | inr other ↦ rw other refl
-  ])
-]
-
-group_few : (left set kind : ℕ) (g : Lcg) → 2 ≤ left → length (commands_of (group_by left set kind g).0) ≤ left
-group_few left set kind g enough = elim (cases_Bool (nat_lt kind 2)) [
-  | inl low ↦ rw low enough
-  | inr high ↦ rw high (elim (cases_Bool (kind == 2)) [
-    | inl two ↦ rw two (elim (cases_Bool (nat_le 3 left)) [ inl three ↦ rw three (leb-true 3 left three) | inr less ↦ rw less enough ])
-    | inr other ↦ rw other enough
-  ])
-]
-
--- the set of a drawn group is one of the four
-set_drawn : (left : ℕ) (g : Lcg) → set_of (group_of left g).0 < 4
-unfolding draw_of
-set_drawn left g = elim (cases_Bool (left == 1)) [
-  | inl last ↦ rw last (omega arith)
-  | inr more ↦ rw more (rw (group_set left (draw_of 4 g).0 (draw_of 4 (draw_of 4 g).1).0 (draw_of 4 (draw_of 4 g).1).1) (mod_below (pcg32 g).0 4 (omega arith)))
-]
-
--- a drawn group has no more commands than are left
-few_drawn : (left : ℕ) (g : Lcg) → left ≢ 0 → length (commands_of (group_of left g).0) ≤ left
-few_drawn left g some = elim (cases_eq left 1) [
-  | inl last ↦ rw (eq-eqb left 1 last) (omega arith)
-  | inr more ↦ rw (ne_eqb left 1 more) (group_few left (draw_of 4 g).0 (draw_of 4 (draw_of 4 g).1).0 (draw_of 4 (draw_of 4 g).1).1 (omega (arith, some, more)))
-]
-
-group_requests : (clients : List ClientData) (client : ℕ) (group : Group) → client < length clients → set_of group < 4 → AllByRecursion (IsRequest four_sets clients) (requests_of client group)
-group_requests clients client Last inside fits = ((inside, omega arith), tt)
-group_requests clients client (Lock set mode) inside fits = ((inside, fits), ((inside, fits), tt))
-group_requests clients client (Try set mode) inside fits = ((inside, fits), ((inside, fits), tt))
-group_requests clients client (Upgrade set) inside fits = ((inside, fits), ((inside, fits), tt))
-group_requests clients client (Change set) inside fits = ((inside, fits), ((inside, fits), ((inside, fits), tt)))
-
 all_requests : (clients : List ClientData) (n count left turn : ℕ) (g : Lcg) → 0 < count → count ≡ length clients → AllByRecursion (IsRequest four_sets clients) (requests_in n count left turn g)
 unfolding requests_in
 all_requests clients zero count left turn g some counted = tt
@@ -109,8 +78,20 @@ all_requests clients (suc n) count left turn g some counted = elim (cases_Bool (
       rw more
       (let group = (group_of left g).0 in
       all_append (IsRequest four_sets clients) (requests_of (turn % count) group) _
-      (group_requests clients (turn % count) group (omega (arith, mod-lt turn some, counted)) (set_drawn left g))
-      (all_requests clients n count (left - length (commands_of group)) (turn + 1) (group_of left g).1 some counted))
+      (all_map (IsRequest four_sets clients) (λ (command : Command). (turn % count, command)) (group_commands group) (group_targets four_sets clients (turn % count) group (omega (arith, mod-lt turn some, counted)) (omega arith) (set_drawn left g)))
+      (all_requests clients n count (left - length (group_commands group)) (turn + 1) (group_of left g).1 some counted))
+]
+
+all_modes : (n count left turn : ℕ) (g : Lcg) → AllByRecursion NamesFirstModes (requests_in n count left turn g)
+unfolding requests_in
+all_modes zero count left turn g = tt
+all_modes (suc n) count left turn g = elim (cases_Bool (left == 0)) [
+  | inl none ↦ rw none tt
+  | inr more ↦
+      rw more
+      (let group = (group_of left g).0 in
+      all_append NamesFirstModes (requests_of (turn % count) group) _ (all_map NamesFirstModes (λ (command : Command). (turn % count, command)) (group_commands group) (group_modes 1 group (five_drawn left g)))
+      (all_modes n count (left - length (group_commands group)) (turn + 1) (group_of left g).1))
 ]
 
 -- as many turns as commands are left make exactly these
@@ -122,8 +103,8 @@ exact_requests (suc n) count left turn g enough = elim (cases_eq left 0) [
   | inr more ↦
       rw (ne_eqb left 0 more)
       (let group = (group_of left g).0 in
-      let later = requests_in n count (left - length (commands_of group)) (turn + 1) (group_of left g).1 in
-      let rest : length later ≡ left - length (commands_of group) = exact_requests n count (left - length (commands_of group)) (turn + 1) (group_of left g).1 (omega (arith, enough, some_commands group)) in
+      let later = requests_in n count (left - length (group_commands group)) (turn + 1) (group_of left g).1 in
+      let rest : length later ≡ left - length (group_commands group) = exact_requests n count (left - length (group_commands group)) (turn + 1) (group_of left g).1 (omega (arith, enough, some_commands group)) in
       omega (arith, length-append (requests_of (turn % count) group) later, requests_counted (turn % count) group, few_drawn left g more, rest))
 ]
 
@@ -138,19 +119,23 @@ has_sizes nodes clients commands seed = record {
   commands_are = all_of_them clients commands seed;
 }
 
-pub is_script : (nodes clients commands seed : ℕ) → CanMake nodes clients commands → IsScript (script_of nodes clients commands seed)
+pub is_script : (nodes clients commands seed : ℕ) → IsTrue (can_make nodes clients commands) → IsScript (script_of nodes clients commands seed)
 unfolding without_commands
-is_script nodes clients commands seed can =
+is_script nodes clients commands seed possible =
+    let can = sizes_of nodes clients commands possible in
     let base = clients_are nodes clients can.some_node can.few_nodes can.few_clients can.on_nodes in
     record {
+      version = base.version;
       some_node = base.some_node;
       few_nodes = base.few_nodes;
+      nodes_of_version = base.nodes_of_version;
       few_sets = base.few_sets;
       sets_named = base.sets_named;
       sets_found = base.sets_found;
       families_not_later = base.families_not_later;
       families_first = base.families_first;
       few_clients = base.few_clients;
+      clients_of_version = base.clients_of_version;
       clients_named = base.clients_named;
       clients_found = base.clients_found;
       clients_no_sets = base.clients_no_sets;
@@ -158,4 +143,5 @@ is_script nodes clients commands seed can =
       loads = base.loads;
       few_commands = omega (arith, all_of_them clients commands seed, can.few_commands);
       requests = All-from_recursion (IsRequest four_sets (clients_of nodes clients)) _ (all_requests (clients_of nodes clients) commands clients commands 0 (seeded seed) can.some_client (sym (clients_counted nodes clients)));
+      modes = All-from_recursion NamesFirstModes _ (all_modes commands clients commands 0 (seeded seed));
     }

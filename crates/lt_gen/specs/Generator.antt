@@ -1,13 +1,12 @@
 -- The script that is made from a number.
-use Rattle.std.specs.Prelude.{◌≡◌, ℕ, zero, suc, ◌+◌, ◌-◌, ◌*◌, ◌%◌, ◌<◌, ◌≤◌, ◌==◌, if◌then◌else◌, List, [], ◌∷◌, ◌++◌, length, codes}
+use Rattle.std.specs.Prelude.{◌≡◌, ℕ, zero, suc, ◌+◌, ◌-◌, ◌%◌, ◌==◌, if◌then◌else◌, List, [], ◌∷◌, ◌++◌, length, codes}
 use Rattle.std.specs.Fmt.{decimal}
 use Rattle.rand_pcg.specs.Lcg.{Lcg}
 use Rattle.lt_modes.specs.declared.command.Command.{Command}
 use Rattle.lt_modes.specs.Script.{ScriptData, SetData, ClientData}
-use Rattle.lt_script.specs.declared.limits.TheConstants.{MAX_NODES, MAX_CLIENTS, MAX_CLIENTS_OF_NODE, MAX_COMMANDS}
 use Rattle.lt_gen.specs.declared.group.Group.{Group}
 use Rattle.lt_gen.specs.Draws.{seeded}
-use Rattle.lt_gen.specs.Groups.{group_of, commands_of, requests_of}
+use Rattle.lt_gen.specs.Groups.{group_of, group_commands, requests_of}
 
 -- `s0` to `s3`, each in a family of its own
 abbrev pub four_sets : List SetData
@@ -19,11 +18,11 @@ four_sets =
     ∷ []
 
 -- `c0`, `c1` and so on
-abbrev pub client_name : ℕ → List ℕ
-client_name client = codes "c" ++ decimal client
+abbrev pub drawn_client : ℕ → List ℕ
+drawn_client client = codes "c" ++ decimal client
 
 abbrev pub client_at : ℕ → ℕ → ClientData
-client_at nodes client = record { name = client_name client; node = client % nodes }
+client_at nodes client = record { name = drawn_client client; node = client % nodes }
 
 -- the first so many clients, which go round the nodes
 unfoldable pub clients_of : ℕ → ℕ → List ClientData
@@ -32,7 +31,7 @@ clients_of nodes (suc n) = clients_of nodes n ++ client_at nodes n ∷ []
 
 -- a group of the client whose turn it is, and the commands of the later turns
 abbrev pub turn_and : (ℕ → Lcg → List (ℕ × Command)) → ℕ → ℕ → Group × Lcg → List (ℕ × Command)
-turn_and later client left drawn = requests_of client drawn.0 ++ later (left - length (commands_of drawn.0)) drawn.1
+turn_and later client left drawn = requests_of client drawn.0 ++ later (left - length (group_commands drawn.0)) drawn.1
 
 -- the commands of at most so many turns from this one on, where so many are left to be made: the clients take turns
 unfoldable pub requests_in : ℕ → ℕ → ℕ → ℕ → Lcg → List (ℕ × Command)
@@ -44,6 +43,7 @@ requests_in (suc n) clients left turn g =
 -- the script with so many nodes, clients and commands that is made from the seed; each turn makes a command
 abbrev pub script_of : ℕ → ℕ → ℕ → ℕ → ScriptData
 script_of nodes clients commands seed = record {
+  version = 1;
   nodes = nodes;
   sets = four_sets;
   clients = clients_of nodes clients;
@@ -56,12 +56,3 @@ pub record HasSizes (nodes sets clients commands : ℕ) (script : ScriptData) : 
   pub sets_are : length script.sets ≡ sets
   pub clients_are : length script.clients ≡ clients
   pub commands_are : length script.commands ≡ commands
-
--- a script can have so many nodes, clients and commands
-pub record CanMake (nodes clients commands : ℕ) : Type 0 where
-  pub some_node : 0 < nodes
-  pub few_nodes : nodes ≤ MAX_NODES
-  pub some_client : 0 < clients
-  pub few_clients : clients ≤ MAX_CLIENTS
-  pub on_nodes : clients ≤ nodes * MAX_CLIENTS_OF_NODE
-  pub few_commands : commands ≤ MAX_COMMANDS

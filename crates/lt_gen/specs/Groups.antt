@@ -1,17 +1,18 @@
 -- The groups of commands of a generated script: what a client does in its turn.
-use Rattle.std.specs.Prelude.{ℕ, ◌==◌, nat_lt, nat_le, if◌then◌else◌, List, [], ◌∷◌, map}
+use Rattle.std.specs.Prelude.{ℕ, ◌==◌, nat_lt, nat_le, if◌then◌else◌, List, [], ◌∷◌, map, IsTrue}
 use Rattle.rand_pcg.specs.Lcg.{Lcg}
 use Rattle.lt_modes.specs.declared.mode.Mode.{Mode}
 use Rattle.lt_modes.specs.declared.mode.Mode.TheVariants as modes
 use Rattle.lt_modes.specs.declared.command.Command.{Command}
 use Rattle.lt_modes.specs.declared.command.Command.TheVariants as commands
+use Rattle.lt_modes.specs.FiveModes.{is_of_five}
 use Rattle.lt_gen.specs.declared.group.Group.{Group}
 use Rattle.lt_gen.specs.declared.group.Group.TheVariants.{Last, Lock, Try, Upgrade, Change}
 use Rattle.lt_gen.specs.Draws.{draw_of}
 
--- the modes in order
-abbrev pub mode_at : ℕ → Mode
-mode_at k =
+-- the five modes of version 1, in order
+abbrev pub nth_mode : ℕ → Mode
+nth_mode k =
     if k == 0 then modes.IntentionRead
     else if k == 1 then modes.Read
     else if k == 2 then modes.Upgrade
@@ -20,18 +21,18 @@ mode_at k =
 
 -- one of the five modes
 abbrev pub drawn_mode : Lcg → Mode × Lcg
-drawn_mode g = (mode_at (draw_of 5 g).0, (draw_of 5 g).1)
+drawn_mode g = (nth_mode (draw_of 5 g).0, (draw_of 5 g).1)
 
 -- a group that takes a drawn mode
-abbrev pub with_mode : (Mode → Group) → Mode × Lcg → Group × Lcg
-with_mode group drawn = (group drawn.0, drawn.1)
+abbrev pub drawn_with : (Mode → Group) → Mode × Lcg → Group × Lcg
+drawn_with group drawn = (group drawn.0, drawn.1)
 
 -- the group of this kind on this set, where at least two commands are left
 abbrev pub group_by : ℕ → ℕ → ℕ → Lcg → Group × Lcg
 group_by left set kind g =
-    if nat_lt kind 2 then with_mode (Lock set) (drawn_mode g)
+    if nat_lt kind 2 then drawn_with (Lock set) (drawn_mode g)
     else if kind == 2 then ((if nat_le 3 left then Change set else Upgrade set), g)
-    else with_mode (Try set) (drawn_mode g)
+    else drawn_with (Try set) (drawn_mode g)
 
 abbrev pub group_after : ℕ → ℕ × Lcg → Group × Lcg
 group_after left set = group_by left set.0 (draw_of 4 set.1).0 (draw_of 4 set.1).1
@@ -48,14 +49,21 @@ set_of (Try set mode) = set
 set_of (Upgrade set) = set
 set_of (Change set) = set
 
-abbrev pub commands_of : Group → List Command
-commands_of Last = commands.Unlock 0 modes.Read ∷ []
-commands_of (Lock set mode) = commands.Lock set mode ∷ commands.Unlock set mode ∷ []
-commands_of (Try set mode) = commands.Try set mode ∷ commands.Unlock set mode ∷ []
-commands_of (Upgrade set) = commands.Lock set modes.Upgrade ∷ commands.Unlock set modes.Upgrade ∷ []
-commands_of (Change set) =
+-- the mode that the group takes is one of the five of version 1
+abbrev pub HasFiveModes : Group → Type 0
+HasFiveModes (Lock set mode) = IsTrue (is_of_five mode)
+HasFiveModes (Try set mode) = IsTrue (is_of_five mode)
+HasFiveModes other = Unit {0}
+
+-- the commands of the group, in order
+abbrev pub group_commands : Group → List Command
+group_commands Last = commands.Unlock 0 modes.Read ∷ []
+group_commands (Lock set mode) = commands.Lock set mode ∷ commands.Unlock set mode ∷ []
+group_commands (Try set mode) = commands.Try set mode ∷ commands.Unlock set mode ∷ []
+group_commands (Upgrade set) = commands.Lock set modes.Upgrade ∷ commands.Unlock set modes.Upgrade ∷ []
+group_commands (Change set) =
     commands.Lock set modes.Upgrade ∷ commands.Change set modes.Upgrade modes.Write ∷ commands.Unlock set modes.Write ∷ []
 
 -- the commands, which this client makes
 abbrev pub requests_of : ℕ → Group → List (ℕ × Command)
-requests_of client group = map (λ command. (client, command)) (commands_of group)
+requests_of client group = map (λ command. (client, command)) (group_commands group)

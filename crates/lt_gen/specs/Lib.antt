@@ -1,4 +1,5 @@
 pub mod Draws
 pub mod Groups
+pub mod Sizes
 pub mod Generator
 pub mod Making

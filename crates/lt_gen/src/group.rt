@@ -1,11 +1,10 @@
-ghost use Rattle.std.specs.Prelude.{◌≡◌, ◌<◌, ◌≤◌, ◌+◌, ◌++◌, length, OnOk};
-ghost use Rattle.lt_script.specs.declared.limits.TheConstants.{MAX_COMMANDS};
-ghost use Rattle.lt_gen.specs.Groups.{drawn_mode, group_of, set_of, commands_of, requests_of};
+ghost use Rattle.std.specs.Prelude.{◌≡◌, ◌<◌, ◌≤◌, length, IfOk, IsTrue};
+ghost use Rattle.lt_modes.specs.FiveModes.{is_of_five};
+ghost use Rattle.lt_gen.specs.Groups.{drawn_mode, group_of, set_of, group_commands, HasFiveModes};
 
 use crate::draws::Draws;
 use lt_modes::{Command, Mode};
-use lt_script::Script;
-use std::alloc::AllocError;
+use std::alloc::{AllocError, Global};
 
 /// The number of sets of a generated script.
 pub const SETS: u32 = 4;
@@ -28,7 +27,8 @@ impl Group {
     pub fn drawn(draws: &mut Draws, left: u32) -> Group
         ensures value { (result, draws.new) ≡ group_of left draws.old }
         ensures set { set_of result < SETS }
-        ensures few { 0 < left → length (commands_of result) ≤ left }
+        ensures five { HasFiveModes result }
+        ensures few { 0 < left → length (group_commands result) ≤ left }
     {
         if left == 1 {
             return Group::Last;
@@ -48,70 +48,56 @@ impl Group {
         }
     }
 
-    /// The number of commands.
-    pub fn len(self) -> u32
-        ensures { result ≡ length (commands_of self) }
-    {
-        match self {
-            Group::Last => 1,
-            Group::Lock { .. } | Group::Try { .. } | Group::Upgrade { .. } => 2,
-            Group::Change { .. } => 3,
-        }
-    }
-
-    /// Adds the commands, which this client makes.
-    pub fn add_to(self, script: &mut Script, client: u16) -> Result<(), AllocError>
-        requires client { client < length script.old.clients }
-        requires sets { SETS ≤ length script.old.sets }
-        requires set { set_of self < SETS }
-        requires room { length script.old.commands + length (commands_of self) ≤ MAX_COMMANDS }
-        ensures { OnOk result (script.new
-            ≡ record script.old { commands = script.old.commands ++ requests_of client self }) }
+    /// The commands that the client makes, in order.
+    pub fn commands(self, alloc: Global) -> Result<Vec<Command>, AllocError>
+        ensures { IfOk result (λ commands. commands.items ≡ group_commands self) }
     {
         match self {
             Group::Last => {
                 let mode = Mode::Read;
-                script.add_command(client, Command::Unlock { set: 0, mode })
+                Vec::from_slice(alloc, &[Command::Unlock { set: 0, mode }])
             }
-            Group::Lock { set, mode } => {
-                script.add_command(client, Command::Lock { set, mode })?;
-                script.add_command(client, Command::Unlock { set, mode })
-            }
-            Group::Try { set, mode } => {
-                script.add_command(client, Command::Try { set, mode })?;
-                script.add_command(client, Command::Unlock { set, mode })
-            }
+            Group::Lock { set, mode } => Vec::from_slice(
+                alloc,
+                &[Command::Lock { set, mode }, Command::Unlock { set, mode }],
+            ),
+            Group::Try { set, mode } => Vec::from_slice(
+                alloc,
+                &[Command::Try { set, mode }, Command::Unlock { set, mode }],
+            ),
             Group::Upgrade { set } => {
                 let mode = Mode::Upgrade;
-                script.add_command(client, Command::Lock { set, mode })?;
-                script.add_command(client, Command::Unlock { set, mode })
+                Vec::from_slice(
+                    alloc,
+                    &[Command::Lock { set, mode }, Command::Unlock { set, mode }],
+                )
             }
             Group::Change { set } => {
                 let gives_up = Mode::Upgrade;
                 let mode = Mode::Write;
-                script.add_command(
-                    client,
-                    Command::Lock {
-                        set,
-                        mode: gives_up,
-                    },
-                )?;
-                script.add_command(
-                    client,
-                    Command::Change {
-                        set,
-                        gives_up,
-                        mode,
-                    },
-                )?;
-                script.add_command(client, Command::Unlock { set, mode })
+                Vec::from_slice(
+                    alloc,
+                    &[
+                        Command::Lock {
+                            set,
+                            mode: gives_up,
+                        },
+                        Command::Change {
+                            set,
+                            gives_up,
+                            mode,
+                        },
+                        Command::Unlock { set, mode },
+                    ],
+                )
             }
         }
     }
 }
 
 fn drawn_mode(draws: &mut Draws) -> Mode
-    ensures { (result, draws.new) ≡ drawn_mode draws.old }
+    ensures value { (result, draws.new) ≡ drawn_mode draws.old }
+    ensures five { IsTrue (is_of_five result) }
 {
     match draws.draw(5) {
         0 => Mode::IntentionRead,

@@ -1,19 +1,20 @@
-ghost use Rattle.std.specs.Prelude.{◌≡◌, ◌<◌, ◌≤◌, ◌*◌, ℕ, Ok};
+ghost use Rattle.std.specs.Prelude.{◌≡◌, ℕ, Ok, IsTrue};
 ghost use Rattle.lt_script.specs.Script.{IsScript};
 ghost use Rattle.lt_script.specs.Printing.{print_of};
 ghost use Rattle.lt_script.specs.Reading.{read_of};
-ghost use Rattle.lt_gen.specs.Generator.{CanMake, HasSizes, script_of};
+ghost use Rattle.lt_gen.specs.Sizes.{can_make};
+ghost use Rattle.lt_gen.specs.Generator.{HasSizes, script_of};
 
 use lt_script::law_print;
 
 /// What the generator makes is a script of the sizes that were asked: it keeps all limits, and its text has no fault and
 /// is read as it.
 pub fn law_generated()
-    ensures script { (nodes clients commands seed : ℕ) → CanMake nodes clients commands
+    ensures script { (nodes clients commands seed : ℕ) → IsTrue (can_make nodes clients commands)
         → IsScript (script_of nodes clients commands seed) }
     ensures sizes { (nodes clients commands seed : ℕ)
         → HasSizes nodes 4 clients commands (script_of nodes clients commands seed) }
-    ensures read_back { (nodes clients commands seed : ℕ) → CanMake nodes clients commands
+    ensures read_back { (nodes clients commands seed : ℕ) → IsTrue (can_make nodes clients commands)
         → read_of (print_of (script_of nodes clients commands seed)) ≡ Ok (script_of nodes clients commands seed) }
 {
     law_print();

@@ -5,9 +5,11 @@ mod draws;
 mod group;
 mod laws;
 mod making;
+mod sizes;
 #[cfg(test)]
 mod tests;
 
 pub use draws::Draws;
 pub use laws::law_generated;
 pub use making::script;
+pub use sizes::can_make;

@@ -1,10 +1,12 @@
-ghost use Rattle.std.specs.Prelude.{◌≡◌, ◌<◌, ◌≤◌, ◌*◌, ◌++◌, ◌∷◌, [], length, IfOk, OnOk};
-ghost use Rattle.lt_script.specs.Script.{IsScript};
-ghost use Rattle.lt_script.specs.declared.limits.TheConstants.{MAX_NODES, MAX_CLIENTS, MAX_CLIENTS_OF_NODE, MAX_COMMANDS};
-ghost use Rattle.lt_gen.specs.Generator.{four_sets, client_name, clients_of, requests_in, script_of, HasSizes};
+ghost use Rattle.std.specs.Prelude.{◌≡◌, ◌<◌, ◌≤◌, ◌*◌, ◌+◌, ◌++◌, ◌∷◌, [], map, length, All, IfOk, OnOk, IsTrue};
+ghost use Rattle.lt_script.specs.Script.{IsScript, IsRequest, HasModesOf};
+ghost use Rattle.lt_script.specs.declared.limits.TheConstants.{MAX_CLIENTS_OF_FIRST, MAX_CLIENTS_OF_NODE, MAX_COMMANDS};
+ghost use Rattle.lt_gen.specs.Sizes.{can_make};
+ghost use Rattle.lt_gen.specs.Generator.{four_sets, drawn_client, clients_of, requests_in, script_of, HasSizes};
 
 use crate::draws::Draws;
 use crate::group::Group;
+use lt_modes::Command;
 use lt_script::Script;
 use lt_text::push_number;
 use std::alloc::{AllocError, Global};
@@ -20,10 +22,7 @@ pub fn script(
     commands: u32,
     seed: u64,
 ) -> Result<Script, AllocError>
-    requires nodes { (0 < nodes) × (nodes ≤ MAX_NODES) }
-    requires clients { (0 < clients) × (clients ≤ MAX_CLIENTS) }
-    requires on_nodes { clients ≤ nodes * MAX_CLIENTS_OF_NODE }
-    requires commands { commands ≤ MAX_COMMANDS }
+    requires { IsTrue (can_make nodes clients commands) }
     ensures made { IfOk result (λ s. s ≡ script_of nodes clients commands seed) }
     ensures sizes { IfOk result (HasSizes nodes 4 clients commands) }
     ensures kept { IfOk result IsScript }
@@ -31,7 +30,7 @@ pub fn script(
     let mut script = Script::new(alloc, nodes)?;
     add_sets(&mut script)?;
     add_clients(alloc, &mut script, clients)?;
-    add_commands(&mut script, clients, commands, Draws::new(seed))?;
+    add_commands(alloc, &mut script, clients, commands, Draws::new(seed))?;
     Ok(script)
 }
 
@@ -47,7 +46,8 @@ fn add_sets(script: &mut Script) -> Result<(), AllocError>
 }
 
 fn add_clients(alloc: Global, script: &mut Script, clients: u16) -> Result<(), AllocError>
-    requires few { clients ≤ MAX_CLIENTS }
+    requires version { script.old.version ≡ 1 }
+    requires few { clients ≤ MAX_CLIENTS_OF_FIRST }
     requires on_nodes { clients ≤ script.old.nodes * MAX_CLIENTS_OF_NODE }
     requires sets { script.old.sets ≡ four_sets }
     requires none { script.old.clients ≡ [] }
@@ -63,7 +63,7 @@ fn add_clients(alloc: Global, script: &mut Script, clients: u16) -> Result<(), A
 }
 
 fn client_name(alloc: Global, client: u16) -> Result<Vec<u8>, AllocError>
-    ensures { IfOk result (λ name. name.items ≡ client_name client) }
+    ensures { IfOk result (λ name. name.items ≡ drawn_client client) }
 {
     let mut name = Vec::from_slice(alloc, b"c")?;
     push_number(&mut name, u32::from(client))?;
@@ -71,6 +71,7 @@ fn client_name(alloc: Global, client: u16) -> Result<Vec<u8>, AllocError>
 }
 
 fn add_commands(
+    alloc: Global,
     script: &mut Script,
     clients: u16,
     commands: u32,
@@ -87,10 +88,27 @@ fn add_commands(
     let mut left = commands;
     let mut turn: u32 = 0;
     while left > 0 {
+        let client = (turn % u32::from(clients)) as u16;
         let group = Group::drawn(&mut draws, left);
-        group.add_to(script, (turn % u32::from(clients)) as u16)?;
-        left -= group.len();
+        let made = group.commands(alloc)?;
+        add_turn(script, client, &made)?;
+        left -= made.len() as u32;
         turn += 1;
+    }
+    Ok(())
+}
+
+// Adds the commands that this client makes in its turn.
+fn add_turn(script: &mut Script, client: u16, commands: &[Command]) -> Result<(), AllocError>
+    requires requests { All (λ command. IsRequest script.old.sets script.old.clients (client, command)) commands.now }
+    requires modes { All (HasModesOf script.old.version) commands.now }
+    requires room { length script.old.commands + length commands.now ≤ MAX_COMMANDS }
+    ensures { OnOk result (script.new ≡ record script.old {
+      commands = script.old.commands ++ map (λ command. (client, command)) commands.now;
+    }) }
+{
+    for command in commands {
+        script.add_command(client, *command)?;
     }
     Ok(())
 }

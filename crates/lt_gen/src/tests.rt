@@ -1,5 +1,5 @@
-use crate::{Draws, script};
-use lt_script::{MAX_CLIENTS, MAX_CLIENTS_OF_NODE, MAX_COMMANDS, MAX_NODES, print};
+use crate::{Draws, can_make, script};
+use lt_script::print;
 use std::alloc::Global;
 use std::test::Fail;
 
@@ -8,13 +8,8 @@ type Size = (u8, u16, u32, u64);
 
 fn printed(alloc: Global, size: Size) -> Result<Vec<u8>, Fail> {
     let (nodes, clients, commands, seed) = size;
-    let few_nodes = 0 < nodes && nodes <= MAX_NODES;
-    let few_clients = 0 < clients && clients <= MAX_CLIENTS;
-    if !few_nodes || !few_clients || commands > MAX_COMMANDS {
+    if !can_make(u32::from(nodes), u32::from(clients), commands) {
         return Err(Fail::from("no script is so large"));
-    }
-    if clients > u16::from(nodes) * MAX_CLIENTS_OF_NODE {
-        return Err(Fail::from("too many clients on a node"));
     }
     let script = script(alloc, nodes, clients, commands, seed)?;
     Ok(print(alloc, &script)?)

@@ -2,14 +2,15 @@
 use Rattle.std.proofs.Common.{◌≡◌, ℕ, suc, ◌+◌, ◌*◌, ◌<◌, ◌≤◌, inl, inr, List, [], ◌∷◌, length, Option, Some, None, Bool, true, false, refl, sym, ap, arith, ◌∙◌, drop}
 use Rattle.std.specs.Prelude.{◌==◌, ◌&&◌, nat_lt, if◌then◌else◌, count_by, sum_by, remove, filter, position, slice_index_or}
 use Rattle.std.specs.List.{position_or_len}
+use Rattle.std.proofs.Math.Path.{fun_ext}
 use Rattle.std.proofs.lemmas.Bool.{cases_lt, lt-ltb, false≢true}
 use Rattle.std.proofs.lemmas.List.{drop_more}
 use Rattle.std.proofs.lemmas.List.Quantifiers.{position-Some}
 use Rattle.std.proofs.lemmas.List.Sums.{fails_before_first, sum_by-cons, sum_by-remove}
 use Rattle.lt_modes.specs.declared.mode.Mode.{Mode}
-use Rattle.lt_modes.specs.declared.mode.Mode.TheVariants.{IntentionRead, Read, Upgrade, IntentionWrite, Write}
 use Rattle.lt_modes.specs.declared.parts.Row.{Row}
-use Rattle.lt_modes.specs.Modes.{same_mode}
+use Rattle.lt_modes.specs.Modes.{same_mode, modes_in_order}
+use Rattle.lt_modes.proofs.EachMode.{each_mode}
 use Rattle.lt_modes.specs.Held.{is_row_of, is_of, no_row, row_place, count_at, count_of, locks_of}
 use Rattle.lt_held.specs.HeldData.{AreRows, most_locks}
 
@@ -72,7 +73,7 @@ total_counted rows client mode h = by_place (row_place rows client mode) refl
 abbrev pub client_count : ℕ → Row → ℕ
 client_count client row = if row.client == client then row.count else 0
 
-locks_of-cons : (client : ℕ) (row : Row) (rest : List Row) → locks_of (row ∷ rest) client ≡ client_count client row + locks_of rest client
+pub locks_of-cons : (client : ℕ) (row : Row) (rest : List Row) → locks_of (row ∷ rest) client ≡ client_count client row + locks_of rest client
 locks_of-cons client row rest = by_test (row.client == client)
   where
     kept : List Row
@@ -82,23 +83,27 @@ locks_of-cons client row rest = by_test (row.client == client)
     by_test true = sum_by-cons (λ (r : Row). r.count) row kept
     by_test false = omega arith
 
-of_one_mode : (own : Bool) (mode : Mode) (n : ℕ)
-    → (if own then n else 0)
-    ≡ (if own && same_mode mode IntentionRead then n else 0) + (if own && same_mode mode Read then n else 0) + (if own && same_mode mode Upgrade then n else 0)
-    + (if own && same_mode mode IntentionWrite then n else 0)
-    + (if own && same_mode mode Write then n else 0)
-of_one_mode false mode n = refl
-of_one_mode true IntentionRead n = omega arith
-of_one_mode true Read n = omega arith
-of_one_mode true Upgrade n = omega arith
-of_one_mode true IntentionWrite n = omega arith
-of_one_mode true Write n = omega arith
+-- a number stands once among the modes
+of_modes : (own : Bool) (n : ℕ) (mode : Mode) → (if own then n else 0) ≡ sum_by (λ (m : Mode). if own && same_mode mode m then n else 0) modes_in_order
+of_modes false n mode = refl
+of_modes true n mode =
+    each_mode (λ (m : Mode). n ≡ sum_by (λ (k : Mode). if same_mode m k then n else 0) modes_in_order) (omega arith) (omega arith) (omega arith) (omega arith) (omega arith) (omega arith) mode
 
-pub locks_by_mode : (rows : List Row) (client : ℕ)
-    → locks_of rows client ≡ total rows client IntentionRead + total rows client Read + total rows client Upgrade + total rows client IntentionWrite + total rows client Write
+sum_by-plus : {X : Type 0} (f g : X → ℕ) (xs : List X) → sum_by (λ (x : X). f x + g x) xs ≡ sum_by f xs + sum_by g xs
+sum_by-plus f g [] = refl
+sum_by-plus f g (x ∷ xs) = omega (arith, sum_by-cons (λ x. f x + g x) x xs, sum_by-cons f x xs, sum_by-cons g x xs, sum_by-plus f g xs)
+
+sum_by-most : {X : Type 0} (f : X → ℕ) (most : ℕ) (xs : List X) → ((x : X) → f x ≤ most) → sum_by f xs ≤ length xs * most
+sum_by-most f most [] within = omega arith
+sum_by-most f most (x ∷ xs) within = omega (arith, sum_by-cons f x xs, within x, sum_by-most f most xs within)
+
+-- the locks of a client are those of each mode
+locks_by_mode : (rows : List Row) (client : ℕ) → locks_of rows client ≡ sum_by (λ (mode : Mode). total rows client mode) modes_in_order
 locks_by_mode [] client = refl
 locks_by_mode (row ∷ rest) client =
-    omega (arith, locks_of-cons client row rest, of_one_mode (row.client == client) row.mode row.count, locks_by_mode rest client, sum_by-cons (row_count client IntentionRead) row rest, sum_by-cons (row_count client Read) row rest, sum_by-cons (row_count client Upgrade) row rest, sum_by-cons (row_count client IntentionWrite) row rest, sum_by-cons (row_count client Write) row rest)
+    let each : sum_by (λ (mode : Mode). total (row ∷ rest) client mode) modes_in_order ≡ sum_by (λ (mode : Mode). row_count client mode row + total rest client mode) modes_in_order =
+    ap (λ (f : Mode → ℕ). sum_by f modes_in_order) (fun_ext (λ (mode : Mode). sum_by-cons (row_count client mode) row rest)) in
+    omega (arith, locks_of-cons client row rest, of_modes (row.client == client) row.count row.mode, locks_by_mode rest client, each, sum_by-plus (λ (mode : Mode). row_count client mode row) (λ (mode : Mode). total rest client mode) modes_in_order)
 
 pub count_bounded : (rows : List Row) (client : ℕ) (mode : Mode) → AreRows rows → count_of rows client mode ≤ most_locks
 count_bounded rows client mode h = by_place (row_place rows client mode) refl
@@ -107,10 +112,9 @@ count_bounded rows client mode h = by_place (row_place rows client mode) refl
     by_place None e = omega arith
     by_place (Some k) e = (h.counted k no_row (position-Some (is_row_of client mode) rows k no_row e).0).within
 
--- a client has at most five rows
-pub few_locks : (rows : List Row) (client : ℕ) → AreRows rows → locks_of rows client ≤ 5 * most_locks
-few_locks rows client h =
-    omega (arith, locks_by_mode rows client, in_mode IntentionRead, in_mode Read, in_mode Upgrade, in_mode IntentionWrite, in_mode Write)
+-- a client has at most one row of each mode
+pub few_locks : (rows : List Row) (client : ℕ) → AreRows rows → locks_of rows client ≤ length modes_in_order * most_locks
+few_locks rows client h = omega (arith, locks_by_mode rows client, sum_by-most (λ (mode : Mode). total rows client mode) 65536 modes_in_order in_mode)
   where
     in_mode : (mode : Mode) → total rows client mode ≤ 65536
     in_mode mode = omega (arith, total_counted rows client mode h, count_bounded rows client mode h)

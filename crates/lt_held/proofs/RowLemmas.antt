@@ -1,29 +1,21 @@
 -- What is done to rows leaves them distinct and their counts in bounds.
 use Rattle.std.proofs.Common.{◌≡◌, ℕ, ◌+◌, ◌-◌, ◌<◌, ◌≤◌, List, [], ◌∷◌, ◌++◌, length, suc, Option, Some, None, Bool, true, false, refl, sym, ap, arith, ◌∙◌, take, drop}
-use Rattle.std.specs.Prelude.{◌==◌, not, if◌then◌else◌, count_by, sum_by, remove, filter, slice_index_or, slice_set}
+use Rattle.std.specs.Prelude.{◌==◌, ◌&&◌, not, if◌then◌else◌, count_by, sum_by, remove, filter, slice_index_or, slice_set}
 use Rattle.std.proofs.lemmas.Bool.{eqb-true, and_parts}
 use Rattle.std.proofs.lemmas.List.Elements.{All-append, All-take, All-drop, All-set, All-push, All-filter}
 use Rattle.std.proofs.lemmas.List.Quantifiers.{position-Some}
 use Rattle.std.proofs.lemmas.List.Sums.{sum_by-cons, sum_by_push, sum_by-set, sum_by-remove, get_or-le-sum_by}
 use Rattle.lt_modes.specs.declared.mode.Mode.{Mode}
-use Rattle.lt_modes.specs.declared.mode.Mode.TheVariants.{IntentionRead, Read, Upgrade, IntentionWrite, Write}
 use Rattle.lt_modes.specs.declared.parts.Row.{Row}
 use Rattle.lt_modes.specs.Modes.{same_mode}
+use Rattle.lt_modes.proofs.EachMode.{same_mode-true}
 use Rattle.lt_modes.specs.Held.{is_row_of, is_of, no_row, row_place, one_less, count_at, count_of, take_at, take_lock, without_client, locks_of, locks_in}
 use Rattle.lt_held.specs.HeldData.{AreRows, IsCounted}
-use Rattle.lt_held.proofs.CountLemmas.{none_found, sum_by-zero, row_count, total, total_counted, locks_by_mode}
+use Rattle.lt_held.proofs.CountLemmas.{none_found, sum_by-zero, row_count, total, total_counted, locks_of-cons}
 
 -- 1 where the row is that of the client and the mode
 abbrev one_if : ℕ → Mode → Row → ℕ
 one_if client mode row = if is_row_of client mode row then 1 else 0
-
-same_mode-true : (a b : Mode) → same_mode a b ≡ true → a ≡ b
-same_mode-true IntentionRead IntentionRead e = refl
-same_mode-true Read Read e = refl
-same_mode-true Upgrade Upgrade e = refl
-same_mode-true IntentionWrite IntentionWrite e = refl
-same_mode-true Write Write e = refl
-same_mode-true a b e = cc
 
 -- a row may change its count
 pub rows_set : (rows : List Row) (k : ℕ) (d row : Row) → AreRows rows → k < length rows → IsCounted row
@@ -110,11 +102,14 @@ count_totalled rows client mode = by_place (row_place rows client mode) refl
         omega (arith, all, get_or-le-sum_by (row_count client mode) rows k no_row found.0)
 
 of_client : (rows : List Row) (client : ℕ) (mode : Mode) → total rows client mode ≤ locks_of rows client
-of_client rows client IntentionRead = omega (arith, locks_by_mode rows client)
-of_client rows client Read = omega (arith, locks_by_mode rows client)
-of_client rows client Upgrade = omega (arith, locks_by_mode rows client)
-of_client rows client IntentionWrite = omega (arith, locks_by_mode rows client)
-of_client rows client Write = omega (arith, locks_by_mode rows client)
+of_client [] client mode = omega arith
+of_client (row ∷ rest) client mode =
+    omega (arith, locks_of-cons client row rest, sum_by-cons (row_count client mode) row rest, of_client rest client mode, by_test (row.client == client) (same_mode row.mode mode))
+  where
+    by_test : (own same : Bool) → (if own && same then row.count else 0) ≤ (if own then row.count else 0)
+    by_test true true = omega arith
+    by_test true false = omega arith
+    by_test false same = omega arith
 
 pub count_within : (rows : List Row) (client : ℕ) (mode : Mode) → count_of rows client mode ≤ locks_of rows client
 count_within rows client mode = omega (arith, count_totalled rows client mode, of_client rows client mode)

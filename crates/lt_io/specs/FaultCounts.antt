@@ -6,7 +6,7 @@ abbrev pub count_after : ℕ → ℕ → ℕ
 count_after before n = min (before + n) (2 ^ 64 - 1)
 
 -- the count rose by n, or to its last value, and did not fall
-pub record Counts (n before now : ℕ) : Type 0 where
+pub record CountsFaults (n before now : ℕ) : Type 0 where
   pub later : before ≤ now
   pub count : now ≡ count_after before n
 
@@ -21,7 +21,7 @@ Rose before now = RoseBy 1 before now
 -- a success leaves the count of faults as it was, and a failure raises it by one
 pub record HasCause {T E : Type 0} (before now : ℕ) (result : Result T E) : Type 0 where
   pub without_fault : OnOk result (now ≡ before)
-  pub one_fault : OnErr result (Counts 1 before now)
+  pub one_fault : OnErr result (CountsFaults 1 before now)
 
 -- a count after so many calls more
 abbrev pub calls_after : ℕ → ℕ → ℕ

@@ -6,8 +6,8 @@ use Rattle.lt_io.specs.Source.{SourceState}
 use Rattle.lt_io.specs.Sink.{Pace}
 
 -- what a source in memory tells of itself
-abbrev pub state_of : MemorySource → SourceState
-state_of s = record { left = Some (drop s.at s.bytes.items); given = s.given; faults = s.faults; ends = s.ends }
+abbrev pub source_state : MemorySource → SourceState
+source_state s = record { left = Some (drop s.at s.bytes.items); given = s.given; faults = s.faults; ends = s.ends }
 
 -- how a sink in memory takes pieces
 abbrev pub pace_of : MemorySink → Option Pace

@@ -1,7 +1,7 @@
 -- What reading a source piece by piece comes to.
 use Rattle.std.specs.Prelude.{◌≡◌, ◌≢◌, ℕ, ◌+◌, ◌≤◌, ◌<◌, List, IfSome, length}
 use Rattle.std.specs.Io.KnownBytes.{Consumes, IsAtEnd}
-use Rattle.lt_io.specs.FaultCounts.{Counts, count_after}
+use Rattle.lt_io.specs.FaultCounts.{CountsFaults, count_after}
 use Rattle.lt_io.specs.Source.{SourceState, LosesPart}
 use Rattle.lt_io.specs.declared.whole.ReadFailure.{ReadFailure}
 use Rattle.lt_io.specs.declared.whole.ReadFailure.TheVariants.{Failed, TooLong}
@@ -19,16 +19,16 @@ pub record ReadsOn (bytes : List ℕ) (before after : SourceState) : Type 0 wher
 pub record ReadsOut (bytes : List ℕ) (before after : SourceState) : Type 0 where
   pub consumed : Consumes before.left after.left bytes
   pub at_end : IsAtEnd after.left
-  pub counted : Counts (length bytes) before.given after.given
+  pub counted : CountsFaults (length bytes) before.given after.given
   pub no_more : after.given ≤ before.given + length bytes
   pub no_fault : after.faults ≡ before.faults
-  pub ended : Counts 1 before.ends after.ends
+  pub ended : CountsFaults 1 before.ends after.ends
 
 -- reading failed for this reason, where so many bytes might come
 pub record FailsBy (why : ReadFailure) (limit : ℕ) (before after : SourceState) : Type 0 where
-  pub failed : why ≡ Failed → Counts 1 before.faults after.faults
+  pub failed : why ≡ Failed → CountsFaults 1 before.faults after.faults
   pub no_other_fault : why ≢ Failed → after.faults ≡ before.faults
-  pub too_long : why ≡ TooLong → Counts (limit + 1) before.given after.given
+  pub too_long : why ≡ TooLong → CountsFaults (limit + 1) before.given after.given
   pub too_many_left : why ≡ TooLong → IfSome before.left (λ bytes. limit < length bytes)
   pub no_more : why ≢ TooLong → after.given ≤ before.given + limit
   pub none_uncounted : before.given ≤ after.given

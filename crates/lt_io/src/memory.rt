@@ -23,9 +23,9 @@ pub struct MemorySource {
 }
 
 impl Source for MemorySource {
-    ghost use Rattle.lt_io.specs.Memory.{state_of};
+    ghost use Rattle.lt_io.specs.Memory.{source_state};
 
-    ghost state = { state_of };
+    ghost state = { source_state };
 
     fn read(&mut self, buf: &mut [u8]) -> Result<usize, Failed>
         ensures called { self.new.calls ≡ count_after self.old.calls 1 }
@@ -35,7 +35,7 @@ impl Source for MemorySource {
         ensures kept { (self.new.bytes ≡ self.old.bytes) × (self.new.fails ≡ self.old.fails) }
 
         ensures bound { ReadsAtMost result buf.new }
-        ensures bytes { ReadConsumes (state_of self.old).left (state_of self.new).left result buf.new }
+        ensures bytes { ReadConsumes (source_state self.old).left (source_state self.new).left result buf.new }
         ensures count { Gives self.old.given self.new.given result }
         ensures cause { HasCause self.old.faults self.new.faults result }
         ensures end { Ends self.old.ends self.new.ends (length buf.new) result }

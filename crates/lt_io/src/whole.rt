@@ -1,8 +1,8 @@
-ghost use Rattle.std.specs.Prelude.{◌≡◌, ◌≢◌, ◌≤◌, ◌<◌, ◌+◌, length, vec_len, IfOk, IfErr, OnOk, OnErr, IfSome};
-ghost use Rattle.std.specs.Io.KnownBytes.{Consumes, Appends, IsAtEnd};
+ghost use Rattle.std.specs.Prelude.{◌≡◌, ◌≤◌, length, vec_len, IfOk, IfErr, OnOk, OnErr};
+ghost use Rattle.std.specs.Io.KnownBytes.{Appends};
 ghost use Rattle.lt_io.specs.declared.whole.ReadFailure.TheVariants as failure;
-ghost use Rattle.lt_io.specs.FaultCounts.{Counts, HasCause};
-ghost use Rattle.lt_io.specs.Source.{LosesPart};
+ghost use Rattle.lt_io.specs.FaultCounts.{HasCause};
+ghost use Rattle.lt_io.specs.Reading.{ReadsOut, FailsBy};
 ghost use Rattle.lt_io.specs.Sink.{AppendsPart, WritesByFewest, StopsByFewest};
 
 use crate::piece::{MAX_PIECE, read_piece};
@@ -25,9 +25,9 @@ pub enum ReadFailure {
 
 impl fmt::Display for ReadFailure {
     ghost use Rattle.std.specs.Prelude.{Some};
-    ghost use Rattle.lt_io.specs.Texts.{text_of};
+    ghost use Rattle.lt_io.specs.Texts.{failure_text};
 
-    ghost output = { λ why. Some (text_of why) };
+    ghost output = { λ why. Some (failure_text why) };
 
     fn fmt<W: fmt::Write>(&self, f: &mut fmt::Formatter<W>) -> fmt::Result {
         f.write_str(match self {
@@ -63,30 +63,9 @@ pub fn read_all<S: Source>(
     source: &mut S,
     limit: usize,
 ) -> Result<Vec<u8>, ReadFailure>
-    ensures taken { IfOk result (λ bytes.
-        Consumes (S.state source.old).left (S.state source.new).left bytes.items) }
-    ensures at_end { OnOk result (IsAtEnd (S.state source.new).left) }
-    ensures ended { OnOk result (Counts 1 (S.state source.old).ends (S.state source.new).ends) }
-    ensures counted { IfOk result (λ bytes.
-        Counts (vec_len bytes) (S.state source.old).given (S.state source.new).given) }
+    ensures out { IfOk result (λ bytes. ReadsOut bytes.items (S.state source.old) (S.state source.new)) }
     ensures within { IfOk result (λ bytes. vec_len bytes ≤ limit) }
-
-    ensures failed { result ≡ Err ReadFailure.Failed →
-        Counts 1 (S.state source.old).faults (S.state source.new).faults }
-    ensures too_long { result ≡ Err ReadFailure.TooLong →
-        Counts (limit + 1) (S.state source.old).given (S.state source.new).given }
-    ensures too_many_left { result ≡ Err ReadFailure.TooLong →
-        IfSome (S.state source.old).left (λ bytes. limit < length bytes) }
-    ensures not_ended { OnErr result ((S.state source.new).ends ≡ (S.state source.old).ends) }
-
-    ensures part_taken { LosesPart (S.state source.old).left (S.state source.new).left }
-    ensures without_fault { OnOk result ((S.state source.new).faults ≡ (S.state source.old).faults) }
-    ensures no_other_fault { IfErr result (λ why. why ≢ failure.Failed →
-        (S.state source.new).faults ≡ (S.state source.old).faults) }
-    ensures none_uncounted { (S.state source.old).given ≤ (S.state source.new).given }
-    ensures no_more { OnOk result ((S.state source.new).given ≤ (S.state source.old).given + limit) }
-    ensures no_more_read { IfErr result (λ why. why ≢ failure.TooLong →
-        (S.state source.new).given ≤ (S.state source.old).given + limit) }
+    ensures err { IfErr result (λ why. FailsBy why limit (S.state source.old) (S.state source.new)) }
 {
     let mut bytes = Vec::new(alloc);
     let mut buf = [0; MAX_PIECE];

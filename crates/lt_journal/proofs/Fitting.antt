@@ -5,15 +5,15 @@ use Rattle.std.specs.List.{AllByRecursion, flat_map}
 use Rattle.std.proofs.lemmas.List.Sums.{count_by-le-length}
 use Rattle.lt_modes.specs.declared.mode.Mode.{Mode}
 use Rattle.lt_modes.specs.declared.event.Event.{Event}
-use Rattle.lt_modes.specs.declared.event.Event.TheVariants.{Grant, Wait, Change, Token}
+use Rattle.lt_modes.specs.declared.event.Event.TheVariants.{Grant, Wait, Try, Unlock, NotHeld, Change, DropAll, Busy, Copy, Freeze, Token}
 use Rattle.lt_modes.specs.Script.{ScriptData}
-use Rattle.lt_runs.specs.Log.{Logged}
+use Rattle.lt_spec.specs.Log.{Logged}
 use Rattle.lt_modes.specs.declared.parts.Link.{Link}
-use Rattle.lt_runs.specs.Holdings.{Holding, holding, holdings, same_holding, count_of, wanted, wanted_after, owner_of, owner_after, lines_of}
+use Rattle.lt_spec.specs.Holdings.{Holding, holding, holdings, same_holding, times_held, wanted, wanted_after, owner_of, owner_after, lines_of}
 use Rattle.lt_journal.specs.declared.line.Line.{Line}
-use Rattle.lt_journal.specs.declared.line.Line.TheVariants.{Event as EventLine, Held}
-use Rattle.lt_journal.specs.Words.{all_modes}
-use Rattle.lt_journal.specs.RunLines.{entry_lines, moves_lines, lines_below, held_line, held_in_mode, held_in_set, held_by, held_lines, waiting_line, waiting_lines, owner_line, owner_lines, closing_lines, run_lines}
+use Rattle.lt_journal.specs.declared.line.Line.TheVariants.{Version, Held}
+use Rattle.lt_modes.specs.Modes.{modes_in_order}
+use Rattle.lt_journal.specs.RunLines.{shown_event, event_lines, first_lines, entry_lines, moves_lines, lines_below, held_line, held_in_mode, held_in_set, held_by, held_lines, waiting_line, waiting_lines, owner_line, owner_lines, closing_lines, run_lines}
 use Rattle.lt_journal.specs.LineFits.{HasNode, HasSet, HasClient, IsNumber, FitsEvent, FitsLine}
 use Rattle.lt_journal.proofs.Conditions.{FitsEntry, FitsRun}
 
@@ -61,14 +61,34 @@ all_events_fit script [] fits = tt
 all_events_fit script (entry ∷ entries) fits =
     append_fits (FitsEvent script) entry.events (lines_of entries) fits.0.1 (all_events_fit script entries fits.1)
 
-event_lines_fit : (script : ScriptData) (events : List Event) → AllByRecursion (FitsEvent script) events → AllByRecursion (FitsLine script) (map EventLine events)
-event_lines_fit script [] fits = tt
-event_lines_fit script (event ∷ events) fits = (fits.0, event_lines_fit script events fits.1)
+-- an event fits as it is shown
+shown_fits : (script : ScriptData) (v : ℕ) (event : Event) → FitsEvent script event → FitsEvent script (shown_event v event)
+shown_fits script v (Grant client set mode) fits = fits
+shown_fits script v (Wait client set mode) fits = fits
+shown_fits script v (Try client set mode got) fits = fits
+shown_fits script v (Unlock client set mode) fits = fits
+shown_fits script v (NotHeld client set mode) fits = fits
+shown_fits script v (Change client set gives_up mode) fits = fits
+shown_fits script v (DropAll client other set count) fits = fits
+shown_fits script v (Busy client other set) fits = fits
+shown_fits script v (Copy set to client mode) fits = fits
+shown_fits script v (Freeze set to number modes) fits = fits
+shown_fits script v (Token set to epoch) fits = fits
 
-entries_fit : (script : ScriptData) (entries : List Logged) → AllByRecursion (FitsEntry script) entries → AllByRecursion (FitsLine script) (moves_lines entries)
-entries_fit script [] fits = tt
-entries_fit script (entry ∷ entries) fits =
-    append_fits (FitsLine script) (entry_lines entry) (flat_map entry_lines entries) (fits.0.0, event_lines_fit script entry.events fits.0.1) (entries_fit script entries fits.1)
+event_lines_fit : (script : ScriptData) (v : ℕ) (events : List Event) → AllByRecursion (FitsEvent script) events → AllByRecursion (FitsLine script) (event_lines v events)
+event_lines_fit script v [] fits = tt
+event_lines_fit script v (event ∷ events) fits = (shown_fits script v event fits.0, event_lines_fit script v events fits.1)
+
+entries_fit : (script : ScriptData) (v : ℕ) (entries : List Logged) → AllByRecursion (FitsEntry script) entries → AllByRecursion (FitsLine script) (moves_lines v entries)
+entries_fit script v [] fits = tt
+entries_fit script v (entry ∷ entries) fits =
+    append_fits (FitsLine script) (entry_lines v entry) (flat_map (entry_lines v) entries) (fits.0.0, event_lines_fit script v entry.events fits.0.1) (entries_fit script v entries fits.1)
+
+first_fits : (script : ScriptData) (v : ℕ) → AllByRecursion (FitsLine script) (first_lines v)
+first_fits script v = elim (v == 1) as (λ first. AllByRecursion (FitsLine script) (cond first [] (Version ∷ []))) [
+  | true ↦ tt
+  | false ↦ (tt, tt)
+]
 
 below_fits : (script : ScriptData) (n : ℕ) (f : ℕ → List Line) → ((k : ℕ) → k < n → AllByRecursion (FitsLine script) (f k)) → AllByRecursion (FitsLine script) (lines_below n f)
 below_fits script zero f fits = tt
@@ -89,14 +109,14 @@ held_modes_fit script held client lock_set [] few has_client has_set = tt
 held_modes_fit script held client lock_set (mode ∷ modes) few has_client has_set =
     let lock = holding client lock_set mode in
     append_fits (FitsLine script) (held_in_mode held client lock_set mode) (flat_map (held_in_mode held client lock_set) modes)
-    (held_line_fits script lock (count_of held lock) has_client has_set (omega (arith, count_by-le-length (same_holding lock) held)))
+    (held_line_fits script lock (times_held held lock) has_client has_set (omega (arith, count_by-le-length (same_holding lock) held)))
     (held_modes_fit script held client lock_set modes few has_client has_set)
 
 held_fits : (script : ScriptData) (held : List Holding) → IsNumber (length held) → AllByRecursion (FitsLine script) (held_lines script held)
 held_fits script held few =
     below_fits script (length script.clients) (held_by script held)
     (λ client has_client. below_fits script (length script.sets) (held_in_set held client)
-    (λ lock_set has_set. held_modes_fit script held client lock_set all_modes few has_client has_set))
+    (λ lock_set has_set. held_modes_fit script held client lock_set modes_in_order few has_client has_set))
 
 waiting_line_fits : (script : ScriptData) (lock : Option Holding) → FitsWaiting script lock → AllByRecursion (FitsLine script) (waiting_line lock)
 waiting_line_fits script None fits = tt
@@ -129,4 +149,5 @@ closing_fits script entries (Some node) run = (run.cut_node, tt)
 
 pub lines_fit : (script : ScriptData) (entries : List Logged) (cut : Option ℕ) → FitsRun script entries cut → AllByRecursion (FitsLine script) (run_lines script entries cut)
 lines_fit script entries cut run =
-    append_fits (FitsLine script) (moves_lines entries) (closing_lines script entries cut) (entries_fit script entries run.moves) (closing_fits script entries cut run)
+    append_fits (FitsLine script) (first_lines script.version) (moves_lines script.version entries ++ closing_lines script entries cut) (first_fits script script.version)
+    (append_fits (FitsLine script) (moves_lines script.version entries) (closing_lines script entries cut) (entries_fit script script.version entries run.moves) (closing_fits script entries cut run))

@@ -8,19 +8,18 @@ use Rattle.std.proofs.lemmas.Bool.{cases_Bool}
 use Rattle.lt_modes.specs.declared.mode.Mode.{Mode}
 use Rattle.lt_modes.specs.declared.moves.Step.{Step}
 use Rattle.lt_modes.specs.declared.moves.Step.TheVariants.{Act, Take}
-use Rattle.lt_modes.specs.Modes.{Modes, no_modes, with_mode, word_of, mode_of}
+use Rattle.lt_modes.specs.Modes.{Modes, no_modes, with_mode, word_of, mode_of, modes_in_order}
 use Rattle.lt_modes.specs.Script.{ScriptData, set_name, client_name}
-use Rattle.lt_journal.specs.Words.{all_modes, step_words, words_of_modes, spaced}
+use Rattle.lt_journal.specs.Words.{step_words, words_of_modes}
 use Rattle.lt_text.specs.Number.{exact_number}
 use Rattle.lt_script.specs.Script.{set_number, client_number}
 use Rattle.lt_journal.specs.declared.line.Line.{Line}
-use Rattle.lt_journal.specs.declared.line.Line.TheVariants.{Waiting, Bad}
-use Rattle.lt_journal.specs.declared.lock.Lock.{Lock}
-use Rattle.lt_journal.specs.Grammar.{line_of, read_line, line_of_two, line_of_four, line_of_five, line_of_many, line_of_freeze, lock_line, lock_and_line, node_of, step_of, lock_of, lock_by, bool_of, modes_of, with_words, says_none, end_line, cut_line, busy_line, token_line, owner_line, move_line, drop_line, copy_line, try_line, change_line, held_line, freeze_line}
+use Rattle.lt_journal.specs.declared.line.Line.TheVariants.{Version, Waiting, Bad}
+use Rattle.lt_spec.specs.Holdings.{Holding}
+use Rattle.lt_journal.specs.Grammar.{line_of, read_line, line_of_two, line_of_four, line_of_five, line_of_many, line_of_freeze, lock_line, lock_and_line, node_of, step_of, lock_of, lock_by, bool_of, modes_of, with_words, says_none, end_line, version_line, cut_line, busy_line, token_line, owner_line, move_line, drop_line, copy_line, try_line, change_line, held_line, freeze_line}
 use Rattle.lt_journal.specs.Text.{IsAsWritten}
 use Rattle.lt_journal.proofs.Spelled.{has_words, Both, both}
-use Rattle.lt_journal.proofs.Plain.{spaced_same}
-use Rattle.lt_text.specs.Text.{fields}
+use Rattle.lt_text.specs.Text.{fields, spaced}
 use Rattle.lt_text.proofs.TextLemmas.{spaced_fields}
 
 -- which of the modes are picked
@@ -65,15 +64,15 @@ picks_found (mode ∷ modes) found (word ∷ words) all e = elim (cases_Bool (by
       record { picks = (false, later.picks); words_are = later.words_are; all_are = later.all_are }
 ]
 
-abbrev AreSpelled : Bool → Bool → Bool → Bool → Bool → Type 0
-AreSpelled a b c d e =
-    let modes = picked all_modes (a, (b, (c, (d, (e, tt))))) in
+abbrev AreSpelled : Bool → Bool → Bool → Bool → Bool → Bool → Type 0
+AreSpelled a b c d e f =
+    let modes = picked modes_in_order (a, (b, (c, (d, (e, (f, tt)))))) in
     (has_words (map word_of modes) ≡ true) → words_of_modes (fold with_mode no_modes modes) ≡ map word_of modes
 
 absurd_none : {X : Type 0} → false ≡ true → X
 absurd_none e = absurd (cc)
 
-all_spelled : Both (λ a. Both (λ b. Both (λ c. Both (λ d. Both (AreSpelled a b c d)))))
+all_spelled : Both (λ a. Both (λ b. Both (λ c. Both (λ d. Both (λ e. Both (AreSpelled a b c d e))))))
 all_spelled = search (rules, absurd_none)
 
 modes_found : (words : List (List ℕ)) (modes : Modes) → has_words words ≡ true → modes_of words ≡ Some modes → words_of_modes modes ≡ words
@@ -82,13 +81,14 @@ modes_found words modes some e = elim (cases_Bool (says_none words)) [
       let same : no_modes ≡ modes = let h = rw none at e in cc in
       ap words_of_modes (sym same) ∙ is_none words none
   | inr other ↦
-      let picks = picks_found all_modes no_modes words modes (let h = rw other at e in h) in
+      let picks = picks_found modes_in_order no_modes words modes (let h = rw other at e in h) in
       let p = picks.picks in
-      let by_first = both (λ x. Both (λ y. Both (λ z. Both (λ w. Both (AreSpelled x y z w))))) all_spelled p.0 in
-      let by_second = both (λ y. Both (λ z. Both (λ w. Both (AreSpelled p.0 y z w)))) by_first p.1.0 in
-      let by_third = both (λ z. Both (λ w. Both (AreSpelled p.0 p.1.0 z w))) by_second p.1.1.0 in
-      let by_fourth = both (λ w. Both (AreSpelled p.0 p.1.0 p.1.1.0 w)) by_third p.1.1.1.0 in
-      let spelled = both (AreSpelled p.0 p.1.0 p.1.1.0 p.1.1.1.0) by_fourth p.1.1.1.1.0 in
+      let by_first = both (λ x. Both (λ y. Both (λ z. Both (λ w. Both (λ v. Both (AreSpelled x y z w v)))))) all_spelled p.0 in
+      let by_second = both (λ y. Both (λ z. Both (λ w. Both (λ v. Both (AreSpelled p.0 y z w v))))) by_first p.1.0 in
+      let by_third = both (λ z. Both (λ w. Both (λ v. Both (AreSpelled p.0 p.1.0 z w v)))) by_second p.1.1.0 in
+      let by_fourth = both (λ w. Both (λ v. Both (AreSpelled p.0 p.1.0 p.1.1.0 w v))) by_third p.1.1.1.0 in
+      let by_fifth = both (λ v. Both (AreSpelled p.0 p.1.0 p.1.1.0 p.1.1.1.0 v)) by_fourth p.1.1.1.1.0 in
+      let spelled = both (AreSpelled p.0 p.1.0 p.1.1.0 p.1.1.1.0 p.1.1.1.1.0) by_fifth p.1.1.1.1.1.0 in
       ap words_of_modes (sym picks.all_are) ∙ (spelled (ap has_words picks.words_are ∙ some) ∙ picks.words_are)
 ]
   where
@@ -99,9 +99,13 @@ modes_found words modes some e = elim (cases_Bool (says_none words)) [
 
 two_found : (script : ScriptData) (word a : List ℕ) → IsSpelled script (word ∷ a ∷ []) (line_of_two script word a)
 two_found script word a =
-    by_word (IsSpelled script (word ∷ a ∷ [])) word (codes "end") (end_line (exact_number a)) (cond (bytes_eq word (codes "cut")) (cut_line (node_of script a)) Bad) (λ e. end (exact_number a) e refl)
-    (by_word (IsSpelled script (word ∷ a ∷ [])) word (codes "cut") (cut_line (node_of script a)) Bad (λ e. cut (node_of script a) e refl) (inl refl))
+    by_word (IsSpelled script (word ∷ a ∷ [])) word (codes "end") (end_line (exact_number a)) (cond (bytes_eq word (codes "cut")) (cut_line (node_of script a)) (cond (bytes_eq word (codes "version")) (version_line a) Bad)) (λ e. end (exact_number a) e refl)
+    (by_word (IsSpelled script (word ∷ a ∷ [])) word (codes "cut") (cut_line (node_of script a)) (cond (bytes_eq word (codes "version")) (version_line a) Bad) (λ e. cut (node_of script a) e refl)
+    (by_word (IsSpelled script (word ∷ a ∷ [])) word (codes "version") (version_line a) Bad version (inl refl)))
   where
+    version : word ≡ codes "version" → IsSpelled script (word ∷ a ∷ []) (version_line a)
+    version e = by_word (IsSpelled script (word ∷ a ∷ [])) a (codes "2") Version Bad (λ f. inr (rw (e, f) refl)) (inl refl)
+
     end : (o : Option ℕ) → word ≡ codes "end" → exact_number a ≡ o → IsSpelled script (word ∷ a ∷ []) (end_line o)
     end None e f = inl refl
     end (Some n) e f = inr (rw (e, number_found a n f))
@@ -110,7 +114,7 @@ two_found script word a =
     cut None e f = inl refl
     cut (Some n) e f = inr (rw (e, node_found script a n f))
 
-lock_found : (script : ScriptData) (a b c : List ℕ) (lock : Lock) → lock_of script a b c ≡ Some lock
+lock_found : (script : ScriptData) (a b c : List ℕ) (lock : Holding) → lock_of script a b c ≡ Some lock
     → (client_name script lock.client ≡ a) × (set_name script lock.set ≡ b) × (word_of lock.mode ≡ c)
 lock_found script a b c lock e = from (client_number script a) (set_number script b) (mode_of c) refl refl refl e
   where
@@ -118,13 +122,13 @@ lock_found script a b c lock e = from (client_number script a) (set_number scrip
         → (client_name script lock.client ≡ a) × (set_name script lock.set ≡ b) × (word_of lock.mode ≡ c)
     from (Some client) (Some set) (Some mode) f g h k =
         let same : record { client = client; set = set; mode = mode } ≡ lock = cc in (
-          sym (ap (λ (l : Lock). client_name script l.client) same) ∙ client_found script a client f,
-          sym (ap (λ (l : Lock). set_name script l.set) same) ∙ set_found script b set g,
-          sym (ap (λ (l : Lock). word_of l.mode) same) ∙ mode_found c mode h,
+          sym (ap (λ (l : Holding). client_name script l.client) same) ∙ client_found script a client f,
+          sym (ap (λ (l : Holding). set_name script l.set) same) ∙ set_found script b set g,
+          sym (ap (λ (l : Holding). word_of l.mode) same) ∙ mode_found c mode h,
         )
     from x y z f g h k = absurd (cc)
 
-lock_line_found : (script : ScriptData) (word a b c : List ℕ) (o : Option Lock) → lock_of script a b c ≡ o → IsSpelled script (word ∷ a ∷ b ∷ c ∷ []) (lock_line word o)
+lock_line_found : (script : ScriptData) (word a b c : List ℕ) (o : Option Holding) → lock_of script a b c ≡ o → IsSpelled script (word ∷ a ∷ b ∷ c ∷ []) (lock_line word o)
 lock_line_found script word a b c None e = inl refl
 lock_line_found script word a b c (Some lock) e =
     let found = lock_found script a b c lock e in
@@ -180,7 +184,7 @@ step_found script verb word step e = elim (cases_Bool (bytes_eq verb (codes "act
         let same : Take node ≡ step = cc in
         sym (ap (step_words script) same) ∙ rw (f, node_found script word node g)
 
-lock_and_found : (script : ScriptData) (word a b c d : List ℕ) (o : Option Lock) → lock_of script a b c ≡ o → IsSpelled script (word ∷ a ∷ b ∷ c ∷ d ∷ []) (lock_and_line word o d)
+lock_and_found : (script : ScriptData) (word a b c d : List ℕ) (o : Option Holding) → lock_of script a b c ≡ o → IsSpelled script (word ∷ a ∷ b ∷ c ∷ d ∷ []) (lock_and_line word o d)
 lock_and_found script word a b c d None e = inl refl
 lock_and_found script word a b c d (Some lock) e =
     by_word P word (codes "try") _ _ (λ f. try (bool_of d) f refl)
@@ -254,5 +258,5 @@ line_found script (word ∷ a ∷ b ∷ c ∷ d ∷ later) = many_found script w
 pub as_written : (script : ScriptData) (line : List ℕ) → IsAsWritten script line (read_line script line)
 as_written script line = elim (line_found script (fields line)) [
   | inl bad ↦ inl bad
-  | inr same ↦ inr (ap spaced same ∙ (spaced_same (fields line) ∙ spaced_fields line))
+  | inr same ↦ inr (ap spaced same ∙ spaced_fields line)
 ]

@@ -8,7 +8,7 @@ use Rattle.std.proofs.lemmas.List.Quantifiers.{position-Some}
 use Rattle.std.proofs.lemmas.Option.{slice_get-get_or}
 use Rattle.std.proofs.lemmas.Slice.Eq.{bytes_eq-Decides}
 use Rattle.lt_modes.specs.declared.mode.Mode.{Mode}
-use Rattle.lt_modes.specs.declared.mode.Mode.TheVariants.{IntentionRead, Read, Upgrade, IntentionWrite, Write}
+use Rattle.lt_modes.specs.declared.mode.Mode.TheVariants.{IntentionRead, Read, Upgrade, IntentionWrite, ReadIntentionWrite, Write}
 use Rattle.lt_modes.specs.Modes.{word_of, mode_of}
 use Rattle.lt_modes.specs.Script.{ScriptData, SetData, ClientData, set_name, client_name, name_of_set, name_of_client}
 use Rattle.lt_journal.specs.Words.{word_of_bool, line_words}
@@ -70,7 +70,7 @@ node_found script word k e = number_found word k (from (exact_number word) e)
 
 pub mode_found : (word : List ℕ) (mode : Mode) → mode_of word ≡ Some mode → word_of mode ≡ word
 mode_found word mode e =
-    pick IntentionRead _ (pick Read _ (pick Upgrade _ (pick IntentionWrite _ (pick Write None (λ h. absurd (cc)))))) e
+    pick IntentionRead _ (pick Read _ (pick Upgrade _ (pick IntentionWrite _ (pick ReadIntentionWrite _ (pick Write None (λ h. absurd (cc))))))) e
   where
     pick : (m : Mode) (later : Option Mode) → (later ≡ Some mode → word_of mode ≡ word) → cond (bytes_eq word (word_of m)) (Some m) later ≡ Some mode → word_of mode ≡ word
     pick m later f h = elim (cases_Bool (bytes_eq word (word_of m))) [

@@ -4,9 +4,8 @@ use Rattle.std.specs.List.{AllByRecursion, flat_map}
 use Rattle.std.specs.Fmt.{decimal}
 use Rattle.std.proofs.lemmas.Bool.{and_parts, ne_eqb, lt-ltb}
 use Rattle.std.proofs.lemmas.Fmt.{decimal_by_steps}
-use Rattle.lt_journal.specs.Words.{after_space, spaced, line}
-use Rattle.lt_text.specs.Text as written
-use Rattle.lt_text.specs.Text.{lines, fields, is_line_end, is_space, without_return, HasNone, each_after_space}
+use Rattle.lt_journal.specs.Words.{line}
+use Rattle.lt_text.specs.Text.{lines, fields, is_line_end, is_space, without_return, HasNone, after_space, spaced}
 use Rattle.lt_text.proofs.TextLemmas.{cut_piece, fields_spaced}
 use Rattle.lt_journal.proofs.Conditions.{is_plain_byte, is_plain}
 
@@ -98,16 +97,6 @@ lines_line words rest all =
     ∙ (ap (map without_return) (cut_piece is_line_end (spaced words) 10 rest none refl)
     ∙ ap (λ (first : List ℕ). first ∷ lines rest) whole)
 
-later_same : (words : List (List ℕ)) → flat_map after_space words ≡ each_after_space words
-later_same [] = refl
-later_same (word ∷ words) = ap (λ (t : List ℕ). 32 ∷ word ++ t) (later_same words)
-
--- the two ways to write words with spaces between them
-pub spaced_same : (words : List (List ℕ)) → spaced words ≡ written.spaced words
-spaced_same [] = refl
-spaced_same (word ∷ words) = ap (λ (t : List ℕ). word ++ t) (later_same words)
-
 -- the fields of a line of plain words
 pub fields_line : (first : List ℕ) (later : List (List ℕ)) → ArePlain (first ∷ later) → fields (spaced (first ∷ later)) ≡ first ∷ later
-fields_line first later all =
-    ap (λ (t : List ℕ). fields (first ++ t)) (later_same later) ∙ fields_spaced first later all.0.no_space (no_spaces later all.1)
+fields_line first later all = fields_spaced first later all.0.no_space (no_spaces later all.1)

@@ -3,7 +3,7 @@ use Rattle.std.proofs.Common.{◌≡◌, ℕ, Bool, true, false, List, [], ◌�
 use Rattle.std.specs.Fmt.{decimal}
 use Rattle.std.proofs.lemmas.Bool.{lt-ltb}
 use Rattle.lt_modes.specs.declared.mode.Mode.{Mode}
-use Rattle.lt_modes.specs.declared.mode.Mode.TheVariants.{IntentionRead, Read, Upgrade, IntentionWrite, Write}
+use Rattle.lt_modes.specs.declared.mode.Mode.TheVariants.{IntentionRead, Read, Upgrade, IntentionWrite, ReadIntentionWrite, Write}
 use Rattle.lt_modes.specs.declared.moves.Step.{Step}
 use Rattle.lt_modes.specs.declared.moves.Step.TheVariants.{Act, Take}
 use Rattle.lt_modes.specs.declared.event.Event.{Event}
@@ -13,7 +13,7 @@ use Rattle.lt_modes.specs.Script.{ScriptData, set_name, client_name}
 use Rattle.lt_journal.specs.Words.{event_words, words_of_modes, word_of_bool, line_words}
 use Rattle.lt_text.proofs.NumberLemmas.{exact_number_decimal}
 use Rattle.lt_journal.specs.declared.line.Line.{Line}
-use Rattle.lt_journal.specs.declared.line.Line.TheVariants.{Move as MoveLine, Event as EventLine, Held, Waiting, Owner, End, Cut, Bad}
+use Rattle.lt_journal.specs.declared.line.Line.TheVariants.{Version, Move as MoveLine, Event as EventLine, Held, Waiting, Owner, End, Cut, Bad}
 use Rattle.lt_journal.specs.Grammar.{line_of, node_of, lock_of, modes_of, bool_of, line_of_freeze}
 use Rattle.lt_journal.specs.LineFits.{IsNumber, HasSet, HasClient, HasNode, FitsStep, FitsEvent, FitsLine}
 use Rattle.lt_journal.proofs.Conditions.{IsNamed, FewNodes}
@@ -23,6 +23,7 @@ mode_of_word IntentionRead = refl
 mode_of_word Read = refl
 mode_of_word Upgrade = refl
 mode_of_word IntentionWrite = refl
+mode_of_word ReadIntentionWrite = refl
 mode_of_word Write = refl
 
 bool_of_word : (got : Bool) → bool_of (word_of_bool got) ≡ Some got
@@ -49,9 +50,9 @@ has_words [] = false
 has_words (word ∷ later) = true
 
 -- the set of these modes has words, and is read from them
-abbrev IsReadBack : Bool → Bool → Bool → Bool → Bool → Type 0
-IsReadBack a b c d e =
-    let modes : Modes = record { intention_read = a; read = b; upgrade = c; intention_write = d; write = e } in
+abbrev IsReadBack : Bool → Bool → Bool → Bool → Bool → Bool → Type 0
+IsReadBack a b c d e f =
+    let modes : Modes = record { intention_read = a; read = b; upgrade = c; intention_write = d; read_intention_write = e; write = f } in
     (has_words (words_of_modes modes) ≡ true) × (modes_of (words_of_modes modes) ≡ Some modes)
 
 abbrev pub Both : (Bool → Type 0) → Type 0
@@ -61,7 +62,7 @@ pub both : (P : Bool → Type 0) → Both P → (b : Bool) → P b
 both P h true = h.0
 both P h false = h.1
 
-all_read_back : Both (λ a. Both (λ b. Both (λ c. Both (λ d. Both (IsReadBack a b c d)))))
+all_read_back : Both (λ a. Both (λ b. Both (λ c. Both (λ d. Both (λ e. Both (IsReadBack a b c d e))))))
 all_read_back = search rules
 
 read_back : (modes : Modes) → (has_words (words_of_modes modes) ≡ true) × (modes_of (words_of_modes modes) ≡ Some modes)
@@ -70,11 +71,13 @@ read_back modes =
     let b = modes.read in
     let c = modes.upgrade in
     let d = modes.intention_write in
-    let by_first = both (λ x. Both (λ y. Both (λ z. Both (λ w. Both (IsReadBack x y z w))))) all_read_back a in
-    let by_second = both (λ y. Both (λ z. Both (λ w. Both (IsReadBack a y z w)))) by_first b in
-    let by_third = both (λ z. Both (λ w. Both (IsReadBack a b z w))) by_second c in
-    let by_fourth = both (λ w. Both (IsReadBack a b c w)) by_third d in
-    both (IsReadBack a b c d) by_fourth modes.write
+    let e = modes.read_intention_write in
+    let by_first = both (λ x. Both (λ y. Both (λ z. Both (λ w. Both (λ v. Both (IsReadBack x y z w v)))))) all_read_back a in
+    let by_second = both (λ y. Both (λ z. Both (λ w. Both (λ v. Both (IsReadBack a y z w v))))) by_first b in
+    let by_third = both (λ z. Both (λ w. Both (λ v. Both (IsReadBack a b z w v)))) by_second c in
+    let by_fourth = both (λ w. Both (λ v. Both (IsReadBack a b c w v))) by_third d in
+    let by_fifth = both (λ v. Both (IsReadBack a b c d v)) by_fourth e in
+    both (IsReadBack a b c d e) by_fifth modes.write
 
 freeze_read : (script : ScriptData) (a b c : List ℕ) (words : List (List ℕ)) → has_words words ≡ true
     → line_of script (codes "freeze" ∷ a ∷ b ∷ c ∷ words) ≡ line_of_freeze script a b c words
@@ -104,6 +107,7 @@ event_read script (Token set to epoch) named few fits =
     rw (named.sets_apart set fits.0, node_of_decimal script to few fits.1, exact_number_decimal epoch fits.2)
 
 pub line_read : (script : ScriptData) (x : Line) → IsNamed script → FewNodes script → FitsLine script x → line_of script (line_words script x) ≡ x
+line_read script Version named few fits = refl
 line_read script (MoveLine clock node step) named few fits = step_of_words script clock node step named few fits.0 fits.1 fits.2
 line_read script (EventLine event) named few fits = event_read script event named few fits
 line_read script (Held client set mode count) named few fits =

@@ -3,18 +3,18 @@ use Rattle.std.proofs.Common.{◌≡◌, ℕ, ◌<◌, cond, Bool, true, false, 
 use Rattle.std.specs.List.{AllByRecursion}
 use Rattle.std.specs.Fmt.{decimal}
 use Rattle.lt_modes.specs.declared.mode.Mode.{Mode}
-use Rattle.lt_modes.specs.declared.mode.Mode.TheVariants.{IntentionRead, Read, Upgrade, IntentionWrite, Write}
+use Rattle.lt_modes.specs.declared.mode.Mode.TheVariants.{IntentionRead, Read, Upgrade, IntentionWrite, ReadIntentionWrite, Write}
 use Rattle.lt_modes.specs.declared.moves.Step.{Step}
 use Rattle.lt_modes.specs.declared.moves.Step.TheVariants.{Act, Take}
 use Rattle.lt_modes.specs.declared.event.Event.{Event}
 use Rattle.lt_modes.specs.declared.event.Event.TheVariants.{Grant, Wait, Try, Unlock, NotHeld, Change, DropAll, Busy, Copy, Freeze, Token}
-use Rattle.lt_modes.specs.Modes.{Modes, word_of, has, has_none}
+use Rattle.lt_modes.specs.Modes.{Modes, word_of, has, has_none, modes_in_order}
 use Rattle.lt_modes.specs.Script.{ScriptData, set_name, client_name}
-use Rattle.lt_journal.specs.Words.{spaced, step_words, event_words, words_of_modes, word_of_bool, all_modes, line_words}
+use Rattle.lt_journal.specs.Words.{step_words, event_words, words_of_modes, word_of_bool, line_words}
 use Rattle.lt_journal.specs.Text.{lines_text}
-use Rattle.lt_text.specs.Text.{lines, cut_at, fields}
+use Rattle.lt_text.specs.Text.{lines, cut_at, fields, spaced}
 use Rattle.lt_journal.specs.declared.line.Line.{Line}
-use Rattle.lt_journal.specs.declared.line.Line.TheVariants.{Move as MoveLine, Event as EventLine, Held, Waiting, Owner, End, Cut, Bad}
+use Rattle.lt_journal.specs.declared.line.Line.TheVariants.{Version, Move as MoveLine, Event as EventLine, Held, Waiting, Owner, End, Cut, Bad}
 use Rattle.lt_journal.specs.Grammar.{line_of, read_line, journal_of}
 use Rattle.lt_journal.specs.LineFits.{IsNumber, FitsStep, FitsEvent, FitsLine}
 use Rattle.lt_journal.proofs.Conditions.{IsNamed, FewNodes}
@@ -39,6 +39,7 @@ plain_mode IntentionRead = plain (word_of IntentionRead) refl
 plain_mode Read = plain (word_of Read) refl
 plain_mode Upgrade = plain (word_of Upgrade) refl
 plain_mode IntentionWrite = plain (word_of IntentionWrite) refl
+plain_mode ReadIntentionWrite = plain (word_of ReadIntentionWrite) refl
 plain_mode Write = plain (word_of Write) refl
 
 plain_bool : (got : Bool) → IsPlain (word_of_bool got)
@@ -50,9 +51,9 @@ plain_modes_in [] = tt
 plain_modes_in (mode ∷ modes) = (plain_mode mode, plain_modes_in modes)
 
 plain_modes : (modes : Modes) → ArePlain (words_of_modes modes)
-plain_modes modes = elim (has_none modes) as (λ none. ArePlain (cond none (codes "none" ∷ []) (map word_of (filter (λ mode. has mode modes) all_modes)))) [
+plain_modes modes = elim (has_none modes) as (λ none. ArePlain (cond none (codes "none" ∷ []) (map word_of (filter (λ mode. has mode modes) modes_in_order)))) [
   | true ↦ (plain (codes "none") refl, tt)
-  | false ↦ plain_modes_in (filter (λ mode. has mode modes) all_modes)
+  | false ↦ plain_modes_in (filter (λ mode. has mode modes) modes_in_order)
 ]
 
 plain_step : (script : ScriptData) (step : Step) → IsNamed script → FewNodes script → FitsStep script step → ArePlain (step_words script step)
@@ -84,6 +85,7 @@ plain_event script (Token set to epoch) named few fits =
     (plain (codes "token") refl, (plain_set script set named fits.0, (plain_node script to few fits.1, (plain_number epoch fits.2, tt))))
 
 pub plain_line : (script : ScriptData) (x : Line) → IsNamed script → FewNodes script → FitsLine script x → ArePlain (line_words script x)
+plain_line script Version named few fits = (plain (codes "version") refl, (plain (codes "2") refl, tt))
 plain_line script (MoveLine clock node step) named few fits =
     (plain (codes "move") refl, (plain_number clock fits.0, (plain_node script node few fits.1, plain_step script step named few fits.2)))
 plain_line script (EventLine event) named few fits = plain_event script event named few fits

@@ -6,16 +6,15 @@ use Rattle.lt_modes.specs.declared.mode.Mode.{Mode}
 use Rattle.lt_modes.specs.declared.moves.Step.{Step}
 use Rattle.lt_modes.specs.declared.moves.Step.TheVariants.{Act, Take}
 use Rattle.lt_modes.specs.declared.event.Event.TheVariants.{Grant, Wait, Try, Unlock, NotHeld, Change, DropAll, Busy, Copy, Freeze, Token}
-use Rattle.lt_modes.specs.Modes.{Modes, no_modes, with_mode, word_of, mode_of}
+use Rattle.lt_modes.specs.Modes.{Modes, no_modes, with_mode, word_of, mode_of, modes_in_order}
 use Rattle.lt_modes.specs.Script.{ScriptData}
-use Rattle.lt_journal.specs.Words.{all_modes}
 use Rattle.lt_script.specs.Script.{set_number, client_number}
 use Rattle.lt_text.specs.Text.{lines, fields}
 use Rattle.lt_text.specs.Number.{exact_number}
 use denote.Ref.{Bor}
 use Rattle.lt_journal.specs.declared.line.Line.{Line}
-use Rattle.lt_journal.specs.declared.line.Line.TheVariants.{Move as MoveLine, Event as EventLine, Held, Waiting, Owner, End, Cut, Bad}
-use Rattle.lt_journal.specs.declared.lock.Lock.{Lock}
+use Rattle.lt_journal.specs.declared.line.Line.TheVariants.{Version, Move as MoveLine, Event as EventLine, Held, Waiting, Owner, End, Cut, Bad}
+use Rattle.lt_spec.specs.Holdings.{Holding}
 
 -- the number, if it is below the bound
 abbrev pub below : ℕ → Option ℕ → Option ℕ
@@ -34,12 +33,12 @@ step_of script verb word =
     else None
 
 -- the lock of these three, if each is known
-abbrev pub lock_by : Option ℕ → Option ℕ → Option Mode → Option Lock
+abbrev pub lock_by : Option ℕ → Option ℕ → Option Mode → Option Holding
 lock_by (Some client) (Some set) (Some mode) = Some (record { client = client; set = set; mode = mode })
 lock_by _ _ _ = None
 
 -- the lock of a client's name, a set's name and a mode's word
-abbrev pub lock_of : ScriptData → List ℕ → List ℕ → List ℕ → Option Lock
+abbrev pub lock_of : ScriptData → List ℕ → List ℕ → List ℕ → Option Holding
 lock_of script client set mode = lock_by (client_number script client) (set_number script set) (mode_of mode)
 
 -- whether a `try` got its lock
@@ -68,7 +67,7 @@ says_none words = false
 
 -- the set of modes that these words are: `none`, or the words of its modes in order
 abbrev pub modes_of : List (List ℕ) → Option Modes
-modes_of words = if says_none words then Some no_modes else with_words all_modes no_modes words
+modes_of words = if says_none words then Some no_modes else with_words modes_in_order no_modes words
 
 -- `end COUNT`
 abbrev pub end_line : Option ℕ → Line
@@ -80,11 +79,16 @@ abbrev pub cut_line : Option ℕ → Line
 cut_line (Some node) = Cut node
 cut_line None = Bad
 
--- a line of two words: `end COUNT` or `cut NODE`
+-- `version 2`
+abbrev pub version_line : List ℕ → Line
+version_line word = if bytes_eq word (codes "2") then Version else Bad
+
+-- a line of two words: `end COUNT`, `cut NODE` or `version 2`
 abbrev pub line_of_two : ScriptData → List ℕ → List ℕ → Line
 line_of_two script word a =
     if bytes_eq word (codes "end") then end_line (exact_number a)
     else if bytes_eq word (codes "cut") then cut_line (node_of script a)
+    else if bytes_eq word (codes "version") then version_line a
     else Bad
 
 -- `busy CLIENT CLIENT SET`
@@ -103,7 +107,7 @@ owner_line (Some set) (Some node) (Some epoch) = Owner set node epoch
 owner_line _ _ _ = Bad
 
 -- `grant`, `wait`, `unlock`, `not_held` or `waiting`, and then `CLIENT SET MODE`
-abbrev pub lock_line : List ℕ → Option Lock → Line
+abbrev pub lock_line : List ℕ → Option Holding → Line
 lock_line word None = Bad
 lock_line word (Some lock) =
     if bytes_eq word (codes "grant") then EventLine (Grant lock.client lock.set lock.mode)
@@ -141,22 +145,22 @@ abbrev pub line_of_copy : ScriptData → List ℕ → List ℕ → List ℕ → 
 line_of_copy script a b c d = copy_line (set_number script a) (node_of script b) (client_number script c) (mode_of d)
 
 -- `try CLIENT SET MODE true` or `false`
-abbrev pub try_line : Lock → Option Bool → Line
+abbrev pub try_line : Holding → Option Bool → Line
 try_line lock (Some got) = EventLine (Try lock.client lock.set lock.mode got)
 try_line lock None = Bad
 
 -- `change CLIENT SET MODE MODE`
-abbrev pub change_line : Lock → Option Mode → Line
+abbrev pub change_line : Holding → Option Mode → Line
 change_line lock (Some mode) = EventLine (Change lock.client lock.set lock.mode mode)
 change_line lock None = Bad
 
 -- `held CLIENT SET MODE COUNT`
-abbrev pub held_line : Lock → Option ℕ → Line
+abbrev pub held_line : Holding → Option ℕ → Line
 held_line lock (Some count) = Held lock.client lock.set lock.mode count
 held_line lock None = Bad
 
 -- `try`, `change` or `held`, then `CLIENT SET MODE`, and a last word
-abbrev pub lock_and_line : List ℕ → Option Lock → List ℕ → Line
+abbrev pub lock_and_line : List ℕ → Option Holding → List ℕ → Line
 lock_and_line word None d = Bad
 lock_and_line word (Some lock) d =
     if bytes_eq word (codes "try") then try_line lock (bool_of d)

@@ -4,4 +4,3 @@ pub mod Text
 pub mod LineFits
 pub mod Grammar
 pub mod Split
-pub mod LockTable

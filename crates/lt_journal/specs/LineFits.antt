@@ -6,7 +6,7 @@ use Rattle.lt_modes.specs.declared.event.Event.{Event}
 use Rattle.lt_modes.specs.declared.event.Event.TheVariants.{Grant, Wait, Try, Unlock, NotHeld, Change, DropAll, Busy, Copy, Freeze, Token}
 use Rattle.lt_modes.specs.Script.{ScriptData}
 use Rattle.lt_journal.specs.declared.line.Line.{Line}
-use Rattle.lt_journal.specs.declared.line.Line.TheVariants.{Move as MoveLine, Event as EventLine, Held, Waiting, Owner, End, Cut, Bad}
+use Rattle.lt_journal.specs.declared.line.Line.TheVariants.{Version, Move as MoveLine, Event as EventLine, Held, Waiting, Owner, End, Cut, Bad}
 
 -- what a number in a line is below
 abbrev pub IsNumber : ℕ → Type 0
@@ -46,6 +46,7 @@ FitsEvent script (Token set to epoch) = HasSet script set × HasNode script to �
 
 -- what the line names is of the script, and its numbers are those of a line
 abbrev pub FitsLine : ScriptData → Line → Type 0
+FitsLine script Version = Unit {0}
 FitsLine script (MoveLine clock node step) = IsNumber clock × HasNode script node × FitsStep script step
 FitsLine script (EventLine event) = FitsEvent script event
 FitsLine script (Held client set mode count) = HasClient script client × HasSet script set × IsNumber count

@@ -14,14 +14,14 @@ abbrev pub is_journal_line : List ℕ → Bool
 is_journal_line line = says_journal (words line)
 
 -- what stands after the first line with its line end
-unfoldable pub after_line : List ℕ → List ℕ
-after_line [] = []
-after_line (byte ∷ bytes) = if is_line_end byte then bytes else after_line bytes
+unfoldable pub after_first_line : List ℕ → List ℕ
+after_first_line [] = []
+after_first_line (byte ∷ bytes) = if is_line_end byte then bytes else after_first_line bytes
 
 -- what stands after so many lines with their line ends
 abbrev pub after_lines : ℕ → List ℕ → List ℕ
 after_lines zero bytes = bytes
-after_lines (suc n) bytes = after_line (after_lines n bytes)
+after_lines (suc n) bytes = after_first_line (after_lines n bytes)
 
 -- the place where the line with this number, from 0, begins
 abbrev pub place_of_line : List ℕ → ℕ → ℕ
@@ -33,5 +33,5 @@ parts_at bytes None = record { script = length bytes; journal = length bytes; li
 parts_at bytes (Some k) = record { script = place_of_line bytes k; journal = place_of_line bytes (k + 1); lines = k + 1 }
 
 -- the parts of an input: the script ends before the first line whose only word is `journal`, and the journal begins after it
-abbrev pub parts_of : List ℕ → Parts
-parts_of bytes = parts_at bytes (position is_journal_line (lines bytes))
+abbrev pub input_parts : List ℕ → Parts
+input_parts bytes = parts_at bytes (position is_journal_line (lines bytes))

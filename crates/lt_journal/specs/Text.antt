@@ -2,10 +2,11 @@
 use Rattle.std.specs.Prelude.{◌≡◌, ◌⊎◌, List, ℕ, Option}
 use Rattle.std.specs.List.{flat_map}
 use Rattle.lt_modes.specs.Script.{ScriptData}
-use Rattle.lt_runs.specs.Log.{Logged}
+use Rattle.lt_spec.specs.Log.{Logged}
 use Rattle.lt_journal.specs.declared.line.Line.{Line}
 use Rattle.lt_journal.specs.declared.line.Line.TheVariants.{Bad}
-use Rattle.lt_journal.specs.Words.{spaced, line, line_words}
+use Rattle.lt_text.specs.Text.{spaced}
+use Rattle.lt_journal.specs.Words.{line, line_words}
 use Rattle.lt_journal.specs.RunLines.{run_lines}
 
 -- the text of a line

@@ -1,39 +1,29 @@
 -- The words of each line of a journal.
 use Rattle.std.specs.Prelude.{List, [], ◌∷◌, ◌++◌, ℕ, Bool, true, false, if◌then◌else◌, codes, map, filter}
-use Rattle.std.specs.List.{flat_map}
 use Rattle.std.specs.Fmt.{decimal}
 use Rattle.lt_modes.specs.declared.mode.Mode.{Mode}
-use Rattle.lt_modes.specs.declared.mode.Mode.TheVariants.{IntentionRead, Read, Upgrade, IntentionWrite, Write}
 use Rattle.lt_modes.specs.declared.moves.Step.{Step}
 use Rattle.lt_modes.specs.declared.moves.Step.TheVariants.{Act, Take}
 use Rattle.lt_modes.specs.declared.event.Event.{Event}
 use Rattle.lt_modes.specs.declared.event.Event.TheVariants.{Grant, Wait, Try, Unlock, NotHeld, Change, DropAll, Busy, Copy, Freeze, Token}
-use Rattle.lt_modes.specs.Modes.{Modes, word_of, has, has_none}
+use Rattle.lt_modes.specs.Modes.{Modes, modes_in_order, word_of, has, has_none}
 use Rattle.lt_modes.specs.Script.{ScriptData, set_name, client_name}
+use Rattle.lt_text.specs.Text.{after_space, spaced}
 use Rattle.lt_journal.specs.declared.line.Line.{Line}
-use Rattle.lt_journal.specs.declared.line.Line.TheVariants.{Move as MoveLine, Event as EventLine, Held, Waiting, Owner, End, Cut, Bad}
-
--- a word with the space before it
-abbrev pub after_space : List ℕ → List ℕ
-after_space word = 32 ∷ word
-
--- words with one space between them
-abbrev pub spaced : List (List ℕ) → List ℕ
-spaced [] = []
-spaced (first ∷ later) = first ++ flat_map after_space later
+use Rattle.lt_journal.specs.declared.line.Line.TheVariants.{Version, Move as MoveLine, Event as EventLine, Held, Waiting, Owner, End, Cut, Bad}
 
 -- a line of these words, with its line feed
 abbrev pub line : List (List ℕ) → List ℕ
 line words = spaced words ++ 10 ∷ []
 
--- all modes, in order
-abbrev pub all_modes : List Mode
-all_modes = IntentionRead ∷ Read ∷ Upgrade ∷ IntentionWrite ∷ Write ∷ []
-
 -- a set of modes: their words in order, or `none`
 abbrev pub words_of_modes : Modes → List (List ℕ)
 words_of_modes modes =
-    if has_none modes then codes "none" ∷ [] else map word_of (filter (λ mode. has mode modes) all_modes)
+    if has_none modes then codes "none" ∷ [] else map word_of (filter (λ mode. has mode modes) modes_in_order)
+
+-- the word of the mode with the space before it, where it is in the set
+abbrev pub member_words : Modes → Mode → List ℕ
+member_words modes mode = if has mode modes then after_space (word_of mode) else []
 
 -- the words that say what a move does
 abbrev pub step_words : ScriptData → Step → List (List ℕ)
@@ -90,6 +80,7 @@ further_words script (Token set to epoch) = decimal epoch ∷ []
 
 -- the words of a line
 abbrev pub line_words : ScriptData → Line → List (List ℕ)
+line_words script Version = codes "version" ∷ codes "2" ∷ []
 line_words script (MoveLine clock node step) = codes "move" ∷ decimal clock ∷ decimal node ∷ step_words script step
 line_words script (EventLine event) = event_words script event
 line_words script (Held client set mode count) = lock_words script (codes "held") client set mode ++ decimal count ∷ []

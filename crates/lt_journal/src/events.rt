@@ -1,13 +1,15 @@
 ghost use Rattle.std.specs.Prelude.{◌≡◌, ◌++◌, [], ◌∷◌, OnOk, if◌then◌else◌};
 ghost use Rattle.std.specs.List.{flat_map};
-ghost use Rattle.lt_modes.specs.Modes.{has, word_of};
 ghost use Rattle.lt_journal.specs.declared.line.Line.TheVariants.{Move as MoveLine, Event as EventLine};
-ghost use Rattle.lt_journal.specs.Words.{after_space, spaced, line_words, lock_words, drop_words, letter_words, event_words, further_words, words_of_modes};
+ghost use Rattle.lt_text.specs.Text.{after_space, spaced};
+ghost use Rattle.lt_journal.specs.Words.{line_words, lock_words, drop_words, letter_words, event_words, further_words, words_of_modes, member_words};
 ghost use Rattle.lt_journal.specs.Text.{line_text};
+ghost use Rattle.lt_modes.specs.FiveModes.{shown_in};
+ghost use Rattle.lt_journal.specs.RunLines.{shown_event};
 
 use crate::names::{client_name, set_name};
 use crate::text::Text;
-use lt_modes::{Event, Mode, ModeSet, Move, Step};
+use lt_modes::{Event, MODES, Mode, ModeSet, Move, Step};
 use lt_script::Script;
 use std::alloc::AllocError;
 
@@ -162,20 +164,46 @@ fn words_of_modes(text: &mut Text, modes: ModeSet) -> Result<(), AllocError>
     if modes.is_empty() {
         return text.word(b"none");
     }
-    word_of_member(text, modes, Mode::IntentionRead)?;
-    word_of_member(text, modes, Mode::Read)?;
-    word_of_member(text, modes, Mode::Upgrade)?;
-    word_of_member(text, modes, Mode::IntentionWrite)?;
-    word_of_member(text, modes, Mode::Write)
+    for mode in &MODES {
+        word_of_member(text, modes, *mode)?;
+    }
+    Ok(())
 }
 
 // Writes the word of the mode, if it is in the set.
 fn word_of_member(text: &mut Text, modes: ModeSet, mode: Mode) -> Result<(), AllocError>
-    ensures { OnOk result (text.new ≡ text.old ++ (if has mode modes then after_space (word_of mode) else [])) }
+    ensures { OnOk result (text.new ≡ text.old ++ member_words modes mode) }
 {
     if modes.has(mode) {
         text.word(mode.word().as_bytes())
     } else {
         Ok(())
     }
+}
+
+/// The event as a journal of this version shows it: a freeze in version 1 without the sixth mode.
+pub fn shown_event(version: u8, event: Event) -> Event
+    ensures { result ≡ shown_event version event }
+{
+    match event {
+        Event::Freeze {
+            set,
+            to,
+            number,
+            modes,
+        } => Event::Freeze {
+            set,
+            to,
+            number,
+            modes: shown_in(version, modes),
+        },
+        other => other,
+    }
+}
+
+// The set as a journal of this version shows it.
+fn shown_in(version: u8, modes: ModeSet) -> ModeSet
+    ensures { result ≡ shown_in version modes }
+{
+    if version == 1 { modes.of_five() } else { modes }
 }

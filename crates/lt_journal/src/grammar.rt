@@ -1,12 +1,13 @@
-ghost use Rattle.std.specs.Prelude.{◌≡◌};
+ghost use Rattle.std.specs.Prelude.{◌≡◌, Some, unwrap_or};
 ghost use Rattle.lt_text.specs.Text.{fields};
+ghost use Rattle.lt_journal.specs.declared.line.Line.TheVariants.{Bad};
 ghost use Rattle.lt_journal.specs.Grammar.{read_line, line_of_two, line_of_four, line_of_five, line_of_copy, line_of_freeze, lock_line, lock_and_line};
 
 use crate::line::Line;
-use crate::lock::Lock;
 use crate::meaning::{bool_of, lock, modes, node, step};
 use lt_modes::{Event, Mode};
 use lt_script::Script;
+use lt_tally::Holding;
 use lt_text::{exact_number, is, next_field};
 
 /// What the line says, which stands here without its line end: what [`read`](crate::read) gives for it. It takes no
@@ -14,17 +15,23 @@ use lt_text::{exact_number, is, next_field};
 pub fn read_line(script: &Script, line: &[u8]) -> Line
     ensures { result ≡ read_line script.now line.now }
 {
-    let (word, Some(rest)) = next_field(line) else {
-        return Line::Bad;
-    };
-    let (a, rest) = next_field(rest);
+    match line_of(script, line) {
+        Some(line) => line,
+        None => Line::Bad,
+    }
+}
+
+// What the line says; none of a line that has none of the forms.
+fn line_of(script: &Script, line: &[u8]) -> Option<Line>
+    ensures { unwrap_or result Bad ≡ read_line script.now line.now }
+{
+    let (word, rest) = next_field(line);
+    let (a, rest) = next_field(rest?);
     let Some(rest) = rest else {
         return line_of_two(script, word, a);
     };
-    let (b, Some(rest)) = next_field(rest) else {
-        return Line::Bad;
-    };
-    let (c, rest) = next_field(rest);
+    let (b, rest) = next_field(rest);
+    let (c, rest) = next_field(rest?);
     let Some(rest) = rest else {
         return line_of_four(script, word, a, b, c);
     };
@@ -32,203 +39,168 @@ pub fn read_line(script: &Script, line: &[u8]) -> Line
         return freeze(script, a, b, c, rest);
     }
     let (d, None) = next_field(rest) else {
-        return Line::Bad;
+        return None;
     };
     line_of_five(script, word, a, b, c, d)
 }
 
-// A line of two words: `end COUNT` or `cut NODE`.
-fn line_of_two(script: &Script, word: &[u8], a: &[u8]) -> Line
-    ensures { result ≡ line_of_two script.now word.now a.now }
+// A line of two words: `end COUNT`, `cut NODE` or `version 2`.
+fn line_of_two(script: &Script, word: &[u8], a: &[u8]) -> Option<Line>
+    ensures { unwrap_or result Bad ≡ line_of_two script.now word.now a.now }
 {
     if is(word, "end") {
-        let Some(count) = exact_number(a) else {
-            return Line::Bad;
-        };
-        Line::End { count }
+        let count = exact_number(a)?;
+        Some(Line::End { count })
     } else if is(word, "cut") {
-        let Some(node) = node(script, a) else {
-            return Line::Bad;
-        };
-        Line::Cut { node }
+        let node = node(script, a)?;
+        Some(Line::Cut { node })
+    } else if is(word, "version") && is(a, "2") {
+        Some(Line::Version)
     } else {
-        Line::Bad
+        None
     }
 }
 
 // A line of four words.
-fn line_of_four(script: &Script, word: &[u8], a: &[u8], b: &[u8], c: &[u8]) -> Line
-    ensures { result ≡ line_of_four script.now word.now a.now b.now c.now }
+fn line_of_four(script: &Script, word: &[u8], a: &[u8], b: &[u8], c: &[u8]) -> Option<Line>
+    ensures { unwrap_or result Bad ≡ line_of_four script.now word.now a.now b.now c.now }
 {
     if is(word, "busy") {
-        match (
-            script.client_number(a),
-            script.client_number(b),
-            script.set_number(c),
-        ) {
-            (Some(client), Some(other), Some(set)) => {
-                Line::Event(Event::Busy { client, other, set })
-            }
-            _ => Line::Bad,
-        }
+        let client = script.client_number(a)?;
+        let other = script.client_number(b)?;
+        let set = script.set_number(c)?;
+        Some(Line::Event(Event::Busy { client, other, set }))
     } else if is(word, "token") {
-        match (script.set_number(a), node(script, b), exact_number(c)) {
-            (Some(set), Some(to), Some(epoch)) => Line::Event(Event::Token {
-                set,
-                to,
-                epoch: u64::from(epoch),
-            }),
-            _ => Line::Bad,
-        }
+        let set = script.set_number(a)?;
+        let to = node(script, b)?;
+        let epoch = u64::from(exact_number(c)?);
+        Some(Line::Event(Event::Token { set, to, epoch }))
     } else if is(word, "owner") {
-        match (script.set_number(a), node(script, b), exact_number(c)) {
-            (Some(set), Some(node), Some(epoch)) => Line::Owner {
-                set,
-                node,
-                epoch: u64::from(epoch),
-            },
-            _ => Line::Bad,
-        }
+        let set = script.set_number(a)?;
+        let node = node(script, b)?;
+        let epoch = u64::from(exact_number(c)?);
+        Some(Line::Owner { set, node, epoch })
     } else {
-        lock_line(word, lock(script, a, b, c))
+        lock_line(word, lock(script, a, b, c)?)
     }
 }
 
 // A line of a word and a lock.
-fn lock_line(word: &[u8], lock: Option<Lock>) -> Line
-    ensures { result ≡ lock_line word.now lock }
+fn lock_line(word: &[u8], lock: Holding) -> Option<Line>
+    ensures { unwrap_or result Bad ≡ lock_line word.now (Some lock) }
 {
-    let Some(Lock { client, set, mode }) = lock else {
-        return Line::Bad;
-    };
+    let Holding { client, set, mode } = lock;
     if is(word, "grant") {
-        Line::Event(Event::Grant { client, set, mode })
+        Some(Line::Event(Event::Grant { client, set, mode }))
     } else if is(word, "wait") {
-        Line::Event(Event::Wait { client, set, mode })
+        Some(Line::Event(Event::Wait { client, set, mode }))
     } else if is(word, "unlock") {
-        Line::Event(Event::Unlock { client, set, mode })
+        Some(Line::Event(Event::Unlock { client, set, mode }))
     } else if is(word, "not_held") {
-        Line::Event(Event::NotHeld { client, set, mode })
+        Some(Line::Event(Event::NotHeld { client, set, mode }))
     } else if is(word, "waiting") {
-        Line::Waiting { client, set, mode }
+        Some(Line::Waiting { client, set, mode })
     } else {
-        Line::Bad
+        None
     }
 }
 
 // A line of five words, but for a `freeze`.
-fn line_of_five(script: &Script, word: &[u8], a: &[u8], b: &[u8], c: &[u8], d: &[u8]) -> Line
-    ensures { result ≡ line_of_five script.now word.now a.now b.now c.now d.now }
+fn line_of_five(
+    script: &Script,
+    word: &[u8],
+    a: &[u8],
+    b: &[u8],
+    c: &[u8],
+    d: &[u8],
+) -> Option<Line>
+    ensures { unwrap_or result Bad ≡ line_of_five script.now word.now a.now b.now c.now d.now }
 {
     if is(word, "move") {
-        match (exact_number(a), node(script, b), step(script, c, d)) {
-            (Some(clock), Some(node), Some(step)) => Line::Move {
-                clock: u64::from(clock),
-                node,
-                step,
-            },
-            _ => Line::Bad,
-        }
+        let clock = u64::from(exact_number(a)?);
+        let node = node(script, b)?;
+        let step = step(script, c, d)?;
+        Some(Line::Move { clock, node, step })
     } else if is(word, "drop") {
-        match (
-            script.client_number(a),
-            script.client_number(b),
-            script.set_number(c),
-            exact_number(d),
-        ) {
-            (Some(client), Some(other), Some(set), Some(count)) => Line::Event(Event::DropAll {
-                client,
-                other,
-                set,
-                count,
-            }),
-            _ => Line::Bad,
-        }
+        let client = script.client_number(a)?;
+        let other = script.client_number(b)?;
+        let set = script.set_number(c)?;
+        let count = exact_number(d)?;
+        Some(Line::Event(Event::DropAll {
+            client,
+            other,
+            set,
+            count,
+        }))
     } else if is(word, "copy") {
         copy(script, a, b, c, d)
     } else {
-        lock_and_line(word, lock(script, a, b, c), d)
+        lock_and_line(word, lock(script, a, b, c)?, d)
     }
 }
 
 // A line `copy SET TO CLIENT MODE`.
-fn copy(script: &Script, a: &[u8], b: &[u8], c: &[u8], d: &[u8]) -> Line
-    ensures { result ≡ line_of_copy script.now a.now b.now c.now d.now }
+fn copy(script: &Script, a: &[u8], b: &[u8], c: &[u8], d: &[u8]) -> Option<Line>
+    ensures { unwrap_or result Bad ≡ line_of_copy script.now a.now b.now c.now d.now }
 {
-    match (
-        script.set_number(a),
-        node(script, b),
-        script.client_number(c),
-        Mode::from_word(d),
-    ) {
-        (Some(set), Some(to), Some(client), Some(mode)) => Line::Event(Event::Copy {
-            set,
-            to,
-            client,
-            mode,
-        }),
-        _ => Line::Bad,
-    }
+    let set = script.set_number(a)?;
+    let to = node(script, b)?;
+    let client = script.client_number(c)?;
+    let mode = Mode::from_word(d)?;
+    Some(Line::Event(Event::Copy {
+        set,
+        to,
+        client,
+        mode,
+    }))
 }
 
 // A line of a word, a lock, and what is said of the lock.
-fn lock_and_line(word: &[u8], lock: Option<Lock>, d: &[u8]) -> Line
-    ensures { result ≡ lock_and_line word.now lock d.now }
+fn lock_and_line(word: &[u8], lock: Holding, d: &[u8]) -> Option<Line>
+    ensures { unwrap_or result Bad ≡ lock_and_line word.now (Some lock) d.now }
 {
-    let Some(Lock { client, set, mode }) = lock else {
-        return Line::Bad;
-    };
+    let Holding { client, set, mode } = lock;
     if is(word, "try") {
-        let Some(got) = bool_of(d) else {
-            return Line::Bad;
-        };
-        Line::Event(Event::Try {
+        let got = bool_of(d)?;
+        Some(Line::Event(Event::Try {
             client,
             set,
             mode,
             got,
-        })
+        }))
     } else if is(word, "change") {
-        let Some(to) = Mode::from_word(d) else {
-            return Line::Bad;
-        };
-        Line::Event(Event::Change {
+        let to = Mode::from_word(d)?;
+        Some(Line::Event(Event::Change {
             client,
             set,
             gives_up: mode,
             mode: to,
-        })
+        }))
     } else if is(word, "held") {
-        let Some(count) = exact_number(d) else {
-            return Line::Bad;
-        };
-        Line::Held {
+        let count = u64::from(exact_number(d)?);
+        Some(Line::Held {
             client,
             set,
             mode,
             count,
-        }
+        })
     } else {
-        Line::Bad
+        None
     }
 }
 
 // A line `freeze SET TO NUMBER MODES`.
-fn freeze(script: &Script, a: &[u8], b: &[u8], c: &[u8], words: &[u8]) -> Line
-    ensures { result ≡ line_of_freeze script.now a.now b.now c.now (fields words.now) }
+fn freeze(script: &Script, a: &[u8], b: &[u8], c: &[u8], words: &[u8]) -> Option<Line>
+    ensures { unwrap_or result Bad ≡ line_of_freeze script.now a.now b.now c.now (fields words.now) }
 {
-    match (
-        script.set_number(a),
-        node(script, b),
-        exact_number(c),
-        modes(words),
-    ) {
-        (Some(set), Some(to), Some(number), Some(modes)) => Line::Event(Event::Freeze {
-            set,
-            to,
-            number: u64::from(number),
-            modes,
-        }),
-        _ => Line::Bad,
-    }
+    let set = script.set_number(a)?;
+    let to = node(script, b)?;
+    let number = u64::from(exact_number(c)?);
+    let modes = modes(words)?;
+    Some(Line::Event(Event::Freeze {
+        set,
+        to,
+        number,
+        modes,
+    }))
 }

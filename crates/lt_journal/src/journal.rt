@@ -1,11 +1,11 @@
-ghost use Rattle.std.specs.Prelude.{◌≡◌, ◌++◌, OnOk, IfOk, map};
-ghost use Rattle.lt_journal.specs.declared.line.Line.TheVariants.{Event as EventLine};
-ghost use Rattle.lt_journal.specs.RunLines.{moves_lines, closing_lines};
+ghost use Rattle.std.specs.Prelude.{◌≡◌, ◌++◌, OnOk, IfOk};
+ghost use Rattle.lt_journal.specs.RunLines.{first_lines, event_lines, moves_lines, closing_lines};
 ghost use Rattle.lt_journal.specs.Text.{lines_text, text_of};
 
-use crate::closing::rest_lines;
-use crate::events::{event_line, move_line};
-use crate::tally::tally_of;
+use crate::closing::closing_lines;
+use crate::events::{event_line, move_line, shown_event};
+use crate::line::Line;
+use crate::line_words::write_lines;
 use crate::text::Text;
 use lt_merge::Run;
 use lt_modes::Event;
@@ -23,8 +23,9 @@ pub fn write(
     ensures { IfOk result (λ text. text.items ≡ text_of script.now run.now.entries cut) }
 {
     let mut text = Text::new(alloc);
+    first_lines(&mut text, script)?;
     move_lines(&mut text, script, run)?;
-    closing_lines(alloc, &mut text, script, run, cut)?;
+    push_closing(alloc, &mut text, script, run, cut)?;
     Ok(text.into_bytes())
 }
 
@@ -38,13 +39,23 @@ pub fn write_closing(
     ensures { IfOk result (λ text. text.items ≡ lines_text script.now (closing_lines script.now run.now.entries cut)) }
 {
     let mut text = Text::new(alloc);
-    closing_lines(alloc, &mut text, script, run, cut)?;
+    push_closing(alloc, &mut text, script, run, cut)?;
     Ok(text.into_bytes())
+}
+
+// Writes the line before all moves, where there is one: `version 2`.
+fn first_lines(text: &mut Text, script: &Script) -> Result<(), AllocError>
+    ensures { OnOk result (text.new ≡ text.old ++ lines_text script.now (first_lines script.now.version)) }
+{
+    if script.version() == 1 {
+        return Ok(());
+    }
+    write_lines(text, script, &[Line::Version])
 }
 
 // Writes the lines of all moves.
 fn move_lines(text: &mut Text, script: &Script, run: &Run) -> Result<(), AllocError>
-    ensures { OnOk result (text.new ≡ text.old ++ lines_text script.now (moves_lines run.now.entries)) }
+    ensures { OnOk result (text.new ≡ text.old ++ lines_text script.now (moves_lines script.now.version run.now.entries)) }
 {
     for k in 0..run.len() {
         move_line(text, script, run.made(k))?;
@@ -55,16 +66,16 @@ fn move_lines(text: &mut Text, script: &Script, run: &Run) -> Result<(), AllocEr
 
 // Writes the lines of a move's events.
 fn event_lines(text: &mut Text, script: &Script, events: &[Event]) -> Result<(), AllocError>
-    ensures { OnOk result (text.new ≡ text.old ++ lines_text script.now (map EventLine events.now)) }
+    ensures { OnOk result (text.new ≡ text.old ++ lines_text script.now (event_lines script.now.version events.now)) }
 {
     for event in events {
-        event_line(text, script, *event)?;
+        event_line(text, script, shown_event(script.version(), *event))?;
     }
     Ok(())
 }
 
 // Writes the lines after the moves: those at rest, or `cut NODE`.
-fn closing_lines(
+fn push_closing(
     alloc: Global,
     text: &mut Text,
     script: &Script,
@@ -73,11 +84,11 @@ fn closing_lines(
 ) -> Result<(), AllocError>
     ensures { OnOk result (text.new ≡ text.old ++ lines_text script.now (closing_lines script.now run.now.entries cut)) }
 {
-    let Some(node) = cut else {
-        let tally = tally_of(alloc, script, run)?;
-        return rest_lines(text, script, &tally, run.len());
-    };
-    text.first_word("cut")?;
-    text.number(u64::from(node))?;
-    text.end_line()
+    match cut {
+        Some(node) => write_lines(text, script, &[Line::Cut { node }]),
+        None => {
+            let lines = closing_lines(alloc, script, run)?;
+            write_lines(text, script, &lines)
+        }
+    }
 }

@@ -3,7 +3,8 @@ ghost use Rattle.lt_modes.specs.Script.{ScriptData};
 ghost use Rattle.lt_script.specs.Script.{IsScript};
 ghost use Rattle.lt_journal.specs.declared.line.Line.{Line as AnyLine};
 ghost use Rattle.lt_journal.specs.Grammar.{read_line};
-ghost use Rattle.lt_journal.specs.Words.{spaced, line_words};
+ghost use Rattle.lt_text.specs.Text.{spaced};
+ghost use Rattle.lt_journal.specs.Words.{line_words};
 ghost use Rattle.lt_journal.specs.Text.{IsAsWritten};
 ghost use Rattle.lt_journal.specs.LineFits.{FitsLine};
 

@@ -43,23 +43,23 @@ mod journal;
 mod laws;
 mod line;
 mod line_words;
-mod lock;
 mod meaning;
 mod names;
 mod reading;
 #[cfg(test)]
 mod reading_tests;
 mod splitting;
-mod table;
-mod tally;
 #[cfg(test)]
 mod tests;
 mod text;
 
+pub use closing::closing_lines;
+pub use events::shown_event;
 pub use grammar::read_line;
 pub use journal::{write, write_closing};
 pub use laws::law_read_line;
 pub use line::Line;
-pub use line_words::write_line;
+pub use line_words::{write_line, write_words};
 pub use reading::{Journal, read};
 pub use splitting::{Parts, split};
+pub use text::Text;

@@ -1,8 +1,13 @@
+ghost use Rattle.std.specs.Prelude.{◌≡◌, [], ◌∷◌, ◌++◌, OnOk};
+
 use lt_modes::{Event, Mode, Step};
+use std::alloc::AllocError;
 
 /// What a line of a journal says.
 #[derive(Clone, Copy, Debug, PartialEq, Eq)]
 pub enum Line {
+    /// The first line of a journal of version 2.
+    Version,
     /// The start of a move.
     Move {
         clock: u64,
@@ -16,7 +21,7 @@ pub enum Line {
         client: u16,
         set: u8,
         mode: Mode,
-        count: u32,
+        count: u64,
     },
     /// What a client waits for at rest.
     Waiting {
@@ -40,4 +45,16 @@ pub enum Line {
     },
     /// A line that has none of the forms.
     Bad,
+}
+
+/// Adds a last line.
+pub(crate) fn push_line(lines: &mut Vec<Line>, line: Line) -> Result<(), AllocError>
+    ensures { OnOk result (lines.new.items ≡ lines.old.items ++ line ∷ []) }
+{
+    // A vector of lines grows only where the prover meets the type of events, so this takes one apart.
+    match line {
+        Line::Event(event) => lines.push(Line::Event(event))?,
+        other => lines.push(other)?,
+    }
+    Ok(())
 }

@@ -1,5 +1,7 @@
 ghost use Rattle.std.specs.Prelude.{◌≡◌, ◌++◌, OnOk, IfOk};
-ghost use Rattle.lt_journal.specs.Words.{spaced, line_words};
+ghost use Rattle.lt_text.specs.Text.{spaced};
+ghost use Rattle.lt_journal.specs.Words.{line_words};
+ghost use Rattle.lt_journal.specs.Text.{lines_text};
 
 use crate::events::{lock, words_of_event, words_of_move};
 use crate::line::Line;
@@ -13,15 +15,19 @@ pub fn write_line(alloc: Global, script: &Script, line: Line) -> Result<Vec<u8>,
     ensures { IfOk result (λ text. text.items ≡ spaced (line_words script.now line)) }
 {
     let mut text = Text::new(alloc);
-    words_of_line(&mut text, script, line)?;
+    write_words(&mut text, script, line)?;
     Ok(text.into_bytes())
 }
 
-// Writes the words of the line.
-fn words_of_line(text: &mut Text, script: &Script, line: Line) -> Result<(), AllocError>
+/// Writes how the line is written behind what the text has so far.
+pub fn write_words(text: &mut Text, script: &Script, line: Line) -> Result<(), AllocError>
     ensures { OnOk result (text.new ≡ text.old ++ spaced (line_words script.now line)) }
 {
     match line {
+        Line::Version => {
+            text.first_word("version")?;
+            text.word(b"2")
+        }
         Line::Move { clock, node, step } => words_of_move(text, script, clock, node, step),
         Line::Event(event) => words_of_event(text, script, event),
         Line::Held {
@@ -31,7 +37,7 @@ fn words_of_line(text: &mut Text, script: &Script, line: Line) -> Result<(), All
             count,
         } => {
             lock(text, script, "held", client, set, mode)?;
-            text.number(u64::from(count))
+            text.number(count)
         }
         Line::Waiting { client, set, mode } => lock(text, script, "waiting", client, set, mode),
         Line::Owner { set, node, epoch } => {
@@ -50,4 +56,19 @@ fn words_of_line(text: &mut Text, script: &Script, line: Line) -> Result<(), All
         }
         Line::Bad => Ok(()),
     }
+}
+
+/// Writes the lines, each with its line end.
+pub(crate) fn write_lines(
+    text: &mut Text,
+    script: &Script,
+    lines: &[Line],
+) -> Result<(), AllocError>
+    ensures { OnOk result (text.new ≡ text.old ++ lines_text script.now lines.now) }
+{
+    for line in lines {
+        write_words(text, script, *line)?;
+        text.end_line()?;
+    }
+    Ok(())
 }

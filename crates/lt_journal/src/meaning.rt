@@ -1,14 +1,12 @@
 ghost use Rattle.std.specs.Prelude.{◌≡◌, List, ◌∷◌};
 ghost use Rattle.lt_modes.specs.declared.mode.Mode.{Mode as AnyMode};
-ghost use Rattle.lt_journal.specs.Words.{all_modes};
-ghost use Rattle.lt_modes.specs.Modes.{no_modes};
+ghost use Rattle.lt_modes.specs.Modes.{no_modes, modes_in_order};
 ghost use Rattle.lt_text.specs.Text.{fields};
 ghost use Rattle.lt_journal.specs.Grammar.{node_of, step_of, lock_of, bool_of, says_none, modes_of, with_words, words_left};
 
-use crate::closing::MODES;
-use crate::lock::Lock;
-use lt_modes::{Mode, ModeSet, Step};
+use lt_modes::{MODES, Mode, ModeSet, Step};
 use lt_script::Script;
+use lt_tally::Holding;
 use lt_text::{exact_number, is, next_field};
 
 /// The node of the script that the word names.
@@ -39,7 +37,7 @@ pub(crate) fn step(script: &Script, verb: &[u8], word: &[u8]) -> Option<Step>
 }
 
 /// The lock of a client's name, a set's name and a mode's word.
-pub(crate) fn lock(script: &Script, client: &[u8], set: &[u8], mode: &[u8]) -> Option<Lock>
+pub(crate) fn lock(script: &Script, client: &[u8], set: &[u8], mode: &[u8]) -> Option<Holding>
     ensures { result ≡ lock_of script.now client.now set.now mode.now }
 {
     match (
@@ -47,7 +45,7 @@ pub(crate) fn lock(script: &Script, client: &[u8], set: &[u8], mode: &[u8]) -> O
         script.set_number(set),
         Mode::from_word(mode),
     ) {
-        (Some(client), Some(set), Some(mode)) => Some(Lock { client, set, mode }),
+        (Some(client), Some(set), Some(mode)) => Some(Holding { client, set, mode }),
         _ => None,
     }
 }

@@ -1,6 +1,6 @@
 ghost use Rattle.std.specs.Prelude.{◌≡◌, ◌<◌, ◌^◌, length, position};
 ghost use Rattle.lt_text.specs.Text.{is_line_end};
-ghost use Rattle.lt_journal.specs.Split.{is_journal_line, after_line, parts_of};
+ghost use Rattle.lt_journal.specs.Split.{is_journal_line, after_first_line, input_parts};
 
 use lt_text::{is, next_line, next_word};
 
@@ -19,7 +19,7 @@ pub struct Parts {
 /// among the lines before the journal. Without such a line all is script.
 pub fn split(bytes: &[u8]) -> Parts
     requires { length bytes.now < 2 ^ 32 }
-    ensures { result ≡ parts_of bytes.now }
+    ensures { result ≡ input_parts bytes.now }
 {
     let mut rest = bytes;
     let mut lines: u32 = 0;
@@ -55,7 +55,7 @@ fn is_journal_line(line: &[u8]) -> bool
 
 // What stands after the first line with its line end.
 fn after_line(bytes: &[u8]) -> &[u8]
-    ensures { result.now ≡ after_line bytes.now }
+    ensures { result.now ≡ after_first_line bytes.now }
 {
     match line_end(bytes) {
         Some(end) => {

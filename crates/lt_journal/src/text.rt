@@ -1,6 +1,6 @@
 ghost use Rattle.std.specs.Prelude.{◌≡◌, [], ◌∷◌, ◌++◌, OnOk};
 ghost use Rattle.std.specs.Fmt.{decimal};
-ghost use Rattle.lt_journal.specs.Words.{after_space};
+ghost use Rattle.lt_text.specs.Text.{after_space};
 
 use itoa::Buffer;
 use std::alloc::{AllocError, Global};
@@ -57,6 +57,19 @@ impl Text {
     {
         self.bytes.push(b'\n')?;
         Ok(())
+    }
+
+    /// The text of nothing, in the memory that this one has.
+    pub fn clear(&mut self)
+        ensures { self.new ≡ [] }
+    {
+        self.bytes.clear();
+    }
+
+    pub fn bytes(&self) -> &[u8]
+        ensures { result.now ≡ self.now }
+    {
+        &self.bytes
     }
 
     pub fn into_bytes(self) -> Vec<u8>

@@ -5,7 +5,7 @@ use Rattle.lt_modes.specs.State.{SetState, Desk}
 use Rattle.lt_modes.specs.Held.{locks_in}
 use Rattle.lt_modes.specs.Fits.{asks_here}
 use Rattle.lt_lists.specs.Below.{any_below}
-use Rattle.lt_runs.specs.NodeMove.{NodeState}
+use Rattle.lt_spec.specs.NodeMove.{NodeState}
 use Rattle.lt_script.specs.declared.limits.TheConstants.{MAX_COMMANDS, MAX_CLIENTS, MAX_CLIENTS_OF_NODE}
 
 -- neither the desk's epoch nor its freeze number is above the clock

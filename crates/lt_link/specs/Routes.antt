@@ -42,7 +42,7 @@ IsKindOf Tell marked (ParkedAsk ask) s = ⊥
 IsKindOf Tell marked (ParkedTell tell) s = Unit {0}
 
 -- the ask is of this node, and has this mode and this stamp
-pub record IsAskOf (node : ℕ) (mode : Mode) (stamp : Stamp) (ask : AnyAsk) : Type 0 where
+pub record IsAskFrom (node : ℕ) (mode : Mode) (stamp : Stamp) (ask : AnyAsk) : Type 0 where
   pub of_node : ask.node ≡ node
   pub has_mode : ask.mode ≡ mode
   pub has_stamp : ask.stamp ≡ stamp

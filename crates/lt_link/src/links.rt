@@ -5,7 +5,7 @@ ghost use Rattle.lt_modes.specs.Routing.{learn, way, reversed};
 ghost use Rattle.lt_modes.specs.Taking.{take_token};
 ghost use Rattle.lt_modes.specs.HandingOver.{without_desk};
 ghost use Rattle.lt_link.specs.LinksData.{first_links, with_link, links_of, with_links};
-ghost use Rattle.lt_link.specs.Routes.{route_of, unmarked_route, way_of, IsKindOf, IsAskOf};
+ghost use Rattle.lt_link.specs.Routes.{route_of, unmarked_route, way_of, IsKindOf, IsAskFrom};
 
 use crate::kind::{Kind, Route};
 use lt_modes::{Hoped, Link, Mode, Stamp};
@@ -111,7 +111,7 @@ impl Links {
     /// Path reversal, after an ask was sent on: the token will go to its node, if the ask is taking.
     pub fn reverse(&mut self, node: u8, mode: Mode, stamp: Stamp)
         ensures me { self.new.me ≡ self.old.me }
-        ensures reversed { (ask : AnyAsk) (s : SetState) → IsAskOf node mode stamp ask → with_links self.new s ≡ reversed self.old.me (ParkedAsk ask) (with_links self.old s) }
+        ensures reversed { (ask : AnyAsk) (s : SetState) → IsAskFrom node mode stamp ask → with_links self.new s ≡ reversed self.old.me (ParkedAsk ask) (with_links self.old s) }
     {
         if mode.taking() && node != self.me {
             self.hoped = Some(Hoped { node, stamp });

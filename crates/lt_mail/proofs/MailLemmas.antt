@@ -7,8 +7,8 @@ use Rattle.lt_mail.specs.declared.lane.OutLane.{OutLane}
 use Rattle.lt_mail.specs.declared.lane.InLane.{InLane}
 use Rattle.lt_mail.specs.declared.mail.Mail.{Mail}
 use Rattle.rtrb.specs.Ring.{known_free}
-use Rattle.lt_mail.specs.Lanes.{waiting}
-use Rattle.lt_mail.specs.Words.{Both, IsOpenLink, AreLinked, out_at, in_at, on_out, outs_count, given_to, waiting_to, IsFullTo, HasRoomAt, HasRoom, Alike, SameOut, SameIn, SameEnds}
+use Rattle.lt_mail.specs.Lanes.{outbox_letters}
+use Rattle.lt_mail.specs.Words.{Both, IsOpenLink, AreLinked, out_at, in_at, on_out, outs_count, given_to, waiting_to, IsFullTo, HasRoomAt, HasRoomFor, Alike, SameOut, SameIn, SameEnds}
 use Rattle.lt_mail.specs.Changes.{OutChanges, Stays, Flushes, KeepsSent, Reserved, Flushed}
 use Rattle.lt_mail.proofs.WordLemmas.{flushes_stop}
 
@@ -69,7 +69,7 @@ one_more_reserved letters first a b c h lane kept given room = record {
   room_kept = λ node further room. room_stays first b c lane node further (h.room_kept node further room);
 }
 
-pub all_reserved : (letters first : ℕ) (a b : Mail) → Reserved letters first a b → outs_count a ≤ first → HasRoom b letters
+pub all_reserved : (letters first : ℕ) (a b : Mail) → Reserved letters first a b → outs_count a ≤ first → HasRoomFor b letters
 all_reserved letters first a b h whole node = elim (slice_get_cases b.outs.items node).1 [
   | inl there ↦ h.room node (omega (arith, there.1, h.kept.ends.counts.0, whole))
   | inr past ↦ subst (λ (o : Option OutLane). HasRoomAt letters o) (sym past.1) tt
@@ -77,7 +77,7 @@ all_reserved letters first a b h whole node = elim (slice_get_cases b.outs.items
 
 -- an empty outbox, or a ring that is known to be full
 abbrev Stopped : Option OutLane → Type 0
-Stopped o = (on_out waiting o ≡ []) ⊎ ((lane : OutLane) × (o ≡ Some lane) × (known_free lane.ring ≡ 0))
+Stopped o = (on_out outbox_letters o ≡ []) ⊎ ((lane : OutLane) × (o ≡ Some lane) × (known_free lane.ring ≡ 0))
 
 pub one_more_flushed : (first : ℕ) (a b c : Mail) → Flushed first a b → OutChanges Flushes b c first → KeepsSent b c → Flushed (first + 1) a c
 one_more_flushed first a b c h lane kept = record {
@@ -91,7 +91,7 @@ one_more_flushed first a b c h lane kept = record {
 pub all_flushed : (a b : Mail) → Flushed (outs_count b) a b → (node : ℕ) → (waiting_to b node ≡ []) ⊎ IsFullTo b node
 all_flushed a b h node = elim (slice_get_cases b.outs.items node).1 [
   | inl there ↦ h.stops node there.1
-  | inr past ↦ inl (ap (λ (o : Option OutLane). on_out waiting o) past.1)
+  | inr past ↦ inl (ap (λ (o : Option OutLane). on_out outbox_letters o) past.1)
 ]
 
 -- ends that are linked stay so
@@ -120,7 +120,7 @@ pub ends_same : (m : Mail) → SameEnds m m
 ends_same m = record { me = refl; counts = (refl, refl); outs = λ node. same_ends_out (out_at m node); ins = λ node. same_ends_in (in_at m node) }
 
 -- with room for more letters there is room for fewer
-pub fewer_letters : (m : Mail) (more fewer : ℕ) → fewer ≤ more → HasRoom m more → HasRoom m fewer
+pub fewer_letters : (m : Mail) (more fewer : ℕ) → fewer ≤ more → HasRoomFor m more → HasRoomFor m fewer
 fewer_letters m more fewer less h node = here (out_at m node) (h node)
   where
     here : (o : Option OutLane) → HasRoomAt more o → HasRoomAt fewer o

@@ -3,14 +3,14 @@ use Rattle.std.specs.Prelude.{◌≡◌, ◌<◌, ◌⊎◌, [], ◌++◌, lengt
 use mathlib.Core.List.{IsPrefix}
 use Rattle.lt_mail.specs.declared.lane.OutLane.{OutLane}
 use Rattle.lt_mail.specs.declared.lane.InLane.{InLane}
-use Rattle.lt_mail.specs.Lanes.{given, waiting, sent_by, taken, known}
+use Rattle.lt_mail.specs.Lanes.{ring_given, outbox_letters, sent_by, taken, known}
 use Rattle.lt_mail.specs.Words.{SameOut, SameIn}
 
 -- letters may have gone from the outbox to the ring
-pub record Gives (x y : OutLane) : Type 0 where
+pub record LaneGives (x y : OutLane) : Type 0 where
   pub ring : SameOut x y
   pub sent : sent_by y ≡ sent_by x
-  pub grew : IsPrefix (given x) (given y)
+  pub grew : IsPrefix (ring_given x) (ring_given y)
 
 -- more letters may be known
 pub record Sees (x y : InLane) : Type 0 where
@@ -20,5 +20,5 @@ pub record Sees (x y : InLane) : Type 0 where
 
 -- all letters in the ring are known, and it has one where the outbox does
 pub record IsMet (out : OutLane) (into : InLane) : Type 0 where
-  pub whole : taken into ++ known into ≡ given out
-  pub moves : (waiting out ≡ []) ⊎ (0 < length (known into))
+  pub whole : taken into ++ known into ≡ ring_given out
+  pub moves : (outbox_letters out ≡ []) ⊎ (0 < length (known into))

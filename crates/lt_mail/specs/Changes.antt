@@ -3,11 +3,11 @@ use Rattle.std.specs.Prelude.{◌≡◌, ◌≢◌, ◌+◌, ◌≤◌, ◌<◌,
 use Rattle.std.specs.VecDeque.{deque_len, deque_capacity}
 use mathlib.Core.List.{IsPrefix}
 use Rattle.rtrb.specs.Ring.{producer_capacity, known_free}
-use Rattle.lt_letter.specs.declared.letter.Letter.{Letter}
+use Rattle.lt_desk.specs.declared.letter.Letter.{Letter}
 use Rattle.lt_mail.specs.declared.lane.OutLane.{OutLane}
 use Rattle.lt_mail.specs.declared.lane.InLane.{InLane}
 use Rattle.lt_mail.specs.declared.mail.Mail.{Mail}
-use Rattle.lt_mail.specs.Lanes.{given, waiting, sent_by, taken, known}
+use Rattle.lt_mail.specs.Lanes.{ring_given, outbox_letters, sent_by, taken, known}
 use Rattle.lt_mail.specs.Words.{sent_to, given_to, waiting_to, IsFullTo, HasRoomAt, SameEnds, out_at, in_at, outs_count, ins_count, Both, SameOut, SameIn}
 
 -- one lane that sends went from the one to the other in this way
@@ -30,7 +30,7 @@ pub record InChanges (R : InLane → InLane → Type 0) (a b : Mail) (from : ℕ
 pub record Puts (letter : Letter) (x y : OutLane) : Type 0 where
   pub ring : SameOut x y
   pub sent : sent_by y ≡ sent_by x ++ letter ∷ []
-  pub given : given y ≡ given x
+  pub ring_given : ring_given y ≡ ring_given x
   pub len : deque_len y.outbox ≡ deque_len x.outbox + 1
   pub room : deque_capacity y.outbox ≡ deque_capacity x.outbox
 
@@ -38,15 +38,15 @@ pub record Puts (letter : Letter) (x y : OutLane) : Type 0 where
 pub record Flushes (x y : OutLane) : Type 0 where
   pub ring : SameOut x y
   pub sent : sent_by y ≡ sent_by x
-  pub grew : IsPrefix (given x) (given y)
-  pub first : length (given y) < producer_capacity y.ring → waiting y ≡ []
-  pub stops : (waiting y ≡ []) ⊎ (known_free y.ring ≡ 0)
+  pub grew : IsPrefix (ring_given x) (ring_given y)
+  pub first : length (ring_given y) < producer_capacity y.ring → outbox_letters y ≡ []
+  pub stops : (outbox_letters y ≡ []) ⊎ (known_free y.ring ≡ 0)
 
 -- no letter went anywhere, and the outbox has no less room
 pub record Stays (x y : OutLane) : Type 0 where
   pub ring : SameOut x y
   pub sent : sent_by y ≡ sent_by x
-  pub given : given y ≡ given x
+  pub ring_given : ring_given y ≡ ring_given x
   pub len : deque_len y.outbox ≡ deque_len x.outbox
   pub kept : deque_capacity x.outbox ≤ deque_capacity y.outbox
 

@@ -1,21 +1,21 @@
 -- What went through the ends of a ring.
 use Rattle.std.specs.Prelude.{List, ◌++◌}
 use Rattle.rtrb.specs.Ring.{sent, received, known_items, IsPair}
-use Rattle.lt_letter.specs.declared.letter.Letter.{Letter}
+use Rattle.lt_desk.specs.declared.letter.Letter.{Letter}
 use Rattle.lt_mail.specs.declared.lane.OutLane.{OutLane}
 use Rattle.lt_mail.specs.declared.lane.InLane.{InLane}
 
--- the letters that the ring was given
-abbrev pub given : OutLane → List Letter
-given lane = sent lane.ring
+-- the letters that the ring was ring_given
+abbrev pub ring_given : OutLane → List Letter
+ring_given lane = sent lane.ring
 
 -- the letters in the outbox
-abbrev pub waiting : OutLane → List Letter
-waiting lane = lane.outbox.items
+abbrev pub outbox_letters : OutLane → List Letter
+outbox_letters lane = lane.outbox.items
 
 -- the letters that were sent by this end
 abbrev pub sent_by : OutLane → List Letter
-sent_by lane = given lane ++ waiting lane
+sent_by lane = ring_given lane ++ outbox_letters lane
 
 abbrev pub taken : InLane → List Letter
 taken lane = received lane.ring

@@ -3,12 +3,12 @@ use Rattle.std.specs.Prelude.{◌≡◌, ◌==◌, ◌+◌, ◌≤◌, ◌<◌, 
 use Rattle.std.specs.VecDeque.{deque_len, deque_capacity}
 use Rattle.rtrb.specs.Ring.{known_free, producer_capacity, SameProducer, SameConsumer}
 use Rattle.lt_modes.specs.State as rules
-use Rattle.lt_letter.specs.declared.letter.Letter.{Letter}
-use Rattle.lt_letter.specs.Seen.{letter_seen}
+use Rattle.lt_desk.specs.declared.letter.Letter.{Letter}
+use Rattle.lt_desk.specs.LetterSeen.{letter_seen}
 use Rattle.lt_mail.specs.declared.lane.OutLane.{OutLane}
 use Rattle.lt_mail.specs.declared.lane.InLane.{InLane}
 use Rattle.lt_mail.specs.declared.mail.Mail.{Mail}
-use Rattle.lt_mail.specs.Lanes.{given, waiting, sent_by, taken, known, IsLink}
+use Rattle.lt_mail.specs.Lanes.{ring_given, outbox_letters, sent_by, taken, known, IsLink}
 
 abbrev pub seen : List Letter → List rules.Letter
 seen letters = map letter_seen letters
@@ -34,17 +34,17 @@ abbrev pub on_in : (InLane → List Letter) → Option InLane → List rules.Let
 on_in letters None = []
 on_in letters (Some lane) = seen (letters lane)
 
--- the letters that were sent to the node: those that its ring was given, and then those in its outbox
+-- the letters that were sent to the node: those that its ring was ring_given, and then those in its outbox
 abbrev pub sent_to : Mail → ℕ → List rules.Letter
 sent_to m node = on_out sent_by (out_at m node)
 
--- the letters to the node that its ring was given
+-- the letters to the node that its ring was ring_given
 abbrev pub given_to : Mail → ℕ → List rules.Letter
-given_to m node = on_out given (out_at m node)
+given_to m node = on_out ring_given (out_at m node)
 
 -- the letters to the node that are in its outbox
 abbrev pub waiting_to : Mail → ℕ → List rules.Letter
-waiting_to m node = on_out waiting (out_at m node)
+waiting_to m node = on_out outbox_letters (out_at m node)
 
 -- the letters of the node that were taken
 abbrev pub taken_from : Mail → ℕ → List rules.Letter
@@ -105,8 +105,8 @@ HasRoomAt letters None = Unit {0}
 HasRoomAt letters (Some lane) = deque_len lane.outbox + letters ≤ deque_capacity lane.outbox
 
 -- each outbox has room for so many further letters
-abbrev pub HasRoom : Mail → ℕ → Type 0
-HasRoom m letters = (node : ℕ) → HasRoomAt letters (out_at m node)
+abbrev pub HasRoomFor : Mail → ℕ → Type 0
+HasRoomFor m letters = (node : ℕ) → HasRoomAt letters (out_at m node)
 
 -- the two ends of one ring, which has places
 abbrev pub IsOpenLink : OutLane → InLane → Type 0

@@ -1,17 +1,19 @@
 // Both ends of a ring at once.
 ghost use Rattle.std.specs.Prelude.{◌≡◌, ◌≢◌, ◌<◌, ◌⊎◌, ℕ, [], ◌++◌, length};
 ghost use mathlib.Core.List.{IsPrefix};
-ghost use Rattle.lt_mail.specs.Words.{out_at, in_at, outs_count, ins_count, sent_to, given_to, waiting_to, taken_from, known_from, SameEnds, Both, IsOpenLink, AreLinked};
-ghost use Rattle.lt_mail.specs.Both.{IsMet, Gives, Sees};
+ghost use Rattle.rtrb.specs.Ring.{producer_capacity, SameProducer, SameConsumer};
+ghost use Rattle.lt_mail.specs.Lanes.{ring_given, outbox_letters, sent_by, taken, known, IsLink};
+ghost use Rattle.lt_mail.specs.Words.{out_at, in_at, sent_to, given_to, waiting_to, taken_from, known_from, SameEnds, Both, AreLinked};
+ghost use Rattle.lt_mail.specs.Both.{IsMet, LaneGives, Sees};
 ghost use Rattle.lt_mail.specs.Changes.{OutChanges, InChanges};
 
-use crate::lanes::look_at_both;
+use crate::lane::{InLane, OutLane};
 use crate::mail::Mail;
 
 fn meet(out: &mut Mail, into: &mut Mail)
     requires link { AreLinked out.old into.old }
     ensures met { Both IsMet (out_at out.new into.old.me) (in_at into.new out.old.me) }
-    ensures out { OutChanges Gives out.old out.new into.old.me }
+    ensures out { OutChanges LaneGives out.old out.new into.old.me }
     ensures into { InChanges Sees into.old into.new out.old.me }
 {
     let sender = &mut out.outs[usize::from(into.me)];
@@ -37,4 +39,22 @@ pub fn beside(out: &mut Mail, into: &mut Mail)
     ensures moves { known_from into.new out.old.me ≡ [] → waiting_to out.new into.old.me ≡ [] }
 {
     meet(out, into);
+}
+
+// Looks at a ring from both of its ends, after which the taking end knows all letters in it.
+fn look_at_both(out: &mut OutLane, into: &mut InLane)
+    requires link { IsLink out.old into.old }
+    requires places { 0 < producer_capacity out.old.ring }
+    ensures sent { sent_by out.new ≡ sent_by out.old }
+    ensures ring_given { IsPrefix (ring_given out.old) (ring_given out.new) }
+    ensures out_ring { SameProducer out.old.ring out.new.ring }
+    ensures taken { taken into.new ≡ taken into.old }
+    ensures known { IsPrefix (known into.old) (known into.new) }
+    ensures in_ring { SameConsumer into.old.ring into.new.ring }
+    ensures whole { taken into.new ++ known into.new ≡ ring_given out.new }
+    ensures moves { (outbox_letters out.new ≡ []) ⊎ (0 < length (known into.new)) }
+{
+    out.ring.slots_beside(&mut into.ring);
+    out.flush();
+    into.ring.slots_beside(&mut out.ring);
 }

@@ -1,7 +1,7 @@
 ghost use Rattle.std.specs.Prelude.{◌+◌, ◌≤◌, length};
 ghost use Rattle.rtrb.specs.Ring.{sent, known_free, producer_capacity};
 
-use lt_letter::Letter;
+use lt_desk::Letter;
 use rtrb::{Consumer, Producer};
 use std::collections::VecDeque;
 

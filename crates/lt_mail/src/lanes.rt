@@ -1,18 +1,18 @@
-ghost use Rattle.std.specs.Prelude.{◌≡◌, ◌+◌, ◌≤◌, ◌<◌, ◌⊎◌, [], ◌∷◌, ◌++◌, length, OnOk, IfSome, IfNone, MatchOption};
+ghost use Rattle.std.specs.Prelude.{◌≡◌, ◌+◌, ◌≤◌, ◌<◌, ◌⊎◌, [], ◌∷◌, ◌++◌, length, OnOk, IfSome, IfNone};
 ghost use Rattle.std.specs.VecDeque.{deque_len, deque_capacity};
 ghost use Rattle.rtrb.specs.Ring.{known_free, producer_capacity, SameProducer, SameConsumer};
 ghost use mathlib.Core.List.{IsPrefix};
-ghost use Rattle.lt_mail.specs.Lanes.{given, waiting, sent_by, taken, known, IsLink};
+ghost use Rattle.lt_mail.specs.Lanes.{ring_given, outbox_letters, sent_by, taken, known};
 
 use crate::lane::{InLane, OutLane};
-use lt_letter::Letter;
+use lt_desk::Letter;
 use std::alloc::AllocError;
 
 impl OutLane {
     /// Makes room in the outbox for so many further letters.
     pub fn reserve(&mut self, letters: u32) -> Result<(), AllocError>
-        ensures given { given self.new ≡ given self.old }
-        ensures waiting { waiting self.new ≡ waiting self.old }
+        ensures ring_given { ring_given self.new ≡ ring_given self.old }
+        ensures outbox_letters { outbox_letters self.new ≡ outbox_letters self.old }
         ensures ring { SameProducer self.old.ring self.new.ring }
         ensures len { deque_len self.new.outbox ≡ deque_len self.old.outbox }
         ensures room { OnOk result (deque_len self.new.outbox + letters ≤ deque_capacity self.new.outbox) }
@@ -25,7 +25,7 @@ impl OutLane {
     pub fn put(&mut self, letter: Letter)
         requires { deque_len self.old.outbox < deque_capacity self.old.outbox }
         ensures sent { sent_by self.new ≡ sent_by self.old ++ letter ∷ [] }
-        ensures given { given self.new ≡ given self.old }
+        ensures ring_given { ring_given self.new ≡ ring_given self.old }
         ensures ring { SameProducer self.old.ring self.new.ring }
         ensures len { deque_len self.new.outbox ≡ deque_len self.old.outbox + 1 }
         ensures room { deque_capacity self.new.outbox ≡ deque_capacity self.old.outbox }
@@ -36,11 +36,11 @@ impl OutLane {
     /// Gives the ring letters of the outbox, in order, while it has places.
     pub fn flush(&mut self)
         ensures sent { sent_by self.new ≡ sent_by self.old }
-        ensures given { IsPrefix (given self.old) (given self.new) }
+        ensures ring_given { IsPrefix (ring_given self.old) (ring_given self.new) }
         ensures ring { SameProducer self.old.ring self.new.ring }
-        ensures places { known_free self.old.ring + length (given self.old) ≤ known_free self.new.ring + length (given self.new) }
-        ensures first { length (given self.new) < producer_capacity self.new.ring → waiting self.new ≡ [] }
-        ensures stops { (waiting self.new ≡ []) ⊎ (known_free self.new.ring ≡ 0) }
+        ensures places { known_free self.old.ring + length (ring_given self.old) ≤ known_free self.new.ring + length (ring_given self.new) }
+        ensures first { length (ring_given self.new) < producer_capacity self.new.ring → outbox_letters self.new ≡ [] }
+        ensures stops { (outbox_letters self.new ≡ []) ⊎ (known_free self.new.ring ≡ 0) }
     {
         while !self.ring.is_full() {
             let Some(letter) = self.outbox.pop_front() else {
@@ -73,22 +73,4 @@ impl InLane {
             Some(self.ring.pop_known())
         }
     }
-}
-
-/// Looks at a ring from both of its ends, after which the taking end knows all letters in it.
-pub fn look_at_both(out: &mut OutLane, into: &mut InLane)
-    requires link { IsLink out.old into.old }
-    requires places { 0 < producer_capacity out.old.ring }
-    ensures sent { sent_by out.new ≡ sent_by out.old }
-    ensures given { IsPrefix (given out.old) (given out.new) }
-    ensures out_ring { SameProducer out.old.ring out.new.ring }
-    ensures taken { taken into.new ≡ taken into.old }
-    ensures known { IsPrefix (known into.old) (known into.new) }
-    ensures in_ring { SameConsumer into.old.ring into.new.ring }
-    ensures whole { taken into.new ++ known into.new ≡ given out.new }
-    ensures moves { (waiting out.new ≡ []) ⊎ (0 < length (known into.new)) }
-{
-    out.ring.slots_beside(&mut into.ring);
-    out.flush();
-    into.ring.slots_beside(&mut out.ring);
 }

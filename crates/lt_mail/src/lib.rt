@@ -1,13 +1,10 @@
 //! Letters on their way between the threads of nodes: a ring for each ordered pair, with an outbox before it.
 #![tactic(auto)]
 
-mod all_lanes;
 mod both_ends;
-mod calls;
 mod lane;
 mod lanes;
 mod mail;
-mod one_lane;
 mod opening;
 #[cfg(test)]
 mod tests;

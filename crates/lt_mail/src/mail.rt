@@ -1,4 +1,13 @@
+ghost use Rattle.std.specs.Prelude.{◌≡◌, ◌≢◌, ◌+◌, ◌<◌, ◌⊎◌, ℕ, [], ◌∷◌, ◌++◌, length, IfSome, IfNone, OnOk};
+ghost use mathlib.Core.List.{IsPrefix};
+ghost use Rattle.lt_desk.specs.LetterSeen.{letter_seen};
+ghost use Rattle.lt_mail.specs.Words.{out_at, in_at, outs_count, ins_count, sent_to, given_to, waiting_to, taken_from, known_from, if_to, if_from, places_to, IsFullTo, HasRoomFor, SameEnds, HasRoomAt};
+ghost use Rattle.std.specs.VecDeque.{deque_len, deque_capacity};
+ghost use Rattle.lt_mail.specs.Changes.{KeepsSent, OutChanges, InChanges, Puts, Flushes, Stays, Takes, TakesKnown, TakesNone, KnowsNone};
+
 use crate::lane::{InLane, OutLane};
+use lt_desk::Letter;
+use std::alloc::AllocError;
 
 /// The letters that one node sends and takes: an end of a ring for each node, its own included, which stays unused.
 #[derive(Drop)]
@@ -6,4 +15,153 @@ pub struct Mail {
     pub(crate) me: u8,
     pub(crate) outs: Vec<OutLane>,
     pub(crate) ins: Vec<InLane>,
+}
+
+// What a node does with its mail.
+impl Mail {
+    /// The node whose mail it is.
+    pub fn node(&self) -> u8
+        ensures { result ≡ self.now.me }
+    {
+        self.me
+    }
+
+    /// Puts a letter at the end of the outbox to a node.
+    pub fn put(&mut self, to: u8, letter: Letter)
+        requires peer { to < outs_count self.old }
+        requires room { HasRoomFor self.old 1 }
+        ensures sent { (node : ℕ) → sent_to self.new node ≡ sent_to self.old node ++ if_to to (letter_seen letter) node }
+        ensures given { (node : ℕ) → given_to self.new node ≡ given_to self.old node }
+        ensures room { (letters : ℕ) → HasRoomFor self.old (letters + 1) → HasRoomFor self.new letters }
+        ensures ins { (node : ℕ) → in_at self.new node ≡ in_at self.old node }
+        ensures ends { SameEnds self.old self.new }
+    {
+        self.put_on(to, letter);
+    }
+
+    /// Gives the ring to a node letters of its outbox, in order, while it has places.
+    #[tactic(auto, using(crate::proofs::WordLemmas::flushes_given))]
+    pub fn flush(&mut self, to: u8)
+        requires peer { to < outs_count self.old }
+        ensures sent { (node : ℕ) → sent_to self.new node ≡ sent_to self.old node }
+        ensures given { IsPrefix (given_to self.old to) (given_to self.new to) }
+        ensures first { length (given_to self.new to) < places_to self.new to → waiting_to self.new to ≡ [] }
+        ensures stops { (waiting_to self.new to ≡ []) ⊎ IsFullTo self.new to }
+        ensures outs { (node : ℕ) → node ≢ to → out_at self.new node ≡ out_at self.old node }
+        ensures ins { (node : ℕ) → in_at self.new node ≡ in_at self.old node }
+        ensures ends { SameEnds self.old self.new }
+    {
+        self.flush_on(usize::from(to));
+    }
+
+    /// Takes the next letter of a node from its ring. Where none is known there, it looks again.
+    #[tactic(auto, using(crate::proofs::WordLemmas::takes_known))]
+    pub fn take(&mut self, from: u8) -> Option<Letter>
+        requires peer { from < ins_count self.old }
+        ensures some { IfSome result (λ letter. (node : ℕ) → taken_from self.new node ≡ taken_from self.old node ++ if_from from (letter_seen letter) node) }
+        ensures known { IfSome result (λ letter. IsPrefix (known_from self.old from) (letter_seen letter ∷ known_from self.new from)) }
+        ensures none { IfNone result ((node : ℕ) → taken_from self.new node ≡ taken_from self.old node) }
+        ensures empty { IfNone result ((known_from self.old from ≡ []) × (known_from self.new from ≡ [])) }
+        ensures ins { (node : ℕ) → node ≢ from → in_at self.new node ≡ in_at self.old node }
+        ensures outs { (node : ℕ) → out_at self.new node ≡ out_at self.old node }
+        ensures ends { SameEnds self.old self.new }
+    {
+        self.take_on(from)
+    }
+
+    /// Takes the first letter of a node that is known to be in its ring.
+    pub fn take_known(&mut self, from: u8) -> Option<Letter>
+        requires peer { from < ins_count self.old }
+        ensures some { IfSome result (λ letter. (node : ℕ) → taken_from self.new node ≡ taken_from self.old node ++ if_from from (letter_seen letter) node) }
+        ensures known { IfSome result (λ letter. known_from self.old from ≡ letter_seen letter ∷ known_from self.new from) }
+        ensures none { IfNone result ((node : ℕ) → in_at self.new node ≡ in_at self.old node) }
+        ensures empty { IfNone result (known_from self.old from ≡ []) }
+        ensures ins { (node : ℕ) → node ≢ from → in_at self.new node ≡ in_at self.old node }
+        ensures outs { (node : ℕ) → out_at self.new node ≡ out_at self.old node }
+        ensures ends { SameEnds self.old self.new }
+    {
+        self.take_known_on(from)
+    }
+}
+
+// What all lanes of a mail do.
+impl Mail {
+    /// Makes room in each outbox for so many further letters.
+    #[tactic(auto, using(crate::proofs::MailLemmas::kept_join))]
+    pub fn reserve(&mut self, letters: u32) -> Result<(), AllocError>
+        ensures sent { (node : ℕ) → sent_to self.new node ≡ sent_to self.old node }
+        ensures given { (node : ℕ) → given_to self.new node ≡ given_to self.old node }
+        ensures room { OnOk result (HasRoomFor self.new letters) }
+        ensures kept { (further : ℕ) → HasRoomFor self.old further → HasRoomFor self.new further }
+        ensures ins { (node : ℕ) → in_at self.new node ≡ in_at self.old node }
+        ensures ends { SameEnds self.old self.new }
+    {
+        for to in 0..self.outs.len() {
+            self.reserve_on(to, letters)?;
+        }
+        Ok(())
+    }
+
+    /// Flushes the outbox to each node.
+    #[tactic(auto, using(crate::proofs::MailLemmas::all_flushed))]
+    pub fn flush_all(&mut self)
+        ensures sent { (node : ℕ) → sent_to self.new node ≡ sent_to self.old node }
+        ensures stops { (node : ℕ) → (waiting_to self.new node ≡ []) ⊎ IsFullTo self.new node }
+        ensures ins { (node : ℕ) → in_at self.new node ≡ in_at self.old node }
+        ensures ends { SameEnds self.old self.new }
+    {
+        for to in 0..self.outs.len() {
+            self.flush_on(to);
+        }
+    }
+}
+
+// What one lane of a mail does.
+impl Mail {
+    pub(crate) fn reserve_on(&mut self, to: usize, letters: u32) -> Result<(), AllocError>
+        requires { to < outs_count self.old }
+        ensures lane { OutChanges Stays self.old self.new to }
+        ensures given { (node : ℕ) → given_to self.new node ≡ given_to self.old node }
+        ensures kept { KeepsSent self.old self.new }
+        ensures room { OnOk result (HasRoomAt letters (out_at self.new to)) }
+    {
+        let lane = &mut self.outs[to];
+        lane.reserve(letters)
+    }
+
+    pub(crate) fn put_on(&mut self, to: u8, letter: Letter)
+        requires peer { to < outs_count self.old }
+        requires room { IfSome (out_at self.old to) (λ lane. deque_len lane.outbox < deque_capacity lane.outbox) }
+        ensures { OutChanges (Puts letter) self.old self.new to }
+    {
+        let lane = &mut self.outs[usize::from(to)];
+        lane.put(letter);
+    }
+
+    pub(crate) fn flush_on(&mut self, to: usize)
+        requires { to < outs_count self.old }
+        ensures lane { OutChanges Flushes self.old self.new to }
+        ensures kept { KeepsSent self.old self.new }
+    {
+        let lane = &mut self.outs[to];
+        lane.flush();
+    }
+
+    pub(crate) fn take_on(&mut self, from: u8) -> Option<Letter>
+        requires { from < ins_count self.old }
+        ensures some { IfSome result (λ letter. InChanges (Takes letter) self.old self.new from) }
+        ensures none { IfNone result (InChanges TakesNone self.old self.new from) }
+    {
+        let lane = &mut self.ins[usize::from(from)];
+        lane.take()
+    }
+
+    pub(crate) fn take_known_on(&mut self, from: u8) -> Option<Letter>
+        requires { from < ins_count self.old }
+        ensures some { IfSome result (λ letter. InChanges (TakesKnown letter) self.old self.new from) }
+        ensures none { IfNone result (InChanges KnowsNone self.old self.new from) }
+    {
+        let lane = &mut self.ins[usize::from(from)];
+        lane.take_known()
+    }
 }

@@ -1,5 +1,5 @@
 use crate::{Mail, beside, open};
-use lt_letter::{Body, Letter, News};
+use lt_desk::{Body, Letter, News};
 use lt_modes::{Link, ModeSet, Stamp};
 use std::alloc::{AllocError, Global};
 use std::marker::Model;

@@ -6,7 +6,7 @@ use Rattle.lt_modes.specs.declared.moves.Move.{Move}
 use Rattle.lt_modes.specs.declared.event.Event.{Event}
 use Rattle.lt_modes.specs.Tells.{is_newer}
 use Rattle.lt_lists.proofs.Members.{some_equal}
-use Rattle.lt_runs.specs.Log.{Logged}
+use Rattle.lt_spec.specs.Log.{Logged}
 use Rattle.lt_merge.specs.Run.{made_at, events_at}
 use Rattle.lt_merge.specs.Merging.{first_merged, both_merged, takes_first}
 

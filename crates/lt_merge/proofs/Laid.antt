@@ -5,21 +5,21 @@ use Rattle.std.specs.Option.{option_map}
 use Rattle.std.proofs.lemmas.List.{take-append-le, drop-append-le, drop_at}
 use Rattle.std.proofs.lemmas.Slice.{between_to_end, between_is}
 use Rattle.lt_modes.specs.declared.event.Event.{Event}
-use Rattle.lt_runs.specs.Log.{Logged}
+use Rattle.lt_spec.specs.Log.{Logged}
 use Rattle.lt_merge.specs.declared.run.Mark.{Mark}
 use Rattle.lt_merge.specs.Run.{just_made, with_event, made_at, events_at}
-use Rattle.lt_merge.specs.Marks.{first_place, IsLaid, entries_of, part_at}
+use Rattle.lt_merge.specs.Marks.{events_before, IsLaid, entries_of, events_bounds}
 use Rattle.std.proofs.lemmas.Option.{some_pair_parts}
 
 pub length-entries_of : (marks : List Mark) (events : List Event) → length (entries_of marks events) ≡ length marks
 length-entries_of [] events = refl
 length-entries_of (mark ∷ later) events = ap suc (length-entries_of later events)
 
-pub first_place_within : (marks : List Mark) (count : ℕ) → IsLaid marks count → first_place marks count ≤ count
+pub first_place_within : (marks : List Mark) (count : ℕ) → IsLaid marks count → events_before marks count ≤ count
 first_place_within [] count laid = omega arith
 first_place_within (mark ∷ later) count laid = omega (arith, laid.0, first_place_within later count laid.1)
 
-first_place-add : (marks : List Mark) (mark : Mark) (count all : ℕ) → mark.start ≡ count → first_place (marks ++ mark ∷ []) all ≡ first_place marks count
+first_place-add : (marks : List Mark) (mark : Mark) (count all : ℕ) → mark.start ≡ count → events_before (marks ++ mark ∷ []) all ≡ events_before marks count
 first_place-add [] mark count all e = e
 first_place-add (first ∷ later) mark count all e = refl
 
@@ -32,7 +32,7 @@ laid_add (first ∷ later) mark count all e more laid =
 pub laid_push : (marks : List Mark) (mark : Mark) (count : ℕ) → mark.start ≡ count → IsLaid marks count → IsLaid (marks ++ mark ∷ []) count
 laid_push marks mark count e laid = laid_add marks mark count count e (omega arith) laid
 
-first_place_grows : (marks : List Mark) (count : ℕ) → first_place marks count ≤ first_place marks (count + 1)
+first_place_grows : (marks : List Mark) (count : ℕ) → events_before marks count ≤ events_before marks (count + 1)
 first_place_grows [] count = omega arith
 first_place_grows (mark ∷ later) count = omega arith
 
@@ -52,7 +52,7 @@ entries_of-push [] mark events e =
 entries_of-push (first ∷ later) mark events e =
     ap (λ (n : ℕ). record { made = first.made; events = slice_range events first.start n } ∷ entries_of (later ++ mark ∷ []) events)
     (first_place-add later mark (length events) (length events) e)
-    ∙ ap (λ (es : List Logged). record { made = first.made; events = slice_range events first.start (first_place later (length events)) } ∷ es)
+    ∙ ap (λ (es : List Logged). record { made = first.made; events = slice_range events first.start (events_before later (length events)) } ∷ es)
     (entries_of-push later mark events e)
 
 range_to_end-push : (events : List Event) (event : Event) (i : ℕ) → i ≤ length events → slice_range (events ++ event ∷ []) i (length (events ++ event ∷ [])) ≡ slice_range events i (length events) ++ event ∷ []
@@ -87,8 +87,8 @@ entries_of-add (first ∷ later) mark events more e laid =
     ap (λ (n : ℕ). record { made = first.made; events = slice_range (events ++ more) first.start n } ∷ entries_of (later ++ mark ∷ []) (events ++ more))
     (first_place-add later mark (length events) (length (events ++ more)) e)
     ∙ (ap (λ (es : List Event). record { made = first.made; events = es } ∷ entries_of (later ++ mark ∷ []) (events ++ more))
-    (range-add events more first.start (first_place later (length events)) (first_place_within later (length events) laid.1))
-    ∙ ap (λ (es : List Logged). record { made = first.made; events = slice_range events first.start (first_place later (length events)) } ∷ es)
+    (range-add events more first.start (events_before later (length events)) (first_place_within later (length events) laid.1))
+    ∙ ap (λ (es : List Logged). record { made = first.made; events = slice_range events first.start (events_before later (length events)) } ∷ es)
     (entries_of-add later mark events more e laid.1))
 
 pub made_at-entries_of : (marks : List Mark) (events : List Event) (k : ℕ) → made_at (entries_of marks events) k ≡ option_map (λ (mark : Mark). mark.made) (slice_get marks k)
@@ -96,24 +96,24 @@ made_at-entries_of [] events k = refl
 made_at-entries_of (mark ∷ later) events zero = refl
 made_at-entries_of (mark ∷ later) events (suc k) = made_at-entries_of later events k
 
-pub events_at-entries_of : (marks : List Mark) (events : List Event) (k a b : ℕ) → part_at marks (length events) k ≡ Some (a, b) → events_at (entries_of marks events) k ≡ Some (slice_range events a b)
+pub events_at-entries_of : (marks : List Mark) (events : List Event) (k a b : ℕ) → events_bounds marks (length events) k ≡ Some (a, b) → events_at (entries_of marks events) k ≡ Some (slice_range events a b)
 events_at-entries_of [] events k a b e = cc
 events_at-entries_of (mark ∷ later) events zero a b e =
-    let parts = some_pair_parts mark.start a (first_place later (length events)) b e in
-    ap (λ (i : ℕ). Some (slice_range events i (first_place later (length events)))) parts.0
+    let parts = some_pair_parts mark.start a (events_before later (length events)) b e in
+    ap (λ (i : ℕ). Some (slice_range events i (events_before later (length events)))) parts.0
     ∙ ap (λ (j : ℕ). Some (slice_range events a j)) parts.1
 events_at-entries_of (mark ∷ later) events (suc k) a b e = events_at-entries_of later events k a b e
 
 -- the part of a move is in range
-pub part_at_within : (marks : List Mark) (count k a b : ℕ) → IsLaid marks count → part_at marks count k ≡ Some (a, b) → (a ≤ b) × (b ≤ count)
+pub part_at_within : (marks : List Mark) (count k a b : ℕ) → IsLaid marks count → events_bounds marks count k ≡ Some (a, b) → (a ≤ b) × (b ≤ count)
 part_at_within [] count k a b laid e = cc
 part_at_within (mark ∷ later) count zero a b laid e =
-    let parts = some_pair_parts mark.start a (first_place later count) b e in
+    let parts = some_pair_parts mark.start a (events_before later count) b e in
     (omega (arith, laid.0, parts.0, parts.1), omega (arith, first_place_within later count laid.1, parts.1))
 part_at_within (mark ∷ later) count (suc k) a b laid e = part_at_within later count k a b laid.1 e
 
 -- the part of a move that another follows
-pub part_at-inner : (marks : List Mark) (count k : ℕ) (d : Mark) → k + 1 < length marks → part_at marks count k ≡ Some ((slice_index_or marks k d).start, (slice_index_or marks (k + 1) d).start)
+pub part_at-inner : (marks : List Mark) (count k : ℕ) (d : Mark) → k + 1 < length marks → events_bounds marks count k ≡ Some ((slice_index_or marks k d).start, (slice_index_or marks (k + 1) d).start)
 part_at-inner [] count k d h = absurd (omega (arith, h))
 part_at-inner (mark ∷ []) count zero d h = absurd (omega (arith, h))
 part_at-inner (mark ∷ next ∷ later) count zero d h = refl
@@ -123,7 +123,7 @@ part_at-inner (mark ∷ later) count (suc k) d h =
     ∙ ap (λ (i : ℕ). Some ((slice_index_or later k d).start, (slice_index_or (mark ∷ later) i d).start)) (sym one)
 
 -- the part of the last move
-pub part_at-last : (marks : List Mark) (count k : ℕ) (d : Mark) → k < length marks → length marks ≤ k + 1 → part_at marks count k ≡ Some ((slice_index_or marks k d).start, count)
+pub part_at-last : (marks : List Mark) (count k : ℕ) (d : Mark) → k < length marks → length marks ≤ k + 1 → events_bounds marks count k ≡ Some ((slice_index_or marks k d).start, count)
 part_at-last [] count k d h l = absurd (omega (arith, h))
 part_at-last (mark ∷ []) count zero d h l = refl
 part_at-last (mark ∷ next ∷ later) count zero d h l = absurd (omega (arith, l))

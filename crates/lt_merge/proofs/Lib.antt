@@ -3,3 +3,4 @@ pub mod MergedLists
 pub mod MergedHalves
 pub mod Copying
 pub mod Laid
+pub mod Recorded

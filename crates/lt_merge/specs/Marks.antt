@@ -1,27 +1,27 @@
 -- How a run is stored: all events in one list, and for each move the place where its events begin.
 use Rattle.std.specs.Prelude.{List, [], ◌∷◌, ℕ, zero, suc, ◌≤◌, length, slice_range, Option, Some, None}
 use Rattle.lt_modes.specs.declared.event.Event.{Event}
-use Rattle.lt_runs.specs.Log.{Logged}
+use Rattle.lt_spec.specs.Log.{Logged}
 use Rattle.lt_merge.specs.declared.run.Mark.{Mark}
 
 -- where the events end that stand before these moves
-abbrev pub first_place : List Mark → ℕ → ℕ
-first_place [] count = count
-first_place (mark ∷ later) count = mark.start
+abbrev pub events_before : List Mark → ℕ → ℕ
+events_before [] count = count
+events_before (mark ∷ later) count = mark.start
 
 -- no move's events end before they begin
 abbrev pub IsLaid : List Mark → ℕ → Type 0
 IsLaid [] count = Unit {0}
-IsLaid (mark ∷ later) count = (mark.start ≤ first_place later count) × IsLaid later count
+IsLaid (mark ∷ later) count = (mark.start ≤ events_before later count) × IsLaid later count
 
 -- the moves, each with its part of the events
 abbrev pub entries_of : List Mark → List Event → List Logged
 entries_of [] events = []
 entries_of (mark ∷ later) events =
-    record { made = mark.made; events = slice_range events mark.start (first_place later (length events)) } ∷ entries_of later events
+    record { made = mark.made; events = slice_range events mark.start (events_before later (length events)) } ∷ entries_of later events
 
 -- where the events of the move at place k begin and end
-abbrev pub part_at : List Mark → ℕ → ℕ → Option (ℕ × ℕ)
-part_at [] count k = None
-part_at (mark ∷ later) count zero = Some (mark.start, first_place later count)
-part_at (mark ∷ later) count (suc k) = part_at later count k
+abbrev pub events_bounds : List Mark → ℕ → ℕ → Option (ℕ × ℕ)
+events_bounds [] count k = None
+events_bounds (mark ∷ later) count zero = Some (mark.start, events_before later count)
+events_bounds (mark ∷ later) count (suc k) = events_bounds later count k

@@ -2,8 +2,8 @@
 use Rattle.std.specs.Prelude.{◌≡◌, ◌⊎◌, Bool, true, false, ℕ, List, [], ◌∷◌, ◌++◌, if◌then◌else◌, IsTrue, filter, length}
 use Rattle.std.specs.List.{AllByRecursion}
 use Rattle.lt_modes.specs.Tells.{is_newer}
-use Rattle.lt_runs.specs.Log.{Logged}
-use Rattle.lt_runs.specs.World.{is_of_node}
+use Rattle.lt_spec.specs.Log.{Logged}
+use Rattle.lt_spec.specs.World.{is_of_node}
 use Rattle.lt_merge.specs.Run.{RunData}
 
 -- the first entry's stamp is less: by clock, then by node

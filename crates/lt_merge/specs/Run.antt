@@ -3,7 +3,7 @@ use Rattle.std.specs.Prelude.{List, [], ◌∷◌, ◌++◌, ℕ, Option, slice_
 use Rattle.std.specs.Option.{option_map}
 use Rattle.lt_modes.specs.declared.moves.Move.{Move}
 use Rattle.lt_modes.specs.declared.event.Event.{Event}
-use Rattle.lt_runs.specs.Log.{Logged}
+use Rattle.lt_spec.specs.Log.{Logged}
 
 -- the moves with their events; the moves that there is room for; the events that there is room for
 pub record RunData : Type 0 where
@@ -20,6 +20,11 @@ abbrev pub with_event : List Logged → Event → List Logged
 with_event [] event = []
 with_event (entry ∷ []) event = record entry { events = entry.events ++ event ∷ [] } ∷ []
 with_event (entry ∷ next ∷ later) event = entry ∷ with_event (next ∷ later) event
+
+-- the entries after the last move has these events more
+abbrev pub with_events : List Logged → List Event → List Logged
+with_events entries [] = entries
+with_events entries (event ∷ events) = with_events (with_event entries event) events
 
 -- the move at place k
 abbrev pub made_at : List Logged → ℕ → Option Move

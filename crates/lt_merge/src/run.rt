@@ -1,6 +1,6 @@
 ghost use Rattle.std.specs.Prelude.{◌≡◌, ◌+◌, ◌<◌, ◌≤◌, ◌^◌, [], ◌∷◌, ◌++◌, Some, length, take, drop, OnOk};
 ghost use Rattle.lt_merge.specs.Run.{just_made, with_event, made_at, events_at};
-ghost use Rattle.lt_merge.specs.Marks.{entries_of, IsLaid, part_at};
+ghost use Rattle.lt_merge.specs.Marks.{entries_of, IsLaid, events_bounds};
 
 use lt_modes::{Event, Move};
 use std::alloc::{AllocError, Global};
@@ -140,7 +140,7 @@ fn events_of<'a>(moves: &[Mark], events: &'a [Event], k: usize) -> &'a [Event]
 fn part_of(moves: &[Mark], k: usize, count: usize) -> Range<usize>
     requires inside { k < length moves.now }
     requires laid { IsLaid moves.now count }
-    ensures part { part_at moves.now count k ≡ Some (result.start, result.end) }
+    ensures part { events_bounds moves.now count k ≡ Some (result.start, result.end) }
     ensures ordered { result.start ≤ result.end }
     ensures within { result.end ≤ count }
 {

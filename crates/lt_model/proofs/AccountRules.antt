@@ -15,21 +15,20 @@ use Rattle.lt_modes.specs.Tells.{told}
 use Rattle.lt_modes.specs.Serving.{ask_at, queue_of, queue_of_desk, next_at, next_from, is_served, is_free, is_local, is_copy, is_clear_at_home, served, owed_at, owing}
 use Rattle.lt_modes.specs.declared.stamp.Stamp.{Stamp}
 use Rattle.lt_modes.specs.Freezing.{freeze_at}
-use Rattle.lt_modes.specs.SetMove.{answers}
 use Rattle.lt_modes.specs.Telling.{tell_of}
 use Rattle.lt_modes.specs.HandingOver.{settled, without_desk}
 use Rattle.lt_modes.proofs.ModeAlgebra.{same_modes-true}
 use Rattle.lt_modes.specs.Routing.{dealt}
 use Rattle.lt_modes.specs.Script.{ScriptData}
 use Rattle.lt_modes.specs.declared.parts.Link.{Link}
-use Rattle.lt_runs.specs.World.{World}
-use Rattle.lt_runs.specs.Facts.{state_at}
+use Rattle.lt_spec.specs.World.{World}
+use Rattle.lt_spec.specs.Facts.{state_at}
 use Rattle.lt_model.specs.Moments.{Moment}
 use Rattle.lt_model.specs.OnWay.{tell_parked, account_of}
-use Rattle.lt_accounts.specs.AccountPlay.{others_counted}
-use Rattle.lt_accounts.specs.Account.{counted}
+use Rattle.lt_law_accounts.specs.AccountPlay.{others_counted}
+use Rattle.lt_law_accounts.specs.Account.{counted}
 use Rattle.lt_model.specs.AccountRules.{own_account, IsLocallyFree, IsCopyFree, ServesByRule, ServicesAreSteps, CopiesAreDelivered, TellsAreApplied, TellsAreMade, HandingOverSettles, IsParkedOf, told_by_parked, TokensArrive, FreezesAreSteps, OthersChangeNothing, RulesCount}
-use Rattle.lt_accounts.proofs.ModeMembers.{has-left}
+use Rattle.lt_law_accounts.proofs.ModeMembers.{has-left}
 use Rattle.lt_model.proofs.NewsRules.{frozen_at}
 use Rattle.lt_model.proofs.PathsQuiet.{put_queue_some, owed_at_some}
 

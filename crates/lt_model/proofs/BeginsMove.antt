@@ -10,19 +10,18 @@ use Rattle.lt_modes.specs.Held.{held_modes}
 use Rattle.lt_modes.specs.Script.{ScriptData}
 use Rattle.lt_modes.specs.State.{SetState, Desk, Tell, Body, Letter, Parked, ParkedAsk, ParkedTell}
 use Rattle.lt_modes.specs.Records.{entry_of}
-use Rattle.lt_modes.specs.Serving.{next_service, next_move}
-use Rattle.lt_modes.specs.Fits.{Numbers}
+use Rattle.lt_modes.specs.Serving.{next_service, next_draw}
+use Rattle.lt_modes.specs.Fits.{Numbers, numbers_of}
 use Rattle.lt_modes.specs.Sound.{IsNoLater, ChargeKept, SoundDesk, SoundSet}
 use Rattle.lt_lists.specs.Below.{one_if}
-use Rattle.lt_runs.specs.World.{World, after}
-use Rattle.lt_runs.specs.Facts.{state_at, tokens_in, places_in_state, places_in_body}
+use Rattle.lt_spec.specs.World.{World, after}
+use Rattle.lt_spec.specs.Facts.{state_at, tokens_in, places_in_state, places_in_body}
 use Rattle.lt_modes.specs.Queue.{times_in}
 use Rattle.lt_model.specs.OnWay.{OnWay, Comes, DeskIs, in_set, tell_in, tell_parked, copy_in, freeze_in, tells_of, copies_to, freezes_to, account_of, news_of}
 use Rattle.lt_model.specs.Moments.{Moment, Between, Acting, Frozen, is_at, is_moving, is_unfrozen, is_serving}
-use Rattle.lt_accounts.specs.Account.{Account, AccountKept, AreClear, counted}
-use Rattle.lt_accounts.specs.News.{News, NewsKept, Notice}
+use Rattle.lt_law_accounts.specs.Account.{Account, AccountKept, AreClear, counted}
+use Rattle.lt_law_accounts.specs.News.{News, NewsKept, Notice}
 use Rattle.lt_model.specs.Paths.{Paths, StateOnPath, LetterOnPath}
-use Rattle.lt_model.specs.SoundNode.{numbers_of}
 use Rattle.lt_model.specs.Touches.{of_set, SameSet}
 use Rattle.lt_model.specs.Invariant.{PlacesKept, IsParkedFor, DeskKept, SetKept}
 use Rattle.lt_model.specs.MomentLaws.{begun, MoveBegins, AsideStays}
@@ -35,9 +34,9 @@ use Rattle.lt_model.proofs.Gathered.{tells_alike}
 use Rattle.lt_model.proofs.OthersStay.{same_set, others_stay}
 use Rattle.lt_model.proofs.TokenComes.{desk_somewhere}
 use Rattle.lt_model.proofs.ClocksGrow.{clocks_grow}
-use Rattle.lt_accounts.proofs.AccountFacts.{held_below_charge}
-use Rattle.lt_accounts.proofs.AccountAsks.{ticks_kept, ages_kept}
-use Rattle.lt_accounts.proofs.NewsLemmas.{begins_kept}
+use Rattle.lt_law_accounts.proofs.AccountFacts.{held_below_charge}
+use Rattle.lt_law_accounts.proofs.AccountAsks.{ticks_kept, ages_kept}
+use Rattle.lt_law_accounts.proofs.NewsLemmas.{begins_kept}
 
 -- the clock stays or goes on, and goes on where the node is in its move
 abbrev pub Goes : Bool → ℕ → ℕ → Type 0
@@ -223,7 +222,7 @@ stays_kept script moment w later s same goes h = record {
       (All-weaker (IsParkedFor script w s x) (IsParkedFor script later s x) (λ item. parked_same script w later s x item same) (state_at w s x).parked (h.parked x below));
   known = λ place desk is_desk. ledger_goes script moment w later s place desk same goes (h.known place desk (desk_same script w later s place desk same is_desk));
   served = λ t desk idle is_desk.
-      subst (λ (u : SetState). (next_service t u ≡ None) × (next_move t u ≡ None)) (sym (same.states t))
+      subst (λ (u : SetState). (next_service t u ≡ None) × (next_draw t u ≡ None)) (sym (same.states t))
       (h.served t desk refl (desk_same script w later s (Some t) desk same is_desk));
 }
 

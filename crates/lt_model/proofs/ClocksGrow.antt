@@ -10,9 +10,9 @@ use Rattle.lt_modes.specs.Script.{ScriptData}
 use Rattle.lt_modes.specs.State.{Letter}
 use Rattle.lt_modes.specs.Made.{Post}
 use Rattle.lt_modes.specs.SetMove.{take}
-use Rattle.lt_runs.specs.Log.{Logged}
-use Rattle.lt_runs.specs.NodeMove.{NodeState, NodeMade, next_command, act_stamp, take_stamp, at_clock, one_made, node_act, node_take}
-use Rattle.lt_runs.specs.World.{World, start, is_some_letter, opened, front_stamp, take_front, node_move, after_made, after, after_run}
+use Rattle.lt_spec.specs.Log.{Logged}
+use Rattle.lt_spec.specs.NodeMove.{NodeState, NodeMade, next_command, act_stamp, take_stamp, at_clock, one_made, node_act, node_take}
+use Rattle.lt_spec.specs.World.{World, start, is_some_letter, opened, front_stamp, take_front, node_move, after_made, after, after_run}
 use Rattle.lt_model.specs.Touches.{AreStamped}
 use Rattle.lt_model.specs.Laws.{ClockMoves, OtherClocksStay, StampsKept, ClocksInRuns}
 use Rattle.lt_model.proofs.Letters.{all_sent, before_take}

@@ -1,10 +1,10 @@
 -- What is granted and asked is a step of the account.
-use Rattle.std.proofs.Common.{◌≡◌, ℕ, ◌+◌, inl, inr, List, [], ◌∷◌, ◌++◌, Option, Some, None, Bool, true, false, refl, sym, ap, subst, ◌∙◌}
+use Rattle.std.proofs.Common.{◌≡◌, ℕ, inl, inr, List, [], ◌∷◌, ◌++◌, Option, Some, None, Bool, true, false, refl, sym, ap, subst, ◌∙◌}
 use Rattle.std.specs.Prelude.{◌&&◌, ◌==◌, not, IsTrue, IsFalse, if◌then◌else◌, is_some}
 use Rattle.std.proofs.lemmas.Bool.{not-true, and_parts, or_cases}
 use Rattle.lt_modes.specs.declared.mode.Mode.{Mode}
 use Rattle.lt_modes.specs.declared.ask.Ask.{Ask}
-use Rattle.lt_modes.specs.Modes.{is_taking, Modes, has, union, bars, covers}
+use Rattle.lt_modes.specs.Modes.{excludes_itself, Modes, has, union, bars, covers}
 use Rattle.lt_modes.specs.State.{SetState, Desk, Entry, Tell, Parked, ParkedAsk, ParkedTell}
 use Rattle.lt_modes.specs.Held.{count_of, take_lock, own_modes, other_modes}
 use Rattle.lt_modes.specs.Queue.{modes_of_asks}
@@ -16,11 +16,11 @@ use Rattle.lt_modes.specs.Made.{Made}
 use Rattle.lt_modes.specs.SetMove.{answers}
 use Rattle.lt_modes.specs.Routing.{Way, Parks, Goes, reversed, sent_on, route}
 use Rattle.lt_modes.specs.declared.parts.Hoped.{Hoped}
-use Rattle.lt_accounts.specs.Account.{owed_and_waiting}
-use Rattle.lt_accounts.specs.AccountSteps.{MayJoin, unlocking}
+use Rattle.lt_law_accounts.specs.Account.{owed_and_waiting}
+use Rattle.lt_law_accounts.specs.AccountSteps.{MayJoin, unlocking}
 use Rattle.lt_model.specs.AccountRules.{own_account, GrantsByRule, FrozenIsNotGranted, CommandsAreSteps}
-use Rattle.lt_accounts.proofs.AccountFacts.{bars_not, not_bars, below_by_members}
-use Rattle.lt_accounts.proofs.ModeMembers.{has-union, has-left, has-right}
+use Rattle.lt_law_accounts.proofs.AccountFacts.{bars_not, not_bars, below_by_members}
+use Rattle.lt_law_accounts.proofs.ModeMembers.{has-union, has-left, has-right}
 use Rattle.lt_model.proofs.Effects.{route_ways}
 
 -- a test that fails against a union fails against its parts
@@ -77,7 +77,7 @@ routed moving set clock stamp marked item s entry tells copies =
 
     by_item : (i : Parked) → own_account moving clock entry tells copies (reversed stamp.node i s) ≡ own_account moving clock entry tells copies s
     by_item (ParkedTell tell) = refl
-    by_item (ParkedAsk ask) = turned (is_taking ask.mode && not (ask.node == stamp.node)) (Some (record { node = ask.node; stamp = ask.stamp }))
+    by_item (ParkedAsk ask) = turned (excludes_itself ask.mode && not (ask.node == stamp.node)) (Some (record { node = ask.node; stamp = ask.stamp }))
 
     by_way : (w : Way) → own_account moving clock entry tells copies (sent_on set stamp item s w).state ≡ own_account moving clock entry tells copies s
     by_way Parks = refl

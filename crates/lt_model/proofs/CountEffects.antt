@@ -10,7 +10,7 @@ use Rattle.lt_modes.specs.declared.stamp.Stamp.{Stamp}
 use Rattle.lt_modes.specs.declared.ask.Ask.{Ask}
 use Rattle.lt_modes.specs.declared.parts.Link.{Link}
 use Rattle.lt_modes.specs.declared.event.Event.TheVariants.{Wait, Freeze}
-use Rattle.lt_modes.specs.Modes.{Modes, is_taking}
+use Rattle.lt_modes.specs.Modes.{Modes, excludes_itself}
 use Rattle.lt_modes.specs.Held.{is_of, locks_in, held_modes}
 use Rattle.lt_modes.specs.State.{SetState, Desk, Body, AskBody, TellBody, CopyBody, TokenBody, FreezeBody, Letter, Parked, ParkedAsk, ParkedTell}
 use Rattle.lt_modes.specs.Made.{Post, silent, post_of}
@@ -61,7 +61,7 @@ same_asks t u h = omega (arith, ap (λ (l : List Parked). sum_by asks_parked l) 
 
 reversed_same : (me : ℕ) (item : Parked) (t : SetState) → SameCounts t (reversed me item t)
 reversed_same me (ParkedTell tell) t = record { parked = refl; queue = refl; held = refl }
-reversed_same me (ParkedAsk ask) t = by_test (is_taking ask.mode && not (ask.node == me))
+reversed_same me (ParkedAsk ask) t = by_test (excludes_itself ask.mode && not (ask.node == me))
   where
     by_test : (other : Bool) → SameCounts t (if other then record t { hoped = Some (record { node = ask.node; stamp = ask.stamp }) } else t)
     by_test true = record { parked = refl; queue = refl; held = refl }

@@ -17,11 +17,11 @@ use Rattle.lt_modes.specs.Made.{Made, Post}
 use Rattle.lt_modes.specs.Telling.{finish}
 use Rattle.lt_modes.specs.SetMove.{drop, take}
 use Rattle.lt_lists.specs.Below.{put, sum_below}
-use Rattle.lt_runs.specs.Families.{family, related}
-use Rattle.lt_runs.specs.NodeMove.{NodeState, NodeMade, node_waits, next_command, touched, each_touched, drop_all, locks_in_sets, act_stamp, take_stamp, at_clock, one_made, obey, node_act, node_take}
-use Rattle.lt_runs.specs.World.{World, start, opened, put_mail, after_made, after}
+use Rattle.lt_spec.specs.Families.{family, related}
+use Rattle.lt_spec.specs.NodeMove.{NodeState, NodeMade, node_waits, next_command, touched, each_touched, drop_all, locks_in_sets, act_stamp, take_stamp, at_clock, one_made, obey, node_act, node_take}
+use Rattle.lt_spec.specs.World.{World, start, opened, put_mail, after_made, after}
 use Rattle.lt_model.specs.AddedLocks.{adds, added_by}
-use Rattle.lt_model.specs.Homes.{HasTargets, IsWhole}
+use Rattle.lt_model.specs.Homes.{HasTargetsAt, IsWhole}
 use Rattle.lt_lists.proofs.Sums.{sum_below-none, sum_below-change, sum_below-at}
 use Rattle.lt_model.proofs.Letters.{mail_weight, IsCounted, mail_weight-sent, mail_weight-taken}
 use Rattle.lt_lists.proofs.Puts.{put-same, put-other}
@@ -86,7 +86,7 @@ drop_all_count script stamp client other s n false =
     first_count script n _ (each_touched (λ k. drop k stamp other) (related script s) n) refl
     (each_count script (λ k. drop k stamp other) (λ k t. drop_count k stamp other t) (related script s) (related_below script s) n)
 
-obey_count : (script : ScriptData) (stamp : Stamp) (client : ℕ) (command : Command) (n : NodeState) → HasTargets script client command
+obey_count : (script : ScriptData) (stamp : Stamp) (client : ℕ) (command : Command) (n : NodeState) → HasTargetsAt script client command
     → MoveCounted script 1 n (obey script stamp client (Some command) n)
 obey_count script stamp client (Lock s mode) n targets =
     touched_count script 1 s n _ targets ((command_rules s stamp client _ (count_acts s stamp client)).locks mode (n.set s))

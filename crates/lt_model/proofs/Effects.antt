@@ -12,7 +12,7 @@ use Rattle.lt_modes.specs.Held.{count_of, take_lock, held_modes}
 use Rattle.lt_modes.specs.State.{SetState, Desk, Letter, Parked}
 use Rattle.lt_modes.specs.Made.{Made, Post, silent, then_do}
 use Rattle.lt_modes.specs.Granting.{can_grant}
-use Rattle.lt_modes.specs.Serving.{queue_of, queue_of_desk, ask_at, is_served, next_from, next_at, next_service, next_move, serve, serve_up_to, serve_step, serve_one, serve_local, serve_copy}
+use Rattle.lt_modes.specs.Serving.{queue_of, queue_of_desk, ask_at, is_served, next_from, next_at, next_service, next_draw, serve, serve_up_to, serve_step, serve_one, serve_local, serve_copy}
 use Rattle.lt_modes.specs.Freezing.{freeze}
 use Rattle.lt_modes.specs.HandingOver.{hand_over, hand_over_for, hand_over_to}
 use Rattle.lt_modes.specs.Routing.{Way, dealt, way, sent_on, route, route_by}
@@ -40,9 +40,9 @@ pub record EndEffects (set : ℕ) (stamp : Stamp) (mid frozen ended : Fact) : Ty
       → HoldsOf mid posts (serve_one set stamp k t)
   pub freezes : (t : SetState) (posts : List Post) (desk : Desk) → t.desk ≡ Some desk → next_service stamp.node t ≡ None → mid t posts
       → HoldsOf frozen posts (freeze set stamp t)
-  pub leaves : (t : SetState) (posts : List Post) (k : ℕ) → next_move stamp.node t ≡ Some k → frozen t posts
+  pub leaves : (t : SetState) (posts : List Post) (k : ℕ) → next_draw stamp.node t ≡ Some k → frozen t posts
       → HoldsOf ended posts (hand_over_to set stamp t (ask_at t k).node t.desk)
-  pub stays : (t : SetState) (posts : List Post) → next_move stamp.node t ≡ None → frozen t posts → ended t posts
+  pub stays : (t : SetState) (posts : List Post) → next_draw stamp.node t ≡ None → frozen t posts → ended t posts
   pub tells : (t : SetState) (posts : List Post) → t.desk ≡ None → same_modes (bars (held_modes t.held)) (bars t.charge) ≡ false → mid t posts
       → HoldsOf ended posts (make_tell set stamp t)
   pub tells_not : (t : SetState) (posts : List Post) → t.desk ≡ None → same_modes (bars (held_modes t.held)) (bars t.charge) ≡ true → mid t posts
@@ -155,9 +155,9 @@ pub finish_by_effects : (set : ℕ) (stamp : Stamp) (mid frozen ended : Fact) �
 finish_by_effects set stamp mid frozen ended ends t posts h = by_desk t.desk refl
   where
     leaving : (u : SetState) (more : List Post) → frozen u more → HoldsOf ended more (hand_over set stamp u)
-    leaving u more hu = by_place (next_move stamp.node u) refl
+    leaving u more hu = by_place (next_draw stamp.node u) refl
       where
-        by_place : (o : Option ℕ) → next_move stamp.node u ≡ o → HoldsOf ended more (hand_over_for set stamp u o)
+        by_place : (o : Option ℕ) → next_draw stamp.node u ≡ o → HoldsOf ended more (hand_over_for set stamp u o)
         by_place None e = holds_silent ended more u (ends.stays u more e hu)
         by_place (Some k) e = ends.leaves u more k e hu
 

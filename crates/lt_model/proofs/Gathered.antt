@@ -10,9 +10,9 @@ use Rattle.lt_modes.specs.declared.ask.Ask.{Ask}
 use Rattle.lt_modes.specs.Script.{ScriptData}
 use Rattle.lt_modes.specs.State.{Tell, Body, AskBody, TellBody, CopyBody, TokenBody, FreezeBody, Letter, Parked, ParkedAsk, ParkedTell}
 use Rattle.lt_lists.specs.Below.{gather_below}
-use Rattle.lt_runs.specs.World.{World}
-use Rattle.lt_runs.specs.Facts.{state_at}
-use Rattle.lt_accounts.specs.News.{Notice}
+use Rattle.lt_spec.specs.World.{World}
+use Rattle.lt_spec.specs.Facts.{state_at}
+use Rattle.lt_law_accounts.specs.News.{Notice}
 use Rattle.lt_model.specs.OnWay.{Comes, IsTellOf, in_set, tell_if, tell_in, tell_parked, copy_in, freeze_in, tells_of}
 use Rattle.lt_model.specs.OnWayLaws.{TellsAreOnWay, CopiesAreOnWay, FreezesAreOnWay}
 

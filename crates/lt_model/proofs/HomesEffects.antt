@@ -11,7 +11,7 @@ use Rattle.lt_modes.specs.declared.stamp.Stamp.{Stamp}
 use Rattle.lt_modes.specs.declared.ask.Ask.{Ask}
 use Rattle.lt_modes.specs.declared.parts.Link.{Link}
 use Rattle.lt_modes.specs.declared.event.Event.TheVariants.{Freeze}
-use Rattle.lt_modes.specs.Modes.{Modes, is_taking}
+use Rattle.lt_modes.specs.Modes.{Modes, excludes_itself}
 use Rattle.lt_modes.specs.Held.{is_of, held_modes}
 use Rattle.lt_modes.specs.Script.{ScriptData}
 use Rattle.lt_modes.specs.State.{SetState, Desk, Body, AskBody, TellBody, CopyBody, TokenBody, FreezeBody, Letter, Parked, ParkedAsk, ParkedTell}
@@ -24,7 +24,7 @@ use Rattle.lt_modes.specs.Routing.{Way, Parks, Goes, learn, dealt, body_of, reve
 use Rattle.lt_modes.specs.Telling.{tell_of, finish}
 use Rattle.lt_modes.specs.Taking.{take_body, arrive}
 use Rattle.lt_modes.specs.SetMove.{ask_of, asked, dropped, take, drop}
-use Rattle.lt_runs.specs.Families.{home}
+use Rattle.lt_spec.specs.Families.{home}
 use Rattle.lt_model.specs.Homes.{IsRowAtHome, IsAskAtHome, IsAskOf, IsParkedAtHome, IsBodyAtHome, IsStateAtHome, IsLineWithin}
 use Rattle.lt_model.proofs.Effects.{route_ways}
 use Rattle.lt_model.proofs.RuleEffects.{EndRules, ActRules, finish_rule, take_rule}
@@ -50,7 +50,7 @@ item_home script to (ParkedTell tell) mark own = own
 
 reversed_home : (script : ScriptData) (q me : ℕ) (item : Parked) (t : SetState) → IsStateAtHome script q t → IsStateAtHome script q (reversed me item t)
 reversed_home script q me (ParkedTell tell) t h = h
-reversed_home script q me (ParkedAsk ask) t h = by_test (is_taking ask.mode && not (ask.node == me))
+reversed_home script q me (ParkedAsk ask) t h = by_test (excludes_itself ask.mode && not (ask.node == me))
   where
     by_test : (other : Bool) → IsStateAtHome script q (if other then record t { hoped = Some (record { node = ask.node; stamp = ask.stamp }) } else t)
     by_test true = record { rows = h.rows; pending = h.pending; parked = h.parked; queue = h.queue }

@@ -16,11 +16,11 @@ use Rattle.lt_modes.specs.Made.{Made, Post}
 use Rattle.lt_modes.specs.Telling.{finish}
 use Rattle.lt_modes.specs.SetMove.{drop, take}
 use Rattle.lt_lists.specs.Below.{put}
-use Rattle.lt_runs.specs.Families.{command_if, commands_of, home, family, related}
-use Rattle.lt_runs.specs.Log.{Logged}
-use Rattle.lt_runs.specs.NodeMove.{NodeState, NodeMade, node_waits, next_command, touched, each_touched, drop_all, locks_in_sets, act_stamp, take_stamp, at_clock, one_made, obey, node_act, node_take}
-use Rattle.lt_runs.specs.World.{World, start, is_some_letter, is_enabled, opened, take_front, node_move, after, after_run, IsRunFrom}
-use Rattle.lt_model.specs.Homes.{HasTargets, IsWhole, IsStateAtHome, IsLetterAtHome, Homes}
+use Rattle.lt_spec.specs.Families.{command_if, commands_of, home, family, related}
+use Rattle.lt_spec.specs.Log.{Logged}
+use Rattle.lt_spec.specs.NodeMove.{NodeState, NodeMade, node_waits, next_command, touched, each_touched, drop_all, locks_in_sets, act_stamp, take_stamp, at_clock, one_made, obey, node_act, node_take}
+use Rattle.lt_spec.specs.World.{World, start, is_some_letter, is_enabled, opened, take_front, node_move, after, after_run, IsRunFrom}
+use Rattle.lt_model.specs.Homes.{HasTargetsAt, IsWhole, IsStateAtHome, IsLetterAtHome, Homes}
 use Rattle.lt_model.specs.HomeLaws.{HomesKept, HomesInRuns}
 use Rattle.lt_model.proofs.Letters.{all_sent, before_take}
 use Rattle.lt_model.proofs.SentInMove.{AreSentIn, finish-sent, lock-sent, try-sent, unlock-sent, change-sent, drop-sent, take-sent}
@@ -122,7 +122,7 @@ drop_all_home script bound stamp client other s n false known named in_sets in_n
 
 -- a command that names what is of the script
 obey_home : (script : ScriptData) (bound : ℕ) (stamp : Stamp) (client : ℕ) (command : Command) (n : NodeState) → client < length script.clients
-    → home script client ≡ stamp.node → stamp.node < script.nodes → HasTargets script client command → IsNodeAtHome script stamp.node n
+    → home script client ≡ stamp.node → stamp.node < script.nodes → HasTargetsAt script client command → IsNodeAtHome script stamp.node n
     → drop_count script n (Some command) ≤ bound → IsMoveAtHome script bound stamp.node (obey script stamp client (Some command) n)
 obey_home script bound stamp client (Lock s mode) n known own in_nodes targets h few =
     let rules = command_rules s stamp client _ (home_acts script bound s stamp client targets known own in_nodes) in
@@ -142,14 +142,14 @@ obey_home script bound stamp client (DropAll other s) n known own in_nodes targe
 
 -- commands of the script
 
-chosen_all : (script : ScriptData) (client : ℕ) (requests : List (ℕ × Command)) → AllByRecursion (λ (request : ℕ × Command). HasTargets script request.0 request.1) requests
-    → AllByRecursion (HasTargets script client) (filter_map (command_if client) requests)
+chosen_all : (script : ScriptData) (client : ℕ) (requests : List (ℕ × Command)) → AllByRecursion (λ (request : ℕ × Command). HasTargetsAt script request.0 request.1) requests
+    → AllByRecursion (HasTargetsAt script client) (filter_map (command_if client) requests)
 chosen_all script client [] h = tt
 chosen_all script client (request ∷ rest) h = by_test (request.0 == client) refl (chosen_all script client rest h.1)
   where
-    by_test : (own : Bool) → (request.0 == client) ≡ own → AllByRecursion (HasTargets script client) (filter_map (command_if client) rest)
-        → AllByRecursion (HasTargets script client) (filter_map (command_if client) (request ∷ rest))
-    by_test true e later = rw e (subst (λ (c : ℕ). HasTargets script c request.1) (eqb-true request.0 client e) h.0, later)
+    by_test : (own : Bool) → (request.0 == client) ≡ own → AllByRecursion (HasTargetsAt script client) (filter_map (command_if client) rest)
+        → AllByRecursion (HasTargetsAt script client) (filter_map (command_if client) (request ∷ rest))
+    by_test true e later = rw e (subst (λ (c : ℕ). HasTargetsAt script c request.1) (eqb-true request.0 client e) h.0, later)
     by_test false e later = rw e later
 
 at_place : {X : Type 0} (P : X → Type 0) (xs : List X) (k : ℕ) (x : X) → AllByRecursion P xs → slice_get xs k ≡ Some x → P x
@@ -161,9 +161,9 @@ at_place P (y ∷ xs) zero x h e = subst P (same e) h.0
 at_place P (y ∷ xs) (suc k) x h e = at_place P xs k x h.1 e
 
 pub next_targets : (script : ScriptData) (n : NodeState) (client : ℕ) (command : Command) → IsWhole script → next_command script n client ≡ Some command
-    → HasTargets script client command
+    → HasTargetsAt script client command
 next_targets script n client command whole e =
-    at_place (HasTargets script client) (commands_of script client) (n.made client) command
+    at_place (HasTargetsAt script client) (commands_of script client) (n.made client) command
     (chosen_all script client script.commands (recursion_from_All _ script.commands whole.commands)) e
 
 pub act_home : (script : ScriptData) (bound q client : ℕ) (n : NodeState) → IsWhole script → client < length script.clients → home script client ≡ q

@@ -17,7 +17,7 @@ use Rattle.lt_modes.specs.Made.{Made, Post, then_do}
 use Rattle.lt_modes.specs.Queue.{has_stamp, without, without_at}
 use Rattle.lt_modes.specs.Serving.{give_up, answered, answer_by, answer_event}
 use Rattle.lt_modes.specs.SetMove.{given}
-use Rattle.lt_runs.specs.Families.{home}
+use Rattle.lt_spec.specs.Families.{home}
 use Rattle.lt_model.specs.Homes.{IsRowAtHome, IsAskOf, IsBodyAtHome, IsStateAtHome, IsLineWithin}
 use Rattle.lt_model.proofs.RuleEffects.{Between}
 

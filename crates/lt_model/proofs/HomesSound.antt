@@ -8,14 +8,13 @@ use Rattle.std.proofs.lemmas.List.Elements.{All-append, All-contains, All-weaker
 use Rattle.lt_modes.specs.declared.stamp.Stamp.{Stamp}
 use Rattle.lt_modes.specs.declared.ask.Ask.{Ask}
 use Rattle.lt_modes.specs.declared.parts.Row.{Row}
-use Rattle.lt_modes.specs.Fits.{is_at_home, ask_if, parked_asks}
+use Rattle.lt_modes.specs.Fits.{is_at_home, ask_if, parked_asks, numbers_of}
 use Rattle.lt_modes.specs.Script.{ScriptData, ClientData, node_of_client}
 use Rattle.lt_modes.specs.Serving.{queue_of}
 use Rattle.lt_modes.specs.Sound.{SoundRow, SoundParked}
 use Rattle.lt_modes.specs.State.{SetState, Parked, ParkedAsk, ParkedTell}
 use Rattle.lt_model.specs.Homes.{IsWhole, IsRowAtHome, IsAskAtHome, IsAskOf, IsParkedAtHome, IsStateAtHome, IsSoundOwn, HasSoundHomes}
 use Rattle.lt_model.specs.HomeLaws.{HomesSound, StampsApart}
-use Rattle.lt_model.specs.SoundNode.{numbers_of}
 use Rattle.lt_model.proofs.HomesMove.{homes_in_runs}
 
 pub home_among : (clients : List ClientData) (k : ℕ) → k < length clients

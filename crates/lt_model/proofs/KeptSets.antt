@@ -4,10 +4,10 @@ use Rattle.std.specs.Prelude.{IfSome}
 use Rattle.lt_modes.specs.Script.{ScriptData}
 use Rattle.lt_modes.specs.State.{Desk}
 use Rattle.lt_modes.specs.Sound.{SoundDesk}
-use Rattle.lt_runs.specs.World.{World}
-use Rattle.lt_runs.specs.Facts.{state_at}
+use Rattle.lt_spec.specs.World.{World}
+use Rattle.lt_spec.specs.Facts.{state_at}
 use Rattle.lt_model.specs.Moments.{Between}
-use Rattle.lt_model.specs.SoundNode.{numbers_of}
+use Rattle.lt_modes.specs.Fits.{numbers_of}
 use Rattle.lt_model.specs.Standing.{AsksStand}
 use Rattle.lt_model.specs.Timed.{Timed}
 use Rattle.lt_model.specs.Invariant.{SetKept}

@@ -9,7 +9,7 @@ use Rattle.std.proofs.lemmas.List.Sums.{sum_by-append, sum_by-cons, get_or-le-su
 use Rattle.lt_modes.specs.State.{Letter}
 use Rattle.lt_modes.specs.Made.{Post}
 use Rattle.lt_lists.specs.Below.{sum_below}
-use Rattle.lt_runs.specs.World.{sent, put_mail, letter_for}
+use Rattle.lt_spec.specs.World.{sent, put_mail, letter_for}
 use Rattle.lt_model.specs.PathEffects.{posts_weight}
 use Rattle.lt_lists.proofs.Sums.{sum_below-same, sum_below-none, sum_below-add, sum_below-change, sum_below-at}
 

@@ -11,11 +11,11 @@ use Rattle.lt_modes.specs.declared.event.Event.{Event}
 use Rattle.lt_modes.specs.Script.{ScriptData}
 use Rattle.lt_modes.specs.State.{Body, AskBody, TellBody, CopyBody, TokenBody, FreezeBody, Letter}
 use Rattle.lt_modes.specs.Made.{Post}
-use Rattle.lt_runs.specs.Log.{Logged}
-use Rattle.lt_runs.specs.NodeMove.{node_act}
-use Rattle.lt_runs.specs.World.{World, start, is_some_letter, is_enabled, opened, front_stamp, move_stamp, take_front, node_move, after_made, after, IsMove, IsRunFrom}
+use Rattle.lt_spec.specs.Log.{Logged}
+use Rattle.lt_spec.specs.NodeMove.{node_act}
+use Rattle.lt_spec.specs.World.{World, start, is_some_letter, is_enabled, opened, front_stamp, move_stamp, take_front, node_move, after_made, after, IsMove, IsRunFrom}
 use Rattle.lt_model.specs.OnWay.{OnWay}
-use Rattle.lt_runs.specs.Holdings.{lines_of}
+use Rattle.lt_spec.specs.Holdings.{lines_of}
 use Rattle.lt_model.specs.Invariant.{BodyKept}
 use Rattle.lt_model.specs.Paths.{Paths}
 use Rattle.lt_model.specs.Timed.{Timed}

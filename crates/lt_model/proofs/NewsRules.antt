@@ -9,7 +9,7 @@ use Rattle.lt_modes.specs.Places.{places_from, map_from, cons_if}
 use Rattle.lt_modes.specs.Records.{entry_of, record_of}
 use Rattle.lt_modes.specs.Freezing.{frozen_by, is_target, targets, number_after, frozen_entry, freeze_at}
 use Rattle.lt_modes.specs.HandingOver.{settled, leaving, without_desk}
-use Rattle.lt_accounts.specs.NewsSteps.{sending}
+use Rattle.lt_law_accounts.specs.NewsSteps.{sending}
 use Rattle.lt_model.specs.NewsRules.{news_with, number_by, frozen_desk, FreezingIsSteps, FreezesAreTaken, DesksComeAndGo}
 
 -- what is made of the item at a place

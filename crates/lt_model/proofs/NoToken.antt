@@ -1,5 +1,5 @@
 -- Letters that carry no token leave the path as it is.
-use Rattle.std.proofs.Common.{◌≡◌, ◌≢◌, ℕ, ◌+◌, inl, List, [], ◌∷◌, ◌++◌, Option, None, Bool, true, false, refl, sym, ap, subst, arith, ◌∙◌}
+use Rattle.std.proofs.Common.{◌≡◌, ◌≢◌, ℕ, inl, List, [], ◌∷◌, ◌++◌, Option, None, Bool, true, false, refl, sym, ap, subst, arith, ◌∙◌}
 use Rattle.std.specs.Prelude.{◌==◌, if◌then◌else◌, filter_map}
 use Rattle.std.specs.List.{AllByRecursion, cons_option}
 use Rattle.std.proofs.lemmas.Bool.{ne_eqb}
@@ -10,8 +10,8 @@ use Rattle.lt_modes.specs.declared.parts.Link.{Link}
 use Rattle.lt_modes.specs.State.{SetState, Body, AskBody, TellBody, CopyBody, TokenBody, FreezeBody, Letter}
 use Rattle.lt_modes.specs.Made.{Made, Post, then_do}
 use Rattle.lt_modes.specs.Telling.{tell}
-use Rattle.lt_runs.specs.World.{token_by, token_to}
-use Rattle.lt_runs.specs.Facts.{tokens_in}
+use Rattle.lt_spec.specs.World.{token_by, token_to}
+use Rattle.lt_spec.specs.Facts.{tokens_in}
 use Rattle.lt_model.specs.Paths.{IsTrueLink, BodyOnPath, LetterOnPath}
 use Rattle.lt_model.specs.PathEffects.{Quiet, token_weight, posts_weight, Moved}
 use Rattle.lt_lists.proofs.AllLemmas.{all_append, all_weaker}

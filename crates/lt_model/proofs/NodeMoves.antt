@@ -11,10 +11,10 @@ use Rattle.lt_modes.specs.State.{SetState}
 use Rattle.lt_modes.specs.Made.{Made, Post}
 use Rattle.lt_modes.specs.Telling.{finish}
 use Rattle.lt_modes.specs.SetMove.{drop}
-use Rattle.lt_runs.specs.Families.{related}
-use Rattle.lt_runs.specs.NodeMove.{NodeState, NodeMade, node_waits, touched, each_touched, drop_all, obey}
+use Rattle.lt_spec.specs.Families.{related}
+use Rattle.lt_spec.specs.NodeMove.{NodeState, NodeMade, node_waits, touched, each_touched, drop_all, obey}
 use Rattle.lt_lists.specs.Below.{put}
-use Rattle.lt_runs.specs.World.{World, node_move, after}
+use Rattle.lt_spec.specs.World.{World, node_move, after}
 use Rattle.lt_model.specs.Touches.{sets_of_command}
 use Rattle.lt_model.proofs.SentInMove.{AreSentIn, finish-sent, lock-sent, try-sent, unlock-sent, change-sent, drop-sent}
 use Rattle.lt_lists.proofs.AllLemmas.{all_append, all_weaker}

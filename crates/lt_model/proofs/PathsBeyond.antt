@@ -14,7 +14,7 @@ use Rattle.lt_modes.specs.Granting.{can_grant}
 use Rattle.lt_modes.specs.Routing.{Way, Parks, Goes, way, sent_on, route, route_by}
 use Rattle.lt_modes.specs.Telling.{tell_of, make_tell, finish, finish_by}
 use Rattle.lt_modes.specs.SetMove.{answers, given, granted, ask_of, asked, locked, tried, unlocked, change_held, changed, dropped, lock, try, unlock, change, drop}
-use Rattle.lt_runs.specs.Facts.{tokens_in}
+use Rattle.lt_spec.specs.Facts.{tokens_in}
 use Rattle.lt_lists.proofs.AllLemmas.{all_append}
 use Rattle.lt_model.proofs.PathsRoutes.{reversed_desk, item_tokens}
 

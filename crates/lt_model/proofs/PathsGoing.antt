@@ -14,8 +14,8 @@ use Rattle.lt_modes.specs.Made.{Made, Post}
 use Rattle.lt_modes.specs.Telling.{finish}
 use Rattle.lt_modes.specs.SetMove.{lock, try, unlock, change, drop}
 use Rattle.lt_lists.specs.Below.{put, one_if}
-use Rattle.lt_runs.specs.NodeMove.{NodeState, touched, each_touched}
-use Rattle.lt_runs.specs.World.{letter_for, sent, token_to}
+use Rattle.lt_spec.specs.NodeMove.{NodeState, touched, each_touched}
+use Rattle.lt_spec.specs.World.{letter_for, sent, token_to}
 use Rattle.lt_model.specs.Paths.{StateOnPath}
 use Rattle.lt_model.proofs.Letters.{letters_to}
 use Rattle.lt_model.proofs.SentInMove.{IsSentIn, AreSentIn}

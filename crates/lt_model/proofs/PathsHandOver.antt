@@ -14,14 +14,14 @@ use Rattle.lt_modes.specs.State.{SetState, Desk, Body, AskBody, TellBody, CopyBo
 use Rattle.lt_modes.specs.Queue.{no_ask}
 use Rattle.lt_modes.specs.Made.{Made, silent, then_do}
 use Rattle.lt_modes.specs.Granting.{can_grant}
-use Rattle.lt_modes.specs.Serving.{queue_of_desk, ask_at, may_draw, move_from, move_at, next_move, serve}
+use Rattle.lt_modes.specs.Serving.{queue_of_desk, ask_at, may_draw, draw_from, move_at, next_draw, serve}
 use Rattle.lt_modes.specs.Freezing.{freeze}
 use Rattle.lt_modes.specs.HandingOver.{hand_over, hand_over_for, hand_over_to}
 use Rattle.lt_modes.specs.Routing.{learn}
 use Rattle.lt_modes.specs.Telling.{tell, attend, finish, finish_by}
 use Rattle.lt_modes.specs.Taking.{take_body, arrive}
 use Rattle.lt_modes.specs.SetMove.{answers, given, granted, ask_of, asked, locked, tried, unlocked, change_held, changed, dropped, lock, try, unlock, change, drop, take}
-use Rattle.lt_runs.specs.Facts.{tokens_in}
+use Rattle.lt_spec.specs.Facts.{tokens_in}
 use Rattle.lt_lists.specs.Below.{one_if}
 use Rattle.lt_model.specs.Paths.{IsTrueLink, DeskOnPath, HasWay, StateOnPath, BodyOnPath, LetterOnPath}
 use Rattle.lt_model.specs.PathEffects.{Ground, Quiet, Moved}
@@ -29,21 +29,21 @@ use Rattle.lt_model.proofs.PathsQuiet.{ask_at-named, token_on_path, serve-quiet,
 use Rattle.lt_model.proofs.PathsRoutes.{quiet_then, route-quiet, learn_on_path, learn_desk}
 
 -- the ask that draws the desk is of another node
-drawn_from : (me : ℕ) (s : SetState) (desk : Desk) (before : Modes) (place : ℕ) (queue : List Ask) (k : ℕ) → move_from me s desk before place queue ≡ Some k
+drawn_from : (me : ℕ) (s : SetState) (desk : Desk) (before : Modes) (place : ℕ) (queue : List Ask) (k : ℕ) → draw_from me s desk before place queue ≡ Some k
     → (j : ℕ) × (k ≡ place + j) × ((slice_index_or queue j no_ask).node ≢ me)
 drawn_from me s desk before place [] k e = cc
 drawn_from me s desk before place (ask ∷ rest) k e =
     by_test (λ f. drawn_from me s desk (with_mode before ask.mode) (place + 1) rest k f) (may_draw me s desk before place ask) refl e
   where
-    by_test : (move_from me s desk (with_mode before ask.mode) (place + 1) rest ≡ Some k
+    by_test : (draw_from me s desk (with_mode before ask.mode) (place + 1) rest ≡ Some k
         → (j : ℕ) × (k ≡ place + 1 + j) × ((slice_index_or rest j no_ask).node ≢ me))
         → (draws : Bool) → may_draw me s desk before place ask ≡ draws
-        → (if draws then Some place else move_from me s desk (with_mode before ask.mode) (place + 1) rest) ≡ Some k
+        → (if draws then Some place else draw_from me s desk (with_mode before ask.mode) (place + 1) rest) ≡ Some k
         → (j : ℕ) × (k ≡ place + j) × ((slice_index_or (ask ∷ rest) j no_ask).node ≢ me)
     by_test again true t f = let same : place ≡ k = cc in (0, omega (arith, same), eqb-false ask.node me (not-true _ (and_parts _ _ t).0))
     by_test again false t f = let found = again f in (suc found.0, omega (arith, found.1), found.2)
 
-drawn_other : (me : ℕ) (s : SetState) (k : ℕ) → next_move me s ≡ Some k → (ask_at s k).node ≢ me
+drawn_other : (me : ℕ) (s : SetState) (k : ℕ) → next_draw me s ≡ Some k → (ask_at s k).node ≢ me
 drawn_other me s k e = by_desk s.desk e
   where
     by_desk : (desk : Option Desk) → move_at me s desk ≡ Some k → (slice_index_or (queue_of_desk desk) k no_ask).node ≢ me
@@ -108,7 +108,7 @@ leaves nodes went set stamp s v desk named other h d = record {
 pub hand_over-moved : (nodes : ℕ) (went : List ℕ) (k set : ℕ) (stamp : Stamp) (s : SetState)
     → Ground nodes went → StateOnPath nodes went stamp.node s → one_if (is_some s.desk) ≡ k
     → Moved nodes went set stamp.node k (hand_over set stamp s)
-hand_over-moved nodes went k set stamp s g h here = by_place (next_move stamp.node s) refl
+hand_over-moved nodes went k set stamp s g h here = by_place (next_draw stamp.node s) refl
   where
     stays : Moved nodes went set stamp.node k (silent s)
     stays = quiet-moved nodes went set stamp.node k (silent s) (record { state = h; posts = tt; desk = here })
@@ -120,7 +120,7 @@ hand_over-moved nodes went k set stamp s g h here = by_place (next_move stamp.no
         subst (λ (n : ℕ). Moved nodes went set stamp.node n (hand_over_to set stamp s v (Some desk))) e
         (leaves nodes went set stamp s v desk named other h way.0)
 
-    by_place : (o : Option ℕ) → next_move stamp.node s ≡ o → Moved nodes went set stamp.node k (hand_over_for set stamp s o)
+    by_place : (o : Option ℕ) → next_draw stamp.node s ≡ o → Moved nodes went set stamp.node k (hand_over_for set stamp s o)
     by_place None e = stays
     by_place (Some j) e =
         by_desk (ask_at s j).node (ask_at-named nodes went stamp.node s j g h) (drawn_other stamp.node s j e) s.desk h.way here

@@ -1,8 +1,8 @@
 -- Each world of a run has the token's paths, so one token of each set.
 use Rattle.std.proofs.Common.{ℕ, zero, suc, ◌<◌, List, [], ◌∷◌, take}
 use Rattle.lt_modes.specs.Script.{ScriptData}
-use Rattle.lt_runs.specs.Log.{Logged}
-use Rattle.lt_runs.specs.World.{World, start, after, after_run, IsRunFrom}
+use Rattle.lt_spec.specs.Log.{Logged}
+use Rattle.lt_spec.specs.World.{World, start, after, after_run, IsRunFrom}
 use Rattle.lt_model.specs.Paths.{Paths}
 use Rattle.lt_model.specs.Laws.{PathsKept, PathsInRuns, OneToken}
 use Rattle.lt_model.proofs.StartKept.{paths_start}

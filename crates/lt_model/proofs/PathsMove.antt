@@ -17,10 +17,10 @@ use Rattle.lt_modes.specs.Made.{Post}
 use Rattle.lt_modes.specs.Telling.{finish}
 use Rattle.lt_modes.specs.SetMove.{lock, try, unlock, change, drop, take}
 use Rattle.lt_lists.specs.Below.{put, one_if}
-use Rattle.lt_runs.specs.Families.{related}
-use Rattle.lt_runs.specs.NodeMove.{NodeState, NodeMade, node_waits, next_command, act_stamp, take_stamp, drop_all, obey, at_clock, one_made, node_act, node_take}
-use Rattle.lt_runs.specs.World.{World, has_mail, is_some_letter, is_enabled, take_front, put_mail, opened, sent, token_to, after_made, after}
-use Rattle.lt_runs.specs.Facts.{state_at, tokens_in}
+use Rattle.lt_spec.specs.Families.{related}
+use Rattle.lt_spec.specs.NodeMove.{NodeState, NodeMade, node_waits, next_command, act_stamp, take_stamp, drop_all, obey, at_clock, one_made, node_act, node_take}
+use Rattle.lt_spec.specs.World.{World, has_mail, is_some_letter, is_enabled, take_front, put_mail, opened, sent, token_to, after_made, after}
+use Rattle.lt_spec.specs.Facts.{state_at, tokens_in}
 use Rattle.lt_model.specs.Paths.{StateOnPath, LetterOnPath, Paths}
 use Rattle.lt_lists.proofs.Sums.{sum_below-at}
 use Rattle.lt_model.proofs.SentInMove.{finish-sent, lock-sent, try-sent, unlock-sent, change-sent, drop-sent, take-sent}

@@ -9,13 +9,13 @@ use Rattle.lt_modes.specs.declared.stamp.Stamp.{Stamp}
 use Rattle.lt_modes.specs.declared.ask.Ask.{Ask}
 use Rattle.lt_modes.specs.declared.parts.Link.{Link}
 use Rattle.lt_modes.specs.declared.parts.Hoped.{Hoped}
-use Rattle.lt_modes.specs.Modes.{is_taking}
+use Rattle.lt_modes.specs.Modes.{excludes_itself}
 use Rattle.lt_modes.specs.State.{SetState, Desk, Parked, ParkedAsk, ParkedTell}
 use Rattle.lt_modes.specs.Queue.{entered, place}
 use Rattle.lt_modes.specs.Made.{Made, then_do}
 use Rattle.lt_modes.specs.Routing.{Way, Parks, Goes, learn, dealt, is_behind, hoped_way, way, way_onward, body_of, reversed, sent_on, route, route_by}
 use Rattle.lt_modes.specs.Telling.{tell}
-use Rattle.lt_runs.specs.Facts.{tokens_in}
+use Rattle.lt_spec.specs.Facts.{tokens_in}
 use Rattle.lt_lists.specs.Below.{one_if}
 use Rattle.lt_model.specs.Paths.{IsTrueLink, IsNamed, IsParkedNamed, DeskOnPath, HasWay, StateOnPath, BodyOnPath}
 use Rattle.lt_model.specs.PathEffects.{Ground, Quiet}
@@ -96,9 +96,9 @@ way_on nodes went x s marked item g h = by_test (s.firm.node == x) refl
 pub reversed_on_path : (nodes : ℕ) (went : List ℕ) (x : ℕ) (item : Parked) (s : SetState)
     → IsParkedNamed nodes item → StateOnPath nodes went x s → StateOnPath nodes went x (reversed x item s)
 reversed_on_path nodes went x (ParkedTell tell) s named h = h
-reversed_on_path nodes went x (ParkedAsk ask) s named h = by_test (is_taking ask.mode && not (ask.node == x)) refl
+reversed_on_path nodes went x (ParkedAsk ask) s named h = by_test (excludes_itself ask.mode && not (ask.node == x)) refl
   where
-    by_test : (other : Bool) → (is_taking ask.mode && not (ask.node == x)) ≡ other
+    by_test : (other : Bool) → (excludes_itself ask.mode && not (ask.node == x)) ≡ other
         → StateOnPath nodes went x (if other then record s { hoped = Some (record { node = ask.node; stamp = ask.stamp }) } else s)
     by_test true e = record {
       link = h.link;
@@ -110,7 +110,7 @@ reversed_on_path nodes went x (ParkedAsk ask) s named h = by_test (is_taking ask
 
 pub reversed_desk : (x : ℕ) (item : Parked) (s : SetState) → (reversed x item s).desk ≡ s.desk
 reversed_desk x (ParkedTell tell) s = refl
-reversed_desk x (ParkedAsk ask) s = by_test (is_taking ask.mode && not (ask.node == x))
+reversed_desk x (ParkedAsk ask) s = by_test (excludes_itself ask.mode && not (ask.node == x))
   where
     by_test : (other : Bool) → (if other then record s { hoped = Some (record { node = ask.node; stamp = ask.stamp }) } else s).desk ≡ s.desk
     by_test true = refl

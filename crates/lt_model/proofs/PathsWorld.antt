@@ -9,8 +9,8 @@ use Rattle.std.proofs.lemmas.List.Elements.{All-push}
 use Rattle.lt_modes.specs.State.{SetState, Desk, Letter}
 use Rattle.lt_modes.specs.Made.{Made, Post}
 use Rattle.lt_lists.specs.Below.{put, sum_below, one_if}
-use Rattle.lt_runs.specs.World.{sent, put_mail, token_to}
-use Rattle.lt_runs.specs.Facts.{tokens_in}
+use Rattle.lt_spec.specs.World.{sent, put_mail, token_to}
+use Rattle.lt_spec.specs.Facts.{tokens_in}
 use Rattle.lt_model.specs.Paths.{HasWay, StateOnPath, LetterOnPath}
 use Rattle.lt_model.specs.PathEffects.{Ground, token_weight, Moved, HandsOver}
 use Rattle.lt_lists.proofs.Sums.{sum_below-change, sum_below-at, sum_below-two, sum_below-same}

@@ -9,7 +9,7 @@ use Rattle.lt_modes.specs.Held.{count_of, take_lock, held_modes}
 use Rattle.lt_modes.specs.State.{SetState, Desk, Letter}
 use Rattle.lt_modes.specs.Made.{Made, silent, then_do}
 use Rattle.lt_modes.specs.Granting.{can_grant}
-use Rattle.lt_modes.specs.Serving.{queue_of, ask_at, next_service, next_move, serve, serve_up_to, serve_step, serve_one}
+use Rattle.lt_modes.specs.Serving.{queue_of, ask_at, next_service, next_draw, serve, serve_up_to, serve_step, serve_one}
 use Rattle.lt_modes.specs.Freezing.{freeze}
 use Rattle.lt_modes.specs.HandingOver.{hand_over, hand_over_for, hand_over_to}
 use Rattle.lt_modes.specs.Telling.{make_tell, finish, finish_by}
@@ -60,7 +60,7 @@ serve_rule (suc n) set stamp R ends t = step (λ u. serve_rule n set stamp R end
         ends.joined t m (serve_up_to n set stamp) (ends.serves t k (next_service-within stamp.node t k e)) (again m.state)
 
 hand_over_rule : (set : ℕ) (stamp : Stamp) (R : Between) → EndRules set stamp R → (t : SetState) → R t (hand_over set stamp t)
-hand_over_rule set stamp R ends t = by_place (next_move stamp.node t)
+hand_over_rule set stamp R ends t = by_place (next_draw stamp.node t)
   where
     by_place : (o : Option ℕ) → R t (hand_over_for set stamp t o)
     by_place None = ends.silent t

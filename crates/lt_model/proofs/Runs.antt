@@ -1,8 +1,8 @@
 -- A run and one move more.
 use Rattle.std.proofs.Common.{◌≡◌, List, [], ◌∷◌, ◌++◌, refl}
 use Rattle.lt_modes.specs.Script.{ScriptData}
-use Rattle.lt_runs.specs.Log.{Logged}
-use Rattle.lt_runs.specs.World.{World, after, after_run, IsMove, IsRunFrom}
+use Rattle.lt_spec.specs.Log.{Logged}
+use Rattle.lt_spec.specs.World.{World, after, after_run, IsMove, IsRunFrom}
 
 pub after_run-push : (script : ScriptData) (w : World) (run : List Logged) (entry : Logged)
     → after_run script w (run ++ entry ∷ []) ≡ after script (after_run script w run) entry.made.stamp.node entry.made.step

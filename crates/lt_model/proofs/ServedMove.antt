@@ -8,15 +8,15 @@ use Rattle.lt_modes.specs.declared.moves.Step.TheVariants.{Act, Take}
 use Rattle.lt_modes.specs.Held.{held_modes}
 use Rattle.lt_modes.specs.Script.{ScriptData}
 use Rattle.lt_modes.specs.State.{SetState, Desk, Letter, ParkedTell}
-use Rattle.lt_modes.specs.Serving.{ask_at, next_service, next_move}
+use Rattle.lt_modes.specs.Serving.{ask_at, next_service, next_draw}
 use Rattle.lt_modes.specs.HandingOver.{hand_over_to}
 use Rattle.lt_modes.specs.Telling.{tell_of}
 use Rattle.lt_modes.specs.SetMove.{take}
 use Rattle.lt_lists.specs.Below.{put}
-use Rattle.lt_runs.specs.Log.{Logged}
-use Rattle.lt_runs.specs.NodeMove.{NodeState, next_command, act_stamp, take_stamp, at_clock, one_made, node_act, node_take}
-use Rattle.lt_runs.specs.World.{World, start, opened, take_front, node_move, after, after_run, IsRunFrom}
-use Rattle.lt_runs.specs.Facts.{state_at}
+use Rattle.lt_spec.specs.Log.{Logged}
+use Rattle.lt_spec.specs.NodeMove.{NodeState, next_command, act_stamp, take_stamp, at_clock, one_made, node_act, node_take}
+use Rattle.lt_spec.specs.World.{World, start, opened, take_front, node_move, after, after_run, IsRunFrom}
+use Rattle.lt_spec.specs.Facts.{state_at}
 use Rattle.lt_model.specs.Invariant.{IsServed}
 use Rattle.lt_model.specs.Laws.{ServedKept, ServedInRuns}
 use Rattle.lt_model.proofs.SentInMove.{take-sent}
@@ -39,9 +39,9 @@ none_next me t posts = next_service me t ≡ None
 
 -- where the desk is here, neither a service nor a move of the desk is left
 abbrev served_at : ℕ → Fact
-served_at me t posts = (desk : Desk) → t.desk ≡ Some desk → (next_service me t ≡ None) × (next_move me t ≡ None)
+served_at me t posts = (desk : Desk) → t.desk ≡ Some desk → (next_service me t ≡ None) × (next_draw me t ≡ None)
 
-away_served : (me : ℕ) (t : SetState) → t.desk ≡ None → (desk : Desk) → t.desk ≡ Some desk → (next_service me t ≡ None) × (next_move me t ≡ None)
+away_served : (me : ℕ) (t : SetState) → t.desk ≡ None → (desk : Desk) → t.desk ≡ Some desk → (next_service me t ≡ None) × (next_draw me t ≡ None)
 away_served me t away desk here = let none : Some desk ≡ None = sym here ∙ away in cc
 
 served_ends : (set : ℕ) (stamp : Stamp) → EndEffects set stamp any (none_next stamp.node) (served_at stamp.node)
@@ -56,7 +56,7 @@ served_ends set stamp = record {
 }
   where
     by_desk : (t : SetState) (v : ℕ) (desk : Option Desk) → t.desk ≡ desk → (d : Desk) → (hand_over_to set stamp t v desk).state.desk ≡ Some d
-        → (next_service stamp.node (hand_over_to set stamp t v desk).state ≡ None) × (next_move stamp.node (hand_over_to set stamp t v desk).state ≡ None)
+        → (next_service stamp.node (hand_over_to set stamp t v desk).state ≡ None) × (next_draw stamp.node (hand_over_to set stamp t v desk).state ≡ None)
     by_desk t v None e d here = away_served stamp.node t e d here
     by_desk t v (Some desk) e d here = cc
 
@@ -109,13 +109,13 @@ served_kept script w s h q step enabled t desk is_desk = elim (cases_eq t q) [
       let at_q : (after script w q step).node t ≡ made.node = ap (after script w q step).node e ∙ put-same (opened w q step).node q made.node in
       let below = subst (λ (x : ℕ). x < script.nodes) e is_desk.0 in
       let ended = step_served script w s q step (λ d here. h q d (below, here)) in
-      subst (λ (x : ℕ). (next_service x (state_at (after script w q step) s t) ≡ None) × (next_move x (state_at (after script w q step) s t) ≡ None)) (sym e)
-      (subst (λ (n : NodeState). (next_service q (n.set s) ≡ None) × (next_move q (n.set s) ≡ None)) (sym at_q)
+      subst (λ (x : ℕ). (next_service x (state_at (after script w q step) s t) ≡ None) × (next_draw x (state_at (after script w q step) s t) ≡ None)) (sym e)
+      (subst (λ (n : NodeState). (next_service q (n.set s) ≡ None) × (next_draw q (n.set s) ≡ None)) (sym at_q)
       (ended desk (ap (λ (n : NodeState). (n.set s).desk) (sym at_q) ∙ is_desk.1)))
   | inr d ↦
       let same : (after script w q step).node t ≡ w.node t =
       put-other (opened w q step).node q (node_move script w q step).node t d ∙ opened-node w q step t in
-      subst (λ (n : NodeState). (next_service t (n.set s) ≡ None) × (next_move t (n.set s) ≡ None)) (sym same)
+      subst (λ (n : NodeState). (next_service t (n.set s) ≡ None) × (next_draw t (n.set s) ≡ None)) (sym same)
       (h t desk (is_desk.0, ap (λ (n : NodeState). (n.set s).desk) (sym same) ∙ is_desk.1))
 ]
 

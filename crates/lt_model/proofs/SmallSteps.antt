@@ -16,10 +16,10 @@ use Rattle.lt_modes.specs.Telling.{finish}
 use Rattle.lt_modes.specs.Taking.{arrive}
 use Rattle.lt_modes.specs.SetMove.{locked, tried, unlocked, changed, drop}
 use Rattle.lt_lists.specs.Below.{put}
-use Rattle.lt_runs.specs.Families.{related}
-use Rattle.lt_runs.specs.NodeMove.{NodeState, NodeMade, no_move, node_waits, next_command, touched, each_touched, drop_all, act_stamp, take_stamp, at_clock, one_made, obey}
-use Rattle.lt_runs.specs.World.{World, is_some_letter, opened, front_stamp, take_front, token_to, after_made}
-use Rattle.lt_model.specs.MomentLaws.{MovesInSteps, MovesAreParts, Part, part_on, applied, with_end, parts_of_command, parts_of_front}
+use Rattle.lt_spec.specs.Families.{related}
+use Rattle.lt_spec.specs.NodeMove.{NodeState, NodeMade, no_move, node_waits, next_command, touched, each_touched, drop_all, act_stamp, take_stamp, at_clock, one_made, obey}
+use Rattle.lt_spec.specs.World.{World, is_some_letter, opened, front_stamp, take_front, token_to, after_made}
+use Rattle.lt_model.specs.MomentLaws.{MovesInSteps, MovesAreParts, MovePart, part_on, applied, with_end, parts_of_command, parts_of_front}
 use Rattle.lt_model.proofs.PathsMove.{has_mail_parts}
 use Rattle.lt_model.proofs.PathsGoing.{sent-sent, sent-none}
 use Rattle.lt_lists.proofs.Puts.{put-put, put-same}
@@ -68,12 +68,12 @@ made_node q made w = λ i. record {
 }
 
 -- a part that node q applies, where the world has the node like this
-applied_at : (q : ℕ) (n : NodeState) (w : World) (part : Part) → w.node q ≡ n
+applied_at : (q : ℕ) (n : NodeState) (w : World) (part : MovePart) → w.node q ≡ n
     → applied q w part ≡ after_made q (touched n part.set (part.rule (n.set part.set))) w
 applied_at q n w part e = ap (λ (k : NodeState). after_made q (touched k part.set (part.rule (k.set part.set))) w) e
 
 -- the first part of a move
-applied_first : (q : ℕ) (n : NodeState) (w : World) (part : Part)
+applied_first : (q : ℕ) (n : NodeState) (w : World) (part : MovePart)
     → applied q (at_node q n w) part ≡ after_made q (touched n part.set (part.rule (n.set part.set))) w
 applied_first q n w part =
     applied_at q n (at_node q n w) part (put-same w.node q n) ∙ node_made q n (touched n part.set (part.rule (n.set part.set))) w

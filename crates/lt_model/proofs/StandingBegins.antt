@@ -8,9 +8,9 @@ use Rattle.lt_modes.specs.Script.{ScriptData}
 use Rattle.lt_modes.specs.State.{SetState, Body, AskBody, TellBody, CopyBody, TokenBody, FreezeBody, Letter}
 use Rattle.lt_modes.specs.Made.{Post}
 use Rattle.lt_lists.specs.Below.{sum_below, one_if}
-use Rattle.lt_runs.specs.NodeMove.{take_stamp}
-use Rattle.lt_runs.specs.World.{World, put_mail}
-use Rattle.lt_runs.specs.Facts.{state_at, places_in_state, places_in_body, tokens_in}
+use Rattle.lt_spec.specs.NodeMove.{take_stamp}
+use Rattle.lt_spec.specs.World.{World, put_mail}
+use Rattle.lt_spec.specs.Facts.{state_at, places_in_state, places_in_body, tokens_in}
 use Rattle.lt_modes.specs.Queue.{times_in}
 use Rattle.lt_model.specs.Paths.{Paths}
 use Rattle.lt_model.specs.Standing.{IsMadeBy, AsksStand}
@@ -21,7 +21,7 @@ use Rattle.lt_model.specs.PathEffects.{token_weight}
 use Rattle.lt_lists.proofs.AllLemmas.{all_append, all_weaker}
 use Rattle.lt_model.proofs.PathsWorld.{weighs_tokens}
 use Rattle.lt_model.proofs.NodeEffects.{IsOfSet}
-use Rattle.lt_accounts.proofs.Asks.{times_in-none}
+use Rattle.lt_law_accounts.proofs.Asks.{times_in-none}
 use Rattle.lt_model.proofs.StandingEffects.{stands_later, arrives-stands}
 use Rattle.lt_model.proofs.StandingParts.{places_weight, places_sent-none, IsCopyHome, Stands, stands}
 use Rattle.lt_modes.specs.Taking.{arrive}

@@ -22,12 +22,12 @@ use Rattle.lt_modes.specs.Telling.{tell_of}
 use Rattle.lt_modes.specs.Taking.{take_body, arrive}
 use Rattle.lt_modes.specs.SetMove.{ask_of, asked, take}
 use Rattle.lt_modes.proofs.ServingLemmas.{queue_of-serve_one}
-use Rattle.lt_runs.specs.Facts.{times_parked, places_in_state, places_in_body, tokens_in}
+use Rattle.lt_spec.specs.Facts.{times_parked, places_in_state, places_in_body, tokens_in}
 use Rattle.lt_lists.specs.Below.{one_if}
 use Rattle.lt_model.specs.Standing.{IsMadeBy}
 use Rattle.lt_lists.proofs.AllLemmas.{all_map, all_any}
-use Rattle.lt_accounts.proofs.Asks.{times_in-some, times_in-found, times_in-push, times_in-remove, times_in-without, same_ask-itself}
-use Rattle.lt_accounts.proofs.Unanswered.{without_apart}
+use Rattle.lt_law_accounts.proofs.Asks.{times_in-some, times_in-found, times_in-push, times_in-remove, times_in-without, same_ask-itself}
+use Rattle.lt_law_accounts.proofs.Unanswered.{without_apart}
 use Rattle.lt_model.proofs.Effects.{HoldsOf, EndEffects, ActEffects, ByEffects, route_ways, holds_silent, acts_by_effects, take_by_effects, next_service-within}
 
 -- an ask or a tell in hand finds its place

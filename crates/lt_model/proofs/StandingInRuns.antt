@@ -4,9 +4,9 @@ use Rattle.std.specs.Prelude.{Contains}
 use Rattle.std.proofs.lemmas.List.Elements.{All-contains, All-nil}
 use Rattle.lt_modes.specs.declared.ask.Ask.{Ask}
 use Rattle.lt_modes.specs.Script.{ScriptData}
-use Rattle.lt_runs.specs.Log.{Logged}
-use Rattle.lt_runs.specs.World.{World, start, after, after_run, world_after, IsRunFrom}
-use Rattle.lt_runs.specs.Facts.{state_at, place_count}
+use Rattle.lt_spec.specs.Log.{Logged}
+use Rattle.lt_spec.specs.World.{World, start, after, after_run, world_after, IsRunFrom}
+use Rattle.lt_spec.specs.Facts.{state_at, place_count}
 use Rattle.lt_modes.specs.Queue.{times_in}
 use Rattle.lt_model.specs.Paths.{Paths}
 use Rattle.lt_model.specs.Standing.{IsMadeBy, AsksStand}
@@ -15,7 +15,7 @@ use Rattle.lt_lists.proofs.Sums.{sum_below-some, sum_below-change, sum_below-non
 use Rattle.lt_model.proofs.StartKept.{places_start, paths_start}
 use Rattle.lt_lists.proofs.Members.{none_in}
 use Rattle.lt_model.proofs.PathsMove.{move_kept}
-use Rattle.lt_accounts.proofs.Asks.{times_in-some, times_in-found, times_in-none, times_in-once}
+use Rattle.lt_law_accounts.proofs.Asks.{times_in-some, times_in-found, times_in-none, times_in-once}
 use Rattle.lt_model.proofs.StandingMove.{standing_kept}
 
 standing_start : (script : ScriptData) (s : ℕ) → AsksStand script (start script) s

@@ -11,9 +11,9 @@ use Rattle.lt_modes.specs.State.{SetState, Letter}
 use Rattle.lt_modes.specs.Made.{Post}
 use Rattle.lt_modes.specs.SetMove.{take}
 use Rattle.lt_lists.specs.Below.{put}
-use Rattle.lt_runs.specs.NodeMove.{NodeState, NodeMade, next_command, act_stamp, take_stamp, at_clock, one_made, node_act, node_take}
-use Rattle.lt_runs.specs.World.{World, is_some_letter, opened, put_mail, take_front, after_made, after}
-use Rattle.lt_runs.specs.Facts.{state_at, places_in_state, places_in_body, place_count}
+use Rattle.lt_spec.specs.NodeMove.{NodeState, NodeMade, next_command, act_stamp, take_stamp, at_clock, one_made, node_act, node_take}
+use Rattle.lt_spec.specs.World.{World, is_some_letter, opened, put_mail, take_front, after_made, after}
+use Rattle.lt_spec.specs.Facts.{state_at, places_in_state, places_in_body, place_count}
 use Rattle.lt_modes.specs.Queue.{times_in}
 use Rattle.lt_model.specs.Paths.{Paths}
 use Rattle.lt_model.specs.Standing.{IsMadeBy, AsksStand}

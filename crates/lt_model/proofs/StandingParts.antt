@@ -5,17 +5,17 @@ use Rattle.std.specs.List.{AllByRecursion}
 use Rattle.std.proofs.lemmas.Bool.{eq-eqb}
 use Rattle.std.proofs.lemmas.List.Sums.{sum_by-append, sum_by-cons}
 use Rattle.lt_modes.specs.declared.ask.Ask.{Ask}
-use Rattle.lt_modes.specs.Modes.{is_taking}
+use Rattle.lt_modes.specs.Modes.{excludes_itself}
 use Rattle.lt_modes.specs.State.{SetState, Desk, Body, AskBody, TellBody, CopyBody, TokenBody, FreezeBody, Letter, Parked, ParkedAsk, ParkedTell}
 use Rattle.lt_modes.specs.Made.{Post}
 use Rattle.lt_modes.specs.Queue.{times_in}
 use Rattle.lt_modes.specs.Serving.{queue_of_desk}
 use Rattle.lt_modes.specs.Routing.{dealt, body_of, reversed}
-use Rattle.lt_runs.specs.Facts.{times_parked, places_in_state, places_in_body}
+use Rattle.lt_spec.specs.Facts.{times_parked, places_in_state, places_in_body}
 use Rattle.lt_model.specs.Standing.{IsMadeBy}
 use Rattle.lt_model.specs.PathEffects.{posts_weight}
 use Rattle.lt_lists.proofs.AllLemmas.{all_append}
-use Rattle.lt_accounts.proofs.Asks.{times_in-entered}
+use Rattle.lt_law_accounts.proofs.Asks.{times_in-entered}
 use Rattle.lt_model.proofs.Effects.{Fact}
 
 -- how often the ask stands in a letter of the set
@@ -98,7 +98,7 @@ pub record SameAsks (t u : SetState) : Type 0 where
 
 pub reversed_asks : (me : ℕ) (item : Parked) (t : SetState) → SameAsks t (reversed me item t)
 reversed_asks me (ParkedTell tell) t = record { pending = refl; parked = refl; desk = refl }
-reversed_asks me (ParkedAsk ask) t = by_test (is_taking ask.mode && not (ask.node == me))
+reversed_asks me (ParkedAsk ask) t = by_test (excludes_itself ask.mode && not (ask.node == me))
   where
     by_test : (other : Bool) → SameAsks t (if other then record t { hoped = Some (record { node = ask.node; stamp = ask.stamp }) } else t)
     by_test true = record { pending = refl; parked = refl; desk = refl }

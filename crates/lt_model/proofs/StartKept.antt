@@ -1,6 +1,6 @@
 -- The start of each script has the invariant.
-use Rattle.lt_accounts.proofs.FirstAccount.{empty_account, empty_is_kept}
-use Rattle.lt_accounts.proofs.ModeMembers.{none_has}
+use Rattle.lt_law_accounts.proofs.FirstAccount.{empty_account, empty_is_kept}
+use Rattle.lt_modes.proofs.EachMode.{none_in_none}
 use Rattle.lt_lists.proofs.Sums.{sum_below-none, sum_first}
 use Rattle.lt_lists.proofs.Gathering.{gather_none}
 use Rattle.std.proofs.lemmas.List.Elements.{All-nil}
@@ -11,25 +11,26 @@ use Rattle.std.proofs.lemmas.Bool.{ne_eqb, eqb-true}
 use Rattle.std.proofs.lemmas.List.{append-nil, length-replicate, get_or-replicate}
 use Rattle.std.specs.List.{filter_map}
 use Rattle.lt_modes.specs.declared.ask.Ask.{Ask}
-use Rattle.lt_modes.specs.Modes.{Modes, no_modes, has}
+use Rattle.lt_modes.specs.Modes.{Modes, no_modes, has, bars}
+use Rattle.lt_modes.proofs.ModeAlgebra.{bars_of_none}
 use Rattle.lt_modes.specs.Script.{ScriptData}
 use Rattle.lt_modes.specs.State.{SetState, Desk, Entry, Tell, Body, first_desk, first_entry}
 use Rattle.lt_modes.specs.Records.{entry_of, record_of}
-use Rattle.lt_modes.specs.Serving.{next_service, next_move}
-use Rattle.lt_modes.specs.Fits.{Numbers}
+use Rattle.lt_modes.specs.Serving.{next_service, next_draw}
+use Rattle.lt_modes.specs.Fits.{Numbers, numbers_of}
 use Rattle.lt_modes.specs.Sound.{SoundSet}
 use Rattle.lt_lists.specs.Below.{sum_below, gather_below, one_if}
-use Rattle.lt_runs.specs.World.{start}
+use Rattle.lt_spec.specs.World.{start}
 use Rattle.lt_model.specs.Moments.{Between, is_at}
 use Rattle.lt_model.specs.OnWay.{Comes, DeskIs, in_set, tell_in, tell_parked, copy_in, freeze_in, tells_of, copies_to, freezes_to, account_of, news_of}
-use Rattle.lt_runs.specs.Facts.{state_at, places_in_state, place_count}
+use Rattle.lt_spec.specs.Facts.{state_at, places_in_state, place_count}
 use Rattle.lt_modes.specs.Queue.{times_in}
-use Rattle.lt_accounts.specs.Account.{Account, AccountKept, counted}
-use Rattle.lt_accounts.specs.News.{News, Notice, NewsKept}
-use Rattle.lt_model.specs.Invariant.{DeskKept, SetKept, Kept, LinesKept}
+use Rattle.lt_law_accounts.specs.Account.{Account, AccountKept, counted}
+use Rattle.lt_law_accounts.specs.News.{News, Notice, NewsKept}
+use Rattle.lt_model.specs.Invariant.{DeskKept, SetKept, WorldInvariant, LinesKept}
 use Rattle.lt_model.specs.Paths.{HasWay, Paths}
 use Rattle.lt_modes.specs.declared.parts.Hoped.{Hoped}
-use Rattle.lt_model.specs.SoundNode.{ClientsKept, numbers_of}
+use Rattle.lt_model.specs.SoundNode.{ClientsKept}
 
 -- what a node keeps at the start, with the desk or without
 abbrev state_if : ℕ → Bool → SetState
@@ -113,7 +114,7 @@ desk_first : (script : ScriptData) (s : ℕ) (place : Option ℕ) (desk : Desk) 
 desk_first script s (Some t) desk h = desk_if script.nodes (t == 0) desk h.1
 desk_first script s None desk h = no_comes script s h.0 _ h.2
 
-pub served_if : (nodes t : ℕ) (here : Bool) → (next_service t (state_if nodes here) ≡ None) × (next_move t (state_if nodes here) ≡ None)
+pub served_if : (nodes t : ℕ) (here : Bool) → (next_service t (state_if nodes here) ≡ None) × (next_draw t (state_if nodes here) ≡ None)
 served_if nodes t true = (refl, refl)
 served_if nodes t false = (refl, refl)
 
@@ -138,24 +139,28 @@ account_start script s place x h =
     ∙ ap (λ (t : List Tell). account_by 0 (is_at place x) first_entry t (copies_to script (start script) s x)) (no_tells script s x)
     ∙ ap (λ (c : List Ask). account_by 0 (is_at place x) first_entry [] c) (no_copies script s x)
 
-abbrev news_by : Bool → Entry → List Notice → News
-news_by here entry coming = record {
+abbrev news_wanting : Modes → Bool → Entry → List Notice → News
+news_wanting wanted here entry coming = record {
   number = 0;
   frozen = no_modes;
   coming = coming;
   recorded = record_of entry;
   told = entry.frozen_told;
   last = 0;
-  wanted = no_modes;
+  wanted = wanted;
   here = here;
   serving = false;
 }
 
+abbrev news_by : Bool → Entry → List Notice → News
+news_by here entry coming = news_wanting no_modes here entry coming
+
 news_start : (script : ScriptData) (s : ℕ) (place : Option ℕ) (x : ℕ) → x < script.nodes
     → news_of script Between (start script) s place (first_desk script.nodes) x ≡ news_by (is_at place x) first_entry []
 news_start script s place x h =
-    ap (λ (e : Entry). news_by (is_at place x) e (freezes_to script (start script) s x)) (entry_first script.nodes x h)
-    ∙ ap (λ (c : List Notice). news_by (is_at place x) first_entry c) (no_freezes script s x)
+    ap (λ (e : Entry). news_wanting (bars no_modes) (is_at place x) e (freezes_to script (start script) s x)) (entry_first script.nodes x h)
+    ∙ ap (λ (c : List Notice). news_wanting (bars no_modes) (is_at place x) first_entry c) (no_freezes script s x)
+    ∙ ap (λ (w : Modes). news_wanting w (is_at place x) first_entry []) bars_of_none
 
 news_first : (here : Bool) → NewsKept (news_by here first_entry [])
 news_first here = record {
@@ -177,7 +182,7 @@ desk_kept : (script : ScriptData) (s : ℕ) (place : Option ℕ) → DeskKept sc
 desk_kept script s place = record {
   accounts = λ x h. subst AccountKept (sym (account_start script s place x h)) (empty_is_kept 0 (is_at place x));
   clear = λ x y hx hy d mode member.
-      none_has mode (subst (λ (modes : Modes). IsTrue (has mode modes)) (ap counted (account_start script s place x hx) ∙ counted_first 0 (is_at place x)) member);
+      none_in_none mode (subst (λ (modes : Modes). IsTrue (has mode modes)) (ap counted (account_start script s place x hx) ∙ counted_first 0 (is_at place x)) member);
   news = λ x h. subst NewsKept (sym (news_start script s place x h)) (news_first (is_at place x));
 }
 
@@ -249,7 +254,7 @@ set_start script s some = record {
   served = λ t desk between h. served_if script.nodes t (t == 0);
 }
 
-pub start_kept : (script : ScriptData) → 0 < script.nodes → Kept script (start script)
+pub start_kept : (script : ScriptData) → 0 < script.nodes → WorldInvariant script (start script)
 start_kept script some = record {
   clients = λ q h. clients_start script q;
   letters = λ p q hp hq. All-nil _;

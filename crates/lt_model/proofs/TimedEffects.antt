@@ -5,7 +5,7 @@ use Rattle.std.specs.List.{AllByRecursion}
 use Rattle.lt_modes.specs.declared.stamp.Stamp.{Stamp}
 use Rattle.lt_modes.specs.declared.ask.Ask.{Ask}
 use Rattle.lt_modes.specs.declared.parts.Link.{Link}
-use Rattle.lt_modes.specs.Modes.{is_taking}
+use Rattle.lt_modes.specs.Modes.{excludes_itself}
 use Rattle.lt_modes.specs.Held.{held_modes}
 use Rattle.lt_modes.specs.Script.{ScriptData}
 use Rattle.lt_modes.specs.State.{SetState, Desk, Body, AskBody, TellBody, CopyBody, TokenBody, FreezeBody, Letter, Parked, ParkedAsk, ParkedTell}
@@ -76,7 +76,7 @@ all_dealt_upto epoch number (item ∷ rest) desk h = all_dealt_upto epoch number
 
 reversed_upto : (epoch number me : ℕ) (item : Parked) (t : SetState) → IsUpTo epoch number t → IsUpTo epoch number (reversed me item t)
 reversed_upto epoch number me (ParkedTell tell) t h = h
-reversed_upto epoch number me (ParkedAsk ask) t h = by_test (is_taking ask.mode && not (ask.node == me))
+reversed_upto epoch number me (ParkedAsk ask) t h = by_test (excludes_itself ask.mode && not (ask.node == me))
   where
     by_test : (other : Bool) → IsUpTo epoch number (if other then record t { hoped = Some (record { node = ask.node; stamp = ask.stamp }) } else t)
     by_test true = record { link = h.link; kept = h.kept; desk = h.desk }

@@ -10,9 +10,9 @@ use Rattle.lt_modes.specs.State.{SetState, Desk, Letter, first_desk}
 use Rattle.lt_modes.specs.Made.{Post}
 use Rattle.lt_modes.specs.SetMove.{take}
 use Rattle.lt_lists.specs.Below.{put}
-use Rattle.lt_runs.specs.Log.{Logged}
-use Rattle.lt_runs.specs.NodeMove.{NodeState, NodeMade, next_command, act_stamp, take_stamp, at_clock, one_made, node_act, node_take}
-use Rattle.lt_runs.specs.World.{World, start, is_some_letter, opened, put_mail, take_front, after_made, after, after_run, IsRunFrom}
+use Rattle.lt_spec.specs.Log.{Logged}
+use Rattle.lt_spec.specs.NodeMove.{NodeState, NodeMade, next_command, act_stamp, take_stamp, at_clock, one_made, node_act, node_take}
+use Rattle.lt_spec.specs.World.{World, start, is_some_letter, opened, put_mail, take_front, after_made, after, after_run, IsRunFrom}
 use Rattle.lt_model.specs.Invariant.{BodyKept, LetterKept}
 use Rattle.lt_model.specs.Timed.{StateTimed, Timed}
 use Rattle.lt_model.specs.Laws.{TimedKept, TimedInRuns}

@@ -6,8 +6,8 @@ use Rattle.std.proofs.lemmas.List.Sums.{sum_by-cons}
 use Rattle.lt_modes.specs.Script.{ScriptData}
 use Rattle.lt_modes.specs.State.{Desk, Body, AskBody, TellBody, CopyBody, TokenBody, FreezeBody, Letter}
 use Rattle.lt_lists.specs.Below.{sum_below, one_if}
-use Rattle.lt_runs.specs.World.{World}
-use Rattle.lt_runs.specs.Facts.{state_at, tokens_in}
+use Rattle.lt_spec.specs.World.{World}
+use Rattle.lt_spec.specs.Facts.{state_at, tokens_in}
 use Rattle.lt_model.specs.OnWay.{Comes, DeskIs}
 use Rattle.lt_model.specs.Paths.{DeskOnPath, HasWay, BodyOnPath, Paths}
 use Rattle.lt_model.specs.Laws.{DeskSomewhere, TokenComes}

@@ -20,14 +20,14 @@ use Rattle.lt_modes.specs.Telling.{tell_of, make_tell}
 use Rattle.lt_modes.specs.Taking.{take_copy, take_freeze, take_token}
 use Rattle.lt_modes.specs.Routing.{learn, dealt, route}
 use Rattle.lt_modes.specs.SetMove.{given, unlocked, asked, dropped}
-use Rattle.lt_runs.specs.World.{World}
-use Rattle.lt_runs.specs.Facts.{state_at}
+use Rattle.lt_spec.specs.World.{World}
+use Rattle.lt_spec.specs.Facts.{state_at}
 use Rattle.lt_model.specs.Moments.{Moment}
 use Rattle.lt_model.specs.OnWay.{tell_parked, account_of}
-use Rattle.lt_accounts.specs.Account.{Account, counted}
-use Rattle.lt_accounts.specs.AccountPlay.{others_counted}
+use Rattle.lt_law_accounts.specs.Account.{Account, counted}
+use Rattle.lt_law_accounts.specs.AccountPlay.{others_counted}
 use Rattle.lt_model.specs.NewsRules.{frozen_desk}
-use Rattle.lt_accounts.specs.AccountSteps.{MayGrant, granting, unlocking, dropping, asking, answering, delivering, tell_by, telling, settling, arriving, MayRest}
+use Rattle.lt_law_accounts.specs.AccountSteps.{MayGrant, granting, unlocking, dropping, asking, answering, delivering, tell_by, telling, settling, arriving, MayRest}
 
 -- the account of a node with this clock that keeps this for the set, with the desk here or not, in its move or not,
 -- and with this entry in the desk

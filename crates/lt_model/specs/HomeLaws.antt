@@ -3,11 +3,11 @@ use Rattle.std.specs.Prelude.{◌≤◌, ◌≢◌, ℕ, List, length, take, All
 use Rattle.lt_modes.specs.declared.ask.Ask.{Ask}
 use Rattle.lt_modes.specs.declared.moves.Step.{Step}
 use Rattle.lt_modes.specs.Script.{ScriptData}
-use Rattle.lt_runs.specs.Log.{Logged}
-use Rattle.lt_runs.specs.World.{World, is_enabled, after, world_after, IsRun}
-use Rattle.lt_runs.specs.Holdings.{lines_of}
+use Rattle.lt_spec.specs.Log.{Logged}
+use Rattle.lt_spec.specs.World.{World, is_enabled, after, world_after, IsRun}
+use Rattle.lt_spec.specs.Holdings.{lines_of}
 use Rattle.lt_model.specs.AddedLocks.{added_by}
-use Rattle.lt_runs.specs.Facts.{state_at}
+use Rattle.lt_spec.specs.Facts.{state_at}
 use Rattle.lt_model.specs.Homes.{IsWhole, Homes, HasSoundHomes, IsEntryWithin}
 
 -- an enabled move keeps locks and asks at home

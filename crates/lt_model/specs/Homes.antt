@@ -12,28 +12,27 @@ use Rattle.lt_modes.specs.declared.event.Event.TheVariants.{Grant, Wait, Try as 
 use Rattle.lt_modes.specs.Script.{ScriptData}
 use Rattle.lt_modes.specs.State.{SetState, Body, AskBody, TellBody, CopyBody, TokenBody, FreezeBody, Letter, Parked, ParkedAsk, ParkedTell}
 use Rattle.lt_modes.specs.Serving.{queue_of}
-use Rattle.lt_modes.specs.Fits.{is_at_home, asks_here}
+use Rattle.lt_modes.specs.Fits.{is_at_home, asks_here, numbers_of}
 use Rattle.lt_modes.specs.Sound.{SoundRow, SoundParked}
-use Rattle.lt_model.specs.SoundNode.{numbers_of}
-use Rattle.lt_runs.specs.Families.{home}
-use Rattle.lt_runs.specs.Log.{Logged}
-use Rattle.lt_runs.specs.World.{World}
-use Rattle.lt_runs.specs.Facts.{state_at}
+use Rattle.lt_spec.specs.Families.{home}
+use Rattle.lt_spec.specs.Log.{Logged}
+use Rattle.lt_spec.specs.World.{World}
+use Rattle.lt_spec.specs.Facts.{state_at}
 
 -- the command is for a set of the script, and drops the locks of a client on the node of the one that makes it
-abbrev pub HasTargets : ScriptData → ℕ → Command → Type 0
-HasTargets script client (Lock s mode) = s < length script.sets
-HasTargets script client (Try s mode) = s < length script.sets
-HasTargets script client (Unlock s mode) = s < length script.sets
-HasTargets script client (Change s gives_up mode) = s < length script.sets
-HasTargets script client (DropAll other s) =
+abbrev pub HasTargetsAt : ScriptData → ℕ → Command → Type 0
+HasTargetsAt script client (Lock s mode) = s < length script.sets
+HasTargetsAt script client (Try s mode) = s < length script.sets
+HasTargetsAt script client (Unlock s mode) = s < length script.sets
+HasTargetsAt script client (Change s gives_up mode) = s < length script.sets
+HasTargetsAt script client (DropAll other s) =
     (s < length script.sets) × (other < length script.clients) × (home script other ≡ home script client)
 
 -- the script has a node, clients are on nodes of the script, and what commands name is of the script
 pub record IsWhole (script : ScriptData) : Type 0 where
   pub some_node : 0 < script.nodes
   pub homes : (client : ℕ) → client < length script.clients → home script client < script.nodes
-  pub commands : All (λ (request : ℕ × Command). HasTargets script request.0 request.1) script.commands
+  pub commands : All (λ (request : ℕ × Command). HasTargetsAt script request.0 request.1) script.commands
 
 -- the row is of a client of node q, and holds some lock
 pub record IsRowAtHome (script : ScriptData) (q : ℕ) (row : Row) : Type 0 where

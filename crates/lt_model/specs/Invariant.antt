@@ -3,25 +3,26 @@ use Rattle.std.specs.Prelude.{◌≡◌, ◌≢◌, ◌⊎◌, ◌↔◌, ◌≤
 use Rattle.lt_modes.specs.declared.mode.Mode.{Mode}
 use Rattle.lt_modes.specs.declared.ask.Ask.{Ask}
 use Rattle.lt_modes.specs.declared.event.Event.{Event}
-use Rattle.lt_modes.specs.Modes.{is_taking}
+use Rattle.lt_modes.specs.Modes.{excludes_itself}
 use Rattle.lt_modes.specs.Script.{ScriptData}
 use Rattle.lt_modes.specs.State.{Desk, Body, AskBody, TellBody, CopyBody, TokenBody, FreezeBody, Letter, Parked, ParkedAsk, ParkedTell}
 use Rattle.lt_modes.specs.Held.{count_of}
 use Rattle.lt_modes.specs.Tells.{is_newer}
-use Rattle.lt_modes.specs.Serving.{next_service, next_move}
+use Rattle.lt_modes.specs.Serving.{next_service, next_draw}
 use Rattle.lt_modes.specs.Sound.{SoundSet}
 use Rattle.lt_lists.specs.Below.{sum_below}
-use Rattle.lt_runs.specs.World.{World}
-use Rattle.lt_runs.specs.Families.{home}
-use Rattle.lt_runs.specs.Holdings.{Holding, holding, holdings, wanted, count_of as times_held}
-use Rattle.lt_model.specs.SoundNode.{ClientsKept, numbers_of}
-use Rattle.lt_runs.specs.Facts.{state_at, place_count}
+use Rattle.lt_spec.specs.World.{World}
+use Rattle.lt_spec.specs.Families.{home}
+use Rattle.lt_spec.specs.Holdings.{Holding, holding, holdings, wanted, times_held}
+use Rattle.lt_modes.specs.Fits.{numbers_of}
+use Rattle.lt_model.specs.SoundNode.{ClientsKept}
+use Rattle.lt_spec.specs.Facts.{state_at, place_count}
 use Rattle.lt_modes.specs.Queue.{times_in}
 use Rattle.lt_model.specs.Moments.{Moment, Between, is_moving, is_unfrozen}
 use Rattle.lt_model.specs.OnWay.{OnWay, Comes, IsCopyTo, DeskIs, account_of, news_of}
 use Rattle.lt_model.specs.Paths.{Paths}
-use Rattle.lt_accounts.specs.Account.{AreClear, AccountKept, counted}
-use Rattle.lt_accounts.specs.News.{NewsKept}
+use Rattle.lt_law_accounts.specs.Account.{AreClear, AccountKept, counted}
+use Rattle.lt_law_accounts.specs.News.{NewsKept}
 
 -- what the letter says is not younger than the letter, and a tell is of a node of the script
 abbrev pub BodyKept : ScriptData → ℕ → Body → Type 0
@@ -49,7 +50,7 @@ abbrev pub IsParkedFor : ScriptData → World → ℕ → ℕ → Parked → Typ
 IsParkedFor script w s x (ParkedTell tell) = (desk : Desk) × Comes script w s x (TokenBody desk)
 IsParkedFor script w s x (ParkedAsk ask) =
     ((desk : Desk) × Comes script w s x (TokenBody desk))
-    ⊎ ((older : Ask) × Contains (state_at w s x).pending older × IsTrue (is_taking older.mode)
+    ⊎ ((older : Ask) × Contains (state_at w s x).pending older × IsTrue (excludes_itself older.mode)
     × IsTrue (is_newer ask.stamp older.stamp))
 
 -- with the desk at this place each node's account and news are kept, and what counts of different nodes is clear of each other
@@ -62,12 +63,12 @@ pub record DeskKept (script : ScriptData) (moment : Moment) (w : World) (s : ℕ
 -- where the desk is at a node, no ask can be served there and none can draw the desk away
 abbrev pub IsServed : ScriptData → World → ℕ → Type 0
 IsServed script w s = (t : ℕ) (desk : Desk) → DeskIs script w s (Some t) desk
-    → (next_service t (state_at w s t) ≡ None) × (next_move t (state_at w s t) ≡ None)
+    → (next_service t (state_at w s t) ≡ None) × (next_draw t (state_at w s t) ≡ None)
 
 -- the same, unless the desk's node is in the middle of its move
 abbrev pub IsServedBut : ScriptData → Moment → World → ℕ → Type 0
 IsServedBut script moment w s = (t : ℕ) (desk : Desk) → is_moving moment t ≡ false → DeskIs script w s (Some t) desk
-    → (next_service t (state_at w s t) ≡ None) × (next_move t (state_at w s t) ≡ None)
+    → (next_service t (state_at w s t) ≡ None) × (next_draw t (state_at w s t) ≡ None)
 
 -- what holds of one set at a moment. In the middle of a move, what its node keeps and has said (but for an ask that it made in
 -- this move) is before its clock, its charge may bar more than what it holds, and where the desk is there services may be left;
@@ -84,7 +85,7 @@ pub record SetKept (script : ScriptData) (moment : Moment) (w : World) (s : ℕ)
 
 -- the world invariant, between moves: clients wait for one ask at most, letters go to other nodes and are of
 -- sets of the script, and each set is kept
-pub record Kept (script : ScriptData) (w : World) : Type 0 where
+pub record WorldInvariant (script : ScriptData) (w : World) : Type 0 where
   pub clients : (q : ℕ) → q < script.nodes → ClientsKept script (w.node q)
   pub letters : (p q : ℕ) → p < script.nodes → q < script.nodes
       → All (λ (letter : Letter). letter.set < length script.sets) (w.mail p q)

@@ -9,22 +9,22 @@ use Rattle.lt_modes.specs.Granting.{can_grant}
 use Rattle.lt_modes.specs.declared.moves.Step.{Step}
 use Rattle.lt_modes.specs.declared.moves.Step.TheVariants.{Act}
 use Rattle.lt_modes.specs.Script.{ScriptData}
-use Rattle.lt_runs.specs.Log.{Logged}
-use Rattle.lt_runs.specs.NodeMove.{next_command}
-use Rattle.lt_runs.specs.World.{World, start, is_enabled, move_stamp, node_move, after, world_after, IsRun}
-use Rattle.lt_runs.specs.Facts.{state_at, token_count, place_count}
+use Rattle.lt_spec.specs.Log.{Logged}
+use Rattle.lt_spec.specs.NodeMove.{next_command}
+use Rattle.lt_spec.specs.World.{World, start, is_enabled, move_stamp, node_move, after, world_after, IsRun}
+use Rattle.lt_spec.specs.Facts.{state_at, token_count, place_count}
 use Rattle.lt_modes.specs.State.{Desk, TokenBody}
 use Rattle.lt_model.specs.OnWay.{Comes, DeskIs}
 use Rattle.lt_model.specs.Paths.{Paths}
 use Rattle.lt_model.specs.Touches.{IsAside, SameSet, AreStamped}
-use Rattle.lt_model.specs.Invariant.{IsServed, Kept, LinesKept}
+use Rattle.lt_model.specs.Invariant.{IsServed, WorldInvariant, LinesKept}
 use Rattle.lt_model.specs.Timed.{Timed}
 use Rattle.lt_model.specs.Standing.{AsksStand}
 use Rattle.lt_model.specs.TryLines.{HasExactTries, IsOwnAnswer}
 
 -- the start of each script has the invariant
 abbrev pub StartKept : Type 0
-StartKept = (script : ScriptData) → 0 < script.nodes → Kept script (start script)
+StartKept = (script : ScriptData) → 0 < script.nodes → WorldInvariant script (start script)
 
 -- before any line nothing is held, and nobody waits
 abbrev pub StartLines : Type 0

@@ -15,10 +15,10 @@ use Rattle.lt_modes.specs.Telling.{finish}
 use Rattle.lt_modes.specs.Taking.{arrive}
 use Rattle.lt_modes.specs.SetMove.{locked, tried, unlocked, changed, drop}
 use Rattle.lt_lists.specs.Below.{put}
-use Rattle.lt_runs.specs.Families.{related}
-use Rattle.lt_runs.specs.NodeMove.{NodeState, NodeMade, node_waits, next_command, act_stamp, take_stamp, at_clock, one_made, touched, joined_moves}
-use Rattle.lt_runs.specs.World.{World, is_enabled, move_stamp, opened, after_made, after}
-use Rattle.lt_runs.specs.Facts.{state_at}
+use Rattle.lt_spec.specs.Families.{related}
+use Rattle.lt_spec.specs.NodeMove.{NodeState, NodeMade, node_waits, next_command, act_stamp, take_stamp, at_clock, one_made, touched, joined_moves}
+use Rattle.lt_spec.specs.World.{World, is_enabled, move_stamp, opened, after_made, after}
+use Rattle.lt_spec.specs.Facts.{state_at}
 use Rattle.lt_model.specs.Touches.{IsAside}
 use Rattle.lt_model.specs.Moments.{Between, Acting}
 use Rattle.lt_model.specs.Invariant.{SetKept}
@@ -51,23 +51,23 @@ pub record MovesInSteps : Type 0 where
       → touched n s (joined first second) ≡ joined_moves (touched n s first) (touched (touched n s first).node s second)
 
 -- a part of a move: a rule, and the set to whose state it is applied
-pub record Part : Type 0 where
+pub record MovePart : Type 0 where
   pub set : ℕ
   pub rule : SetState → Made
 
-abbrev pub part_on : ℕ → (SetState → Made) → Part
+abbrev pub part_on : ℕ → (SetState → Made) → MovePart
 part_on s rule = record { set = s; rule = rule }
 
 -- the world once node q has applied the rule
-abbrev pub applied : ℕ → World → Part → World
+abbrev pub applied : ℕ → World → MovePart → World
 applied q w part = after_made q (touched (w.node q) part.set (part.rule (state_at w part.set q))) w
 
 -- first this rule, then the end of the move
-abbrev pub with_end : ℕ → Stamp → (SetState → Made) → List Part
+abbrev pub with_end : ℕ → Stamp → (SetState → Made) → List MovePart
 with_end s stamp rule = part_on s rule ∷ part_on s (finish s stamp) ∷ []
 
 -- the parts of a command, where these clients wait: a `drop` has one for each set of the family
-abbrev pub parts_of_command : ScriptData → Stamp → ℕ → (ℕ → Bool) → Option Command → List Part
+abbrev pub parts_of_command : ScriptData → Stamp → ℕ → (ℕ → Bool) → Option Command → List MovePart
 parts_of_command script stamp client is_waiting None = []
 parts_of_command script stamp client is_waiting (Some (Lock s mode)) = with_end s stamp (locked s stamp client mode)
 parts_of_command script stamp client is_waiting (Some (Try s mode)) = with_end s stamp (tried s stamp client mode)
@@ -79,14 +79,14 @@ parts_of_command script stamp client is_waiting (Some (DropAll other s)) =
     else map (λ k. part_on k (drop k stamp other)) (related script s)
 
 -- the parts of the take of the front letter of this list
-abbrev pub parts_of_front : ℕ → NodeState → List Letter → List Part
+abbrev pub parts_of_front : ℕ → NodeState → List Letter → List MovePart
 parts_of_front q n [] = []
 parts_of_front q n (letter ∷ rest) = with_end letter.set (take_stamp q n letter) (arrive (take_stamp q n letter) letter)
 
-abbrev pub parts_of : ScriptData → World → ℕ → Step → List Part
-parts_of script w q (Act client) =
+abbrev pub move_parts : ScriptData → World → ℕ → Step → List MovePart
+move_parts script w q (Act client) =
     parts_of_command script (act_stamp q (w.node q)) client (node_waits script (w.node q)) (next_command script (w.node q) client)
-parts_of script w q (Take p) = parts_of_front q (w.node q) (w.mail p q)
+move_parts script w q (Take p) = parts_of_front q (w.node q) (w.mail p q)
 
 -- the node before the first part of the step: its clock is set, and a command counts as made
 abbrev pub at_step : ℕ → Step → NodeState → NodeState
@@ -100,4 +100,4 @@ set_out w q step = record (opened w q step) { node = put w.node q (at_step (move
 -- an enabled move is made of its parts, one after another
 abbrev pub MovesAreParts : Type 0
 MovesAreParts = (script : ScriptData) (w : World) (q : ℕ) (step : Step) → IsTrue (is_enabled script w q step)
-    → after script w q step ≡ fold (applied q) (set_out w q step) (parts_of script w q step)
+    → after script w q step ≡ fold (applied q) (set_out w q step) (move_parts script w q step)

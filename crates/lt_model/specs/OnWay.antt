@@ -9,10 +9,10 @@ use Rattle.lt_modes.specs.Records.{entry_of, record_of}
 use Rattle.lt_modes.specs.Freezing.{frozen_by}
 use Rattle.lt_lists.specs.Below.{gather_below}
 use Rattle.lt_model.specs.Moments.{Moment, is_at, is_moving, is_serving}
-use Rattle.lt_accounts.specs.Account.{Account}
-use Rattle.lt_accounts.specs.News.{News, Notice}
-use Rattle.lt_runs.specs.World.{World}
-use Rattle.lt_runs.specs.Facts.{state_at}
+use Rattle.lt_law_accounts.specs.Account.{Account}
+use Rattle.lt_law_accounts.specs.News.{News, Notice}
+use Rattle.lt_spec.specs.World.{World}
+use Rattle.lt_spec.specs.Facts.{state_at}
 
 -- the letter is one of the set's on its way from p to q
 pub record OnWay (w : World) (s p q : ℕ) (letter : Letter) : Type 0 where

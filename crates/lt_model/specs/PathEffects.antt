@@ -13,8 +13,8 @@ use Rattle.lt_modes.specs.Routing.{learn, route}
 use Rattle.lt_modes.specs.Telling.{tell, finish}
 use Rattle.lt_modes.specs.Taking.{take_token}
 use Rattle.lt_modes.specs.SetMove.{lock, try, unlock, change, drop, take}
-use Rattle.lt_runs.specs.World.{token_to}
-use Rattle.lt_runs.specs.Facts.{tokens_in}
+use Rattle.lt_spec.specs.World.{token_to}
+use Rattle.lt_spec.specs.Facts.{tokens_in}
 use Rattle.lt_lists.specs.Below.{one_if}
 use Rattle.lt_model.specs.Paths.{IsTrueLink, IsParkedNamed, DeskOnPath, StateOnPath, LetterOnPath}
 

@@ -5,8 +5,8 @@ use Rattle.lt_modes.specs.declared.parts.Link.{Link}
 use Rattle.lt_modes.specs.declared.parts.Hoped.{Hoped}
 use Rattle.lt_modes.specs.Script.{ScriptData}
 use Rattle.lt_modes.specs.State.{SetState, Desk, Body, AskBody, TellBody, CopyBody, TokenBody, FreezeBody, Letter, Parked, ParkedAsk, ParkedTell}
-use Rattle.lt_runs.specs.World.{World}
-use Rattle.lt_runs.specs.Facts.{state_at, token_count}
+use Rattle.lt_spec.specs.World.{World}
+use Rattle.lt_spec.specs.Facts.{state_at, token_count}
 use Rattle.lt_model.specs.OnWay.{OnWay}
 
 -- the token went to the link's node with the link's epoch

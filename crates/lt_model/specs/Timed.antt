@@ -3,8 +3,8 @@
 use Rattle.std.specs.Prelude.{◌≤◌, ◌<◌, ℕ, IfSome}
 use Rattle.lt_modes.specs.Script.{ScriptData}
 use Rattle.lt_modes.specs.State.{SetState, Desk, Letter}
-use Rattle.lt_runs.specs.World.{World}
-use Rattle.lt_runs.specs.Facts.{state_at}
+use Rattle.lt_spec.specs.World.{World}
+use Rattle.lt_spec.specs.Facts.{state_at}
 use Rattle.lt_model.specs.OnWay.{OnWay}
 use Rattle.lt_model.specs.Invariant.{LetterKept}
 

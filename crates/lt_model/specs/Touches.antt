@@ -6,10 +6,10 @@ use Rattle.lt_modes.specs.declared.moves.Step.{Step}
 use Rattle.lt_modes.specs.declared.moves.Step.TheVariants.{Act, Take}
 use Rattle.lt_modes.specs.Script.{ScriptData}
 use Rattle.lt_modes.specs.State.{SetState, Body, Letter}
-use Rattle.lt_runs.specs.Families.{related}
-use Rattle.lt_runs.specs.NodeMove.{next_command}
-use Rattle.lt_runs.specs.World.{World}
-use Rattle.lt_runs.specs.Facts.{state_at, weight}
+use Rattle.lt_spec.specs.Families.{related}
+use Rattle.lt_spec.specs.NodeMove.{next_command}
+use Rattle.lt_spec.specs.World.{World}
+use Rattle.lt_spec.specs.Facts.{state_at, weight}
 
 -- the sets of a command: of a `drop` the whole family
 abbrev pub sets_of_command : ScriptData → Option Command → List ℕ

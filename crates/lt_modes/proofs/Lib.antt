@@ -1,3 +1,5 @@
+pub mod EachMode
 pub mod ModeAlgebra
 mod MaskLemmas
 pub mod ServingLemmas
+mod FiveModesKept

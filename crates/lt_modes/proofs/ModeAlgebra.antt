@@ -3,38 +3,52 @@ use Rattle.std.proofs.Common.{◌≡◌, inl, inr, Bool, true, false, refl, sym,
 use Rattle.std.specs.Prelude.{◌||◌, ◌&&◌, not, IsTrue}
 use Rattle.std.proofs.lemmas.Bool.{and_parts, and_from, or_cases, or_left, or_right, false_from_ne_true}
 use Rattle.lt_modes.specs.declared.mode.Mode.{Mode}
-use Rattle.lt_modes.specs.declared.mode.Mode.TheVariants.{IntentionRead, Read, Upgrade, IntentionWrite, Write}
-use Rattle.lt_modes.specs.Modes.{Modes, conflicts, same_mode, same_modes, is_within, has, modes_by, any_mode, every_mode, one, bars}
+use Rattle.lt_modes.specs.declared.mode.Mode.TheVariants.{IntentionRead, Read, Upgrade, IntentionWrite, ReadIntentionWrite, Write}
+use Rattle.lt_modes.specs.Modes.{Modes, conflicts, same_mode, same_modes, is_within, has, modes_by, any_mode, every_mode, one, bars, no_modes}
+use Rattle.lt_modes.proofs.EachMode.{none_in_none}
 use Rattle.lt_modes.specs.ModeLaws.{IsSymmetric, IsEachBarred, BarsBy, UnionHasBoth, BarsByTable, CoversByTable, UnionBarsBoth, BelowItself, BelowInTurn, UnionBelow, BelowWithMore, ClearBothWays, ClearBelow, CoveredIsClear, CopyIsNotTaking}
 
 pub conflicts-sym : IsSymmetric conflicts
+unfolding conflicts
 conflicts-sym IntentionRead IntentionRead = refl
 conflicts-sym IntentionRead Read = refl
 conflicts-sym IntentionRead Upgrade = refl
 conflicts-sym IntentionRead IntentionWrite = refl
+conflicts-sym IntentionRead ReadIntentionWrite = refl
 conflicts-sym IntentionRead Write = refl
 conflicts-sym Read IntentionRead = refl
 conflicts-sym Read Read = refl
 conflicts-sym Read Upgrade = refl
 conflicts-sym Read IntentionWrite = refl
+conflicts-sym Read ReadIntentionWrite = refl
 conflicts-sym Read Write = refl
 conflicts-sym Upgrade IntentionRead = refl
 conflicts-sym Upgrade Read = refl
 conflicts-sym Upgrade Upgrade = refl
 conflicts-sym Upgrade IntentionWrite = refl
+conflicts-sym Upgrade ReadIntentionWrite = refl
 conflicts-sym Upgrade Write = refl
 conflicts-sym IntentionWrite IntentionRead = refl
 conflicts-sym IntentionWrite Read = refl
 conflicts-sym IntentionWrite Upgrade = refl
 conflicts-sym IntentionWrite IntentionWrite = refl
+conflicts-sym IntentionWrite ReadIntentionWrite = refl
 conflicts-sym IntentionWrite Write = refl
+conflicts-sym ReadIntentionWrite IntentionRead = refl
+conflicts-sym ReadIntentionWrite Read = refl
+conflicts-sym ReadIntentionWrite Upgrade = refl
+conflicts-sym ReadIntentionWrite IntentionWrite = refl
+conflicts-sym ReadIntentionWrite ReadIntentionWrite = refl
+conflicts-sym ReadIntentionWrite Write = refl
 conflicts-sym Write IntentionRead = refl
 conflicts-sym Write Read = refl
 conflicts-sym Write Upgrade = refl
 conflicts-sym Write IntentionWrite = refl
+conflicts-sym Write ReadIntentionWrite = refl
 conflicts-sym Write Write = refl
 
 pub each_barred : IsEachBarred conflicts
+unfolding conflicts
 each_barred mode = (Write, conflicts-sym mode Write)
 
 -- membership in a set that a test makes
@@ -43,6 +57,7 @@ has-modes_by test IntentionRead = refl
 has-modes_by test Read = refl
 has-modes_by test Upgrade = refl
 has-modes_by test IntentionWrite = refl
+has-modes_by test ReadIntentionWrite = refl
 has-modes_by test Write = refl
 
 pub has-itself : (mode : Mode) → same_mode mode mode ≡ true
@@ -50,6 +65,7 @@ has-itself IntentionRead = refl
 has-itself Read = refl
 has-itself Upgrade = refl
 has-itself IntentionWrite = refl
+has-itself ReadIntentionWrite = refl
 has-itself Write = refl
 
 -- some mode passes, and which one
@@ -58,28 +74,33 @@ any_mode-which test e = elim (or_cases _ _ e) [
   | inl before ↦ elim (or_cases _ _ before) [
     | inl before ↦ elim (or_cases _ _ before) [
       | inl before ↦ elim (or_cases _ _ before) [
-        | inl h ↦ (IntentionRead, h)
-        | inr h ↦ (Read, h)
+        | inl before ↦ elim (or_cases _ _ before) [
+          | inl h ↦ (IntentionRead, h)
+          | inr h ↦ (Read, h)
+        ]
+        | inr h ↦ (Upgrade, h)
       ]
-      | inr h ↦ (Upgrade, h)
+      | inr h ↦ (IntentionWrite, h)
     ]
-    | inr h ↦ (IntentionWrite, h)
+    | inr h ↦ (ReadIntentionWrite, h)
   ]
   | inr h ↦ (Write, h)
 ]
 
 pub any_mode-at : (test : Mode → Bool) (mode : Mode) → test mode ≡ true → any_mode test ≡ true
-any_mode-at test IntentionRead h = or_left _ _ (or_left _ _ (or_left _ _ (or_left _ _ h)))
-any_mode-at test Read h = or_left _ _ (or_left _ _ (or_left _ _ (or_right _ _ h)))
-any_mode-at test Upgrade h = or_left _ _ (or_left _ _ (or_right _ _ h))
-any_mode-at test IntentionWrite h = or_left _ _ (or_right _ _ h)
+any_mode-at test IntentionRead h = or_left _ _ (or_left _ _ (or_left _ _ (or_left _ _ (or_left _ _ h))))
+any_mode-at test Read h = or_left _ _ (or_left _ _ (or_left _ _ (or_left _ _ (or_right _ _ h))))
+any_mode-at test Upgrade h = or_left _ _ (or_left _ _ (or_left _ _ (or_right _ _ h)))
+any_mode-at test IntentionWrite h = or_left _ _ (or_left _ _ (or_right _ _ h))
+any_mode-at test ReadIntentionWrite h = or_left _ _ (or_right _ _ h)
 any_mode-at test Write h = or_right _ _ h
 
 pub every_mode-at : (test : Mode → Bool) (mode : Mode) → every_mode test ≡ true → test mode ≡ true
-every_mode-at test IntentionRead h = (and_parts _ _ (and_parts _ _ (and_parts _ _ (and_parts _ _ h).0).0).0).0
-every_mode-at test Read h = (and_parts _ _ (and_parts _ _ (and_parts _ _ (and_parts _ _ h).0).0).0).1
-every_mode-at test Upgrade h = (and_parts _ _ (and_parts _ _ (and_parts _ _ h).0).0).1
-every_mode-at test IntentionWrite h = (and_parts _ _ (and_parts _ _ h).0).1
+every_mode-at test IntentionRead h = (and_parts _ _ (and_parts _ _ (and_parts _ _ (and_parts _ _ (and_parts _ _ h).0).0).0).0).0
+every_mode-at test Read h = (and_parts _ _ (and_parts _ _ (and_parts _ _ (and_parts _ _ (and_parts _ _ h).0).0).0).0).1
+every_mode-at test Upgrade h = (and_parts _ _ (and_parts _ _ (and_parts _ _ (and_parts _ _ h).0).0).0).1
+every_mode-at test IntentionWrite h = (and_parts _ _ (and_parts _ _ (and_parts _ _ h).0).0).1
+every_mode-at test ReadIntentionWrite h = (and_parts _ _ (and_parts _ _ h).0).1
 every_mode-at test Write h = (and_parts _ _ h).1
 
 pub union_has_both : UnionHasBoth
@@ -167,6 +188,7 @@ same_modes-true a b e =
       read = same Read i;
       upgrade = same Upgrade i;
       intention_write = same IntentionWrite i;
+      read_intention_write = same ReadIntentionWrite i;
       write = same Write i;
     }
   where
@@ -175,3 +197,17 @@ same_modes-true a b e =
     by_tests true false p q = cc
     by_tests false true p q = cc
     by_tests false false p q = refl
+
+-- the empty set bars nothing, by any table
+pub bars_of_none : bars no_modes ≡ no_modes
+bars_of_none = λ i. record {
+  intention_read = none IntentionRead i;
+  read = none Read i;
+  upgrade = none Upgrade i;
+  intention_write = none IntentionWrite i;
+  read_intention_write = none ReadIntentionWrite i;
+  write = none Write i;
+}
+  where
+    none : (mode : Mode) → has mode (bars no_modes) ≡ false
+    none mode = false_from_ne_true (has mode (bars no_modes)) (λ h. let found = (bars_by_table no_modes mode).0 h in none_in_none found.0 found.2)

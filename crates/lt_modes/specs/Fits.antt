@@ -1,7 +1,8 @@
 -- Which letters a node can be sent: what it tests before it takes one.
-use Rattle.std.specs.Prelude.{Bool, true, ◌&&◌, ◌||◌, ◌==◌, ◌+◌, ◌^◌, not, nat_lt, nat_le, ℕ, List, [], ◌∷◌, ◌++◌, Option, Some, None, length, filter_map, slice_index, is_none}
+use Rattle.std.specs.Prelude.{Bool, true, ◌&&◌, ◌||◌, ◌==◌, ◌+◌, ◌^◌, not, nat_lt, nat_le, ℕ, List, [], ◌∷◌, ◌++◌, Option, Some, None, length, filter_map, slice_index, is_none, map}
 use Rattle.std.specs.List.{list_any, list_all}
 use Rattle.lt_modes.specs.declared.ask.Ask.{Ask}
+use Rattle.lt_modes.specs.Script.{ScriptData, ClientData}
 use Rattle.lt_modes.specs.State.{SetState, Desk, Tell, Body, AskBody, TellBody, CopyBody, TokenBody, FreezeBody, Letter, Parked, ParkedAsk, ParkedTell}
 use Rattle.lt_modes.specs.Queue.{same_ask}
 use Rattle.lt_modes.specs.Serving.{queue_of}
@@ -11,6 +12,14 @@ pub record Numbers : Type 0 where
   pub nodes : ℕ
   pub sets : ℕ
   pub homes : List ℕ
+
+-- the numbers of this script
+abbrev pub numbers_of : ScriptData → Numbers
+numbers_of script = record {
+  nodes = script.nodes;
+  sets = length script.sets;
+  homes = map (λ (client : ClientData). client.node) script.clients;
+}
 
 -- the ask is of a client of its node
 abbrev pub is_at_home : Numbers → Ask → Bool

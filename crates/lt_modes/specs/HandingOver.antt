@@ -8,7 +8,7 @@ use Rattle.lt_modes.specs.Held.{held_modes}
 use Rattle.lt_modes.specs.Made.{Made, silent, post_of}
 use Rattle.lt_modes.specs.Records.{entry_of, still_owed}
 use Rattle.lt_modes.specs.Tells.{put_entry}
-use Rattle.lt_modes.specs.Serving.{ask_at, next_move}
+use Rattle.lt_modes.specs.Serving.{ask_at, next_draw}
 
 -- the stamps of asks
 abbrev pub stamps_of : List Ask → List Stamp
@@ -52,4 +52,4 @@ hand_over_for set stamp s (Some k) = hand_over_to set stamp s (ask_at s k).node 
 
 -- the desk goes to the node of the ask that draws it, where there is one
 abbrev pub hand_over : ℕ → Stamp → SetState → Made
-hand_over set stamp s = hand_over_for set stamp s (next_move stamp.node s)
+hand_over set stamp s = hand_over_for set stamp s (next_draw stamp.node s)

@@ -18,4 +18,6 @@ pub mod Telling
 pub mod Taking
 pub mod SetMove
 pub mod Fits
+pub mod FiveModes
 pub mod Sound
+pub mod Waiting

@@ -2,35 +2,45 @@
 use Rattle.std.specs.Prelude.{Bool, true, false, ◌||◌, ◌&&◌, not, List, [], ◌∷◌, ℕ, codes, if◌then◌else◌, Option, Some, None}
 use Rattle.std.specs.Str.{bytes_eq}
 use Rattle.lt_modes.specs.declared.mode.Mode.{Mode}
-use Rattle.lt_modes.specs.declared.mode.Mode.TheVariants.{IntentionRead, Read, Upgrade, IntentionWrite, Write}
+use Rattle.lt_modes.specs.declared.mode.Mode.TheVariants.{IntentionRead, Read, Upgrade, IntentionWrite, ReadIntentionWrite, Write}
 
--- the conflict table
-abbrev pub conflicts : Mode → Mode → Bool
+-- the conflict table; sealed: what looks at it says so (`unfolding conflicts`)
+unfoldable pub conflicts : Mode → Mode → Bool
 conflicts IntentionRead IntentionRead = false
 conflicts IntentionRead Read = false
 conflicts IntentionRead Upgrade = false
 conflicts IntentionRead IntentionWrite = false
+conflicts IntentionRead ReadIntentionWrite = false
 conflicts IntentionRead Write = true
 conflicts Read IntentionRead = false
 conflicts Read Read = false
 conflicts Read Upgrade = false
 conflicts Read IntentionWrite = true
+conflicts Read ReadIntentionWrite = true
 conflicts Read Write = true
 conflicts Upgrade IntentionRead = false
 conflicts Upgrade Read = false
 conflicts Upgrade Upgrade = true
 conflicts Upgrade IntentionWrite = true
+conflicts Upgrade ReadIntentionWrite = true
 conflicts Upgrade Write = true
 conflicts IntentionWrite IntentionRead = false
 conflicts IntentionWrite Read = true
 conflicts IntentionWrite Upgrade = true
 conflicts IntentionWrite IntentionWrite = false
+conflicts IntentionWrite ReadIntentionWrite = true
 conflicts IntentionWrite Write = true
+conflicts ReadIntentionWrite IntentionRead = false
+conflicts ReadIntentionWrite Read = true
+conflicts ReadIntentionWrite Upgrade = true
+conflicts ReadIntentionWrite IntentionWrite = true
+conflicts ReadIntentionWrite ReadIntentionWrite = true
+conflicts ReadIntentionWrite Write = true
 conflicts Write other = true
 
 -- a taking mode conflicts with itself
-abbrev pub is_taking : Mode → Bool
-is_taking mode = conflicts mode mode
+abbrev pub excludes_itself : Mode → Bool
+excludes_itself mode = conflicts mode mode
 
 -- the word of a mode in scripts and journals
 abbrev pub word_of : Mode → List ℕ
@@ -38,6 +48,7 @@ word_of IntentionRead = codes "intention_read"
 word_of Read = codes "read"
 word_of Upgrade = codes "upgrade"
 word_of IntentionWrite = codes "intention_write"
+word_of ReadIntentionWrite = codes "read_intention_write"
 word_of Write = codes "write"
 
 -- the mode with this word
@@ -47,6 +58,7 @@ mode_of word =
     else if bytes_eq word (word_of Read) then Some Read
     else if bytes_eq word (word_of Upgrade) then Some Upgrade
     else if bytes_eq word (word_of IntentionWrite) then Some IntentionWrite
+    else if bytes_eq word (word_of ReadIntentionWrite) then Some ReadIntentionWrite
     else if bytes_eq word (word_of Write) then Some Write
     else None
 
@@ -55,6 +67,7 @@ same_mode IntentionRead IntentionRead = true
 same_mode Read Read = true
 same_mode Upgrade Upgrade = true
 same_mode IntentionWrite IntentionWrite = true
+same_mode ReadIntentionWrite ReadIntentionWrite = true
 same_mode Write Write = true
 same_mode a b = false
 
@@ -64,6 +77,7 @@ pub record Modes : Type 0 where
   pub read : Bool
   pub upgrade : Bool
   pub intention_write : Bool
+  pub read_intention_write : Bool
   pub write : Bool
 
 -- the mode is in the set
@@ -72,6 +86,7 @@ has IntentionRead modes = modes.intention_read
 has Read modes = modes.read
 has Upgrade modes = modes.upgrade
 has IntentionWrite modes = modes.intention_write
+has ReadIntentionWrite modes = modes.read_intention_write
 has Write modes = modes.write
 
 -- the modes that pass a test
@@ -81,14 +96,19 @@ modes_by test = record {
   read = test Read;
   upgrade = test Upgrade;
   intention_write = test IntentionWrite;
+  read_intention_write = test ReadIntentionWrite;
   write = test Write;
 }
 
 abbrev pub any_mode : (Mode → Bool) → Bool
-any_mode test = test IntentionRead || test Read || test Upgrade || test IntentionWrite || test Write
+any_mode test = test IntentionRead || test Read || test Upgrade || test IntentionWrite || test ReadIntentionWrite || test Write
 
 abbrev pub every_mode : (Mode → Bool) → Bool
-every_mode test = test IntentionRead && test Read && test Upgrade && test IntentionWrite && test Write
+every_mode test = test IntentionRead && test Read && test Upgrade && test IntentionWrite && test ReadIntentionWrite && test Write
+
+-- the modes, in order
+abbrev pub modes_in_order : List Mode
+modes_in_order = IntentionRead ∷ Read ∷ Upgrade ∷ IntentionWrite ∷ ReadIntentionWrite ∷ Write ∷ []
 
 abbrev pub no_modes : Modes
 no_modes = modes_by (λ m. false)

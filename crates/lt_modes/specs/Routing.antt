@@ -5,7 +5,7 @@ use Rattle.lt_modes.specs.declared.stamp.Stamp.{Stamp}
 use Rattle.lt_modes.specs.declared.ask.Ask.{Ask}
 use Rattle.lt_modes.specs.declared.parts.Link.{Link}
 use Rattle.lt_modes.specs.declared.parts.Hoped.{Hoped}
-use Rattle.lt_modes.specs.Modes.{is_taking}
+use Rattle.lt_modes.specs.Modes.{excludes_itself}
 use Rattle.lt_modes.specs.State.{SetState, Desk, Body, AskBody, TellBody, Parked, ParkedAsk, ParkedTell}
 use Rattle.lt_modes.specs.Queue.{entered}
 use Rattle.lt_modes.specs.Made.{Made, silent, post_of}
@@ -28,7 +28,7 @@ pub data Way : Type 0 where
 
 -- a taking ask among these is older
 abbrev pub is_behind : List Ask → Ask → Bool
-is_behind pending ask = list_any (λ (own : Ask). is_taking own.mode && is_newer ask.stamp own.stamp) pending
+is_behind pending ask = list_any (λ (own : Ask). excludes_itself own.mode && is_newer ask.stamp own.stamp) pending
 
 -- an unmarked ask goes by the hoped link where that is older, and else by the firm link
 abbrev pub hoped_way : Option Hoped → ℕ → Ask → Way
@@ -55,7 +55,7 @@ body_of (ParkedTell tell) marked = TellBody tell
 -- path reversal: a taking ask of another node that was sent on becomes the hoped link
 abbrev pub reversed : ℕ → Parked → SetState → SetState
 reversed me (ParkedAsk ask) s =
-    if is_taking ask.mode && not (ask.node == me)
+    if excludes_itself ask.mode && not (ask.node == me)
     then record s { hoped = Some (record { node = ask.node; stamp = ask.stamp }) }
     else s
 reversed me (ParkedTell tell) s = s

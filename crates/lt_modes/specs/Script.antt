@@ -12,8 +12,9 @@ pub record ClientData : Type 0 where
   pub name : List ℕ
   pub node : ℕ
 
--- the number of nodes, the sets and the clients by number, and the commands, each with its client, in order
+-- the version, the number of nodes, the sets and the clients by number, and the commands, each with its client, in order
 pub record ScriptData : Type 0 where
+  pub version : ℕ
   pub nodes : ℕ
   pub sets : List SetData
   pub clients : List ClientData

@@ -135,18 +135,18 @@ may_draw me s desk before k ask =
     not (ask.node == me) && (is_free me s desk before ask && (k == 0 || is_clear_at_home me s desk ask))
 
 -- the first ask that may draw the desk to its node, of those from place k on
-abbrev pub move_from : ℕ → SetState → Desk → Modes → ℕ → List Ask → Option ℕ
-move_from me s desk before k [] = None
-move_from me s desk before k (ask ∷ rest) =
-    if may_draw me s desk before k ask then Some k else move_from me s desk (with_mode before ask.mode) (k + 1) rest
+abbrev pub draw_from : ℕ → SetState → Desk → Modes → ℕ → List Ask → Option ℕ
+draw_from me s desk before k [] = None
+draw_from me s desk before k (ask ∷ rest) =
+    if may_draw me s desk before k ask then Some k else draw_from me s desk (with_mode before ask.mode) (k + 1) rest
 
 abbrev pub move_at : ℕ → SetState → Option Desk → Option ℕ
 move_at me s None = None
-move_at me s (Some desk) = move_from me s desk no_modes 0 desk.queue
+move_at me s (Some desk) = draw_from me s desk no_modes 0 desk.queue
 
 -- the place of the ask to whose node the desk moves, where no service is left
-abbrev pub next_move : ℕ → SetState → Option ℕ
-next_move me s = move_at me s s.desk
+abbrev pub next_draw : ℕ → SetState → Option ℕ
+next_draw me s = move_at me s s.desk
 
 -- an ask of the client is unanswered
 abbrev pub waits : SetState → ℕ → Bool

@@ -1,5 +1,6 @@
 ghost use Rattle.std.specs.Prelude.{◌≡◌, ◌≢◌, IfSome, IfNone};
-ghost use Rattle.lt_modes.specs.Modes.{conflicts, is_taking, word_of, mode_of};
+ghost use Rattle.lt_modes.specs.Modes.{conflicts, excludes_itself, word_of, mode_of};
+ghost use Rattle.lt_modes.specs.FiveModes.{is_of_five};
 ghost use Rattle.std.specs.Str.{bytes_eq};
 ghost use Rattle.lt_modes.specs.declared.mode.Mode.{Mode as AnyMode};
 
@@ -10,28 +11,52 @@ pub enum Mode {
     Read,
     Upgrade,
     IntentionWrite,
+    ReadIntentionWrite,
     Write,
 }
 
+/// All modes, in order.
+pub const MODES: [Mode; 6] = [
+    Mode::IntentionRead,
+    Mode::Read,
+    Mode::Upgrade,
+    Mode::IntentionWrite,
+    Mode::ReadIntentionWrite,
+    Mode::Write,
+];
+
 impl Mode {
     /// Whether two clients may not hold locks of these modes in one set at the same time.
+    #[tactic(auto, unfolding(crate::specs::Modes::conflicts))]
     pub fn conflicts(self, other: Mode) -> bool
         ensures { result ≡ conflicts self other }
     {
         match self {
             Mode::IntentionRead => other == Mode::Write,
-            Mode::Read => other == Mode::IntentionWrite || other == Mode::Write,
+            Mode::Read => {
+                other == Mode::IntentionWrite
+                    || other == Mode::ReadIntentionWrite
+                    || other == Mode::Write
+            }
             Mode::Upgrade => other != Mode::IntentionRead && other != Mode::Read,
             Mode::IntentionWrite => other != Mode::IntentionRead && other != Mode::IntentionWrite,
+            Mode::ReadIntentionWrite => other != Mode::IntentionRead,
             Mode::Write => true,
         }
     }
 
     /// Whether at most one client can hold a lock of this mode.
     pub fn taking(self) -> bool
-        ensures { result ≡ is_taking self }
+        ensures { result ≡ excludes_itself self }
     {
         self.conflicts(self)
+    }
+
+    /// Whether it is one of the five modes of version 1 of a script.
+    pub fn is_of_five(self) -> bool
+        ensures { result ≡ is_of_five self }
+    {
+        self != Mode::ReadIntentionWrite
     }
 
     /// The mode's word in scripts and journals.
@@ -43,6 +68,7 @@ impl Mode {
             Mode::Read => "read",
             Mode::Upgrade => "upgrade",
             Mode::IntentionWrite => "intention_write",
+            Mode::ReadIntentionWrite => "read_intention_write",
             Mode::Write => "write",
         }
     }
@@ -61,6 +87,8 @@ impl Mode {
             Some(Mode::Upgrade)
         } else if is(word, "intention_write") {
             Some(Mode::IntentionWrite)
+        } else if is(word, "read_intention_write") {
+            Some(Mode::ReadIntentionWrite)
         } else if is(word, "write") {
             Some(Mode::Write)
         } else {

@@ -1,5 +1,6 @@
 ghost use Rattle.std.specs.Prelude.{◌≡◌};
-ghost use Rattle.lt_modes.specs.Modes.{Modes, no_modes, one, with_mode, union, has, bars, covers, has_none, is_within};
+ghost use Rattle.lt_modes.specs.Modes.{Modes, no_modes, one, with_mode, union, has, bars, covers, has_none, is_within, same_modes};
+ghost use Rattle.lt_modes.specs.FiveModes.{five_of};
 ghost use Rattle.lt_modes.specs.Masks.{bit_of};
 
 use crate::mode::Mode;
@@ -24,7 +25,7 @@ impl Model for ModeSet {
 
     ghost view = { λ s. modes_of_mask s.mask };
 
-    ghost invariant = { λ s. s.mask < 32 };
+    ghost invariant = { λ s. s.mask < 64 };
 
     ghost inverse = { λ s. record { mask = mask_of s } };
 
@@ -66,6 +67,7 @@ impl ModeSet {
     }
 
     /// The modes that conflict with a member.
+    #[tactic(auto, unfolding(crate::specs::Modes::conflicts))]
     pub fn bars(self) -> ModeSet
         ensures { result ≡ bars self }
     {
@@ -74,13 +76,22 @@ impl ModeSet {
             mask |= bit(Mode::Write);
         }
         if self.has(Mode::Read) {
-            mask |= bit(Mode::IntentionWrite) | bit(Mode::Write);
+            mask |= bit(Mode::IntentionWrite) | bit(Mode::ReadIntentionWrite) | bit(Mode::Write);
         }
         if self.has(Mode::Upgrade) {
-            mask |= bit(Mode::Upgrade) | bit(Mode::IntentionWrite) | bit(Mode::Write);
+            mask |= bit(Mode::Upgrade)
+                | bit(Mode::IntentionWrite)
+                | bit(Mode::ReadIntentionWrite)
+                | bit(Mode::Write);
         }
         if self.has(Mode::IntentionWrite) {
-            mask |= bit(Mode::Read) | bit(Mode::Upgrade) | bit(Mode::Write);
+            mask |= bit(Mode::Read)
+                | bit(Mode::Upgrade)
+                | bit(Mode::ReadIntentionWrite)
+                | bit(Mode::Write);
+        }
+        if self.has(Mode::ReadIntentionWrite) {
+            mask |= ALL ^ bit(Mode::IntentionRead);
         }
         if self.has(Mode::Write) {
             mask |= ALL;
@@ -101,16 +112,35 @@ impl ModeSet {
         self.mask == 0
     }
 
-    // Whether each mode of this set is in the other.
-    fn is_within(self, other: ModeSet) -> bool
+    /// The set without the mode that version 1 of a script doesn't have.
+    pub fn of_five(self) -> ModeSet
+        ensures { result ≡ five_of self }
+    {
+        ModeSet {
+            mask: self.mask & FIVE,
+        }
+    }
+
+    /// Whether each mode of this set is in the other.
+    pub fn is_within(self, other: ModeSet) -> bool
         ensures { result ≡ is_within self other }
     {
         self.mask | other.mask == other.mask
     }
+
+    /// Whether the two sets have the same modes.
+    pub fn same(self, other: ModeSet) -> bool
+        ensures { result ≡ same_modes self other }
+    {
+        self.is_within(other) && other.is_within(self)
+    }
 }
 
 // The mask of all modes.
-const ALL: u8 = 31;
+const ALL: u8 = 63;
+
+// The mask of all modes but `ReadIntentionWrite`.
+const FIVE: u8 = 47;
 
 // The mode's place in a mask.
 fn bit(mode: Mode) -> u8
@@ -121,6 +151,7 @@ fn bit(mode: Mode) -> u8
         Mode::Read => 2,
         Mode::Upgrade => 4,
         Mode::IntentionWrite => 8,
-        Mode::Write => 16,
+        Mode::ReadIntentionWrite => 16,
+        Mode::Write => 32,
     }
 }

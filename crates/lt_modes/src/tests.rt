@@ -1,20 +1,13 @@
-use super::{Mode, ModeSet};
-
-const MODES: [Mode; 5] = [
-    Mode::IntentionRead,
-    Mode::Read,
-    Mode::Upgrade,
-    Mode::IntentionWrite,
-    Mode::Write,
-];
+use super::{MODES, Mode, ModeSet};
 
 // The printed conflict table, a row for each mode.
-const TABLE: [[bool; 5]; 5] = [
-    [false, false, false, false, true],
-    [false, false, false, true, true],
-    [false, false, true, true, true],
-    [false, true, true, false, true],
-    [true, true, true, true, true],
+const TABLE: [[bool; 6]; 6] = [
+    [false, false, false, false, false, true],
+    [false, false, false, true, true, true],
+    [false, false, true, true, true, true],
+    [false, true, true, false, true, true],
+    [false, true, true, true, true, true],
+    [true, true, true, true, true, true],
 ];
 
 #[test]
@@ -34,6 +27,7 @@ fn the_words(rt: HostRuntime) {
         "read",
         "upgrade",
         "intention_write",
+        "read_intention_write",
         "write",
     ];
     for (mode, word) in MODES.iter().zip(words.iter()) {

@@ -1,4 +1,5 @@
 pub mod Forms
+pub mod Names
 pub mod Input
 pub mod Play
 pub mod Written

@@ -3,9 +3,8 @@ use Rattle.std.specs.Prelude.{ℕ, zero, suc, ◌==◌, List, [], ◌∷◌, ◌
 use Rattle.std.specs.List.{flat_map}
 use Rattle.std.specs.Fmt.{decimal}
 use Rattle.lt_modes.specs.declared.mode.Mode.{Mode}
-use Rattle.lt_modes.specs.Modes.{word_of}
+use Rattle.lt_modes.specs.Modes.{word_of, modes_in_order}
 use Rattle.lt_nest.specs.Calls.{held, waiting}
-use Rattle.lt_nest_lines.specs.declared.closing.TheConstants.{MODES}
 use Rattle.lt_nest_lines.specs.declared.order.Order.{Order}
 use Rattle.lt_nest_lines.specs.declared.reading.ReadError.{ReadError}
 use Rattle.lt_nest_lines.specs.declared.reading.ReadError.TheVariants.{Memory, Refused}
@@ -28,7 +27,7 @@ held_in_mode d p t set mode = held_line d t set mode (held p.nest (number_of p t
 
 -- the lines of the locks of transaction t in a set, by mode
 abbrev pub held_in_set : InputData → PlayState → ℕ → ℕ → List ℕ
-held_in_set d p t set = flat_map (held_in_mode d p t set) MODES
+held_in_set d p t set = flat_map (held_in_mode d p t set) modes_in_order
 
 -- the lines of the locks of transaction t, by set
 abbrev pub held_by : InputData → PlayState → ℕ → List ℕ

@@ -4,18 +4,9 @@ ghost use Rattle.lt_nest_lines.specs.Written.{each_below, held_line, held_in_set
 use crate::input::Input;
 use crate::play::Play;
 use crate::words::{push_ask, push_lock_words, push_text};
-use lt_modes::Mode;
+use lt_modes::{MODES, Mode};
 use lt_text::push_number;
 use std::alloc::AllocError;
-
-/// All modes, in order.
-pub const MODES: [Mode; 5] = [
-    Mode::IntentionRead,
-    Mode::Read,
-    Mode::Upgrade,
-    Mode::IntentionWrite,
-    Mode::Write,
-];
 
 /// Writes the closing lines: the locks, the transactions that wait, and the number of lines.
 pub(crate) fn push_closing(out: &mut Vec<u8>, input: &Input, play: &Play) -> Result<(), AllocError>

@@ -4,8 +4,9 @@ ghost use Rattle.lt_nest_lines.specs.Play.{name_at};
 ghost use Rattle.lt_nest_lines.specs.declared.limits.TheConstants.{MAX_SETS, MAX_TRANSACTIONS, MAX_LINES};
 
 use crate::name::{Name, name_at, place_of};
+use crate::naming::is_name;
 use crate::order::Order;
-use lt_text::{is, is_name};
+use lt_text::is;
 use std::alloc::{AllocError, Global};
 use std::marker::Model;
 

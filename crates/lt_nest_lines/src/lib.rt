@@ -8,6 +8,7 @@ mod input;
 mod laws;
 mod limits;
 mod name;
+mod naming;
 mod order;
 mod play;
 mod reading;
@@ -18,7 +19,7 @@ mod writing;
 
 pub use input::Input;
 pub use laws::law_rows;
-pub use limits::{MAX_LINES, MAX_SETS, MAX_TRANSACTIONS};
+pub use limits::{MAX_LINES, MAX_NAME, MAX_SETS, MAX_TRANSACTIONS};
 pub use order::Order;
 pub use reading::{ReadError, read};
 pub use writing::report;

@@ -2,7 +2,7 @@
 use Rattle.std.proofs.Common.{◌≡◌, ◌<◌, ◌≤◌, ◌+◌, ℕ, List, Option, Some, None, refl, sym, subst, arith, inl, inr}
 use Rattle.std.specs.Prelude.{◌⊎◌, ◌≢◌}
 use Rattle.std.specs.Io.KnownBytes.{Appends}
-use Rattle.lt_io.specs.FaultCounts.{Counts, RoseBy, count_after}
+use Rattle.lt_io.specs.FaultCounts.{CountsFaults, RoseBy, count_after}
 use Rattle.lt_io.specs.Source.{SourceState}
 use Rattle.lt_io.specs.Sink.{AppendsPart}
 use Rattle.lt_nest_serve.specs.declared.reading.TheConstants.{MAX_INPUT}
@@ -13,7 +13,7 @@ use Rattle.lt_nest_serve.specs.Serves.{IsTextOf, IsWritten, Left, TellsSource, I
 at_least : (a b : ℕ) → b ≡ a → a ≤ b
 at_least a b e = omega (arith, e)
 
-rose : (n before now : ℕ) → Counts n before now → RoseBy n before now
+rose : (n before now : ℕ) → CountsFaults n before now → RoseBy n before now
 rose n before now h = at_least (count_after before n) now h.count
 
 -- the bytes that were read are those that were left

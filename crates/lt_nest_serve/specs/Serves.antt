@@ -1,7 +1,7 @@
 -- All that the top call says of an answer: what was written, why the answer comes, and what it says of the source and the sink.
 use Rattle.std.specs.Prelude.{◌≡◌, ◌≢◌, ◌<◌, ◌≤◌, ◌+◌, ℕ, List, Option, Some, None, Ok, Err}
 use Rattle.std.specs.Io.KnownBytes.{Appends}
-use Rattle.lt_io.specs.FaultCounts.{Counts, Rose, RoseBy}
+use Rattle.lt_io.specs.FaultCounts.{CountsFaults, Rose, RoseBy}
 use Rattle.lt_io.specs.Source.{SourceState}
 use Rattle.lt_io.specs.Sink.{AppendsPart}
 use Rattle.lt_io.specs.declared.whole.ReadFailure.{ReadFailure}
@@ -41,23 +41,23 @@ HasRead other = ⊥
 -- what the answer says of the source's counts, before and after
 pub record TellsSource (answer : Answer) (before after : SourceState) : Type 0 where
   -- it gave one byte more than an input may have, or no more than that
-  pub too_long : answer ≡ TooLong → Counts (MAX_INPUT + 1) before.given after.given
+  pub too_long : answer ≡ TooLong → CountsFaults (MAX_INPUT + 1) before.given after.given
   pub not_too_long : answer ≢ TooLong → after.given ≤ before.given + MAX_INPUT
   -- one read failed, or none
-  pub read_fault : answer ≡ ReadFault → Counts 1 before.faults after.faults
+  pub read_fault : answer ≡ ReadFault → CountsFaults 1 before.faults after.faults
   pub no_read_fault : answer ≢ ReadFault → after.faults ≡ before.faults
   -- it came to its end
-  pub whole : HasRead answer → Counts 1 before.ends after.ends
+  pub whole : HasRead answer → CountsFaults 1 before.ends after.ends
 
 -- the source came to its end, no read failed, and it gave no more bytes than an input may have
 pub record IsReadWhole (before after : SourceState) : Type 0 where
-  pub ended : Counts 1 before.ends after.ends
+  pub ended : CountsFaults 1 before.ends after.ends
   pub few : after.given ≤ before.given + MAX_INPUT
   pub without_fault : after.faults ≡ before.faults
 
 -- what the answer says of the sink's count of faults: one write failed, or none
 pub record TellsSink (answer : Answer) (before after : ℕ) : Type 0 where
-  pub write_fault : answer ≡ WriteFault → Counts 1 before after
+  pub write_fault : answer ≡ WriteFault → CountsFaults 1 before after
   pub no_write_fault : answer ≢ WriteFault → after ≡ before
 
 -- no write is made before the answer

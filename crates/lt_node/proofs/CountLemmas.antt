@@ -7,8 +7,8 @@ use Rattle.lt_modes.specs.Held.{locks_of, is_of}
 use Rattle.lt_modes.specs.Places.{places_from}
 use Rattle.lt_modes.specs.Script.{ScriptData, SetData, family_at}
 use Rattle.lt_core.specs.CoreData.{CoreData}
-use Rattle.lt_runs.specs.Families.{family, related}
-use Rattle.lt_runs.specs.NodeMove.{NodeState, locks_in_sets}
+use Rattle.lt_spec.specs.Families.{family, related}
+use Rattle.lt_spec.specs.NodeMove.{NodeState, locks_in_sets}
 use Rattle.lt_node.specs.NodeData.{first_core}
 use Rattle.lt_node.specs.Family.{with_sets}
 use Rattle.lt_node.specs.Room.{HasFewLocks}

@@ -6,11 +6,11 @@ use Rattle.lt_modes.specs.declared.event.Event.TheVariants.{Busy, DropAll as Dro
 use Rattle.lt_modes.specs.declared.command.Command.{Command}
 use Rattle.lt_modes.specs.declared.command.Command.TheVariants as commands
 use Rattle.lt_modes.specs.Script.{ScriptData}
-use Rattle.lt_letter.specs.OutData.{OutData}
+use Rattle.lt_desk.specs.OutData.{OutData}
 use Rattle.lt_core.specs.CoreData.{CoreData}
-use Rattle.lt_runs.specs.Families.{related}
-use Rattle.lt_runs.specs.NodeMove.{NodeState, NodeMade, drop_all, each_touched, answered_first, locks_in_sets, one_made, at_clock}
-use Rattle.lt_node.specs.NodeData.{NodeData, NodeDoes, state_of, sent_by}
+use Rattle.lt_spec.specs.Families.{related}
+use Rattle.lt_spec.specs.NodeMove.{NodeState, NodeMade, drop_all, each_touched, answered_first, locks_in_sets, one_made, at_clock}
+use Rattle.lt_node.specs.NodeData.{NodeData, NodeDoes, state_of, with_sent}
 use Rattle.lt_node.specs.Family.{SetsDo, ending, with_sets}
 use Rattle.lt_node.specs.Answers.{answer_to}
 
@@ -23,7 +23,7 @@ ends_here n rule q event had mid out cores me put does =
       script = refl;
       me = refl;
       state = here.node;
-      sent = here.sent ∙ ap (λ (o : OutData). sent_by made o) put ∙ rw (append_assoc had.events (event ∷ []) made.events) refl;
+      sent = here.sent ∙ ap (λ (o : OutData). with_sent made o) put ∙ rw (append_assoc had.events (event ∷ []) made.events) refl;
     }
 
 -- the line stands first, and then the sets of the family end the move

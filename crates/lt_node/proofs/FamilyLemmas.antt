@@ -9,15 +9,15 @@ use Rattle.lt_modes.specs.Places.{places_from}
 use Rattle.lt_modes.specs.Script.{ScriptData, SetData, family_at, family_of_set}
 use Rattle.lt_modes.specs.State.{SetState}
 use Rattle.lt_modes.specs.Made.{Made}
-use Rattle.lt_letter.specs.OutData.{OutData, FitsOut}
-use Rattle.lt_core.specs.declared.order.Order.TheVariants as orders
+use Rattle.lt_desk.specs.OutData.{OutData, FitsOut}
+use Rattle.lt_core.specs.declared.set_command.SetCommand.TheVariants as set_commands
 use Rattle.lt_core.specs.Bound.{RoomToSend}
 use Rattle.lt_core.specs.CoreData.{CoreData, Does}
-use Rattle.lt_core.proofs.BoundLemmas.{ends_fit, orders_fit}
+use Rattle.lt_core.proofs.BoundLemmas.{ends_fit, commands_fit}
 use Rattle.lt_lists.specs.Below.{put}
-use Rattle.lt_runs.specs.Families.{family, related}
-use Rattle.lt_runs.specs.NodeMove.{NodeState, each_touched, touched}
-use Rattle.lt_node.specs.NodeData.{IsCoreOf, first_core, sent_by}
+use Rattle.lt_spec.specs.Families.{family, related}
+use Rattle.lt_spec.specs.NodeMove.{NodeState, each_touched, touched}
+use Rattle.lt_node.specs.NodeData.{IsCoreOf, first_core, with_sent}
 use Rattle.lt_node.specs.Family.{ending, with_sets, sets_in, SetsDo}
 use Rattle.lt_node.specs.Room.{most_sent}
 use Rattle.lt_node.proofs.NodeLemmas.{put_read, places_set}
@@ -46,7 +46,7 @@ related_out script set k inside e = related_by script set k false inside e
 -- what is left to do at these sets gives what the whole gives
 pub record IsLeft (script : ScriptData) (me : ℕ) (rule : ℕ → SetState → Made) (left : List ℕ) (cores : List CoreData) (out : OutData) (whole : List ℕ) (old : List CoreData) (had : OutData) (n : NodeState) : Type 0 where
   pub node : (each_touched rule left (with_sets script me cores n)).node ≡ (each_touched rule whole (with_sets script me old n)).node
-  pub sent : sent_by (each_touched rule left (with_sets script me cores n)) out ≡ sent_by (each_touched rule whole (with_sets script me old n)) had
+  pub sent : with_sent (each_touched rule left (with_sets script me cores n)) out ≡ with_sent (each_touched rule whole (with_sets script me old n)) had
 
 -- one set is done
 pub one_done : (script : ScriptData) (me k : ℕ) (rule : ℕ → SetState → Made) (rest : List ℕ) (cores : List CoreData) (core new : CoreData) (had out : OutData) (n : NodeState) → k < length cores
@@ -61,7 +61,7 @@ one_done script me k rule rest cores core new had out n inside at does =
     let after = each_touched rule rest (touched (with_sets script me cores n) k first).node in
     record {
       node = ap (λ (s : NodeState). (each_touched rule rest s).node) nodes;
-      sent = ap (λ (s : NodeState). sent_by (each_touched rule rest s) out) nodes ∙ ap (λ (o : OutData). sent_by after o) does.sent
+      sent = ap (λ (s : NodeState). with_sent (each_touched rule rest s) out) nodes ∙ ap (λ (o : OutData). with_sent after o) does.sent
           ∙ rw (append_assoc had.posts first.posts after.posts, append_assoc had.events first.events after.events) refl;
     }
 
@@ -85,7 +85,7 @@ all_done script me rule whole old new had out n left =
 -- the end of a move fits
 pub end_fits : (dropped : Option ℕ) (stamp : Stamp) (core : CoreData) (out : OutData) → RoomToSend (most_sent core) out → FitsOut (ending dropped stamp core.set core.state) out
 end_fits None stamp core out room = ends_fit core.set stamp core.state out (record { posts = omega (arith, room.posts); events = omega (arith, room.events) })
-end_fits (Some client) stamp core out room = orders_fit stamp client orders.DropAll core.set core.state out room
+end_fits (Some client) stamp core out room = commands_fit stamp client set_commands.DropAll core.set core.state out room
 
 -- and leaves the room for more
 pub end_leaves : (dropped : Option ℕ) (stamp : Stamp) (core new : CoreData) (had out : OutData) (more : ℕ) → Does (ending dropped stamp core.set core.state) core had new out

@@ -7,9 +7,9 @@ use Rattle.std.proofs.lemmas.Bool.{cases_eq}
 use Rattle.std.proofs.lemmas.Grind.{get_or-set_at}
 use Rattle.std.proofs.lemmas.List.{length-map, get_or-set_other, get_or_default}
 use Rattle.lt_modes.specs.State.{SetState}
-use Rattle.lt_core.specs.CoreData.{CoreData, HasMemory, waiting}
+use Rattle.lt_core.specs.CoreData.{CoreData, HasMemory, waiting_here}
 use Rattle.lt_limits.specs.Limits.{node_within}
-use Rattle.lt_runs.specs.NodeMove.{NodeState}
+use Rattle.lt_spec.specs.NodeMove.{NodeState}
 use Rattle.lt_node.specs.NodeData.{NodeData, IsNode, SameNode, state_of, first_core}
 use Rattle.lt_node.specs.Room.{KeptData, HasFewAsks, kept_of}
 use Rattle.lt_node.proofs.NodeLemmas.{node_is}
@@ -30,7 +30,7 @@ kept_length xs ys same = sym (length-map xs kept_of) ∙ ap (λ (l : List KeptDa
 pub few_kept : (xs ys : List CoreData) → map kept_of xs ≡ map kept_of ys → All HasFewAsks ys → All HasFewAsks xs
 few_kept xs ys same few k d inside =
     let states = ap (λ (x : KeptData). x.state) (kept_at xs ys k d same) in
-    subst (λ (s : SetState). waiting s ≤ 64) (sym states) (few k d (omega (arith, inside, kept_length xs ys same)))
+    subst (λ (s : SetState). waiting_here s ≤ 256) (sym states) (few k d (omega (arith, inside, kept_length xs ys same)))
 
 -- one more has memory
 pub memory_more : (cores : List CoreData) (k : ℕ) (new : CoreData) → k < length cores → HasMemory 0 new → ((s : ℕ) (d : CoreData) → s < k → HasMemory 0 (slice_index_or cores s d))

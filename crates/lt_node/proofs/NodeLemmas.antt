@@ -8,9 +8,9 @@ use Rattle.lt_modes.specs.State.{SetState}
 use Rattle.lt_modes.specs.Made.{Made}
 use Rattle.lt_lists.specs.Below.{put, any_below}
 use Rattle.lt_lists.proofs.Searches.{any_below_at}
-use Rattle.lt_letter.specs.OutData.{OutData}
+use Rattle.lt_desk.specs.OutData.{OutData}
 use Rattle.lt_core.specs.CoreData.{CoreData, Does}
-use Rattle.lt_runs.specs.NodeMove.{NodeState, touched}
+use Rattle.lt_spec.specs.NodeMove.{NodeState, touched}
 use Rattle.lt_node.specs.NodeData.{NodeData, NodeDoes, IsNode, IsCoreOf, state_of, core_at, first_core}
 
 -- a list written at one place is a function changed at one number

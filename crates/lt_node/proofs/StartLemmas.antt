@@ -8,11 +8,11 @@ use Rattle.std.proofs.Math.ListN.{get_or-map as map_read}
 use Rattle.lt_modes.specs.Script.{ScriptData, ClientData, home_at, node_of_client}
 use Rattle.lt_modes.specs.State.{first_state}
 use Rattle.lt_script.specs.Script.{IsScript}
-use Rattle.lt_runs.specs.Families.{commands_of, home}
-use Rattle.lt_runs.specs.World.{start}
+use Rattle.lt_spec.specs.Families.{commands_of, home}
+use Rattle.lt_spec.specs.World.{start}
 use Rattle.lt_core.specs.CoreData.{CoreData}
 use Rattle.lt_node.specs.NodeData.{IsNode, IsCoreOf, state_of, first_core}
-use Rattle.lt_node.specs.Clients.{Progress, KnowsClients, no_progress, made_of}
+use Rattle.lt_node.specs.Clients.{Progress, KnowsClients, no_progress, progress_made}
 
 no_client : ClientData
 no_client = record { name = []; node = 0 }
@@ -54,18 +54,18 @@ core_more script q k cores core first state place = record {
 abbrev pub AreNew : ScriptData → ℕ → List Progress → Type 0
 AreNew script q clients = (c : ℕ) → c < length clients → slice_index_or clients c no_progress ≡ record { commands = if home script c == q then commands_of script c else []; made = 0 }
 
-nothing_made : (script : ScriptData) (q : ℕ) (clients : List Progress) (k : ℕ) → AreNew script q clients → made_of (slice_index_or clients k no_progress) ≡ 0
+nothing_made : (script : ScriptData) (q : ℕ) (clients : List Progress) (k : ℕ) → AreNew script q clients → progress_made (slice_index_or clients k no_progress) ≡ 0
 nothing_made script q clients k new = elim (cases_lt k (length clients)) [
-  | inl below ↦ ap made_of (new k below)
-  | inr above ↦ ap made_of (get_or_past clients k no_progress above)
+  | inl below ↦ ap progress_made (new k below)
+  | inr above ↦ ap progress_made (get_or_past clients k no_progress above)
 ]
 
 pub state_at_start : (script : ScriptData) (q : ℕ) (clients : List Progress) (cores : List CoreData) → AreNew script q clients
     → ((s : ℕ) → (slice_index_or cores s (first_core script q s)).state ≡ (first_core script q s).state)
-    → state_of (record { script = script; me = q; clock = 0; made = map made_of clients; cores = cores }) ≡ (start script).node q
+    → state_of (record { script = script; me = q; clock = 0; made = map progress_made clients; cores = cores }) ≡ (start script).node q
 state_at_start script q clients cores new states =
-    let made : (λ (c : ℕ). slice_index_or (map made_of clients) c 0) ≡ (λ c. 0) =
-    fun_ext (λ c. map_read made_of clients c no_progress ∙ nothing_made script q clients c new) in
+    let made : (λ (c : ℕ). slice_index_or (map progress_made clients) c 0) ≡ (λ c. 0) =
+    fun_ext (λ c. map_read progress_made clients c no_progress ∙ nothing_made script q clients c new) in
     let sets : (λ (s : ℕ). (slice_index_or cores s (first_core script q s)).state) ≡ (λ s. first_state script.nodes q) = fun_ext states in
     λ i. record { clock = 0; made = made i; set = sets i }
 
@@ -78,6 +78,6 @@ clients_known script q homes clients same new = record {
 
 pub node_at_start : (script : ScriptData) (q : ℕ) (clients : List Progress) (cores : List CoreData) → IsScript script → q < script.nodes → length clients ≡ length script.clients
     → length cores ≡ length script.sets → ((s : ℕ) → s < length cores → IsCoreOf q s (slice_index_or cores s (first_core script q s)))
-    → IsNode (record { script = script; me = q; clock = 0; made = map made_of clients; cores = cores })
+    → IsNode (record { script = script; me = q; clock = 0; made = map progress_made clients; cores = cores })
 node_at_start script q clients cores known within count sets places =
-    record { is_script = known; within = within; clients = length-map clients made_of ∙ count; sets = sets; places = places }
+    record { is_script = known; within = within; clients = length-map clients progress_made ∙ count; sets = sets; places = places }

@@ -4,24 +4,24 @@ use Rattle.std.proofs.lemmas.List.{length-map}
 use Rattle.lt_modes.specs.declared.stamp.Stamp.{Stamp}
 use Rattle.lt_modes.specs.Script.{ClientData}
 use Rattle.lt_modes.specs.SetMove.{take}
-use Rattle.lt_modes.specs.Fits.{fits}
-use Rattle.lt_letter.specs.declared.letter.Letter.{Letter}
-use Rattle.lt_letter.specs.Seen.{letter_seen, body_seen}
-use Rattle.lt_letter.specs.Hands.{asks_in, RoomIn}
-use Rattle.lt_letter.specs.OutData.{OutData, FitsOut}
-use Rattle.lt_core.specs.CoreData.{CoreData, Does, HasRoom, HasMemory, RoomForBody, waiting}
+use Rattle.lt_modes.specs.Fits.{fits, numbers_of}
+use Rattle.lt_desk.specs.declared.letter.Letter.{Letter}
+use Rattle.lt_desk.specs.LetterSeen.{letter_seen, body_seen}
+use Rattle.lt_desk.specs.Hands.{asks_in, RoomIn}
+use Rattle.lt_desk.specs.OutData.{OutData, FitsOut}
+use Rattle.lt_core.specs.CoreData.{CoreData, Does, HasRoom, HasMemory, RoomForBody, waiting_here}
 use Rattle.lt_core.specs.Bound.{RoomToSend, most, brought}
 use Rattle.lt_core.proofs.BoundLemmas.{takes_fit}
 use Rattle.lt_limits.specs.Limits.{node_within}
-use Rattle.lt_node.specs.NodeData.{NodeData, NodeDoes, IsNode, IsCoreOf, numbers_of, state_of, core_at}
+use Rattle.lt_node.specs.NodeData.{NodeData, NodeDoes, IsNode, IsCoreOf, state_of, core_at}
 use Rattle.lt_node.specs.Room.{RoomToTake}
 use Rattle.lt_node.proofs.NodeLemmas.{core_is, node_is, touch_does}
-use Rattle.lt_runs.specs.NodeMove.{node_take, take_stamp}
+use Rattle.lt_spec.specs.NodeMove.{node_take, take_stamp}
 use Rattle.lt_modes.specs.Made.{Made}
 use Rattle.lt_node.proofs.WithinLemmas.{IsWithin, room_later, each_within}
 use Rattle.lt_node.proofs.TokenLemmas.{few_brought, room_for_body, fitting, IsFitting}
 
-few_homes : (n : NodeData) → IsNode n → length (numbers_of n.script).homes ≤ 64
+few_homes : (n : NodeData) → IsNode n → length (numbers_of n.script).homes ≤ 256
 few_homes n node = omega (arith, length-map n.script.clients (λ (client : ClientData). client.node), node.is_script.few_clients)
 
 -- the letter fits the set that the code has in hand, which keeps no more than it may
@@ -31,7 +31,7 @@ pub record IsTakenBy (n : NodeData) (letter : Letter) (core : CoreData) : Type 0
   pub place : IsCoreOf n.me letter.set core
   pub within : IsWithin n.clock core.state
   pub fit : IsFitting (numbers_of n.script) n.me n.clock core.state letter
-  pub few : asks_in letter.body ≤ 64
+  pub few : asks_in letter.body ≤ 256
 
 pub taken_by : (m n : NodeData) (k : ℕ) (letter : Letter) (core : CoreData) → m ≡ n → IsNode m → k ≡ letter.set → core ≡ slice_index_or m.cores k core
     → fits (numbers_of n.script) n.me n.clock ((state_of n).set letter.set) (letter_seen letter) ≡ true → node_within n.script (state_of n) ≡ true → IsTakenBy n letter core
@@ -62,7 +62,7 @@ can_take n letter core out stamp node taken room later after =
     record {
       room = room_later n.clock stamp.clock (asks_in letter.body) core taken.within later memory;
       desk = room_for_body (numbers_of n.script) n.me n.clock letter.stamp.clock stamp.clock core letter.body (few_homes n node) taken.fit.body taken.within after memory
-          (subst (λ (c : CoreData). RoomIn (waiting c.state + asks_in letter.body + 2) letter.body) (sym taken.core_is) room.desk);
+          (subst (λ (c : CoreData). RoomIn (waiting_here c.state + asks_in letter.body + 2) letter.body) (sym taken.core_is) room.desk);
       fits = takes_fit stamp (letter_seen letter) core.state out
           (subst (λ (c : CoreData). RoomToSend (most c.state + brought (body_seen letter.body) + 2) out) (sym taken.core_is)
           (record { posts = omega (arith, room.send.posts); events = omega (arith, room.send.events) }));

@@ -8,12 +8,12 @@ use Rattle.lt_modes.specs.State.{SetState, Desk}
 use Rattle.lt_modes.specs.Fits.{Numbers, fits, head_fits, body_fits, token_fits, queue_fits, are_apart, has_client, is_at_home, parked_asks}
 use Rattle.lt_lists.specs.Below.{count_below}
 use Rattle.lt_lists.proofs.Searches.{one_less}
-use Rattle.lt_letter.specs.declared.letter.Letter.{Letter}
-use Rattle.lt_letter.specs.declared.letter.Body.{Body}
-use Rattle.lt_letter.specs.declared.letter.Body.TheVariants as bodies
-use Rattle.lt_letter.specs.Seen.{body_seen, letter_seen}
-use Rattle.lt_letter.specs.Hands.{asks_in, RoomIn}
-use Rattle.lt_core.specs.CoreData.{CoreData, HasMemory, RoomForBody, waiting}
+use Rattle.lt_desk.specs.declared.letter.Letter.{Letter}
+use Rattle.lt_desk.specs.declared.letter.Body.{Body}
+use Rattle.lt_desk.specs.declared.letter.Body.TheVariants as bodies
+use Rattle.lt_desk.specs.LetterSeen.{body_seen, letter_seen}
+use Rattle.lt_desk.specs.Hands.{asks_in, RoomIn}
+use Rattle.lt_core.specs.CoreData.{CoreData, HasMemory, RoomForBody, waiting_here}
 use Rattle.lt_node.proofs.WithinLemmas.{IsWithin}
 
 count_most : (n : ℕ) (test : ℕ → Bool) → count_below n test ≤ n
@@ -58,11 +58,11 @@ apart_front (ask ∷ rest) more h =
 
 -- what the token brings: few asks, and no number above its letter's clock
 record IsSmall (clock : ℕ) (desk : Desk) : Type 0 where
-  queue : length desk.queue ≤ 64
+  queue : length desk.queue ≤ 256
   epoch : desk.epoch ≤ clock
   number : desk.number ≤ clock
 
-small : (numbers : Numbers) (q : ℕ) (s : SetState) (clock : ℕ) (desk : Desk) → length numbers.homes ≤ 64 → token_fits numbers q s clock desk ≡ true → IsSmall clock desk
+small : (numbers : Numbers) (q : ℕ) (s : SetState) (clock : ℕ) (desk : Desk) → length numbers.homes ≤ 256 → token_fits numbers q s clock desk ≡ true → IsSmall clock desk
 small numbers q s clock desk few h =
     let firm = and_parts (is_none s.desk) _ h in
     let epoch = and_parts (nat_le s.firm.epoch desk.epoch) _ firm.1 in
@@ -83,7 +83,7 @@ small numbers q s clock desk few h =
     }
 
 -- a letter brings few asks
-pub few_brought : (numbers : Numbers) (q clock : ℕ) (s : SetState) (body : Body) → length numbers.homes ≤ 64 → body_fits numbers q s clock (body_seen body) ≡ true → asks_in body ≤ 64
+pub few_brought : (numbers : Numbers) (q clock : ℕ) (s : SetState) (body : Body) → length numbers.homes ≤ 256 → body_fits numbers q s clock (body_seen body) ≡ true → asks_in body ≤ 256
 few_brought numbers q clock s (bodies.Ask ask marked) few h = omega arith
 few_brought numbers q clock s (bodies.Tell tell) few h = omega arith
 few_brought numbers q clock s (bodies.Copy ask) few h = omega arith
@@ -91,8 +91,8 @@ few_brought numbers q clock s (bodies.Token d) few h = (small numbers q s clock 
 few_brought numbers q clock s (bodies.Freeze news) few h = omega arith
 
 -- there is room for what it says, with memory
-pub room_for_body : (numbers : Numbers) (q before sent now : ℕ) (core : CoreData) (body : Body) → length numbers.homes ≤ 64 → body_fits numbers q core.state sent (body_seen body) ≡ true
-    → IsWithin before core.state → sent < now → HasMemory (asks_in body) core → RoomIn (waiting core.state + asks_in body + 2) body → RoomForBody now core body
+pub room_for_body : (numbers : Numbers) (q before sent now : ℕ) (core : CoreData) (body : Body) → length numbers.homes ≤ 256 → body_fits numbers q core.state sent (body_seen body) ≡ true
+    → IsWithin before core.state → sent < now → HasMemory (asks_in body) core → RoomIn (waiting_here core.state + asks_in body + 2) body → RoomForBody now core body
 room_for_body numbers q before sent now core (bodies.Ask ask marked) few h within later memory room = tt
 room_for_body numbers q before sent now core (bodies.Tell tell) few h within later memory room = tt
 room_for_body numbers q before sent now core (bodies.Copy ask) few h within later memory room = tt

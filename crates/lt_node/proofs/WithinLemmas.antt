@@ -10,19 +10,19 @@ use Rattle.lt_modes.specs.Serving.{queue_of}
 use Rattle.lt_modes.specs.Fits.{parked_asks, asks_here}
 use Rattle.lt_lists.proofs.Searches.{any_below_none}
 use Rattle.lt_limits.specs.Limits.{desk_within, set_within, leaves_ask, node_within, leaves_asks}
-use Rattle.lt_core.specs.CoreData.{CoreData, HasRoom, HasMemory, waiting, epoch_of, number_of}
-use Rattle.lt_letter.specs.OutData.{OutData}
+use Rattle.lt_core.specs.CoreData.{CoreData, HasRoom, HasMemory, waiting_here, epoch_of, freeze_number_of}
+use Rattle.lt_desk.specs.OutData.{OutData}
 use Rattle.lt_node.specs.NodeData.{NodeData, IsNode, state_of, core_at, first_core}
 use Rattle.lt_node.specs.Room.{LeavesAsk, RoomToAct, IsReady}
 
 -- what a set keeps, in numbers
 pub record IsWithin (clock : ℕ) (s : SetState) : Type 0 where
   pub locks : locks_in s.held ≤ 4096
-  pub asks : waiting s ≤ 64
+  pub asks : waiting_here s ≤ 256
   pub epoch : epoch_of s.desk ≤ clock
-  pub number : number_of s.desk ≤ clock
+  pub number : freeze_number_of s.desk ≤ clock
 
-desk_numbers : (clock : ℕ) (desk : Option Desk) → desk_within clock desk ≡ true → (epoch_of desk ≤ clock) × (number_of desk ≤ clock)
+desk_numbers : (clock : ℕ) (desk : Option Desk) → desk_within clock desk ≡ true → (epoch_of desk ≤ clock) × (freeze_number_of desk ≤ clock)
 desk_numbers clock None h = (omega arith, omega arith)
 desk_numbers clock (Some desk) h =
     let parts = and_parts (nat_le desk.epoch clock) (nat_le desk.number clock) h in
@@ -31,11 +31,11 @@ desk_numbers clock (Some desk) h =
 pub set_numbers : (clock : ℕ) (s : SetState) → set_within clock s ≡ true → IsWithin clock s
 set_numbers clock s h =
     let first = and_parts (nat_le (locks_in s.held) 4096) _ h in
-    let second = and_parts (nat_le (length (asks_here s)) 64) (desk_within clock s.desk) first.1 in
+    let second = and_parts (nat_le (length (asks_here s)) 256) (desk_within clock s.desk) first.1 in
     let desk = desk_numbers clock s.desk second.1 in
     record {
       locks = leb-true (locks_in s.held) 4096 first.0;
-      asks = omega (arith, leb-true (length (asks_here s)) 64 second.0, length-append (parked_asks s) (queue_of s));
+      asks = omega (arith, leb-true (length (asks_here s)) 256 second.0, length-append (parked_asks s) (queue_of s));
       epoch = desk.0;
       number = desk.1;
     }

@@ -4,7 +4,7 @@ use Rattle.lt_modes.specs.declared.mode.Mode.TheVariants.{IntentionRead}
 use Rattle.lt_modes.specs.declared.command.Command.{Command}
 use Rattle.lt_modes.specs.declared.command.Command.TheVariants.{Unlock}
 use Rattle.lt_modes.specs.Script.{ScriptData, ClientData}
-use Rattle.lt_runs.specs.Families.{commands_of, home}
+use Rattle.lt_spec.specs.Families.{commands_of, home}
 
 -- the commands of a client, and how many of them it has made
 pub record Progress : Type 0 where
@@ -18,8 +18,8 @@ no_progress = record { commands = []; made = 0 }
 abbrev pub progress_of : List Progress → ℕ → Progress
 progress_of clients client = slice_index_or clients client no_progress
 
-abbrev pub made_of : Progress → ℕ
-made_of progress = progress.made
+abbrev pub progress_made : Progress → ℕ
+progress_made progress = progress.made
 
 abbrev pub no_command : Command
 no_command = Unlock 0 IntentionRead
@@ -28,8 +28,8 @@ no_command = Unlock 0 IntentionRead
 abbrev pub next_of : Progress → Command
 next_of progress = slice_index_or progress.commands progress.made no_command
 
-abbrev pub one_more : Progress → Progress
-one_more progress = record progress { made = progress.made + 1 }
+abbrev pub one_command_more : Progress → Progress
+one_command_more progress = record progress { made = progress.made + 1 }
 
 -- the node knows the node of each client, and the commands of its own ones
 pub record KnowsClients (script : ScriptData) (q : ℕ) (homes : List ℕ) (clients : List Progress) : Type 0 where

@@ -6,10 +6,10 @@ use Rattle.lt_modes.specs.State.{SetState}
 use Rattle.lt_modes.specs.Made.{Made}
 use Rattle.lt_modes.specs.Telling.{finish}
 use Rattle.lt_modes.specs.SetMove.{drop}
-use Rattle.lt_letter.specs.OutData.{OutData}
+use Rattle.lt_desk.specs.OutData.{OutData}
 use Rattle.lt_core.specs.CoreData.{CoreData}
-use Rattle.lt_runs.specs.NodeMove.{NodeState, NodeMade}
-use Rattle.lt_node.specs.NodeData.{first_core, sent_by}
+use Rattle.lt_spec.specs.NodeMove.{NodeState, NodeMade}
+use Rattle.lt_node.specs.NodeData.{first_core, with_sent}
 
 -- the state of each set
 abbrev pub sets_in : ScriptData → ℕ → List CoreData → ℕ → SetState
@@ -27,4 +27,4 @@ ending (Some client) stamp = λ s. drop s stamp client
 -- the sets after a move, and what they sent out, are what the rule makes of a node with the sets before
 pub record SetsDo (script : ScriptData) (me : ℕ) (rule : NodeState → NodeMade) (old : List CoreData) (had : OutData) (new : List CoreData) (out : OutData) (n : NodeState) : Type 0 where
   pub node : with_sets script me new n ≡ (rule (with_sets script me old n)).node
-  pub sent : out ≡ sent_by (rule (with_sets script me old n)) had
+  pub sent : out ≡ with_sent (rule (with_sets script me old n)) had

@@ -1,12 +1,11 @@
 -- What contracts see of a node, and what a move of it does.
-use Rattle.std.specs.Prelude.{◌≡◌, ◌<◌, ◌++◌, ℕ, List, length, map, slice_index_or}
-use Rattle.lt_modes.specs.Script.{ScriptData, ClientData}
+use Rattle.std.specs.Prelude.{◌≡◌, ◌<◌, ◌++◌, ℕ, List, length, slice_index_or}
+use Rattle.lt_modes.specs.Script.{ScriptData}
 use Rattle.lt_modes.specs.State.{first_state}
-use Rattle.lt_modes.specs.Fits.{Numbers}
-use Rattle.lt_letter.specs.OutData.{OutData}
+use Rattle.lt_desk.specs.OutData.{OutData}
 use Rattle.lt_core.specs.CoreData.{CoreData}
 use Rattle.lt_script.specs.Script.{IsScript}
-use Rattle.lt_runs.specs.NodeMove.{NodeState, NodeMade}
+use Rattle.lt_spec.specs.NodeMove.{NodeState, NodeMade}
 
 -- the script, the node's number and clock, how many commands each client has made here, and its sets
 pub record NodeData : Type 0 where
@@ -39,24 +38,16 @@ state_of n = record {
   set = λ s. (core_at n s).state;
 }
 
--- the numbers of a script
-abbrev pub numbers_of : ScriptData → Numbers
-numbers_of script = record {
-  nodes = script.nodes;
-  sets = length script.sets;
-  homes = map (λ (client : ClientData). client.node) script.clients;
-}
-
 -- with what a move made put after what was there
-abbrev pub sent_by : NodeMade → OutData → OutData
-sent_by made out = record out { posts = out.posts ++ made.posts; events = out.events ++ made.events }
+abbrev pub with_sent : NodeMade → OutData → OutData
+with_sent made out = record out { posts = out.posts ++ made.posts; events = out.events ++ made.events }
 
 -- the node after the move, and what it sent out, are what the rule makes
 pub record NodeDoes (made : NodeMade) (old : NodeData) (had : OutData) (new : NodeData) (out : OutData) : Type 0 where
   pub script : new.script ≡ old.script
   pub me : new.me ≡ old.me
   pub state : state_of new ≡ made.node
-  pub sent : out ≡ sent_by made had
+  pub sent : out ≡ with_sent made had
 
 -- it is the same node, whose memory may be another
 pub record SameNode (old new : NodeData) : Type 0 where

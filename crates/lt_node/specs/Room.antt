@@ -1,13 +1,13 @@
 -- Room for one move of a node.
 use Rattle.std.specs.Prelude.{ℕ, List, ◌+◌, ◌≤◌, ◌<◌, All, length, sum_by}
-use Rattle.lt_letter.specs.declared.letter.Letter.{Letter}
-use Rattle.lt_letter.specs.Seen.{body_seen}
-use Rattle.lt_letter.specs.Hands.{asks_in, RoomIn}
-use Rattle.lt_letter.specs.OutData.{OutData}
+use Rattle.lt_desk.specs.declared.letter.Letter.{Letter}
+use Rattle.lt_desk.specs.LetterSeen.{body_seen}
+use Rattle.lt_desk.specs.Hands.{asks_in, RoomIn}
+use Rattle.lt_desk.specs.OutData.{OutData}
 use Rattle.lt_modes.specs.State.{SetState}
 use Rattle.lt_modes.specs.Held.{locks_in}
 use Rattle.lt_held.specs.HeldData.{most_locks}
-use Rattle.lt_core.specs.CoreData.{CoreData, HasMemory, HasRoom, waiting}
+use Rattle.lt_core.specs.CoreData.{CoreData, HasMemory, HasRoom, waiting_here}
 use Rattle.lt_core.specs.Bound.{RoomToSend, most, brought}
 use Rattle.lt_node.specs.NodeData.{NodeData, core_at}
 
@@ -23,7 +23,7 @@ pub record RoomToAct (n : NodeData) (out : OutData) : Type 0 where
 -- room for the letter, in its set and in the desk that it brings
 pub record RoomForLetter (core : CoreData) (letter : Letter) (out : OutData) : Type 0 where
   pub memory : HasMemory (asks_in letter.body) core
-  pub desk : RoomIn (waiting core.state + asks_in letter.body + 2) letter.body
+  pub desk : RoomIn (waiting_here core.state + asks_in letter.body + 2) letter.body
   pub send : RoomToSend (most_sent core + brought (body_seen letter.body)) out
 
 -- the same at the node
@@ -32,7 +32,7 @@ RoomToTake n letter out = RoomForLetter (core_at n letter.set) letter out
 
 -- no more asks wait in the set than a script has clients
 abbrev pub HasFewAsks : CoreData → Type 0
-HasFewAsks core = waiting core.state ≤ 64
+HasFewAsks core = waiting_here core.state ≤ 256
 
 -- what stays of a set where memory is taken
 pub record KeptData : Type 0 where

@@ -1,13 +1,13 @@
 ghost use Rattle.std.specs.Prelude.{◌≡◌, ◌≢◌, ◌+◌, ◌≤◌, ◌<◌, ◌&&◌, ◌^◌, ℕ, not, All, length, slice_index_or, Some, IsTrue};
 ghost use Rattle.lt_modes.specs.State.{SetState};
-ghost use Rattle.lt_letter.specs.OutData.{OutData};
+ghost use Rattle.lt_desk.specs.OutData.{OutData};
 ghost use Rattle.lt_core.specs.Bound.{RoomToSend};
 ghost use Rattle.lt_core.specs.CoreData.{CoreData, HasRoom};
-ghost use Rattle.lt_core.specs.Orders.{answer_of, move_of};
+ghost use Rattle.lt_core.specs.SetCommands.{answer_of, move_of};
 ghost use Rattle.lt_limits.specs.Limits.{node_within, leaves_asks};
 ghost use Rattle.lt_script.specs.Script.{HasTargets};
-ghost use Rattle.lt_runs.specs.Families.{home};
-ghost use Rattle.lt_runs.specs.NodeMove.{node_waits, has_command, next_command, node_act, act_stamp, one_made, at_clock, obey, touched, drop_all};
+ghost use Rattle.lt_spec.specs.Families.{home};
+ghost use Rattle.lt_spec.specs.NodeMove.{node_waits, has_command, next_command, node_act, act_stamp, one_made, at_clock, obey, touched, drop_all};
 ghost use Rattle.lt_modes.specs.declared.command.Command.TheVariants as commands;
 ghost use Rattle.lt_node.specs.NodeData.{NodeDoes, IsNode, state_of, core_at};
 ghost use Rattle.lt_node.specs.Answers.{answer_of_act, answer_to};
@@ -15,8 +15,8 @@ ghost use Rattle.lt_node.specs.Room.{RoomToAct, IsReady, most_sent};
 
 use crate::family;
 use crate::node::Node;
-use lt_core::{Answer, Order};
-use lt_letter::Out;
+use lt_core::{Answer, SetCommand};
+use lt_desk::Out;
 use lt_modes::{Command, Event, Stamp};
 
 impl Node<'_> {
@@ -63,12 +63,24 @@ impl Node<'_> {
         ensures does { NodeDoes (obey self.old.script stamp client (Some command) (state_of self.old)) self.old out.old self.new out.new }
     {
         match command {
-            Command::Lock { set, mode } => self.touch(set, client, Order::Lock(mode), stamp, out),
-            Command::Try { set, mode } => self.touch(set, client, Order::Try(mode), stamp, out),
+            Command::Lock { set, mode } => self.touch(
+                set,
+                client,
+                SetCommand::Lock(mode),
+                stamp,
+                out,
+            ),
+            Command::Try { set, mode } => self.touch(
+                set,
+                client,
+                SetCommand::Try(mode),
+                stamp,
+                out,
+            ),
             Command::Unlock { set, mode } => self.touch(
                 set,
                 client,
-                Order::Unlock(mode),
+                SetCommand::Unlock(mode),
                 stamp,
                 out,
             ),
@@ -76,7 +88,7 @@ impl Node<'_> {
                 set,
                 gives_up,
                 mode,
-            } => self.touch(set, client, Order::Change(gives_up, mode), stamp, out),
+            } => self.touch(set, client, SetCommand::Change(gives_up, mode), stamp, out),
             Command::DropAll { client: other, set } => self.drop_all(
                 client, other, set, stamp, out,
             ),
@@ -84,14 +96,21 @@ impl Node<'_> {
     }
 
     // One set obeys.
-    fn touch(&mut self, set: u8, client: u16, order: Order, stamp: Stamp, out: &mut Out) -> Answer
+    fn touch(
+        &mut self,
+        set: u8,
+        client: u16,
+        command: SetCommand,
+        stamp: Stamp,
+        out: &mut Out,
+    ) -> Answer
         requires node { stamp.node ≡ self.old.me }
         requires set { set < length self.old.script.sets }
         requires ready { IsReady stamp.clock self.old.cores out.old }
-        ensures answer { result ≡ answer_of self.old.me client order ((state_of self.old).set set) }
-        ensures does { NodeDoes (touched (state_of self.old) set (move_of stamp client order set ((state_of self.old).set set))) self.old out.old self.new out.new }
+        ensures answer { result ≡ answer_of self.old.me client command ((state_of self.old).set set) }
+        ensures does { NodeDoes (touched (state_of self.old) set (move_of stamp client command set ((state_of self.old).set set))) self.old out.old self.new out.new }
     {
-        self.cores[usize::from(set)].act(client, order, stamp, out)
+        self.cores[usize::from(set)].act(client, command, stamp, out)
     }
 
     // Drops all locks of a client in a family, unless it waits; the answer stands before what the sets send.

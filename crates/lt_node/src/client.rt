@@ -1,8 +1,8 @@
 ghost use Rattle.std.specs.Prelude.{◌≡◌, ◌<◌, ◌+◌, ◌==◌, ◌^◌, [], ℕ, length, map, nat_lt, IfOk, slice_index_or, if◌then◌else◌};
 ghost use Rattle.lt_modes.specs.Script.{ClientData};
 ghost use Rattle.lt_script.specs.Script.{IsScript};
-ghost use Rattle.lt_runs.specs.Families.{commands_of, home};
-ghost use Rattle.lt_node.specs.Clients.{next_of, one_more, no_progress};
+ghost use Rattle.lt_spec.specs.Families.{commands_of, home};
+ghost use Rattle.lt_node.specs.Clients.{next_of, one_command_more, no_progress};
 
 use lt_modes::Command;
 use lt_script::Script;
@@ -51,7 +51,7 @@ impl Client {
         requires left { self.old.made < length self.old.commands }
         requires few { self.old.made + 1 < 2 ^ 32 }
         ensures command { result ≡ next_of self.old }
-        ensures made { self.new ≡ one_more self.old }
+        ensures made { self.new ≡ one_command_more self.old }
     {
         let command = self.commands[self.made as usize];
         self.made += 1;

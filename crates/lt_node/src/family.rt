@@ -1,15 +1,15 @@
 ghost use Rattle.std.specs.Prelude.{◌≡◌, ◌+◌, ◌≤◌, ◌<◌, ◌^◌, ℕ, All, length, slice_index_or, sum_by};
-ghost use Rattle.lt_letter.specs.OutData.{OutData};
+ghost use Rattle.lt_desk.specs.OutData.{OutData};
 ghost use Rattle.lt_core.specs.Bound.{RoomToSend};
 ghost use Rattle.lt_core.specs.CoreData.{Does, HasRoom};
-ghost use Rattle.lt_runs.specs.Families.{related};
-ghost use Rattle.lt_runs.specs.NodeMove.{NodeState, each_touched, locks_in_sets};
+ghost use Rattle.lt_spec.specs.Families.{related};
+ghost use Rattle.lt_spec.specs.NodeMove.{NodeState, each_touched, locks_in_sets};
 ghost use Rattle.lt_node.specs.NodeData.{IsCoreOf, first_core};
 ghost use Rattle.lt_node.specs.Family.{SetsDo, ending, with_sets};
 ghost use Rattle.lt_node.specs.Room.{HasFewLocks, most_sent};
 
-use lt_core::{Answer, Core, Order};
-use lt_letter::Out;
+use lt_core::{Answer, Core, SetCommand};
+use lt_desk::Out;
 use lt_modes::Stamp;
 use lt_script::Script;
 
@@ -50,7 +50,7 @@ fn end(core: &mut Core, dropped: Option<u16>, stamp: Stamp, out: &mut Out)
     match dropped {
         None => core.finish(stamp, out),
         Some(client) => {
-            core.act(client, Order::DropAll, stamp, out);
+            core.act(client, SetCommand::DropAll, stamp, out);
         }
     }
 }

@@ -1,16 +1,16 @@
 ghost use Rattle.std.specs.Prelude.{◌≡◌, ◌<◌, ◌+◌, ◌&&◌, ◌^◌, ℕ, not, length, IfOk, slice_index_or};
-ghost use Rattle.lt_modes.specs.Fits.{fits};
-ghost use Rattle.lt_letter.specs.Seen.{letter_seen};
-ghost use Rattle.lt_core.specs.Tests.{numbers_of as numbers_seen};
-ghost use Rattle.lt_runs.specs.Families.{home};
-ghost use Rattle.lt_runs.specs.NodeMove.{node_waits, has_command, act_stamp, take_stamp};
-ghost use Rattle.lt_runs.specs.World.{start};
+ghost use Rattle.lt_modes.specs.Fits.{fits, numbers_of};
+ghost use Rattle.lt_desk.specs.LetterSeen.{letter_seen};
+ghost use Rattle.lt_core.specs.Tests.{rule_numbers as numbers_seen};
+ghost use Rattle.lt_spec.specs.Families.{home};
+ghost use Rattle.lt_spec.specs.NodeMove.{node_waits, has_command, act_stamp, take_stamp};
+ghost use Rattle.lt_spec.specs.World.{start};
 ghost use Rattle.lt_script.specs.Script.{IsScript};
-ghost use Rattle.lt_node.specs.NodeData.{IsNode, IsCoreOf, state_of, numbers_of, first_core};
+ghost use Rattle.lt_node.specs.NodeData.{IsNode, IsCoreOf, state_of, first_core};
 
 use crate::client::{Client, clients_of, homes_of};
 use lt_core::{Core, Numbers};
-use lt_letter::Letter;
+use lt_desk::Letter;
 use lt_modes::Stamp;
 use lt_script::Script;
 use std::alloc::{AllocError, Global};
@@ -32,7 +32,7 @@ pub struct Node<'a> {
 impl<'a> Model for Node<'a> {
     ghost use Rattle.std.specs.Prelude.{map};
     ghost use Rattle.lt_node.specs.NodeData.{NodeData, IsNode};
-    ghost use Rattle.lt_node.specs.Clients.{made_of, KnowsClients};
+    ghost use Rattle.lt_node.specs.Clients.{progress_made, KnowsClients};
 
     ghost Value = { NodeData };
 
@@ -40,7 +40,7 @@ impl<'a> Model for Node<'a> {
       script = n.script.now;
       me = n.me;
       clock = n.clock;
-      made = map made_of n.clients.items;
+      made = map progress_made n.clients.items;
       cores = n.cores.items;
     } };
 
@@ -48,7 +48,7 @@ impl<'a> Model for Node<'a> {
       script = n.script.now;
       me = n.me;
       clock = n.clock;
-      made = map made_of n.clients.items;
+      made = map progress_made n.clients.items;
       cores = n.cores.items;
     }) × KnowsClients n.script.now n.me n.homes.items n.clients.items };
 }

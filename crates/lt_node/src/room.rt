@@ -1,16 +1,16 @@
 ghost use Rattle.std.specs.Prelude.{◌≡◌, ◌+◌, ◌≤◌, ◌<◌, ◌^◌, All, IsTrue, OnOk, length, map, sum_by};
-ghost use Rattle.lt_modes.specs.Fits.{fits};
-ghost use Rattle.lt_letter.specs.Seen.{letter_seen, body_seen};
-ghost use Rattle.lt_letter.specs.Hands.{asks_in};
+ghost use Rattle.lt_modes.specs.Fits.{fits, numbers_of};
+ghost use Rattle.lt_desk.specs.LetterSeen.{letter_seen, body_seen};
+ghost use Rattle.lt_desk.specs.Hands.{asks_in};
 ghost use Rattle.lt_core.specs.Bound.{brought};
 ghost use Rattle.lt_core.specs.CoreData.{HasMemory};
 ghost use Rattle.lt_limits.specs.Limits.{node_within};
-ghost use Rattle.lt_node.specs.NodeData.{SameNode, state_of, numbers_of};
+ghost use Rattle.lt_node.specs.NodeData.{SameNode, state_of};
 ghost use Rattle.lt_node.specs.Room.{RoomToAct, RoomToTake, RoomForLetter, HasFewAsks, kept_of, most_sent};
 
 use crate::node::Node;
 use lt_core::Core;
-use lt_letter::{Body, Letter, Out};
+use lt_desk::{Body, Letter, Out};
 use std::alloc::AllocError;
 
 impl Node<'_> {
@@ -54,7 +54,7 @@ fn reserve_each(cores: &mut Vec<Core>) -> Result<(), AllocError>
 // Makes room in a set, and in the desk that the letter brings, to take the letter.
 fn reserve_for(core: &mut Core, letter: &mut Letter, out: &mut Out) -> Result<(), AllocError>
     requires few { HasFewAsks core.old }
-    requires asks { asks_in letter.old.body ≤ 64 }
+    requires asks { asks_in letter.old.body ≤ 256 }
     ensures kept { kept_of core.new ≡ kept_of core.old }
     ensures letter { letter_seen letter.new ≡ letter_seen letter.old }
     ensures out { (out.new.posts ≡ out.old.posts) × (out.new.events ≡ out.old.events) }

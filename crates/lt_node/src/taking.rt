@@ -1,13 +1,13 @@
 ghost use Rattle.std.specs.Prelude.{◌+◌, ◌<◌, ◌^◌, IsTrue};
-ghost use Rattle.lt_modes.specs.Fits.{fits};
-ghost use Rattle.lt_letter.specs.Seen.{letter_seen};
+ghost use Rattle.lt_modes.specs.Fits.{fits, numbers_of};
+ghost use Rattle.lt_desk.specs.LetterSeen.{letter_seen};
 ghost use Rattle.lt_limits.specs.Limits.{node_within};
-ghost use Rattle.lt_runs.specs.NodeMove.{node_take};
-ghost use Rattle.lt_node.specs.NodeData.{NodeDoes, state_of, numbers_of};
+ghost use Rattle.lt_spec.specs.NodeMove.{node_take};
+ghost use Rattle.lt_node.specs.NodeData.{NodeDoes, state_of};
 ghost use Rattle.lt_node.specs.Room.{RoomToTake};
 
 use crate::node::Node;
-use lt_letter::{Letter, Out};
+use lt_desk::{Letter, Out};
 
 impl Node<'_> {
     /// Takes the letter.

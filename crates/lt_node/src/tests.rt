@@ -2,7 +2,7 @@ ghost use Rattle.std.specs.Prelude.{◌≡◌};
 
 use crate::Node;
 use lt_core::Answer;
-use lt_letter::{Letter, Out};
+use lt_desk::{Letter, Out};
 use lt_modes::{Command, Event, Mode};
 use lt_script::Script;
 use std::alloc::{AllocError, Global};

@@ -1,6 +1,2 @@
-pub mod Entering
-pub mod Parking
-pub mod Drawing
-pub mod Acts
-pub mod Takes
-pub mod Order
+pub mod LockLists
+pub mod Orders

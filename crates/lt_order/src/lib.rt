@@ -1,6 +1,10 @@
-//! Laws over the definitions of the rules and of runs: rules in their own words, and the fixed order of the moves.
+//! Which scripts are ordered: each client asks for sets in rising order, changes no mode, drops only its own locks, and
+//! releases all that it may hold.
 #![tactic(auto)]
 
-mod laws;
+mod locks;
+mod order;
+#[cfg(test)]
+mod tests;
 
-pub use laws::{law_order, law_rules};
+pub use order::{first_bad, ordered};

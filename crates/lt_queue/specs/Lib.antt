@@ -1,1 +1,2 @@
 pub mod QueueData
+pub mod AskCounts

@@ -2,7 +2,9 @@ ghost use Rattle.std.specs.Prelude.{◌≡◌, ◌<◌, ◌≤◌, [], not, leng
 ghost use Rattle.lt_modes.specs.Modes.{has, bars};
 ghost use Rattle.lt_modes.specs.Queue.{place, after_holders_from, entered, modes_of_asks, no_ask};
 ghost use Rattle.lt_modes.specs.Freezing.{frozen_by};
+ghost use Rattle.lt_queue.specs.AskCounts.{asks_for};
 
+use lt_counts::ModeCounts;
 use lt_modes::{Ask, Mode, ModeSet};
 use std::alloc::{AllocError, Global};
 use std::marker::Model;
@@ -11,17 +13,20 @@ use std::marker::Model;
 #[derive(Drop)]
 pub struct Queue {
     asks: Vec<Ask>,
+    // For each mode, how many asks want it.
+    asked: ModeCounts,
 }
 
 impl Model for Queue {
     ghost use Rattle.std.specs.Prelude.{◌<◌, ◌^◌, vec_capacity};
     ghost use Rattle.lt_queue.specs.QueueData.{QueueData};
+    ghost use Rattle.lt_queue.specs.AskCounts.{AreAskCounts};
 
     ghost Value = { QueueData };
 
     ghost view = { λ q. record { asks = q.asks.items; room = vec_capacity q.asks } };
 
-    ghost invariant = { λ q. vec_capacity q.asks < 2 ^ 32 };
+    ghost invariant = { λ q. (vec_capacity q.asks < 2 ^ 32) × AreAskCounts q.asks.items q.asked };
 }
 
 impl Queue {
@@ -29,7 +34,10 @@ impl Queue {
         ensures { IfOk result (λ queue. queue ≡ record { asks = []; room = clients }) }
     {
         let asks = Vec::with_capacity(alloc, usize::from(clients))?;
-        Ok(Queue { asks })
+        Ok(Queue {
+            asks,
+            asked: ModeCounts::new(),
+        })
     }
 
     /// Makes places for so many asks in all.
@@ -65,12 +73,15 @@ impl Queue {
     }
 
     /// Takes the ask at place k away.
+    #[tactic(auto, using(crate::proofs::AskedLemmas::may_go, crate::proofs::AskedLemmas::one_went))]
     pub fn remove(&mut self, k: u32) -> Ask
         requires { k < length self.old.asks }
         ensures ask { result ≡ slice_index_or self.old.asks k no_ask }
         ensures queue { self.new ≡ record self.old { asks = remove self.old.asks k } }
     {
-        self.asks.remove(k as usize)
+        let ask = self.asks.remove(k as usize);
+        self.asked = self.asked.shifted(ModeSet::one(ask.mode), ModeSet::empty());
+        ask
     }
 
     /// Where a new ask stands: a holder's directly after the last holder's ask, or first; any other last.
@@ -86,6 +97,7 @@ impl Queue {
     }
 
     /// Puts a new ask at its place.
+    #[tactic(auto, using(crate::proofs::AskedLemmas::may_come, crate::proofs::AskedLemmas::one_came))]
     pub fn insert(&mut self, ask: Ask)
         requires { length self.old.asks < self.old.room }
         ensures { self.new ≡ record self.old { asks = entered self.old.asks ask } }
@@ -95,6 +107,14 @@ impl Queue {
             Ok(()) => {}
             Err(_) => unreachable!(),
         }
+        self.asked = self.asked.shifted(ModeSet::empty(), ModeSet::one(ask.mode));
+    }
+
+    /// The number of asks for the mode.
+    pub fn asked(&self, mode: Mode) -> u32
+        ensures { result ≡ asks_for mode self.now.asks }
+    {
+        self.asked.get(mode)
     }
 
     /// Whether no ask before place k conflicts with the mode.
@@ -109,7 +129,7 @@ impl Queue {
     pub fn frozen(&self) -> ModeSet
         ensures { result ≡ frozen_by self.now.asks }
     {
-        modes(self.asks.as_slice()).bars()
+        self.asked.beyond(ModeSet::empty(), ModeSet::empty()).bars()
     }
 }
 

@@ -3,18 +3,18 @@ use Rattle.std.proofs.Common.{◌≡◌, ◌≢◌, ℕ, zero, suc, Option, Some
 use Rattle.std.specs.Prelude.{nat_lt, if◌then◌else◌, IsTrue, IfSome, length}
 use Rattle.std.proofs.lemmas.Bool.{and_parts}
 use Rattle.lt_modes.specs.Script.{ScriptData}
-use Rattle.lt_modes.specs.Fits.{fits}
-use Rattle.lt_letter.specs.Seen.{letter_seen}
+use Rattle.lt_modes.specs.Fits.{fits, numbers_of}
+use Rattle.lt_desk.specs.LetterSeen.{letter_seen}
 use Rattle.lt_limits.specs.Limits.{node_within, leaves_asks}
-use Rattle.lt_runs.specs.NodeMove.{NodeState}
-use Rattle.lt_plays.specs.Plays.{can_act}
-use Rattle.lt_node.specs.NodeData.{state_of, numbers_of}
+use Rattle.lt_spec.specs.NodeMove.{NodeState}
+use Rattle.lt_law_plays.specs.Plays.{can_act}
+use Rattle.lt_node.specs.NodeData.{state_of}
 use Rattle.lt_runner.specs.declared.choice.Choice.TheVariants.{Nothing, Act, Take}
-use Rattle.lt_runner.specs.declared.choice.TheConstants.{LAST_CLOCK}
-use Rattle.lt_runner.specs.declared.hand.Hand.{Hand}
+use Rattle.lt_core.specs.declared.fits.TheConstants.{LAST_CLOCK}
+use Rattle.lt_runner.specs.declared.parts.Hand.{Hand}
 use Rattle.lt_runner.specs.declared.parts.Parts.{Parts}
 use Rattle.lt_runner.specs.Ready.{FitsNow}
-use Rattle.lt_runner.specs.Choices.{or_this, least_below, first_client, may_move, may_act, may_take, act_of, act_choice, choice_by, choice_of}
+use Rattle.lt_runner.specs.Choices.{or_this, least_below, first_client, may_move, may_act, may_take, act_of, act_choice, choice_by, next_choice}
 
 -- the least number that passes passes
 least_passes : (n : ℕ) (test : ℕ → Bool) (least : ℕ) → least_below n test ≡ Some least → IsTrue (test least)
@@ -67,7 +67,7 @@ act_takes_nothing script me n e = by_may (may_act script n) e
     by_may false e = absurd (cc)
     by_may true e = by_client (first_client script me n) e
 
-pub chose_act : (p : Parts) (client : ℕ) → choice_of p ≡ Act client → ChoseAct p.node.script p.node.me (state_of p.node) client
+pub chose_act : (p : Parts) (client : ℕ) → next_choice p ≡ Act client → ChoseAct p.node.script p.node.me (state_of p.node) client
 chose_act p client e = by_hand p.hand e
   where
     by_hand : (o : Option Hand) → choice_by p.node.script p.node.me (state_of p.node) o ≡ Act client → ChoseAct p.node.script p.node.me (state_of p.node) client
@@ -85,7 +85,7 @@ pub record ChoseTake (p : Parts) : Type 0 where
   pub there : p.hand ≡ Some letter
   pub now : FitsNow p.node.script p.node.me (state_of p.node) letter
 
-pub chose_take : (p : Parts) → choice_of p ≡ Take → ChoseTake p
+pub chose_take : (p : Parts) → next_choice p ≡ Take → ChoseTake p
 chose_take p e = by_hand p.hand refl e
   where
     by_hand : (o : Option Hand) → p.hand ≡ o → choice_by p.node.script p.node.me (state_of p.node) o ≡ Take → ChoseTake p
@@ -101,8 +101,8 @@ chose_take p e = by_hand p.hand refl e
             record { letter = hand; there = was; now = record { clock = more.0; within = more.1; fits = parts.1 } }
 
 -- as many words for the same
-pub take_fits : (p : Parts) → choice_of p ≡ Take → IfSome p.hand (FitsNow p.node.script p.node.me (state_of p.node))
+pub take_fits : (p : Parts) → next_choice p ≡ Take → IfSome p.hand (FitsNow p.node.script p.node.me (state_of p.node))
 take_fits p e = let t = chose_take p e in rw t.there t.now
 
-pub act_within : (p : Parts) (client : ℕ) → choice_of p ≡ Act client → IsTrue (node_within p.node.script (state_of p.node))
+pub act_within : (p : Parts) (client : ℕ) → next_choice p ≡ Act client → IsTrue (node_within p.node.script (state_of p.node))
 act_within p client e = (chose_act p client e).within

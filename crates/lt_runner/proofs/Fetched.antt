@@ -6,10 +6,10 @@ use Rattle.lt_modes.specs.State.{Letter}
 use Rattle.lt_mail.specs.declared.mail.Mail.{Mail}
 use Rattle.lt_mail.specs.Lanes.{sent_by, known}
 use Rattle.lt_mail.specs.Words.{out_at, in_at, on_out, on_in, taken_from, known_from, Both, IsOpenLink, AreLinked}
-use Rattle.lt_runner.specs.declared.hand.Hand.{Hand}
+use Rattle.lt_runner.specs.declared.parts.Hand.{Hand}
 use Rattle.lt_runner.specs.declared.parts.Parts.{Parts}
-use Rattle.lt_runner.specs.Hands.{in_hand, Holds}
-use Rattle.lt_runner.specs.Kept.{Kept}
+use Rattle.lt_runner.specs.Hands.{in_hand, HandStays}
+use Rattle.lt_runner.specs.Kept.{RunnerInvariant}
 use Rattle.lt_runner.specs.Looking.{AreBeside, Knows, Fetches, HasFetched}
 
 -- what node p knows after the look is what the runner then has
@@ -25,7 +25,7 @@ fetched a b m hand empty k e = subst (λ (p : Parts). Fetches a p) (sym e) (reco
     sent = λ node. ap (on_out sent_by) (k.outs node);
     used = λ node letters h.
         k.taken node ∙ ap (λ (all : List Letter). all ++ in_hand node hand) (h ∙ ap (λ (o : Option Hand). letters ++ in_hand node o) empty ∙ append-nil letters);
-    hand = subst (λ (o : Option Hand). Holds o hand) (sym empty) tt;
+    hand = subst (λ (o : Option Hand). HandStays o hand) (sym empty) tt;
   };
   outs = k.outs;
   whole = λ node.
@@ -35,7 +35,7 @@ fetched a b m hand empty k e = subst (λ (p : Parts). Fetches a p) (sym e) (reco
   none = λ none node. sym (k.known node ∙ ap (λ (o : Option Hand). in_hand node o ++ known_from m node) none);
 })
 
-pub has_fetched : (a b : Parts) (m : Mail) (hand : Option Hand) → Kept a → KnowsOf a m hand → b ≡ record a { mail = m; hand = hand } → HasFetched b
+pub has_fetched : (a b : Parts) (m : Mail) (hand : Option Hand) → RunnerInvariant a → KnowsOf a m hand → b ≡ record a { mail = m; hand = hand } → HasFetched b
 has_fetched a b m hand kept k e =
     subst (λ (p : Parts). HasFetched p) (sym e) (λ none node other. elim (slice_get_cases m.ins.items node).1 [
       | inl there ↦ k.none none node
@@ -44,6 +44,6 @@ has_fetched a b m hand kept k e =
       | inr past ↦ ap (on_in known) past.1
     ])
 
-pub linked : (x y : Parts) → Kept x → Kept y → AreBeside x y → AreLinked x.mail y.mail
+pub linked : (x y : Parts) → RunnerInvariant x → RunnerInvariant y → AreBeside x y → AreLinked x.mail y.mail
 linked x y k l h = subst (λ (m : ℕ). Both IsOpenLink (out_at x.mail m) (in_at y.mail x.mail.me)) (sym l.me)
     (subst (λ (m : ℕ). Both IsOpenLink (out_at x.mail y.node.me) (in_at y.mail m)) (sym k.me) h)

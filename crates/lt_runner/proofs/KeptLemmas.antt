@@ -4,19 +4,19 @@ use Rattle.std.specs.Prelude.{IsTrue}
 use Rattle.std.proofs.lemmas.List.{length_push}
 use Rattle.lt_modes.specs.Script.{ScriptData}
 use Rattle.lt_modes.specs.State.{Letter}
-use Rattle.lt_runs.specs.Log.{Logged}
-use Rattle.lt_runs.specs.NodeMove.{NodeState}
-use Rattle.lt_runs.specs.World.{start}
-use Rattle.lt_plays.specs.Plays.{Cause, can_make, made_of, entry_of, used_by, letters_for, Plays}
-use Rattle.lt_plays.proofs.PlayLemmas.{plays_same, plays_grow}
-use Rattle.lt_peers.specs.Peers.{NodeNames}
+use Rattle.lt_spec.specs.Log.{Logged}
+use Rattle.lt_spec.specs.NodeMove.{NodeState}
+use Rattle.lt_spec.specs.World.{start}
+use Rattle.lt_law_plays.specs.Plays.{Cause, can_make, made_of, logged_of, used_by, letters_for, Plays}
+use Rattle.lt_law_plays.proofs.PlayLemmas.{plays_same, plays_grow}
+use Rattle.lt_law_recipients.specs.Peers.{NodeNames}
 use Rattle.lt_node.specs.NodeData.{state_of}
 use Rattle.lt_mail.specs.Words.{outs_count, ins_count, sent_to, taken_from}
 use Rattle.lt_mail.proofs.MailLemmas.{ends_join}
-use Rattle.lt_runner.specs.declared.hand.Hand.{Hand}
+use Rattle.lt_runner.specs.declared.parts.Hand.{Hand}
 use Rattle.lt_runner.specs.declared.parts.Parts.{Parts}
-use Rattle.lt_runner.specs.Hands.{in_hand, IsFromPeer, Holds}
-use Rattle.lt_runner.specs.Kept.{Kept, SameRunner, AsSeen}
+use Rattle.lt_runner.specs.Hands.{in_hand, IsFromPeer, HandStays}
+use Rattle.lt_runner.specs.Kept.{RunnerInvariant, SameRunner, AsSeen}
 
 plays_as : (script new_script : ScriptData) (me new_me : ℕ) (log new_log : List Logged) (used sent new_sent : ℕ → List Letter) (n new_n : NodeState)
     → new_script ≡ script → new_me ≡ me → new_log ≡ log → ((b : ℕ) → new_sent b ≡ sent b) → new_n ≡ n
@@ -46,7 +46,7 @@ below_as : (a b : Parts) → SameRunner a b → a.node.me < a.node.script.nodes 
 below_as a b s h = subst (λ (script : ScriptData). b.node.me < script.nodes) (sym s.script) (subst (λ (me : ℕ). me < a.node.script.nodes) (sym s.me) h)
 
 -- nothing happened but that letters went on, and one may have come into the hand
-pub kept_still : (a b : Parts) → Kept a → AsSeen a b → IsFromPeer a.node.script.nodes a.node.me b.hand → b.out.posts ≡ [] → b.out.events ≡ [] → Kept b
+pub kept_still : (a b : Parts) → RunnerInvariant a → AsSeen a b → IsFromPeer a.node.script.nodes a.node.me b.hand → b.out.posts ≡ [] → b.out.events ≡ [] → RunnerInvariant b
 kept_still a b h s from posts events = record {
   used = h.used;
   script = ap (λ r. r.now) s.same.reads ∙ (h.script ∙ sym s.same.script);
@@ -69,7 +69,7 @@ pub record Moves (a b : Parts) (cause : Cause) : Type 0 where
   pub same : SameRunner a b
   pub can : IsTrue (can_make a.node.script a.node.me (state_of a.node) cause)
   pub state : state_of b.node ≡ (made_of a.node.script a.node.me (state_of a.node) cause).node
-  pub log : b.log.entries ≡ a.log.entries ++ entry_of a.node.script a.node.me (state_of a.node) cause ∷ []
+  pub log : b.log.entries ≡ a.log.entries ++ logged_of a.node.script a.node.me (state_of a.node) cause ∷ []
   pub sent : (node : ℕ) → sent_to b.mail node ≡ sent_to a.mail node ++ letters_for node (made_of a.node.script a.node.me (state_of a.node) cause).posts
   pub taken : (node : ℕ) → taken_from b.mail node ≡ taken_from a.mail node
   pub hands : (node : ℕ) → in_hand node a.hand ≡ used_by cause node ++ in_hand node b.hand
@@ -79,7 +79,7 @@ pub record Moves (a b : Parts) (cause : Cause) : Type 0 where
   pub posts : b.out.posts ≡ []
   pub events : b.out.events ≡ []
 
-pub kept_moved : (a b : Parts) (cause : Cause) → Kept a → Moves a b cause → Kept b
+pub kept_moved : (a b : Parts) (cause : Cause) → RunnerInvariant a → Moves a b cause → RunnerInvariant b
 kept_moved a b cause h m = record {
   used = λ node. h.used node ++ used_by cause node;
   script = ap (λ r. r.now) m.same.reads ∙ (h.script ∙ sym m.same.script);
@@ -93,12 +93,12 @@ kept_moved a b cause h m = record {
       ∙ sym (append_assoc (h.used node) (used_by cause node) (in_hand node b.hand))));
   hand = from_as a b m.same m.from;
   names = names_as a b (state_of b.node) m.same (subst (λ (n : NodeState). NodeNames a.node.script.nodes a.node.me n) (sym m.state) m.names);
-  bounded = omega (arith, m.place, ap (λ (l : List Logged). length l) m.log, m.same.limit, one_longer a.log.entries (entry_of a.node.script a.node.me (state_of a.node) cause));
+  bounded = omega (arith, m.place, ap (λ (l : List Logged). length l) m.log, m.same.limit, one_longer a.log.entries (logged_of a.node.script a.node.me (state_of a.node) cause));
   posts = m.posts;
   events = m.events;
 }
   where
-    grown : Plays a.node.script a.node.me ((start a.node.script).node a.node.me) (a.log.entries ++ entry_of a.node.script a.node.me (state_of a.node) cause ∷ [])
+    grown : Plays a.node.script a.node.me ((start a.node.script).node a.node.me) (a.log.entries ++ logged_of a.node.script a.node.me (state_of a.node) cause ∷ [])
         (λ node. h.used node ++ used_by cause node) (sent_to b.mail) (made_of a.node.script a.node.me (state_of a.node) cause).node
     grown = plays_grow a.node.script a.node.me a.log.entries ((start a.node.script).node a.node.me) (state_of a.node) cause h.used (sent_to a.mail)
         (λ node. h.used node ++ used_by cause node) (sent_to b.mail) h.plays m.can (λ node. refl) m.sent
@@ -115,7 +115,7 @@ same_join a b c h k = record {
   ends = ends_join a.mail b.mail c.mail h.ends k.ends;
 }
 
-holds_join : (a b c : Option Hand) → Holds a b → Holds b c → Holds a c
+holds_join : (a b c : Option Hand) → HandStays a b → HandStays b c → HandStays a c
 holds_join None b c h k = tt
 holds_join (Some x) None c h k = absurd h
 holds_join (Some x) (Some y) None h k = absurd k

@@ -1,4 +1,3 @@
-pub mod Recorded
 pub mod PostLemmas
 pub mod PollLemmas
 pub mod ChoiceLemmas

@@ -7,24 +7,24 @@ use Rattle.lt_modes.specs.declared.moves.Step.TheVariants.{Act, Take}
 use Rattle.lt_modes.specs.Fits.{Numbers, fits, head_fits, body_fits}
 use Rattle.lt_modes.specs.State.{Letter, SetState}
 use Rattle.lt_modes.specs.Made.{Post}
-use Rattle.lt_letter.specs.OutData.{OutData}
-use Rattle.lt_letter.specs.Seen.{letter_seen}
-use Rattle.lt_runs.specs.Families.{home}
-use Rattle.lt_runs.specs.NodeMove.{NodeMade, node_act, node_take, node_waits, has_command, act_stamp, take_stamp}
-use Rattle.lt_plays.specs.Plays.{Cause, OfClient, OfLetter, can_act, can_make, made_of, letters_for, entry_of, used_by}
-use Rattle.lt_peers.specs.Peers.{IsForPeer}
-use Rattle.lt_peers.specs.PeerLaws.{ReachesPeers}
-use Rattle.lt_peers.proofs.Moves.{acts_reach_peers, takes_reach_peers}
+use Rattle.lt_desk.specs.OutData.{OutData}
+use Rattle.lt_desk.specs.LetterSeen.{letter_seen}
+use Rattle.lt_spec.specs.Families.{home}
+use Rattle.lt_spec.specs.NodeMove.{NodeMade, node_act, node_take, node_waits, has_command, act_stamp, take_stamp}
+use Rattle.lt_law_plays.specs.Plays.{Cause, OfClient, OfLetter, can_act, can_make, made_of, letters_for, logged_of, used_by}
+use Rattle.lt_law_recipients.specs.Peers.{IsForPeer}
+use Rattle.lt_law_recipients.specs.PeerLaws.{ReachesPeers}
+use Rattle.lt_law_recipients.proofs.Moves.{acts_reach_peers, takes_reach_peers}
 use Rattle.lt_node.specs.NodeData.{NodeData, NodeDoes, state_of}
 use Rattle.lt_mail.specs.Words.{on_in, sent_to}
 use Rattle.lt_mail.specs.Lanes.{taken}
 use Rattle.lt_mail.specs.declared.lane.InLane.{InLane}
-use Rattle.lt_runner.specs.declared.hand.Hand.{Hand}
+use Rattle.lt_runner.specs.declared.parts.Hand.{Hand}
 use Rattle.lt_runner.specs.declared.parts.Parts.{Parts}
 use Rattle.lt_runner.specs.declared.choice.Choice.TheVariants as choices
-use Rattle.lt_runner.specs.Choices.{choice_of}
+use Rattle.lt_runner.specs.Choices.{next_choice}
 use Rattle.lt_runner.specs.Hands.{in_hand, IsFromPeer}
-use Rattle.lt_runner.specs.Kept.{Kept}
+use Rattle.lt_runner.specs.Kept.{RunnerInvariant}
 use Rattle.lt_runner.specs.Posting.{Finished}
 use Rattle.lt_runner.specs.Ready.{FitsNow}
 use Rattle.lt_runner.proofs.ChoiceLemmas.{ChoseAct, chose_act}
@@ -43,10 +43,10 @@ moved_node a node out hand = record a { node = node; out = out; hand = hand }
 
 -- the runner made the move with this cause
 pub finished : (a f : Parts) (node : NodeData) (out : OutData) (hand : Option Hand) (cause : Cause)
-    → Kept a → IsTrue (can_make a.node.script a.node.me (state_of a.node) cause)
+    → RunnerInvariant a → IsTrue (can_make a.node.script a.node.me (state_of a.node) cause)
     → ReachesPeers a.node.script.nodes a.node.me (made_of a.node.script a.node.me (state_of a.node) cause)
     → NodeDoes (made_of a.node.script a.node.me (state_of a.node) cause) a.node a.out node out
-    → Finished (entry_of a.node.script a.node.me (state_of a.node) cause).made (moved_node a node out hand) f
+    → Finished (logged_of a.node.script a.node.me (state_of a.node) cause).made (moved_node a node out hand) f
     → ((k : ℕ) → in_hand k a.hand ≡ used_by cause k ++ in_hand k hand) → IsFromPeer a.node.script.nodes a.node.me hand → length a.log.entries < a.limit → Moves a f cause
 finished a f node out hand cause h can reaches d e hands peer place = record {
   same = record {
@@ -58,7 +58,7 @@ finished a f node out hand cause h can reaches d e hands peer place = record {
   };
   can = can;
   state = ap (λ (n : NodeData). state_of n) e.node ∙ d.state;
-  log = e.log ∙ ap (λ events. a.log.entries ++ record { made = (entry_of a.node.script a.node.me (state_of a.node) cause).made; events = events } ∷ [])
+  log = e.log ∙ ap (λ events. a.log.entries ++ record { made = (logged_of a.node.script a.node.me (state_of a.node) cause).made; events = events } ∷ [])
       (events_made (made_of a.node.script a.node.me (state_of a.node) cause) a.node node a.out out h.events d);
   sent = λ k. e.mail.sent k ∙ ap (λ (posts : List Post). sent_to a.mail k ++ letters_for k posts)
       (posts_made (made_of a.node.script a.node.me (state_of a.node) cause) a.node node a.out out h.posts d);
@@ -112,7 +112,7 @@ pub record ActsNow (a : Parts) (client : ℕ) : Type 0 where
   pub chosen : ChoseAct a.node.script a.node.me (state_of a.node) client
   pub reaches : ReachesPeers a.node.script.nodes a.node.me (node_act a.node.script a.node.me client (state_of a.node))
 
-pub acts_now : (a : Parts) (client : ℕ) → Kept a → choice_of a ≡ choices.Act client → ActsNow a client
+pub acts_now : (a : Parts) (client : ℕ) → RunnerInvariant a → next_choice a ≡ choices.Act client → ActsNow a client
 acts_now a client h e =
     let chosen = chose_act a client e in
     record {
@@ -122,7 +122,7 @@ acts_now a client h e =
     }
 
 -- the command was made
-pub acted : (a f : Parts) (node : NodeData) (out : OutData) (client : ℕ) → Kept a → choice_of a ≡ choices.Act client
+pub acted : (a f : Parts) (node : NodeData) (out : OutData) (client : ℕ) → RunnerInvariant a → next_choice a ≡ choices.Act client
     → NodeDoes (node_act a.node.script a.node.me client (state_of a.node)) a.node a.out node out
     → Finished (record { stamp = act_stamp a.node.me (state_of a.node); step = Act client }) (moved_node a node out a.hand) f
     → length a.log.entries < a.limit → Moves a f (OfClient client)
@@ -131,13 +131,13 @@ acted a f node out client h e d fin place =
     (λ k. refl) h.hand place
 
 -- what the letter that was in hand sends goes to other nodes
-pub take_reaches : (a : Parts) (hand : Hand) → Kept a → FitsNow a.node.script a.node.me (state_of a.node) hand
+pub take_reaches : (a : Parts) (hand : Hand) → RunnerInvariant a → FitsNow a.node.script a.node.me (state_of a.node) hand
     → ReachesPeers a.node.script.nodes a.node.me (node_take a.node.me (letter_seen hand.letter) (state_of a.node))
 take_reaches a hand h fit =
     takes_reach_peers a.node.script a.node.me (state_of a.node).clock (letter_seen hand.letter) (state_of a.node) h.below h.names fit.fits
 
 -- the letter was taken
-pub took : (a f : Parts) (node : NodeData) (out : OutData) (hand : Hand) (left : Option Hand) → Kept a → a.hand ≡ Some hand → left ≡ None
+pub took : (a f : Parts) (node : NodeData) (out : OutData) (hand : Hand) (left : Option Hand) → RunnerInvariant a → a.hand ≡ Some hand → left ≡ None
     → FitsNow a.node.script a.node.me (state_of a.node) hand
     → NodeDoes (node_take a.node.me (letter_seen hand.letter) (state_of a.node)) a.node a.out node out
     → Finished (record { stamp = take_stamp a.node.me (state_of a.node) (letter_seen hand.letter); step = Take hand.from }) (moved_node a node out left) f

@@ -4,11 +4,11 @@ use Rattle.std.specs.Prelude.{All, ◌==◌, Bool, true, false}
 use Rattle.std.proofs.lemmas.List.Elements.{All-head, All-rest}
 use Rattle.lt_modes.specs.State.{Letter}
 use Rattle.lt_modes.specs.Made.{Post}
-use Rattle.lt_letter.specs.OutData.{OutData}
-use Rattle.lt_peers.specs.Peers.{IsForPeer}
-use Rattle.lt_plays.specs.Plays.{letters_for}
+use Rattle.lt_desk.specs.OutData.{OutData}
+use Rattle.lt_law_recipients.specs.Peers.{IsForPeer}
+use Rattle.lt_law_plays.specs.Plays.{letters_for}
 use Rattle.lt_mail.specs.declared.mail.Mail.{Mail}
-use Rattle.lt_mail.specs.Words.{in_at, outs_count, HasRoom, sent_to, if_to, SameEnds}
+use Rattle.lt_mail.specs.Words.{in_at, outs_count, HasRoomFor, sent_to, if_to, SameEnds}
 use Rattle.lt_mail.proofs.MailLemmas.{ends_join, ends_same, fewer_letters}
 use Rattle.lt_runner.specs.Posting.{CanPost, Posted, Posting}
 
@@ -22,7 +22,7 @@ one_more node post rest = by_test (post.to == node) refl
 
 -- the first one can be put
 pub next_post : (nodes me : ℕ) (a b : Mail) (all left rest : OutData) (post : Post) → Posting nodes me a b all left → left.posts ≡ post ∷ rest.posts
-    → (post.to < outs_count b) × HasRoom b 1
+    → (post.to < outs_count b) × HasRoomFor b 1
 next_post nodes me a b all left rest post h first = (
   rw h.can.count (All-head (IsForPeer nodes me) post rest.posts (subst (λ (posts : List Post). All (IsForPeer nodes me) posts) first h.can.peers)).node,
   fewer_letters b (length left.posts) 1 (omega (arith, ap length first)) h.can.room,
@@ -36,7 +36,7 @@ none_posted nodes me m out can = record { ends = ends_same m; sent = λ node. re
 pub one_posted : (nodes me : ℕ) (a b c : Mail) (all left rest : OutData) (post : Post) → Posting nodes me a b all left
     → left.posts ≡ post ∷ rest.posts → rest ≡ record left { posts = rest.posts }
     → ((node : ℕ) → sent_to c node ≡ sent_to b node ++ if_to post.to post.letter node)
-    → ((letters : ℕ) → HasRoom b (letters + 1) → HasRoom c letters)
+    → ((letters : ℕ) → HasRoomFor b (letters + 1) → HasRoomFor c letters)
     → ((node : ℕ) → in_at c node ≡ in_at b node) → SameEnds b c → Posting nodes me a c all rest
 one_posted nodes me a b c all left rest post h first others sent room ins ends = record {
   ends = ends_join a b c h.ends ends;

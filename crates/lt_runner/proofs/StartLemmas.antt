@@ -1,23 +1,23 @@
 -- What a runner keeps at its start.
 use Rattle.std.proofs.Common.{◌≡◌, ℕ, ◌<◌, List, [], Option, None, refl, sym, subst, arith, ◌∙◌, length, ap}
 use Rattle.lt_modes.specs.Script.{ScriptData}
-use Rattle.lt_runs.specs.Log.{Logged}
-use Rattle.lt_runs.specs.NodeMove.{NodeState}
-use Rattle.lt_runs.specs.World.{start}
-use Rattle.lt_plays.specs.Plays.{Plays}
-use Rattle.lt_peers.specs.Peers.{NodeNames}
-use Rattle.lt_peers.proofs.Moves.{names_at_start}
+use Rattle.lt_spec.specs.Log.{Logged}
+use Rattle.lt_spec.specs.NodeMove.{NodeState}
+use Rattle.lt_spec.specs.World.{start}
+use Rattle.lt_law_plays.specs.Plays.{Plays}
+use Rattle.lt_law_recipients.specs.Peers.{NodeNames}
+use Rattle.lt_law_recipients.proofs.Moves.{names_at_start}
 use Rattle.lt_node.specs.NodeData.{state_of}
 use Rattle.lt_mail.specs.Words.{sent_to}
 use Rattle.lt_mail.specs.Opening.{IsFresh}
 use Rattle.lt_runner.specs.declared.parts.Parts.{Parts}
-use Rattle.lt_runner.specs.declared.hand.Hand.{Hand}
+use Rattle.lt_runner.specs.declared.parts.Hand.{Hand}
 use Rattle.lt_runner.specs.Hands.{in_hand, IsFromPeer}
-use Rattle.lt_runner.specs.Kept.{Kept}
+use Rattle.lt_runner.specs.Kept.{RunnerInvariant}
 
 pub kept_at_start : (p : Parts) (script : ScriptData) (node : ℕ) → p.script.now ≡ script → p.node.script ≡ script → p.node.me ≡ node
     → state_of p.node ≡ (start script).node node → node < script.nodes → IsFresh script.nodes node p.mail → p.log.entries ≡ [] → p.hand ≡ None
-    → p.out.posts ≡ [] → p.out.events ≡ [] → Kept p
+    → p.out.posts ≡ [] → p.out.events ≡ [] → RunnerInvariant p
 kept_at_start p script node reads is me state below fresh log hand posts events = record {
   used = λ a. [];
   script = reads ∙ sym is;

@@ -4,17 +4,17 @@ use Rattle.std.specs.Prelude.{if◌then◌else◌}
 use Rattle.std.proofs.lemmas.List.{append-nil, append_assoc, length_push}
 use Rattle.lt_modes.specs.Script.{ScriptData}
 use Rattle.lt_modes.specs.State as rules
-use Rattle.lt_letter.specs.Seen.{letter_seen}
-use Rattle.lt_runs.specs.Log.{Logged}
-use Rattle.lt_runs.specs.NodeMove.{NodeState}
+use Rattle.lt_desk.specs.LetterSeen.{letter_seen}
+use Rattle.lt_spec.specs.Log.{Logged}
+use Rattle.lt_spec.specs.NodeMove.{NodeState}
 use Rattle.lt_node.specs.NodeData.{state_of}
 use Rattle.lt_runner.specs.declared.choice.Choice.TheVariants.{Nothing, Take}
-use Rattle.lt_runner.specs.declared.turned.Turned.{Turned}
-use Rattle.lt_runner.specs.declared.turned.Turned.TheVariants.{Moved, Quiet, Full, NoMemory}
-use Rattle.lt_runner.specs.declared.hand.Hand.{Hand}
+use Rattle.lt_runner.specs.declared.turning.Turned.{Turned}
+use Rattle.lt_runner.specs.declared.turning.Turned.TheVariants.{Moved, Quiet, Full, NoMemory}
+use Rattle.lt_runner.specs.declared.parts.Hand.{Hand}
 use Rattle.lt_runner.specs.declared.parts.Parts.{Parts}
-use Rattle.lt_runner.specs.Hands.{Holds}
-use Rattle.lt_runner.specs.Choices.{may_take, act_choice, choice_by, choice_of}
+use Rattle.lt_runner.specs.Hands.{HandStays}
+use Rattle.lt_runner.specs.Choices.{may_take, act_choice, choice_by, next_choice}
 use Rattle.lt_runner.specs.Kept.{SameRunner, AsSeen, TurnEnds, Grew}
 use Rattle.lt_runner.proofs.ChoiceLemmas.{act_takes_nothing}
 use Rattle.lt_mail.proofs.MailLemmas.{ends_same}
@@ -41,21 +41,21 @@ choice_as a b hand h =
     ∙ ap (λ (n : NodeState). choice_by a.node.script a.node.me n hand) h.state)
 
 -- with the same letter in hand
-pub choice_stays : (a b : Parts) → AsSeen a b → b.hand ≡ a.hand → choice_of b ≡ choice_of a
+pub choice_stays : (a b : Parts) → AsSeen a b → b.hand ≡ a.hand → next_choice b ≡ next_choice a
 choice_stays a b h same = ap (λ (o : Option Hand). choice_by b.node.script b.node.me (state_of b.node) o) same ∙ choice_as a b a.hand h
 
-held_choice : (script : ScriptData) (me : ℕ) (n : NodeState) (x y : Hand) → Holds (Some x) (Some y) → choice_by script me n (Some y) ≡ choice_by script me n (Some x)
+held_choice : (script : ScriptData) (me : ℕ) (n : NodeState) (x y : Hand) → HandStays (Some x) (Some y) → choice_by script me n (Some y) ≡ choice_by script me n (Some x)
 held_choice script me n x y h = ap (λ (l : rules.Letter). if may_take script me n l then Take else act_choice script me n) h.1
 
 -- what was there to be done is there to be done
-pub choice_lasts : (a b : Parts) → AsSeen a b → choice_of a ≢ Nothing → choice_of b ≢ Nothing
+pub choice_lasts : (a b : Parts) → AsSeen a b → next_choice a ≢ Nothing → next_choice b ≢ Nothing
 choice_lasts a b h some none = by_hands a.hand b.hand h.hand some (sym (choice_as a b b.hand h) ∙ none)
   where
     by_may : (script : ScriptData) (me : ℕ) (n : NodeState) (t : Bool) → (if t then Take else act_choice script me n) ≡ Nothing → act_choice script me n ≡ Nothing
     by_may script me n true e = absurd (cc)
     by_may script me n false e = e
 
-    by_hands : (x y : Option Hand) → Holds x y → choice_by a.node.script a.node.me (state_of a.node) x ≢ Nothing
+    by_hands : (x y : Option Hand) → HandStays x y → choice_by a.node.script a.node.me (state_of a.node) x ≢ Nothing
         → choice_by a.node.script a.node.me (state_of a.node) y ≢ Nothing
     by_hands None None holds some e = some e
     by_hands None (Some y) holds some e = some (by_may a.node.script a.node.me (state_of a.node) (may_take a.node.script a.node.me (state_of a.node) (letter_seen y.letter)) e)
@@ -63,10 +63,10 @@ choice_lasts a b h some none = by_hands a.hand b.hand h.hand some (sym (choice_a
     by_hands (Some x) (Some y) holds some e = some (sym (held_choice a.node.script a.node.me (state_of a.node) x y holds) ∙ e)
 
 -- the letter that was there to be taken is there to be taken
-pub take_lasts : (a b : Parts) → AsSeen a b → choice_of a ≡ Take → choice_of b ≡ Take
+pub take_lasts : (a b : Parts) → AsSeen a b → next_choice a ≡ Take → next_choice b ≡ Take
 take_lasts a b h takes = choice_as a b b.hand h ∙ by_hands a.hand b.hand h.hand takes
   where
-    by_hands : (x y : Option Hand) → Holds x y → choice_by a.node.script a.node.me (state_of a.node) x ≡ Take
+    by_hands : (x y : Option Hand) → HandStays x y → choice_by a.node.script a.node.me (state_of a.node) x ≡ Take
         → choice_by a.node.script a.node.me (state_of a.node) y ≡ Take
     by_hands None y holds e = absurd (act_takes_nothing a.node.script a.node.me (state_of a.node) e)
     by_hands (Some x) None holds e = absurd holds

@@ -2,16 +2,16 @@
 use Rattle.std.specs.Prelude.{Bool, ◌&&◌, nat_lt, ℕ, zero, suc, Option, Some, None, if◌then◌else◌, length}
 use Rattle.lt_modes.specs.Script.{ScriptData}
 use Rattle.lt_modes.specs.State.{Letter}
-use Rattle.lt_modes.specs.Fits.{fits}
-use Rattle.lt_letter.specs.Seen.{letter_seen}
+use Rattle.lt_modes.specs.Fits.{fits, numbers_of}
+use Rattle.lt_desk.specs.LetterSeen.{letter_seen}
 use Rattle.lt_limits.specs.Limits.{node_within, leaves_asks}
-use Rattle.lt_runs.specs.NodeMove.{NodeState}
-use Rattle.lt_plays.specs.Plays.{can_act}
-use Rattle.lt_node.specs.NodeData.{state_of, numbers_of}
-use Rattle.lt_runner.specs.declared.choice.TheConstants.{LAST_CLOCK}
+use Rattle.lt_spec.specs.NodeMove.{NodeState}
+use Rattle.lt_law_plays.specs.Plays.{can_act}
+use Rattle.lt_node.specs.NodeData.{state_of}
+use Rattle.lt_core.specs.declared.fits.TheConstants.{LAST_CLOCK}
 use Rattle.lt_runner.specs.declared.choice.Choice.{Choice}
 use Rattle.lt_runner.specs.declared.choice.Choice.TheVariants.{Nothing, Act, Take}
-use Rattle.lt_runner.specs.declared.hand.Hand.{Hand}
+use Rattle.lt_runner.specs.declared.parts.Hand.{Hand}
 use Rattle.lt_runner.specs.declared.parts.Parts.{Parts}
 
 abbrev pub or_this : Option ℕ → (ℕ → Bool) → ℕ → Option ℕ
@@ -52,5 +52,5 @@ abbrev pub choice_by : ScriptData → ℕ → NodeState → Option Hand → Choi
 choice_by script me n None = act_choice script me n
 choice_by script me n (Some hand) = if may_take script me n (letter_seen hand.letter) then Take else act_choice script me n
 
-abbrev pub choice_of : Parts → Choice
-choice_of p = choice_by p.node.script p.node.me (state_of p.node) p.hand
+abbrev pub next_choice : Parts → Choice
+next_choice p = choice_by p.node.script p.node.me (state_of p.node) p.hand

@@ -1,25 +1,25 @@
 -- What a runner keeps, and how a turn ends.
-use Rattle.std.specs.Prelude.{◌≡◌, ◌≢◌, ◌<◌, ◌≤◌, ◌⊎◌, ℕ, List, [], ◌∷◌, ◌++◌, None, length}
+use Rattle.std.specs.Prelude.{◌≡◌, ◌≢◌, ◌<◌, ◌≤◌, ℕ, List, [], ◌∷◌, ◌++◌, None, length}
 use mathlib.Core.List.{IsPrefix}
 use Rattle.lt_modes.specs.State.{Letter}
-use Rattle.lt_runs.specs.Log.{Logged}
-use Rattle.lt_runs.specs.World.{start}
-use Rattle.lt_plays.specs.Plays.{Plays}
-use Rattle.lt_peers.specs.Peers.{NodeNames}
+use Rattle.lt_spec.specs.Log.{Logged}
+use Rattle.lt_spec.specs.World.{start}
+use Rattle.lt_law_plays.specs.Plays.{Plays}
+use Rattle.lt_law_recipients.specs.Peers.{NodeNames}
 use Rattle.lt_node.specs.NodeData.{state_of}
 use Rattle.lt_mail.specs.Words.{outs_count, ins_count, sent_to, taken_from, known_from, SameEnds}
 use Rattle.lt_runner.specs.declared.choice.Choice.TheVariants as choices
-use Rattle.lt_runner.specs.declared.turned.Turned.{Turned}
-use Rattle.lt_runner.specs.declared.turned.Turned.TheVariants.{Moved, Quiet, Full, NoMemory}
-use Rattle.lt_runner.specs.declared.turned.Worked.{Worked}
-use Rattle.lt_runner.specs.declared.turned.Worked.TheVariants as worked
+use Rattle.lt_runner.specs.declared.turning.Turned.{Turned}
+use Rattle.lt_runner.specs.declared.turning.Turned.TheVariants.{Moved, Quiet, Full, NoMemory}
+use Rattle.lt_runner.specs.declared.turning.Worked.{Worked}
+use Rattle.lt_runner.specs.declared.turning.Worked.TheVariants as worked
 use Rattle.lt_runner.specs.declared.parts.Parts.{Parts}
-use Rattle.lt_runner.specs.Hands.{in_hand, IsFromPeer, Holds}
-use Rattle.lt_runner.specs.Choices.{choice_of}
+use Rattle.lt_runner.specs.Hands.{in_hand, IsFromPeer, HandStays}
+use Rattle.lt_runner.specs.Choices.{next_choice}
 
 -- the node's state and the letters that it sent are what the rules make of its log with the letters that it used, which
 -- are those that it took but the one in hand
-pub record Kept (p : Parts) : Type 0 where
+pub record RunnerInvariant (p : Parts) : Type 0 where
   pub used : ℕ → List Letter
   pub script : p.script.now ≡ p.node.script
   pub me : p.mail.me ≡ p.node.me
@@ -49,29 +49,30 @@ pub record AsSeen (a b : Parts) : Type 0 where
   pub log : b.log.entries ≡ a.log.entries
   pub sent : (node : ℕ) → sent_to b.mail node ≡ sent_to a.mail node
   pub used : (node : ℕ) (letters : List Letter) → taken_from a.mail node ≡ letters ++ in_hand node a.hand → taken_from b.mail node ≡ letters ++ in_hand node b.hand
-  pub hand : Holds a.hand b.hand
+  pub hand : HandStays a.hand b.hand
 
 -- where no letter is in hand, none is known in a ring
 abbrev pub KnowsNoLetter : Parts → Type 0
 KnowsNoLetter p = p.hand ≡ None → (node : ℕ) → node < p.node.script.nodes → node ≢ p.node.me → known_from p.mail node ≡ []
 
 -- no move is there to be made
-pub record IsQuiet (p : Parts) : Type 0 where
-  pub choice : choice_of p ≡ choices.Nothing
+pub record RunnerIsQuiet (p : Parts) : Type 0 where
+  pub choice : next_choice p ≡ choices.Nothing
   pub rings : KnowsNoLetter p
 
 -- the log is full, and a move more is there to be made
 pub record IsFull (p : Parts) : Type 0 where
   pub log : length p.log.entries ≡ p.limit
-  pub choice : choice_of p ≢ choices.Nothing
+  pub choice : next_choice p ≢ choices.Nothing
 
 -- one move was made
 abbrev pub MovedOne : Parts → Parts → Type 0
 MovedOne a b = (entry : Logged) × (b.log.entries ≡ a.log.entries ++ entry ∷ [])
 
+-- how a turn ends
 abbrev pub TurnEnds : Turned → Parts → Parts → Type 0
 TurnEnds Moved a b = MovedOne a b × (length a.log.entries < a.limit)
-TurnEnds Quiet a b = AsSeen a b × IsQuiet b
+TurnEnds Quiet a b = AsSeen a b × RunnerIsQuiet b
 TurnEnds Full a b = AsSeen a b × IsFull b
 TurnEnds NoMemory a b = AsSeen a b
 
@@ -82,12 +83,6 @@ pub record Grew (a b : Parts) : Type 0 where
 
 -- how work ends with this patience
 abbrev pub WorkEnds : Worked → ℕ → Parts → Type 0
-WorkEnds worked.Idle patience p = 0 < patience → IsQuiet p
+WorkEnds worked.Idle patience p = 0 < patience → RunnerIsQuiet p
 WorkEnds worked.Full patience p = IsFull p
 WorkEnds worked.NoMemory patience p = Unit {0}
-
--- how one turn ends
-abbrev pub OneEnds : Worked → Parts → Parts → Type 0
-OneEnds worked.Idle a b = MovedOne a b ⊎ (AsSeen a b × IsQuiet b)
-OneEnds worked.Full a b = AsSeen a b × IsFull b
-OneEnds worked.NoMemory a b = AsSeen a b

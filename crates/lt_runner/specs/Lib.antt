@@ -4,6 +4,5 @@ pub mod Kept
 pub mod Ready
 pub mod Polled
 pub mod Posting
-pub mod Crew
 pub mod Starts
 pub mod Looking

@@ -4,7 +4,7 @@ use Rattle.lt_mail.specs.declared.mail.Mail.{Mail}
 use Rattle.lt_mail.specs.Words.{out_at, in_at, given_to, waiting_to, taken_from, known_from, SameEnds, Both, IsOpenLink}
 use Rattle.lt_runner.specs.declared.choice.Choice.{Choice}
 use Rattle.lt_runner.specs.declared.choice.Choice.TheVariants.{Nothing, Act, Take}
-use Rattle.lt_runner.specs.declared.hand.Hand.{Hand}
+use Rattle.lt_runner.specs.declared.parts.Hand.{Hand}
 use Rattle.lt_runner.specs.declared.parts.Parts.{Parts}
 use Rattle.lt_runner.specs.Hands.{in_hand, IsFromPeer}
 use Rattle.lt_runner.specs.Kept.{AsSeen}
@@ -21,7 +21,7 @@ AreBeside x y = Both IsOpenLink (out_at x.mail y.node.me) (in_at y.mail x.node.m
 
 -- what node b took of node a, and what it knows to come, is what the ring was given; where it has no letter in hand and
 -- nothing is known to come, nothing waits to be sent
-pub record IsMet (a b : ℕ) (x y : Parts) : Type 0 where
+pub record HasMet (a b : ℕ) (x y : Parts) : Type 0 where
   pub whole : taken_from y.mail a ++ known_from y.mail a ≡ given_to x.mail b
   pub moves : y.hand ≡ None → known_from y.mail a ≡ [] → waiting_to x.mail b ≡ []
 

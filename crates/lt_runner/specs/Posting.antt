@@ -1,27 +1,19 @@
 -- What is done with the letters and the event lines of a move.
 use Rattle.std.specs.Prelude.{◌≡◌, ℕ, List, [], ◌∷◌, ◌++◌, length, All}
-use Rattle.lt_modes.specs.declared.event.Event.{Event}
 use Rattle.lt_modes.specs.declared.moves.Move.{Move}
 use Rattle.lt_modes.specs.Made.{Post}
-use Rattle.lt_runs.specs.Log.{Logged}
-use Rattle.lt_merge.specs.Run.{with_event}
-use Rattle.lt_letter.specs.OutData.{OutData}
-use Rattle.lt_peers.specs.Peers.{IsForPeer}
-use Rattle.lt_plays.specs.Plays.{letters_for}
+use Rattle.lt_desk.specs.OutData.{OutData}
+use Rattle.lt_law_recipients.specs.Peers.{IsForPeer}
+use Rattle.lt_law_plays.specs.Plays.{letters_for}
 use Rattle.lt_mail.specs.declared.mail.Mail.{Mail}
-use Rattle.lt_mail.specs.Words.{in_at, outs_count, HasRoom, sent_to, SameEnds}
+use Rattle.lt_mail.specs.Words.{in_at, outs_count, HasRoomFor, sent_to, SameEnds}
 use Rattle.lt_runner.specs.declared.parts.Parts.{Parts}
-
--- the entries after the last move has these events more
-abbrev pub with_events : List Logged → List Event → List Logged
-with_events entries [] = entries
-with_events entries (event ∷ events) = with_events (with_event entries event) events
 
 -- the letters are for other nodes, and there is room for them
 pub record CanPost (nodes me : ℕ) (m : Mail) (posts : List Post) : Type 0 where
   pub count : outs_count m ≡ nodes
   pub peers : All (IsForPeer nodes me) posts
-  pub room : HasRoom m (length posts)
+  pub room : HasRoomFor m (length posts)
 
 -- the letters are put into the outboxes to their nodes
 pub record Posted (posts : List Post) (a b : Mail) : Type 0 where

@@ -1,30 +1,29 @@
 -- Room for one move of a runner.
 use Rattle.std.specs.Prelude.{◌≤◌, ◌<◌, ℕ, nat_lt, IfSome, IsTrue}
 use Rattle.lt_modes.specs.Script.{ScriptData}
-use Rattle.lt_modes.specs.Fits.{fits}
-use Rattle.lt_letter.specs.Seen.{letter_seen}
+use Rattle.lt_modes.specs.Fits.{fits, numbers_of}
+use Rattle.lt_desk.specs.LetterSeen.{letter_seen}
 use Rattle.lt_limits.specs.Limits.{node_within}
-use Rattle.lt_runs.specs.NodeMove.{NodeState}
-use Rattle.lt_node.specs.NodeData.{numbers_of}
-use Rattle.lt_runner.specs.declared.choice.TheConstants.{LAST_CLOCK}
+use Rattle.lt_spec.specs.NodeMove.{NodeState}
+use Rattle.lt_core.specs.declared.fits.TheConstants.{LAST_CLOCK}
 use Rattle.lt_node.specs.Room.{RoomToAct, RoomToTake}
-use Rattle.lt_mail.specs.Words.{HasRoom}
-use Rattle.lt_runner.specs.declared.hand.Hand.{Hand}
+use Rattle.lt_mail.specs.Words.{HasRoomFor}
+use Rattle.lt_runner.specs.declared.parts.Hand.{Hand}
 use Rattle.lt_runner.specs.declared.parts.Parts.{Parts}
 
 -- the log and the outboxes have room for all that a move may send out
 pub record CanLog (p : Parts) : Type 0 where
   pub move : 0 < p.log.spare
   pub events : p.out.event_room ≤ p.log.room
-  pub posts : HasRoom p.mail p.out.post_room
+  pub posts : HasRoomFor p.mail p.out.post_room
 
 -- and the node has room for a command
-pub record CanAct (p : Parts) : Type 0 where
+pub record RunnerCanAct (p : Parts) : Type 0 where
   pub log : CanLog p
   pub node : RoomToAct p.node p.out
 
 -- or for the letter in hand
-pub record CanTake (p : Parts) : Type 0 where
+pub record RunnerCanTake (p : Parts) : Type 0 where
   pub log : CanLog p
   pub node : IfSome p.hand (λ (hand : Hand). RoomToTake p.node hand.letter p.out)
 

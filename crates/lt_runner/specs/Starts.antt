@@ -1,7 +1,7 @@
 -- A runner at its start.
 use Rattle.std.specs.Prelude.{◌≡◌, ℕ, [], None}
 use Rattle.lt_modes.specs.Script.{ScriptData}
-use Rattle.lt_runs.specs.World.{start}
+use Rattle.lt_spec.specs.World.{start}
 use Rattle.lt_node.specs.NodeData.{state_of}
 use Rattle.lt_mail.specs.declared.mail.Mail.{Mail}
 use Rattle.lt_runner.specs.declared.parts.Parts.{Parts}

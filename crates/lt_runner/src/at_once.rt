@@ -1,4 +1,4 @@
-ghost use Rattle.std.specs.Prelude.{◌≡◌, ◌<◌, ℕ, length, slice_index_or};
+ghost use Rattle.std.specs.Prelude.{◌<◌, ℕ, length, slice_index_or};
 ghost use Rattle.lt_runner.specs.declared.parts.Parts.{Parts as RunnerParts};
 ghost use Rattle.lt_runner.specs.Kept.{Grew};
 

@@ -3,24 +3,18 @@
 
 mod at_once;
 mod choice;
-mod choosing;
 mod gate;
-mod hand;
 mod making;
 mod meeting;
 mod parts;
-mod polling;
-mod posting;
 mod readying;
 mod runner;
 #[cfg(test)]
 mod tests;
-mod turned;
 mod turning;
-mod working;
 
 pub use at_once::all_at_once;
-pub use gate::Gate;
+pub use gate::{Gate, Open};
 pub use parts::Parts;
 pub use runner::Runner;
-pub use turned::{Turned, Worked};
+pub use turning::{Turned, Worked};

@@ -1,28 +1,30 @@
 // The move that a runner makes.
-ghost use Rattle.std.specs.Prelude.{◌≡◌, ◌<◌, Some, None, All, length};
-ghost use Rattle.lt_peers.specs.Peers.{IsForPeer};
+ghost use Rattle.std.specs.Prelude.{◌≡◌, ◌<◌, Some, None, All, length, ◌≤◌, [], ◌∷◌, ◌++◌};
+ghost use Rattle.lt_law_recipients.specs.Peers.{IsForPeer};
 ghost use Rattle.lt_node.specs.NodeData.{state_of};
 ghost use Rattle.lt_node.specs.Room.{RoomToTake};
 ghost use Rattle.lt_mail.specs.Words.{outs_count};
 ghost use Rattle.lt_runner.specs.declared.choice.Choice.TheVariants as choices;
-ghost use Rattle.lt_runner.specs.Choices.{choice_of};
-ghost use Rattle.lt_runner.specs.Kept.{Kept, SameRunner, MovedOne};
-ghost use Rattle.lt_runner.specs.Posting.{Finished};
-ghost use Rattle.lt_runner.specs.Ready.{CanAct, CanTake, CanLog, FitsNow};
+ghost use Rattle.lt_runner.specs.Choices.{next_choice};
+ghost use Rattle.lt_runner.specs.Kept.{RunnerInvariant, SameRunner, MovedOne};
+ghost use Rattle.lt_runner.specs.Posting.{Finished, CanPost, Posted};
+ghost use Rattle.lt_runner.specs.Ready.{RunnerCanAct, RunnerCanTake, CanLog, FitsNow};
+ghost use Rattle.lt_merge.specs.Run.{with_events};
 
-use crate::hand::Hand;
-use crate::parts::Parts;
-use crate::posting::{log_move, post_all};
+use crate::parts::{Hand, Parts};
+use lt_desk::Out;
+use lt_mail::Mail;
+use lt_merge::Log;
 use lt_modes::{Move, Step};
 
 impl Parts<'_> {
     /// Makes the next command of the client.
     pub(crate) fn make_act(&mut self, client: u16)
-        requires kept { Kept self.old }
-        requires chosen { choice_of self.old ≡ choices.Act client }
-        requires room { CanAct self.old }
+        requires kept { RunnerInvariant self.old }
+        requires chosen { next_choice self.old ≡ choices.Act client }
+        requires room { RunnerCanAct self.old }
         requires place { length self.old.log.entries < self.old.limit }
-        ensures kept { Kept self.new }
+        ensures kept { RunnerInvariant self.new }
         ensures same { SameRunner self.old self.new }
         ensures moved { MovedOne self.old self.new }
     {
@@ -36,11 +38,11 @@ impl Parts<'_> {
 
     /// Takes the letter in hand.
     pub(crate) fn make_take(&mut self)
-        requires kept { Kept self.old }
-        requires chosen { choice_of self.old ≡ choices.Take }
-        requires room { CanTake self.old }
+        requires kept { RunnerInvariant self.old }
+        requires chosen { next_choice self.old ≡ choices.Take }
+        requires room { RunnerCanTake self.old }
         requires place { length self.old.log.entries < self.old.limit }
-        ensures kept { Kept self.new }
+        ensures kept { RunnerInvariant self.new }
         ensures same { SameRunner self.old self.new }
         ensures moved { MovedOne self.old self.new }
     {
@@ -51,13 +53,13 @@ impl Parts<'_> {
 
     // Takes the letter, which is no longer in hand.
     fn take_letter(&mut self, hand: Hand)
-        requires kept { Kept (record self.old { hand = Some hand }) }
+        requires kept { RunnerInvariant (record self.old { hand = Some hand }) }
         requires empty { self.old.hand ≡ None }
         requires fits { FitsNow self.old.node.script self.old.node.me (state_of self.old.node) hand }
         requires log { CanLog self.old }
         requires room { RoomToTake self.old.node hand.letter self.old.out }
         requires place { length self.old.log.entries < self.old.limit }
-        ensures kept { Kept self.new }
+        ensures kept { RunnerInvariant self.new }
         ensures same { SameRunner self.old self.new }
         ensures moved { MovedOne self.old self.new }
     {
@@ -90,4 +92,40 @@ impl Parts<'_> {
             self.node.me(),
         );
     }
+}
+
+/// Puts the letters of a move into the outboxes to their nodes.
+#[tactic(auto, using(crate::proofs::PostLemmas::all_posted, crate::proofs::PostLemmas::none_posted, crate::proofs::PostLemmas::next_post))]
+pub(crate) fn post_all(mail: &mut Mail, out: &mut Out, _nodes: u8, _me: u8)
+    requires { CanPost _nodes _me mail.old out.old.posts }
+    ensures mail { Posted out.old.posts mail.old mail.new }
+    ensures out { out.new ≡ record out.old { posts = [] } }
+{
+    while let Some(post) = out.next_letter() {
+        mail.put(post.to, post.letter);
+    }
+}
+
+// Notes the event lines of the last move.
+fn note_events(log: &mut Log, out: &mut Out)
+    requires some { 0 < length log.old.entries }
+    requires room { length out.old.events ≤ log.old.room }
+    ensures entries { log.new.entries ≡ with_events log.old.entries out.old.events }
+    ensures out { out.new ≡ record out.old { events = [] } }
+{
+    while let Some(event) = out.next_event() {
+        log.add_event(event);
+    }
+}
+
+/// Puts a move and its event lines at the end of the log.
+pub(crate) fn log_move(log: &mut Log, out: &mut Out, made: Move, _limit: u32)
+    requires spare { 0 < log.old.spare }
+    requires few { length log.old.entries < _limit }
+    requires room { length out.old.events ≤ log.old.room }
+    ensures log { log.new.entries ≡ log.old.entries ++ record { made = made; events = out.old.events } ∷ [] }
+    ensures out { out.new ≡ record out.old { events = [] } }
+{
+    log.push(made);
+    note_events(log, out);
 }

@@ -1,14 +1,13 @@
 // What runners of one script do together, while none of them is at work.
 ghost use Rattle.std.specs.Prelude.{◌≡◌, None};
 ghost use Rattle.lt_mail.specs.Words.{ins_count};
-ghost use Rattle.lt_runner.specs.Choices.{choice_of};
-ghost use Rattle.lt_runner.specs.Looking.{AreBeside, IsMet, LooksTo, LooksFrom, HasFetched, Fetches, Knows, is_move};
-ghost use Rattle.lt_runs.specs.NodeMove.{node_waits};
+ghost use Rattle.lt_runner.specs.Choices.{next_choice};
+ghost use Rattle.lt_runner.specs.Looking.{AreBeside, HasMet, LooksTo, LooksFrom, HasFetched, Fetches, Knows, is_move};
+ghost use Rattle.lt_spec.specs.NodeMove.{node_waits};
 ghost use Rattle.lt_node.specs.NodeData.{state_of};
 
-use crate::choice::Choice;
-use crate::choosing::choose;
-use crate::hand::Hand;
+use crate::choice::{Choice, choose};
+use crate::parts::Hand;
 use crate::runner::Runner;
 use lt_mail::{Mail, beside};
 use lt_merge::Log;
@@ -20,7 +19,7 @@ impl<'a> Runner<'a> {
         requires { AreBeside self.old taker.old }
         ensures sender { LooksTo taker.old.node.me self.old self.new }
         ensures taker { LooksFrom self.old.node.me taker.old taker.new }
-        ensures met { IsMet self.old.node.me taker.old.node.me self.new taker.new }
+        ensures met { HasMet self.old.node.me taker.old.node.me self.new taker.new }
     {
         beside(&mut self.parts.mail, &mut taker.parts.mail);
     }
@@ -41,7 +40,7 @@ impl<'a> Runner<'a> {
 
     /// Whether it shows a move.
     pub fn has_move(&self) -> bool
-        ensures { result ≡ is_move (choice_of self.now) }
+        ensures { result ≡ is_move (next_choice self.now) }
     {
         !matches!(choose(&self.parts), Choice::Nothing)
     }

@@ -1,5 +1,4 @@
-use crate::hand::Hand;
-use lt_letter::Out;
+use lt_desk::{Letter, Out};
 use lt_mail::Mail;
 use lt_merge::Log;
 use lt_node::Node;
@@ -18,4 +17,11 @@ pub struct Parts<'a> {
     pub(crate) hand: Option<Hand>,
     // How many moves there may be in the log.
     pub(crate) limit: u32,
+}
+
+/// A letter that was taken from a ring, with the node that sent it.
+#[derive(Drop)]
+pub struct Hand {
+    pub(crate) from: u8,
+    pub(crate) letter: Letter,
 }

@@ -1,15 +1,17 @@
-ghost use Rattle.std.specs.Prelude.{◌≡◌, ◌≢◌, ◌<◌, ◌≤◌, [], length, IfOk};
+ghost use Rattle.std.specs.Prelude.{◌≡◌, ◌≢◌, ◌<◌, ◌≤◌, length, IfOk};
+ghost use Rattle.lt_limits.specs.declared.moves.TheConstants.{MAX_MOVES};
 ghost use Rattle.lt_mail.specs.Opening.{IsFresh};
 ghost use Rattle.lt_runner.specs.declared.choice.Choice.TheVariants as choices;
-ghost use Rattle.lt_runner.specs.declared.turned.Worked.TheVariants as answers;
-ghost use Rattle.lt_runner.specs.Choices.{choice_of};
-ghost use Rattle.lt_runner.specs.Kept.{Kept, Grew, MovedOne, WorkEnds, OneEnds};
+ghost use Rattle.lt_runner.specs.declared.turning.Turned.TheVariants as turns;
+ghost use Rattle.lt_runner.specs.declared.turning.Worked.TheVariants as answers;
+ghost use Rattle.lt_runner.specs.Choices.{next_choice};
+ghost use Rattle.lt_runner.specs.Kept.{RunnerInvariant, Grew, TurnEnds, WorkEnds};
 ghost use Rattle.lt_runner.specs.Starts.{StartsWith};
 
 use crate::gate::Gate;
 use crate::parts::Parts;
-use crate::turned::Worked;
-use lt_letter::Out;
+use crate::turning::{Turned, Worked};
+use lt_desk::Out;
 use lt_mail::Mail;
 use lt_merge::Log;
 use lt_node::Node;
@@ -25,13 +27,13 @@ pub struct Runner<'a> {
 
 impl<'a> Model for Runner<'a> {
     ghost use Rattle.lt_runner.specs.declared.parts.Parts.{Parts as RunnerParts};
-    ghost use Rattle.lt_runner.specs.Kept.{Kept};
+    ghost use Rattle.lt_runner.specs.Kept.{RunnerInvariant};
 
     ghost Value = { RunnerParts };
 
     ghost view = { λ r. r.parts };
 
-    ghost invariant = { λ r. Kept r.parts };
+    ghost invariant = { λ r. RunnerInvariant r.parts };
 }
 
 impl<'a> Runner<'a> {
@@ -47,7 +49,7 @@ impl<'a> Runner<'a> {
     ) -> Result<Runner<'a>, AllocError>
         requires node { node < script.now.nodes }
         requires mail { IsFresh script.now.nodes node mail }
-        requires limit { (0 < limit) × (limit ≤ 1048576) }
+        requires limit { (0 < limit) × (limit ≤ MAX_MOVES) }
         ensures { IfOk result (StartsWith script.now node mail limit) }
     {
         let parts = begin(alloc, script, node, mail, limit)?;
@@ -66,12 +68,13 @@ impl<'a> Runner<'a> {
     }
 
     /// Makes one turn.
-    pub fn one<G: Gate>(&mut self, gate: &G) -> Worked
+    #[tactic(auto, using(crate::proofs::TurnLemmas::turn_grew, crate::proofs::TurnLemmas::grew_self))]
+    pub fn turn<G: Gate>(&mut self, gate: &G) -> Turned
         ensures grew { Grew self.old self.new }
-        ensures ends { OneEnds result self.old self.new }
-        ensures moves { choice_of self.old ≢ choices.Nothing → result ≡ answers.Idle → MovedOne self.old self.new }
+        ensures ends { TurnEnds result self.old self.new }
+        ensures shown { next_choice self.old ≢ choices.Nothing → result ≢ turns.Quiet }
     {
-        self.parts.one(gate)
+        self.parts.turn(gate)
     }
 
     /// How many moves were made.
@@ -83,7 +86,7 @@ impl<'a> Runner<'a> {
 
     /// What a runner keeps.
     pub fn kept(&self)
-        ensures { Kept self.now }
+        ensures { RunnerInvariant self.now }
     {
         let _ = &self.parts;
     }
@@ -99,7 +102,7 @@ fn begin<'a>(
 ) -> Result<Parts<'a>, AllocError>
     requires node { node < script.now.nodes }
     requires mail { IsFresh script.now.nodes node mail }
-    ensures kept { IfOk result Kept }
+    ensures kept { IfOk result RunnerInvariant }
     ensures starts { IfOk result (StartsWith script.now node mail limit) }
 {
     let state = Node::new(alloc, script, node)?;

@@ -1,7 +1,9 @@
-ghost use Rattle.std.specs.Prelude.{◌≡◌, ◌<◌, ◌≤◌, IfOk};
+ghost use Rattle.std.specs.Prelude.{◌<◌, ◌≤◌, IfOk};
+ghost use Rattle.lt_limits.specs.declared.moves.TheConstants.{MAX_MOVES};
 ghost use Rattle.lt_runner.specs.Looking.{AreBeside};
 
-use crate::{Gate, Runner, Worked, all_at_once};
+use crate::{Gate, Runner, Turned, Worked, all_at_once};
+use lt_limits::MAX_MOVES;
 use lt_mail::open;
 use lt_script::{Script, read};
 use std::alloc::Global;
@@ -67,7 +69,7 @@ fn script_of(alloc: Global, text: &str) -> Result<Script, Fail> {
 // The runner of node 0.
 #[tactic(auto, using(lt_mail::proofs::FirstMails::first_fresh))]
 fn first_runner<'a>(alloc: Global, script: &'a Script, limit: u32) -> Result<Runner<'a>, Fail>
-    requires { (0 < limit) × (limit ≤ 1048576) }
+    requires { (0 < limit) × (limit ≤ MAX_MOVES) }
 {
     let mut mails = open(alloc, script.nodes(), 1)?;
     let mail = mails.remove(0);
@@ -91,19 +93,19 @@ fn two_runners<'a>(alloc: Global, script: &'a Script) -> Result<(Runner<'a>, Run
 
 // The second runner makes a turn, and both look at the ring between them.
 #[tactic(auto, using(crate::proofs::FirstRunners::beside_later))]
-fn turn_and_meet(first: &mut Runner<'_>, second: &mut Runner<'_>, gate: &Counter) -> Worked
+fn turn_and_meet(first: &mut Runner<'_>, second: &mut Runner<'_>, gate: &Counter) -> Turned
     requires { AreBeside second.old first.old }
 {
-    let worked = second.one(gate);
+    let turned = second.turn(gate);
     second.meet(first);
-    worked
+    turned
 }
 
 #[test]
 fn work_ends(rt: HostRuntime) -> Result<(), Fail> {
     let script = script_of(rt.alloc(), ONE_NODE)?;
     for (patience, limit, ends, moves) in WORK {
-        assert!(rt; 0 < limit && limit <= 1_048_576);
+        assert!(rt; 0 < limit && limit <= MAX_MOVES);
         let mut runner = first_runner(rt.alloc(), &script, limit)?;
         let gate = Counter::new();
         assert_eq!(rt; runner.work(patience, &gate), ends);
@@ -118,8 +120,8 @@ fn one_turn_makes_one_move(rt: HostRuntime) -> Result<(), Fail> {
     let script = script_of(rt.alloc(), ONE_NODE)?;
     let mut runner = first_runner(rt.alloc(), &script, 2)?;
     let gate = Counter::new();
-    for moves in [1, 2, 2] {
-        assert_eq!(rt; runner.one(&gate), Worked::Idle);
+    for (turned, moves) in [(Turned::Moved, 1), (Turned::Moved, 2), (Turned::Quiet, 2)] {
+        assert_eq!(rt; runner.turn(&gate), turned);
         assert_eq!(rt; runner.moves(), moves);
     }
     assert_eq!(rt; (runner.waits(0), runner.waits(1)), (false, true));
@@ -133,7 +135,10 @@ fn a_letter_is_met_and_fetched(rt: HostRuntime) -> Result<(), Fail> {
     assert_eq!(rt; script.nodes(), 2);
     let (mut first, mut second) = two_runners(rt.alloc(), &script)?;
     let gate = Counter::new();
-    assert_eq!(rt; turn_and_meet(&mut first, &mut second, &gate), Worked::Idle);
+    assert_eq!(rt;
+        turn_and_meet(&mut first, &mut second, &gate),
+        Turned::Moved
+    );
     assert!(rt; second.waits(0));
     assert!(rt; !first.has_move());
     first.fetch();

@@ -1,25 +1,44 @@
-// One turn of a runner.
+// Turns of a runner.
 ghost use Rattle.std.specs.Prelude.{◌≡◌, ◌≢◌, ◌<◌, length};
 ghost use Rattle.lt_runner.specs.declared.choice.Choice.TheVariants as choices;
-ghost use Rattle.lt_runner.specs.declared.turned.Turned.TheVariants as endings;
-ghost use Rattle.lt_runner.specs.Choices.{choice_of};
-ghost use Rattle.lt_runner.specs.Kept.{Kept, SameRunner, TurnEnds, KnowsNoLetter};
+ghost use Rattle.lt_runner.specs.declared.turning.Turned.TheVariants as endings;
+ghost use Rattle.lt_runner.specs.Choices.{next_choice};
+ghost use Rattle.lt_runner.specs.Kept.{RunnerInvariant, SameRunner, TurnEnds, KnowsNoLetter, Grew, WorkEnds};
+ghost use Rattle.lt_runner.specs.declared.turning.Worked.TheVariants as answers;
 
-use crate::choice::Choice;
-use crate::choosing::choose;
+use crate::choice::{Choice, choose};
 use crate::gate::Gate;
 use crate::parts::Parts;
-use crate::turned::Turned;
+
+/// How a turn ended.
+#[derive(Clone, Copy, Debug, PartialEq, Eq)]
+pub enum Turned {
+    Moved,
+    /// No move was found.
+    Quiet,
+    /// A move was found, and the log is full.
+    Full,
+    NoMemory,
+}
+
+/// How turns ended.
+#[derive(Clone, Copy, Debug, PartialEq, Eq)]
+pub enum Worked {
+    Idle,
+    /// The log is full, and a move more is there to be made.
+    Full,
+    NoMemory,
+}
 
 impl Parts<'_> {
     /// Sends what waits in the outboxes, looks for a move, and makes it.
     #[tactic(auto, using(crate::proofs::TurnLemmas::turn_later, crate::proofs::TurnLemmas::same_later, crate::proofs::TurnLemmas::choice_lasts))]
     pub fn turn<G: Gate>(&mut self, gate: &G) -> Turned
-        requires { Kept self.old }
-        ensures kept { Kept self.new }
+        requires { RunnerInvariant self.old }
+        ensures kept { RunnerInvariant self.new }
         ensures same { SameRunner self.old self.new }
         ensures ends { TurnEnds result self.old self.new }
-        ensures choice { choice_of self.old ≢ choices.Nothing → result ≢ endings.Quiet }
+        ensures choice { next_choice self.old ≢ choices.Nothing → result ≢ endings.Quiet }
     {
         self.look();
         self.move_on(gate)
@@ -27,22 +46,16 @@ impl Parts<'_> {
 
     // Makes the move that is there to be made.
     fn move_on<G: Gate>(&mut self, gate: &G) -> Turned
-        requires kept { Kept self.old }
+        requires kept { RunnerInvariant self.old }
         requires rings { KnowsNoLetter self.old }
-        ensures kept { Kept self.new }
+        ensures kept { RunnerInvariant self.new }
         ensures same { SameRunner self.old self.new }
         ensures ends { TurnEnds result self.old self.new }
-        ensures choice { choice_of self.old ≢ choices.Nothing → result ≢ endings.Quiet }
+        ensures choice { next_choice self.old ≢ choices.Nothing → result ≢ endings.Quiet }
     {
-        let choice = choose(self);
-        if matches!(choice, Choice::Nothing) {
-            return Turned::Quiet;
-        }
-        if self.log.len() >= self.limit {
-            return Turned::Full;
-        }
-        match choice {
+        match choose(self) {
             Choice::Nothing => Turned::Quiet,
+            _ if self.log.len() >= self.limit => Turned::Full,
             Choice::Act(client) => self.turn_act(client, gate),
             Choice::Take => self.turn_take(gate),
         }
@@ -50,10 +63,10 @@ impl Parts<'_> {
 
     #[tactic(auto, using(crate::proofs::TurnLemmas::choice_stays, crate::proofs::TurnLemmas::same_later, crate::proofs::TurnLemmas::turn_later))]
     fn turn_act<G: Gate>(&mut self, client: u16, gate: &G) -> Turned
-        requires kept { Kept self.old }
-        requires chosen { choice_of self.old ≡ choices.Act client }
+        requires kept { RunnerInvariant self.old }
+        requires chosen { next_choice self.old ≡ choices.Act client }
         requires place { length self.old.log.entries < self.old.limit }
-        ensures kept { Kept self.new }
+        ensures kept { RunnerInvariant self.new }
         ensures same { SameRunner self.old self.new }
         ensures ends { TurnEnds result self.old self.new }
         ensures choice { result ≢ endings.Quiet }
@@ -68,10 +81,10 @@ impl Parts<'_> {
 
     #[tactic(auto, using(crate::proofs::TurnLemmas::take_lasts, crate::proofs::TurnLemmas::same_later, crate::proofs::TurnLemmas::turn_later))]
     fn turn_take<G: Gate>(&mut self, gate: &G) -> Turned
-        requires kept { Kept self.old }
-        requires chosen { choice_of self.old ≡ choices.Take }
+        requires kept { RunnerInvariant self.old }
+        requires chosen { next_choice self.old ≡ choices.Take }
         requires place { length self.old.log.entries < self.old.limit }
-        ensures kept { Kept self.new }
+        ensures kept { RunnerInvariant self.new }
         ensures same { SameRunner self.old self.new }
         ensures ends { TurnEnds result self.old self.new }
         ensures choice { result ≢ endings.Quiet }
@@ -82,5 +95,35 @@ impl Parts<'_> {
         gate.pass(self.node.me());
         self.make_take();
         Turned::Moved
+    }
+}
+
+impl Parts<'_> {
+    /// Makes turns until `patience` of them, one after the other, found no move, or the log is full.
+    #[tactic(auto, using(crate::proofs::TurnLemmas::turn_grew, crate::proofs::TurnLemmas::grew_self))]
+    pub fn work<G: Gate>(&mut self, patience: u32, gate: &G) -> Worked
+        requires { RunnerInvariant self.old }
+        ensures kept { RunnerInvariant self.new }
+        ensures grew { Grew self.old self.new }
+        ensures ends { WorkEnds result patience self.new }
+        ensures at_once { patience ≡ 0 → (result ≡ answers.Idle) × (self.new ≡ self.old) }
+    {
+        let mut quiet = 0;
+        while quiet < patience {
+            match self.turn(gate) {
+                Turned::Moved => quiet = 0,
+                Turned::Quiet => quiet += 1,
+                Turned::Full => return Worked::Full,
+                Turned::NoMemory => return Worked::NoMemory,
+            }
+        }
+        Worked::Idle
+    }
+
+    /// How many moves were made.
+    pub fn moves(&self) -> u32
+        ensures { result ≡ length self.now.log.entries }
+    {
+        self.log.len()
     }
 }

@@ -77,11 +77,11 @@ all_faults = faults.Bytes ∷ faults.Length ∷ faults.Form ∷ faults.Number �
 numbered_all : AreNumbered 1 all_faults
 numbered_all = (refl, (refl, (refl, (refl, (refl, (refl, (refl, (refl, (refl, (refl, (refl, below_twelve)))))))))))
 
-told_first : (st : Option ScriptData) (line : List ℕ) (form : Option FormData)
-    → (if not (list_all is_plain_byte line) then Some faults.Bytes else if nat_lt MAX_LINE (length line) then Some faults.Length else fault_by_form st form)
-    ≡ first_true (map (with_test (has_fault_by st line form)) all_faults)
-told_first st line None = refl
-told_first st line (Some form) = refl
+told_first : (v : ℕ) (st : Option ScriptData) (line : List ℕ) (form : Option FormData)
+    → (if not (list_all is_plain_byte line) then Some faults.Bytes else if nat_lt MAX_LINE (length line) then Some faults.Length else fault_by_form v st form)
+    ≡ first_true (map (with_test (has_fault_by v st line form)) all_faults)
+told_first v st line None = refl
+told_first v st line (Some form) = refl
 
 none_below_one : (holds : Fault → Bool) (fault : Fault) → number_of fault < 1 → holds fault ≡ false
 none_below_one holds faults.Bytes below = absurd (omega (arith, below))
@@ -97,18 +97,19 @@ none_below_one holds faults.Mode below = absurd (omega (arith, below))
 none_below_one holds faults.Node below = absurd (omega (arith, below))
 
 pub least_is_told : LeastIsTold
-least_is_told st line =
-    let holds = has_fault_by st line (form_of (words line)) in
-    subst (IsLeastFault holds) (sym (told_first st line (form_of (words line)))) (least holds all_faults 1 (none_below_one holds) numbered_all)
+least_is_told v st line =
+    let holds = has_fault_by v st line (form_of (words line)) in
+    subst (IsLeastFault holds) (sym (told_first v st line (form_of (words line)))) (least holds all_faults 1 (none_below_one holds) numbered_all)
 
 pub limits_are : LimitsAre
-limits_are = record { nodes = refl; sets = refl; clients = refl; clients_of_node = refl; commands = refl; name = refl; line = refl }
+limits_are = record { nodes = refl; nodes_of_first = refl; sets = refl; clients = refl; clients_of_first = refl; clients_of_node = refl; commands = refl; name = refl; line = refl }
 
 pub numbers_are : NumbersAre
 numbers_are = refl
 
 pub forms_are : FormsAre
 forms_are = record {
+  version = refl;
   nodes = λ n. refl;
   set = λ s. refl;
   set_with = λ s t. refl;

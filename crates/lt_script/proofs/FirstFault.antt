@@ -8,32 +8,32 @@ use Rattle.lt_script.specs.declared.fault.Fault.TheVariants as faults
 use Rattle.lt_script.specs.declared.fault.ScriptFault.{ScriptFault}
 use Rattle.lt_script.specs.Forms.{form_of}
 use Rattle.lt_script.specs.Faults.{line_fault}
-use Rattle.lt_script.specs.Reading.{is_skipped, line_step, unless, after_line, go_on, read_from}
+use Rattle.lt_script.specs.Reading.{is_skipped, line_step, unless, script_after, go_on, read_from, script_body}
 use Rattle.lt_script.specs.FaultLaws.{has_fault, IsLeastFault, IsFirstFault, LacksNodes, FirstIsTold}
 use Rattle.lt_script.proofs.FaultOrder.{least_is_told}
 
 -- a line with a fault isn't skipped
-record Told (st : Option ScriptData) (line : List ℕ) (fault : Fault) : Type 0 where
+record Told (v : ℕ) (st : Option ScriptData) (line : List ℕ) (fault : Fault) : Type 0 where
   judged : is_skipped line ≡ false
-  first : line_fault st line ≡ Some fault
+  first : line_fault v st line ≡ Some fault
 
 by_fault : (o : Option Fault) (next : Option ScriptData) (fault : Fault) → unless o next ≡ Err fault → o ≡ Some fault
 by_fault (Some first) next fault e = cc
 by_fault None next fault e = absurd (cc)
 
-told_of : (st : Option ScriptData) (line : List ℕ) (fault : Fault) → line_step st line ≡ Err fault → Told st line fault
+told_of : (v : ℕ) (st : Option ScriptData) (line : List ℕ) (fault : Fault) → line_step v st line ≡ Err fault → Told v st line fault
 unfolding line_step
-told_of st line fault e =
-    let next = after_line st (form_of (words line)) in
-    elim (is_skipped line) as (λ t. is_skipped line ≡ t → (if t then Ok st else unless (line_fault st line) next) ≡ Err fault → Told st line fault) [
+told_of v st line fault e =
+    let next = script_after v st (form_of (words line)) in
+    elim (is_skipped line) as (λ t. is_skipped line ≡ t → (if t then Ok st else unless (line_fault v st line) next) ≡ Err fault → Told v st line fault) [
       | true ↦ λ skipped e. absurd (cc)
-      | false ↦ λ judged e. record { judged = judged; first = by_fault (line_fault st line) next fault e }
+      | false ↦ λ judged e. record { judged = judged; first = by_fault (line_fault v st line) next fault e }
     ] refl e
 
-first_here : (line : List ℕ) (rest : List (List ℕ)) (k : ℕ) (st : Option ScriptData) (fault : Fault) → line_step st line ≡ Err fault
-    → IsFirstFault k st (line ∷ rest) (record { line = k; fault = fault })
-first_here line rest k st fault step =
-    let told = told_of st line fault step in
+first_here : (v : ℕ) (line : List ℕ) (rest : List (List ℕ)) (k : ℕ) (st : Option ScriptData) (fault : Fault) → line_step v st line ≡ Err fault
+    → IsFirstFault v k st (line ∷ rest) (record { line = k; fault = fault })
+first_here v line rest k st fault step =
+    let told = told_of v st line fault step in
     record {
       before = [];
       line = line;
@@ -43,12 +43,12 @@ first_here line rest k st fault step =
       counted = omega arith;
       read = refl;
       judged = told.judged;
-      least = subst (IsLeastFault (has_fault st line)) told.first (least_is_told st line);
+      least = subst (IsLeastFault (has_fault v st line)) told.first (least_is_told v st line);
     }
 
-first_later : (line : List ℕ) (rest : List (List ℕ)) (k : ℕ) (st next : Option ScriptData) (told : ScriptFault) → line_step st line ≡ Ok next
-    → IsFirstFault (k + 1) next rest told ⊎ LacksNodes (k + 1) next rest told → IsFirstFault k st (line ∷ rest) told ⊎ LacksNodes k st (line ∷ rest) told
-first_later line rest k st next told step h = elim h [
+first_later : (v : ℕ) (line : List ℕ) (rest : List (List ℕ)) (k : ℕ) (st next : Option ScriptData) (told : ScriptFault) → line_step v st line ≡ Ok next
+    → IsFirstFault v (k + 1) next rest told ⊎ LacksNodes v (k + 1) next rest told → IsFirstFault v k st (line ∷ rest) told ⊎ LacksNodes v k st (line ∷ rest) told
+first_later v line rest k st next told step h = elim h [
   | inl first ↦ inl (record {
     before = line ∷ first.before;
     line = first.line;
@@ -69,21 +69,23 @@ told_error fault = Err fault
 same_error : (a b : ScriptFault) → told_error a ≡ Err b → a ≡ b
 same_error a b e = cc
 
-first_from : (ls : List (List ℕ)) (k : ℕ) (st : Option ScriptData) (told : ScriptFault) → read_from ls k st ≡ Err told → IsFirstFault k st ls told ⊎ LacksNodes k st ls told
+first_from : (v : ℕ) (ls : List (List ℕ)) (k : ℕ) (st : Option ScriptData) (told : ScriptFault) → read_from v ls k st ≡ Err told → IsFirstFault v k st ls told ⊎ LacksNodes v k st ls told
 unfolding read_from
-first_from [] k (Some s) told e = absurd (cc)
-first_from [] k None told e =
+first_from v [] k (Some s) told e = absurd (cc)
+first_from v [] k None told e =
     let same : record { line = k; fault = faults.Nodes } ≡ told = same_error (record { line = k; fault = faults.Nodes }) told e in
     inr (record {
       read = refl;
       counted = omega (arith, ap (λ (f : ScriptFault). f.line) same);
       fault = sym (ap (λ (f : ScriptFault). f.fault) same);
     })
-first_from (line ∷ rest) k st told e =
-    elim (line_step st line) as (λ r. line_step st line ≡ r → go_on k (read_from rest (k + 1)) r ≡ Err told → IsFirstFault k st (line ∷ rest) told ⊎ LacksNodes k st (line ∷ rest) told) [
-      | Ok next ↦ λ step e. first_later line rest k st next told step (first_from rest (k + 1) next told e)
-      | Err fault ↦ λ step e. inl (subst (IsFirstFault k st (line ∷ rest)) (same_error (record { line = k; fault = fault }) told e) (first_here line rest k st fault step))
+first_from v (line ∷ rest) k st told e =
+    elim (line_step v st line) as (λ r. line_step v st line ≡ r → go_on k (read_from v rest (k + 1)) r ≡ Err told → IsFirstFault v k st (line ∷ rest) told ⊎ LacksNodes v k st (line ∷ rest) told) [
+      | Ok next ↦ λ step e. first_later v line rest k st next told step (first_from v rest (k + 1) next told e)
+      | Err fault ↦ λ step e. inl (subst (IsFirstFault v k st (line ∷ rest)) (same_error (record { line = k; fault = fault }) told e) (first_here v line rest k st fault step))
     ] refl e
 
 pub first_is_told : FirstIsTold
-first_is_told bytes told e = first_from (lines bytes) 1 None told e
+first_is_told bytes told e =
+    let body = script_body (lines bytes) 1 in
+    first_from body.version body.lines body.first None told e

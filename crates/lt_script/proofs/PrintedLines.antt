@@ -87,7 +87,7 @@ printed_word word e =
     no_blank : (byte : ℕ) → is_inked byte ≡ true → is_blank byte ≡ false
     no_blank byte e = let b = inked_bounds byte e in rw (ne_eqb byte 32 (λ same. omega (arith, b.0)), ne_eqb byte 9 (λ same. omega (arith, b.0)))
 
-printed_words : (ws : List (List ℕ)) → ArePrinted ws → AllByRecursion IsWord ws
+pub printed_words : (ws : List (List ℕ)) → ArePrinted ws → AllByRecursion IsWord ws
 printed_words [] good = tt
 printed_words (word ∷ ws) good = (printed_word word good.0, printed_words ws good.1)
 
@@ -147,10 +147,10 @@ pub record IsPrintedLine (ws : List (List ℕ)) : Type 0 where
   pub says : says_nothing ws ≡ false
 
 -- such a line with a form without fault is read
-pub line_read : (st : Option ScriptData) (ws : List (List ℕ)) (form : FormData) → IsPrintedLine ws → form_of ws ≡ Some form → form_fault st form ≡ None
-    → line_step st (spaced ws) ≡ Ok (Some (after_form (declared st) form))
+pub line_read : (v : ℕ) (st : Option ScriptData) (ws : List (List ℕ)) (form : FormData) → IsPrintedLine ws → form_of ws ≡ Some form → form_fault v st form ≡ None
+    → line_step v st (spaced ws) ≡ Ok (Some (after_form (declared v st) form))
 unfolding line_step
-line_read st ws form good has_form clean =
+line_read v st ws form good has_form clean =
     rw (
       words_spaced ws (printed_words ws good.are_printed),
       good.says,
@@ -215,6 +215,7 @@ number_printed n small =
 
 -- a name begins no line of another kind, and no comment
 pub record BeginsCommand (word : List ℕ) : Type 0 where
+  pub not_version : bytes_eq word (codes "version") ≡ false
   pub not_nodes : bytes_eq word (codes "nodes") ≡ false
   pub not_set : bytes_eq word (codes "set") ≡ false
   pub not_client : bytes_eq word (codes "client") ≡ false
@@ -230,7 +231,7 @@ name_begins word e =
     let three = or_parts (bytes_eq word (codes "nodes") || bytes_eq word (codes "set") || bytes_eq word (codes "client")) (bytes_eq word (codes "journal")) four.0 in
     let two = or_parts (bytes_eq word (codes "nodes") || bytes_eq word (codes "set")) (bytes_eq word (codes "client")) three.0 in
     let one = or_parts (bytes_eq word (codes "nodes")) (bytes_eq word (codes "set")) two.0 in
-    record { not_nodes = one.0; not_set = one.1; not_client = two.1; no_comment = ne_eqb (get_or word 0 0) 35 (letter (get_or word 0 0) first.1) }
+    record { not_version = four.1; not_nodes = one.0; not_set = one.1; not_client = two.1; no_comment = ne_eqb (get_or word 0 0) 35 (letter (get_or word 0 0) first.1) }
   where
     letter : (byte : ℕ) → is_ascii_alphabetic byte ≡ true → byte ≢ 35
     letter byte e = elim (or_cases (is_in_range 65 90 byte) (is_in_range 97 122 byte) e) [

@@ -1,29 +1,32 @@
 -- The text of a script is read as that script.
 use Rattle.lt_script.proofs.RoundTripSets.{get_middle, get_or_middle, Walks, walk_none, walk_more, walk_both, sets_only, clients_only, commands_only, set_fits, set_printed, set_with_printed, sets_walk}
-use Rattle.std.proofs.Common.{◌≡◌, ℕ, ◌+◌, ◌<◌, ◌≤◌, ◌==◌, true, cond, List, [], ◌∷◌, ◌++◌, length, map, get_or, Some, None, position, slice_get, Ok, refl, sym, ap, subst, ◌∙◌, inl, inr, arith, append_assoc, append-nil, length-append, codes}
+use Rattle.std.proofs.Common.{◌≡◌, ℕ, ◌+◌, ◌<◌, ◌≤◌, ◌==◌, ◌&&◌, Bool, true, false, not, nat_lt, cond, List, [], ◌∷◌, ◌++◌, length, map, get_or, Some, None, position, slice_get, Ok, refl, sym, ap, subst, ◌∙◌, inl, inr, arith, append_assoc, append-nil, length-append, codes}
+use Rattle.std.specs.Prelude.{IsTrue, if◌then◌else◌}
 use Rattle.std.specs.List.{AllByRecursion}
 use Rattle.std.specs.Str.{bytes_eq}
 use Rattle.std.specs.Fmt.{decimal}
 use Rattle.std.proofs.lemmas.Bool.{cases_Bool, eq-eqb, lt-ltb, lt-leb, le-ltb}
 use Rattle.std.proofs.lemmas.List.Sums.{sum_by-append, sum_by-cons}
 use Rattle.lt_modes.specs.declared.mode.Mode.{Mode}
-use Rattle.lt_modes.specs.declared.mode.Mode.TheVariants.{IntentionRead, Read, Upgrade, IntentionWrite, Write}
+use Rattle.lt_modes.specs.declared.mode.Mode.TheVariants.{IntentionRead, Read, Upgrade, IntentionWrite, ReadIntentionWrite, Write}
 use Rattle.lt_modes.specs.declared.command.Command.{Command}
 use Rattle.lt_modes.specs.declared.command.Command.TheVariants.{Lock, Try, Unlock, Change, DropAll}
 use Rattle.lt_modes.specs.Modes.{mode_of, word_of}
+use Rattle.lt_modes.specs.FiveModes.{is_of_version}
 use Rattle.lt_modes.specs.Script.{ScriptData, SetData, ClientData, set_name, client_name, name_of_client, node_of_client, home_at}
 use Rattle.lt_text.specs.Text.{spaced, lines, IsLine}
 use Rattle.lt_text.specs.Number.{number}
-use Rattle.lt_text.proofs.TextLemmas.{lines_text}
+use Rattle.lt_text.proofs.TextLemmas.{lines_text, words_spaced}
+use Rattle.lt_script.specs.declared.limits.TheConstants.{MAX_LINE}
 use Rattle.lt_text.proofs.NumberLemmas.{number_decimal}
 use Rattle.lt_script.specs.Names.{is_name}
-use Rattle.lt_script.specs.Script.{IsScript, IsRequest, HasTargets, load_of, set_number, client_number}
-use Rattle.lt_script.specs.Forms.{NodesForm, ClientForm, CommandForm, OrderData, LockOrder, TryOrder, UnlockOrder, ChangeOrder, DropOrder, form_of, order_of}
-use Rattle.lt_script.specs.Faults.{only_nodes}
-use Rattle.lt_script.specs.Reading.{line_step, read_from, read_of}
-use Rattle.lt_script.specs.Printing.{nodes_words, first_name, set_words, client_words, order_words, command_words, script_words, print_of}
+use Rattle.lt_script.specs.Script.{IsScript, IsRequest, HasModesOf, HasTargets, most_nodes, most_clients, load_of, set_number, client_number}
+use Rattle.lt_script.specs.Forms.{NodesForm, ClientForm, CommandForm, CommandWordsData, LockWords, TryWords, UnlockWords, ChangeWords, DropWords, form_of, asked_of}
+use Rattle.lt_script.specs.Faults.{only_nodes, mode_in}
+use Rattle.lt_script.specs.Reading.{ScriptBody, line_step, read_from, script_body, read_body, read_of}
+use Rattle.lt_script.specs.Printing.{version_words, nodes_words, first_name, set_words, client_words, asked_words, command_words, script_words, print_of}
 use Rattle.lt_script.proofs.NameLemmas.{not_in_front}
-use Rattle.lt_script.proofs.PrintedLines.{ArePrinted, IsPrintedLine, is_printed, line_read, name_printed, number_printed, printed_line, name_begins}
+use Rattle.lt_script.proofs.PrintedLines.{ArePrinted, printed_words, IsPrintedLine, is_printed, line_read, name_printed, number_printed, printed_line, name_begins}
 use Rattle.lt_script.proofs.ReadLemmas.{read_more, read_end}
 
 -- a client of a script, as the clients before it see it
@@ -31,9 +34,9 @@ record ClientFits (s : ScriptData) (done : List ClientData) (x : ClientData) : T
   pub named : is_name x.name ≡ true
   pub no_set : set_number s x.name ≡ None
   pub is_new : client_number (clients_only s done) x.name ≡ None
-  pub few : length done < 64
+  pub few : length done < most_clients s.version
   pub on_node : x.node < s.nodes
-  pub few_nodes : x.node < 16
+  pub few_nodes : x.node < 64
   pub load : load_of done x.node < 16
 
 client_fits : (s : ScriptData) → IsScript s → (done : List ClientData) (x : ClientData) (rest : List ClientData) → done ++ x ∷ rest ≡ s.clients → ClientFits s done x
@@ -52,13 +55,13 @@ client_fits s good done x rest e =
       named = subst (λ w. is_name w ≡ true) name_at (good.clients_named j inside);
       no_set = subst (λ w. set_number s w ≡ None) name_at (good.clients_no_sets j inside);
       is_new = not_in_front (λ (y : ClientData). bytes_eq y.name x.name) done (x ∷ rest) (subst (λ (l : List ClientData). position (λ (y : ClientData). bytes_eq y.name x.name) l ≡ Some j) (sym e) found);
-      few = omega (arith, good.few_clients);
+      few = omega (arith, good.clients_of_version);
       on_node = on_node;
       few_nodes = omega (arith, good.few_nodes);
       load = omega (arith, sum_by-append (λ (y : ClientData). cond (y.node == x.node) 1 0) done (x ∷ rest));
     }
 
-client_printed : (name : List ℕ) (node : ℕ) → is_name name ≡ true → node < 16 → IsPrintedLine (codes "client" ∷ name ∷ codes "at" ∷ decimal node ∷ [])
+client_printed : (name : List ℕ) (node : ℕ) → is_name name ≡ true → node < 64 → IsPrintedLine (codes "client" ∷ name ∷ codes "at" ∷ decimal node ∷ [])
 client_printed name node named small = record {
   are_printed = (refl, (name_printed name named, (refl, (number_printed node (omega arith), tt))));
   few = omega arith;
@@ -66,19 +69,19 @@ client_printed name node named small = record {
 }
 
 client_read : (s : ScriptData) → IsScript s → (done : List ClientData) (x : ClientData) (rest : List ClientData) → done ++ x ∷ rest ≡ s.clients
-    → line_step (Some (clients_only s done)) (spaced (client_words x)) ≡ Ok (Some (clients_only s (done ++ x ∷ [])))
+    → line_step s.version (Some (clients_only s done)) (spaced (client_words x)) ≡ Ok (Some (clients_only s (done ++ x ∷ [])))
 client_read s good done x rest e =
     let fits = client_fits s good done x rest e in
     let st : ScriptData = clients_only s done in
     let number_is : number (decimal x.node) ≡ Some x.node = number_decimal x.node (omega (arith, fits.few_nodes)) in
-    line_read (Some st) (client_words x) (ClientForm x.name (decimal x.node)) (client_printed x.name x.node fits.named fits.few_nodes) refl
-    (rw (number_is, lt-ltb x.node s.nodes fits.on_node, fits.named, fits.no_set, fits.is_new, lt-leb 64 (length done) fits.few, lt-leb 16 (load_of done x.node) fits.load))
+    line_read s.version (Some st) (client_words x) (ClientForm x.name (decimal x.node)) (client_printed x.name x.node fits.named fits.few_nodes) refl
+    (rw (number_is, lt-ltb x.node s.nodes fits.on_node, fits.named, fits.no_set, fits.is_new, lt-leb (most_clients s.version) (length done) fits.few, lt-leb 16 (load_of done x.node) fits.load))
     ∙ rw number_is refl
 
-clients_walk : (s : ScriptData) → IsScript s → (done rest : List ClientData) → done ++ rest ≡ s.clients → Walks (map spaced (map client_words rest)) (clients_only s done) (clients_only s s.clients)
-clients_walk s good done [] e = subst (λ (l : List ClientData). Walks [] (clients_only s done) (clients_only s l)) (sym (append-nil done) ∙ e) (walk_none (clients_only s done))
+clients_walk : (s : ScriptData) → IsScript s → (done rest : List ClientData) → done ++ rest ≡ s.clients → Walks s.version (map spaced (map client_words rest)) (clients_only s done) (clients_only s s.clients)
+clients_walk s good done [] e = subst (λ (l : List ClientData). Walks s.version [] (clients_only s done) (clients_only s l)) (sym (append-nil done) ∙ e) (walk_none s.version (clients_only s done))
 clients_walk s good done (x ∷ rest) e =
-    walk_more (spaced (client_words x)) (map spaced (map client_words rest)) (clients_only s done) (clients_only s (done ++ x ∷ [])) (clients_only s s.clients)
+    walk_more s.version (spaced (client_words x)) (map spaced (map client_words rest)) (clients_only s done) (clients_only s (done ++ x ∷ [])) (clients_only s s.clients)
     (client_read s good done x rest e)
     (clients_walk s good (done ++ x ∷ []) rest (append_assoc done (x ∷ []) rest ∙ e))
 
@@ -87,20 +90,26 @@ mode_read IntentionRead = refl
 mode_read Read = refl
 mode_read Upgrade = refl
 mode_read IntentionWrite = refl
+mode_read ReadIntentionWrite = refl
 mode_read Write = refl
+
+-- so is the mode of a version, where it is one of it
+mode_read_in : (version : ℕ) (mode : Mode) → IsTrue (is_of_version version mode) → mode_in version (word_of mode) ≡ Some mode
+mode_read_in version mode own = rw (mode_read mode, own) refl
 
 mode_printed : (mode : Mode) → is_printed (word_of mode) ≡ true
 mode_printed IntentionRead = refl
 mode_printed Read = refl
 mode_printed Upgrade = refl
 mode_printed IntentionWrite = refl
+mode_printed ReadIntentionWrite = refl
 mode_printed Write = refl
 
 -- a line that begins with a name is a command's
-command_form : (name : List ℕ) (ws : List (List ℕ)) (order : OrderData) → is_name name ≡ true → order_of ws ≡ Some order → form_of (name ∷ ws) ≡ Some (CommandForm name order)
-command_form name ws order named e =
+command_form : (name : List ℕ) (ws : List (List ℕ)) (asked : CommandWordsData) → is_name name ≡ true → asked_of ws ≡ Some asked → form_of (name ∷ ws) ≡ Some (CommandForm name asked)
+command_form name ws asked named e =
     let begins = name_begins name named in
-    rw (begins.not_nodes, begins.not_set, begins.not_client, e)
+    rw (begins.not_version, begins.not_nodes, begins.not_set, begins.not_client, e)
 
 command_printed : (name : List ℕ) (ws : List (List ℕ)) → is_name name ≡ true → ArePrinted ws → length ws ≤ 4 → IsPrintedLine (name ∷ ws)
 command_printed name ws named good few = record {
@@ -110,73 +119,73 @@ command_printed name ws named good few = record {
 }
 
 -- what stands behind the client's name
-order_printed : (s : ScriptData) → IsScript s → (client : ℕ) (command : Command) → HasTargets s.sets s.clients client command → ArePrinted (order_words s command)
-order_printed s good client (Lock set mode) targets = (refl, (name_printed (set_name s set) (good.sets_named set targets), (mode_printed mode, tt)))
-order_printed s good client (Try set mode) targets = (refl, (name_printed (set_name s set) (good.sets_named set targets), (mode_printed mode, tt)))
-order_printed s good client (Unlock set mode) targets = (refl, (name_printed (set_name s set) (good.sets_named set targets), (mode_printed mode, tt)))
-order_printed s good client (Change set gives_up mode) targets = (refl, (name_printed (set_name s set) (good.sets_named set targets), (mode_printed gives_up, (mode_printed mode, tt))))
-order_printed s good client (DropAll other set) targets = (refl, (name_printed (client_name s other) (good.clients_named other targets.1), (name_printed (set_name s set) (good.sets_named set targets.0), tt)))
+asked_printed : (s : ScriptData) → IsScript s → (client : ℕ) (command : Command) → HasTargets s.sets s.clients client command → ArePrinted (asked_words s command)
+asked_printed s good client (Lock set mode) targets = (refl, (name_printed (set_name s set) (good.sets_named set targets), (mode_printed mode, tt)))
+asked_printed s good client (Try set mode) targets = (refl, (name_printed (set_name s set) (good.sets_named set targets), (mode_printed mode, tt)))
+asked_printed s good client (Unlock set mode) targets = (refl, (name_printed (set_name s set) (good.sets_named set targets), (mode_printed mode, tt)))
+asked_printed s good client (Change set gives_up mode) targets = (refl, (name_printed (set_name s set) (good.sets_named set targets), (mode_printed gives_up, (mode_printed mode, tt))))
+asked_printed s good client (DropAll other set) targets = (refl, (name_printed (client_name s other) (good.clients_named other targets.1), (name_printed (set_name s set) (good.sets_named set targets.0), tt)))
 
-command_read : (s : ScriptData) → IsScript s → (done : List (ℕ × Command)) (client : ℕ) (command : Command) → length done < 4096 → IsRequest s.sets s.clients (client, command)
-    → line_step (Some (commands_only s done)) (spaced (command_words s (client, command))) ≡ Ok (Some (commands_only s (done ++ (client, command) ∷ [])))
-command_read s good done client (Lock set mode) few request =
+command_read : (s : ScriptData) → IsScript s → (done : List (ℕ × Command)) (client : ℕ) (command : Command) → length done < 4096 → IsRequest s.sets s.clients (client, command) → HasModesOf s.version command
+    → line_step s.version (Some (commands_only s done)) (spaced (command_words s (client, command))) ≡ Ok (Some (commands_only s (done ++ (client, command) ∷ [])))
+command_read s good done client (Lock set mode) few request modes =
     let st : ScriptData = commands_only s done in
     let name : List ℕ = client_name s client in
     let named = good.clients_named client request.0 in
     let own = good.clients_found client request.0 in
     let found = good.sets_found set request.1 in
-    line_read (Some st) (name ∷ order_words s (Lock set mode)) (CommandForm name (LockOrder (set_name s set) (word_of mode)))
-    (command_printed name (order_words s (Lock set mode)) named (order_printed s good client (Lock set mode) request.1) (omega arith))
-    (command_form name (order_words s (Lock set mode)) (LockOrder (set_name s set) (word_of mode)) named refl)
-    (rw (own, found, lt-leb 4096 (length done) few, mode_read mode))
+    line_read s.version (Some st) (name ∷ asked_words s (Lock set mode)) (CommandForm name (LockWords (set_name s set) (word_of mode)))
+    (command_printed name (asked_words s (Lock set mode)) named (asked_printed s good client (Lock set mode) request.1) (omega arith))
+    (command_form name (asked_words s (Lock set mode)) (LockWords (set_name s set) (word_of mode)) named refl)
+    (rw (own, found, lt-leb 4096 (length done) few, mode_read_in s.version mode modes))
     ∙ rw (own, found, mode_read mode) refl
-command_read s good done client (Try set mode) few request =
+command_read s good done client (Try set mode) few request modes =
     let st : ScriptData = commands_only s done in
     let name : List ℕ = client_name s client in
     let named = good.clients_named client request.0 in
     let own = good.clients_found client request.0 in
     let found = good.sets_found set request.1 in
-    line_read (Some st) (name ∷ order_words s (Try set mode)) (CommandForm name (TryOrder (set_name s set) (word_of mode)))
-    (command_printed name (order_words s (Try set mode)) named (order_printed s good client (Try set mode) request.1) (omega arith))
-    (command_form name (order_words s (Try set mode)) (TryOrder (set_name s set) (word_of mode)) named refl)
-    (rw (own, found, lt-leb 4096 (length done) few, mode_read mode))
+    line_read s.version (Some st) (name ∷ asked_words s (Try set mode)) (CommandForm name (TryWords (set_name s set) (word_of mode)))
+    (command_printed name (asked_words s (Try set mode)) named (asked_printed s good client (Try set mode) request.1) (omega arith))
+    (command_form name (asked_words s (Try set mode)) (TryWords (set_name s set) (word_of mode)) named refl)
+    (rw (own, found, lt-leb 4096 (length done) few, mode_read_in s.version mode modes))
     ∙ rw (own, found, mode_read mode) refl
-command_read s good done client (Unlock set mode) few request =
+command_read s good done client (Unlock set mode) few request modes =
     let st : ScriptData = commands_only s done in
     let name : List ℕ = client_name s client in
     let named = good.clients_named client request.0 in
     let own = good.clients_found client request.0 in
     let found = good.sets_found set request.1 in
-    line_read (Some st) (name ∷ order_words s (Unlock set mode)) (CommandForm name (UnlockOrder (set_name s set) (word_of mode)))
-    (command_printed name (order_words s (Unlock set mode)) named (order_printed s good client (Unlock set mode) request.1) (omega arith))
-    (command_form name (order_words s (Unlock set mode)) (UnlockOrder (set_name s set) (word_of mode)) named refl)
-    (rw (own, found, lt-leb 4096 (length done) few, mode_read mode))
+    line_read s.version (Some st) (name ∷ asked_words s (Unlock set mode)) (CommandForm name (UnlockWords (set_name s set) (word_of mode)))
+    (command_printed name (asked_words s (Unlock set mode)) named (asked_printed s good client (Unlock set mode) request.1) (omega arith))
+    (command_form name (asked_words s (Unlock set mode)) (UnlockWords (set_name s set) (word_of mode)) named refl)
+    (rw (own, found, lt-leb 4096 (length done) few, mode_read_in s.version mode modes))
     ∙ rw (own, found, mode_read mode) refl
-command_read s good done client (Change set gives_up mode) few request =
+command_read s good done client (Change set gives_up mode) few request modes =
     let st : ScriptData = commands_only s done in
     let name : List ℕ = client_name s client in
-    let ws : List (List ℕ) = order_words s (Change set gives_up mode) in
-    let order : OrderData = ChangeOrder (set_name s set) (word_of gives_up) (word_of mode) in
+    let ws : List (List ℕ) = asked_words s (Change set gives_up mode) in
+    let asked : CommandWordsData = ChangeWords (set_name s set) (word_of gives_up) (word_of mode) in
     let named = good.clients_named client request.0 in
     let own = good.clients_found client request.0 in
     let found = good.sets_found set request.1 in
-    line_read (Some st) (name ∷ ws) (CommandForm name order)
-    (command_printed name ws named (order_printed s good client (Change set gives_up mode) request.1) (omega arith))
-    (command_form name ws order named refl)
-    (rw (own, found, lt-leb 4096 (length done) few, mode_read gives_up, mode_read mode))
+    line_read s.version (Some st) (name ∷ ws) (CommandForm name asked)
+    (command_printed name ws named (asked_printed s good client (Change set gives_up mode) request.1) (omega arith))
+    (command_form name ws asked named refl)
+    (rw (own, found, lt-leb 4096 (length done) few, mode_read_in s.version gives_up modes.0, mode_read_in s.version mode modes.1))
     ∙ rw (own, found, mode_read gives_up, mode_read mode) refl
-command_read s good done client (DropAll other set) few request =
+command_read s good done client (DropAll other set) few request modes =
     let st : ScriptData = commands_only s done in
     let name : List ℕ = client_name s client in
-    let ws : List (List ℕ) = order_words s (DropAll other set) in
-    let order : OrderData = DropOrder (client_name s other) (set_name s set) in
+    let ws : List (List ℕ) = asked_words s (DropAll other set) in
+    let asked : CommandWordsData = DropWords (client_name s other) (set_name s set) in
     let named = good.clients_named client request.0 in
     let own = good.clients_found client request.0 in
     let other_found = good.clients_found other request.1.1 in
     let found = good.sets_found set request.1.0 in
-    line_read (Some st) (name ∷ ws) (CommandForm name order)
-    (command_printed name ws named (order_printed s good client (DropAll other set) request.1) (omega arith))
-    (command_form name ws order named refl)
+    line_read s.version (Some st) (name ∷ ws) (CommandForm name asked)
+    (command_printed name ws named (asked_printed s good client (DropAll other set) request.1) (omega arith))
+    (command_form name ws asked named refl)
     (rw (own, other_found, found, lt-leb 4096 (length done) few, eq-eqb (home_at s.clients other) (home_at s.clients client) request.1.2))
     ∙ rw (own, other_found, found) refl
 
@@ -186,21 +195,27 @@ request_at s good done x rest e =
     let here : get_or s.commands (length done) x ≡ x = subst (λ (l : List (ℕ × Command)). get_or l (length done) x ≡ x) e (get_or_middle done x rest x) in
     subst (IsRequest s.sets s.clients) here (good.requests (length done) x inside)
 
-commands_walk : (s : ScriptData) → IsScript s → (done rest : List (ℕ × Command)) → done ++ rest ≡ s.commands → Walks (map spaced (map (command_words s) rest)) (commands_only s done) (commands_only s s.commands)
-commands_walk s good done [] e = subst (λ (l : List (ℕ × Command)). Walks [] (commands_only s done) (commands_only s l)) (sym (append-nil done) ∙ e) (walk_none (commands_only s done))
+modes_at : (s : ScriptData) → IsScript s → (done : List (ℕ × Command)) (x : ℕ × Command) (rest : List (ℕ × Command)) → done ++ x ∷ rest ≡ s.commands → HasModesOf s.version x.1
+modes_at s good done x rest e =
+    let inside : length done < length s.commands = omega (arith, length-append done (x ∷ rest), ap length e) in
+    let here : get_or s.commands (length done) x ≡ x = subst (λ (l : List (ℕ × Command)). get_or l (length done) x ≡ x) e (get_or_middle done x rest x) in
+    subst (λ (request : ℕ × Command). HasModesOf s.version request.1) here (good.modes (length done) x inside)
+
+commands_walk : (s : ScriptData) → IsScript s → (done rest : List (ℕ × Command)) → done ++ rest ≡ s.commands → Walks s.version (map spaced (map (command_words s) rest)) (commands_only s done) (commands_only s s.commands)
+commands_walk s good done [] e = subst (λ (l : List (ℕ × Command)). Walks s.version [] (commands_only s done) (commands_only s l)) (sym (append-nil done) ∙ e) (walk_none s.version (commands_only s done))
 commands_walk s good done (x ∷ rest) e =
-    walk_more (spaced (command_words s x)) (map spaced (map (command_words s) rest)) (commands_only s done) (commands_only s (done ++ x ∷ [])) (commands_only s s.commands)
-    (command_read s good done x.0 x.1 (omega (arith, length-append done (x ∷ rest), ap length e, good.few_commands)) (request_at s good done x rest e))
+    walk_more s.version (spaced (command_words s x)) (map spaced (map (command_words s) rest)) (commands_only s done) (commands_only s (done ++ x ∷ [])) (commands_only s s.commands)
+    (command_read s good done x.0 x.1 (omega (arith, length-append done (x ∷ rest), ap length e, good.few_commands)) (request_at s good done x rest e) (modes_at s good done x rest e))
     (commands_walk s good (done ++ x ∷ []) rest (append_assoc done (x ∷ []) rest ∙ e))
 
-nodes_printed : (nodes : ℕ) → nodes ≤ 16 → IsPrintedLine (nodes_words nodes)
+nodes_printed : (nodes : ℕ) → nodes ≤ 64 → IsPrintedLine (nodes_words nodes)
 nodes_printed nodes few = record { are_printed = (refl, (number_printed nodes (omega arith), tt)); few = omega arith; says = refl }
 
 -- the line `nodes` begins the script
-nodes_read : (nodes : ℕ) → 0 < nodes → nodes ≤ 16 → line_step None (spaced (nodes_words nodes)) ≡ Ok (Some (only_nodes nodes))
-nodes_read nodes some few =
+nodes_read : (v nodes : ℕ) → 0 < nodes → nodes ≤ 64 → nodes ≤ most_nodes v → line_step v None (spaced (nodes_words nodes)) ≡ Ok (Some (only_nodes v nodes))
+nodes_read v nodes some few own =
     let number_is : number (decimal nodes) ≡ Some nodes = number_decimal nodes (omega (arith, few)) in
-    line_read None (nodes_words nodes) (NodesForm (decimal nodes)) (nodes_printed nodes few) refl (rw (number_is, lt-ltb 0 nodes some, le-ltb 16 nodes few))
+    line_read v None (nodes_words nodes) (NodesForm (decimal nodes)) (nodes_printed nodes few) refl (rw (number_is, lt-ltb 0 nodes some, le-ltb (most_nodes v) nodes own))
     ∙ rw number_is refl
 
 sets_printed : (s : ScriptData) → IsScript s → (done rest : List SetData) → done ++ rest ≡ s.sets → AllByRecursion ArePrinted (map (set_words s.sets) rest)
@@ -225,7 +240,7 @@ commands_printed : (s : ScriptData) → IsScript s → (done rest : List (ℕ ×
 commands_printed s good done [] e = tt
 commands_printed s good done (x ∷ rest) e =
     let request = request_at s good done x rest e in (
-      (name_printed (client_name s x.0) (good.clients_named x.0 request.0), order_printed s good x.0 x.1 request.1),
+      (name_printed (client_name s x.0) (good.clients_named x.0 request.0), asked_printed s good x.0 x.1 request.1),
       commands_printed s good (done ++ x ∷ []) rest (append_assoc done (x ∷ []) rest ∙ e),
     )
 
@@ -241,42 +256,88 @@ map_both : (xs ys : List (List (List ℕ))) → map spaced (xs ++ ys) ≡ map sp
 map_both [] ys = refl
 map_both (x ∷ xs) ys = ap (λ l. spaced x ∷ l) (map_both xs ys)
 
+version_printed : (v : ℕ) → AllByRecursion ArePrinted (version_words v)
+version_printed v = elim (v == 1) as (λ t. AllByRecursion ArePrinted (cond t [] ((codes "version" ∷ codes "2" ∷ []) ∷ []))) [
+  | true ↦ tt
+  | false ↦ ((refl, (refl, tt)), tt)
+]
+
+-- the words of the line `nodes` and of those behind it
+abbrev later_words : ScriptData → List (List (List ℕ))
+later_words s = nodes_words s.nodes ∷ (map (set_words s.sets) s.sets ++ (map client_words s.clients ++ map (command_words s) s.commands))
+
 -- the lines of the text
-lines_printed : (s : ScriptData) → IsScript s → lines (print_of s) ≡ map spaced (script_words s)
+lines_printed : (s : ScriptData) → IsScript s → lines (print_of s) ≡ map spaced (version_words s.version ++ later_words s)
 unfolding print_of
 lines_printed s good =
     let sets : List (List (List ℕ)) = map (set_words s.sets) s.sets in
     let clients : List (List (List ℕ)) = map client_words s.clients in
     let commands : List (List (List ℕ)) = map (command_words s) s.commands in
     lines_text (map spaced (script_words s))
-    (are_lines (script_words s) (
+    (are_lines (script_words s)
+    (all_both (version_words s.version) (later_words s) (version_printed s.version) (
       (nodes_printed s.nodes good.few_nodes).are_printed,
       all_both sets (clients ++ commands) (sets_printed s good [] s.sets refl)
           (all_both clients commands (clients_printed s good [] s.clients refl) (commands_printed s good [] s.commands refl)),
-    ))
+    )))
 
 -- the lines behind the line `nodes` make the script
 script_walk : (s : ScriptData) → IsScript s
-    → Walks (map spaced (map (set_words s.sets) s.sets ++ (map client_words s.clients ++ map (command_words s) s.commands))) (only_nodes s.nodes) s
+    → Walks s.version (map spaced (map (set_words s.sets) s.sets ++ (map client_words s.clients ++ map (command_words s) s.commands))) (only_nodes s.version s.nodes) s
 script_walk s good =
     let sets : List (List (List ℕ)) = map (set_words s.sets) s.sets in
     let clients : List (List (List ℕ)) = map client_words s.clients in
     let commands : List (List (List ℕ)) = map (command_words s) s.commands in
     let parts : map spaced (sets ++ (clients ++ commands)) ≡ map spaced sets ++ (map spaced clients ++ map spaced commands) =
     map_both sets (clients ++ commands) ∙ ap (λ l. map spaced sets ++ l) (map_both clients commands) in
-    subst (λ (ls : List (List ℕ)). Walks ls (only_nodes s.nodes) s) (sym parts)
-    (walk_both (map spaced sets) (map spaced clients ++ map spaced commands) (only_nodes s.nodes) (sets_only s s.sets) s
+    subst (λ (ls : List (List ℕ)). Walks s.version ls (only_nodes s.version s.nodes) s) (sym parts)
+    (walk_both s.version (map spaced sets) (map spaced clients ++ map spaced commands) (only_nodes s.version s.nodes) (sets_only s s.sets) s
     (sets_walk s good [] s.sets refl)
-    (walk_both (map spaced clients) (map spaced commands) (sets_only s s.sets) (clients_only s s.clients) s
+    (walk_both s.version (map spaced clients) (map spaced commands) (sets_only s s.sets) (clients_only s s.clients) s
     (clients_walk s good [] s.clients refl)
     (commands_walk s good [] s.commands refl)))
 
+-- the lines from the line `nodes` on are read as the script
+later_read : (s : ScriptData) → IsScript s → (k : ℕ) → read_from s.version (map spaced (later_words s)) k None ≡ Ok s
+later_read s good k =
+    let v = s.version in
+    let rest : List (List ℕ) = map spaced (map (set_words s.sets) s.sets ++ (map client_words s.clients ++ map (command_words s) s.commands)) in
+    let walk = script_walk s good (k + 1) [] in
+    read_more v (map spaced (later_words s)) rest (spaced (nodes_words s.nodes)) k None (Some (only_nodes v s.nodes)) refl (nodes_read v s.nodes good.some_node good.few_nodes good.nodes_of_version)
+    ∙ ap (λ ls. read_from v ls (k + 1) (Some (only_nodes v s.nodes))) (sym (append-nil rest))
+    ∙ walk.1
+    ∙ read_end v [] walk.0 (Some s) refl
+
+abbrev body : ℕ → ℕ → List (List ℕ) → ScriptBody
+body version first ls = record { version = version; first = first; lines = ls }
+
+-- the line `nodes` isn't skipped, and is no line `version 2`
+first_body : (nodes : ℕ) (rest : List (List ℕ)) (k : ℕ) → nodes ≤ 64 → script_body (spaced (nodes_words nodes) ∷ rest) k ≡ body 1 k (spaced (nodes_words nodes) ∷ rest)
+unfolding script_body
+first_body nodes rest k few =
+    let good = nodes_printed nodes few in
+    rw (words_spaced (nodes_words nodes) (printed_words (nodes_words nodes) good.are_printed)) (and_false (not (nat_lt MAX_LINE (length (spaced (nodes_words nodes))))))
+  where
+    and_false : (t : Bool) → cond (t && false) (body 2 (k + 1) rest) (body 1 k (spaced (nodes_words nodes) ∷ rest)) ≡ body 1 k (spaced (nodes_words nodes) ∷ rest)
+    and_false true = refl
+    and_false false = refl
+
+-- the line `version 2` stands before the others
+second_body : (rest : List (List ℕ)) (k : ℕ) → script_body (spaced (codes "version" ∷ codes "2" ∷ []) ∷ rest) k ≡ body 2 (k + 1) rest
+unfolding script_body
+second_body rest k = rw (words_spaced (codes "version" ∷ codes "2" ∷ []) (printed_words (codes "version" ∷ codes "2" ∷ []) (refl, (refl, tt)))) refl
+
 pub read_printed : (s : ScriptData) → IsScript s → read_of (print_of s) ≡ Ok s
 read_printed s good =
-    let rest : List (List ℕ) = map spaced (map (set_words s.sets) s.sets ++ (map client_words s.clients ++ map (command_words s) s.commands)) in
-    let walk = script_walk s good 2 [] in
-    ap (λ ls. read_from ls 1 None) (lines_printed s good)
-    ∙ read_more (map spaced (script_words s)) rest (spaced (nodes_words s.nodes)) 1 None (Some (only_nodes s.nodes)) refl (nodes_read s.nodes good.some_node good.few_nodes)
-    ∙ ap (λ ls. read_from ls 2 (Some (only_nodes s.nodes))) (sym (append-nil rest))
-    ∙ walk.1
-    ∙ read_end [] walk.0 (Some s) refl
+    ap (λ ls. read_body (script_body ls 1)) (lines_printed s good) ∙ elim good.version [
+      | inl one ↦
+          ap (λ v. read_body (script_body (map spaced (version_words v ++ later_words s)) 1)) one
+          ∙ ap read_body (first_body s.nodes (map spaced (map (set_words s.sets) s.sets ++ (map client_words s.clients ++ map (command_words s) s.commands))) 1 good.few_nodes)
+          ∙ ap (λ v. read_from v (map spaced (later_words s)) 1 None) (sym one)
+          ∙ later_read s good 1
+      | inr two ↦
+          ap (λ v. read_body (script_body (map spaced (version_words v ++ later_words s)) 1)) two
+          ∙ ap read_body (second_body (map spaced (later_words s)) 1)
+          ∙ ap (λ v. read_from v (map spaced (later_words s)) 2 None) (sym two)
+          ∙ later_read s good 2
+    ]

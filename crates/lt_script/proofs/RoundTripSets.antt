@@ -30,34 +30,34 @@ get_in_front (x ∷ front) rest zero inside = refl
 get_in_front (x ∷ front) rest (suc k) inside = get_in_front front rest k (omega arith)
 
 -- the lines make this of that script, whatever follows them
-abbrev pub Walks : List (List ℕ) → ScriptData → ScriptData → Type 0
-Walks ls s next = (k : ℕ) (after : List (List ℕ)) → (m : ℕ) × (read_from (ls ++ after) k (Some s) ≡ read_from after m (Some next))
+abbrev pub Walks : ℕ → List (List ℕ) → ScriptData → ScriptData → Type 0
+Walks v ls s next = (k : ℕ) (after : List (List ℕ)) → (m : ℕ) × (read_from v (ls ++ after) k (Some s) ≡ read_from v after m (Some next))
 
-pub walk_none : (s : ScriptData) → Walks [] s s
-walk_none s k after = (k, refl)
+pub walk_none : (v : ℕ) (s : ScriptData) → Walks v [] s s
+walk_none v s k after = (k, refl)
 
-pub walk_more : (line : List ℕ) (ls : List (List ℕ)) (s mid next : ScriptData) → line_step (Some s) line ≡ Ok (Some mid) → Walks ls mid next → Walks (line ∷ ls) s next
-walk_more line ls s mid next step walks k after =
+pub walk_more : (v : ℕ) (line : List ℕ) (ls : List (List ℕ)) (s mid next : ScriptData) → line_step v (Some s) line ≡ Ok (Some mid) → Walks v ls mid next → Walks v (line ∷ ls) s next
+walk_more v line ls s mid next step walks k after =
     let rest = walks (k + 1) after in
-    (rest.0, read_more ((line ∷ ls) ++ after) (ls ++ after) line k (Some s) (Some mid) refl step ∙ rest.1)
+    (rest.0, read_more v ((line ∷ ls) ++ after) (ls ++ after) line k (Some s) (Some mid) refl step ∙ rest.1)
 
-pub walk_both : (ls later : List (List ℕ)) (s mid next : ScriptData) → Walks ls s mid → Walks later mid next → Walks (ls ++ later) s next
-walk_both ls later s mid next first second k after =
+pub walk_both : (v : ℕ) (ls later : List (List ℕ)) (s mid next : ScriptData) → Walks v ls s mid → Walks v later mid next → Walks v (ls ++ later) s next
+walk_both v ls later s mid next first second k after =
     let one = first k (later ++ after) in
     let two = second one.0 after in
-    (two.0, ap (λ l. read_from l k (Some s)) (append_assoc ls later after) ∙ one.1 ∙ two.1)
+    (two.0, ap (λ l. read_from v l k (Some s)) (append_assoc ls later after) ∙ one.1 ∙ two.1)
 
 -- the script with the first of its sets alone
 abbrev pub sets_only : ScriptData → List SetData → ScriptData
-sets_only s done = record { nodes = s.nodes; sets = done; clients = []; commands = [] }
+sets_only s done = record { version = s.version; nodes = s.nodes; sets = done; clients = []; commands = [] }
 
 -- with all sets, and the first of its clients
 abbrev pub clients_only : ScriptData → List ClientData → ScriptData
-clients_only s done = record { nodes = s.nodes; sets = s.sets; clients = done; commands = [] }
+clients_only s done = record { version = s.version; nodes = s.nodes; sets = s.sets; clients = done; commands = [] }
 
 -- with all but the last of its commands
 abbrev pub commands_only : ScriptData → List (ℕ × Command) → ScriptData
-commands_only s done = record { nodes = s.nodes; sets = s.sets; clients = s.clients; commands = done }
+commands_only s done = record { version = s.version; nodes = s.nodes; sets = s.sets; clients = s.clients; commands = done }
 
 -- a set of a script, as the sets before it see it
 pub record SetFits (s : ScriptData) (done : List SetData) (x : SetData) : Type 0 where
@@ -102,7 +102,7 @@ pub set_with_printed : (name first : List ℕ) → is_name name ≡ true → is_
 set_with_printed name first named first_named = record { are_printed = (refl, (name_printed name named, (refl, (name_printed first first_named, tt)))); few = omega arith; says = refl }
 
 pub set_read : (s : ScriptData) → IsScript s → (done : List SetData) (x : SetData) (rest : List SetData) → done ++ x ∷ rest ≡ s.sets
-    → line_step (Some (sets_only s done)) (spaced (set_words s.sets x)) ≡ Ok (Some (sets_only s (done ++ x ∷ [])))
+    → line_step s.version (Some (sets_only s done)) (spaced (set_words s.sets x)) ≡ Ok (Some (sets_only s (done ++ x ∷ [])))
 set_read s good done x rest e =
     let fits = set_fits s good done x rest e in
     let st : ScriptData = sets_only s done in
@@ -112,7 +112,7 @@ set_read s good done x rest e =
           let names : first ≡ x.name = (bytes_eq-Decides first x.name).0 same in
           let own : x.family ≡ length done = one_number x.family (length done) (sym fits.first_found ∙ ap (set_number s) names ∙ fits.found) in
           rw same
-          (line_read (Some st) (codes "set" ∷ x.name ∷ []) (SetForm x.name) (set_printed x.name fits.named) refl
+          (line_read s.version (Some st) (codes "set" ∷ x.name ∷ []) (SetForm x.name) (set_printed x.name fits.named) refl
           (rw (fits.named, fits.is_new, lt-leb 8 (length done) fits.few))
           ∙ ap (λ (f : ℕ). Ok (Some (sets_only s (done ++ record { name = x.name; family = f } ∷ [])))) (sym own))
       | inr other ↦
@@ -126,14 +126,14 @@ set_read s good done x rest e =
           let family : family_at done x.family ≡ x.family =
           ap family_of_set (sym (get_in_front done (x ∷ rest) x.family earlier)) ∙ ap (λ (l : List SetData). family_at l x.family) e ∙ fits.first_first in
           rw other
-          (line_read (Some st) (codes "set" ∷ x.name ∷ codes "with" ∷ first ∷ []) (SetWithForm x.name first) (set_with_printed x.name first fits.named fits.first_named) refl
+          (line_read s.version (Some st) (codes "set" ∷ x.name ∷ codes "with" ∷ first ∷ []) (SetWithForm x.name first) (set_with_printed x.name first fits.named fits.first_named) refl
           (rw (fits.named, fits.is_new, known, lt-leb 8 (length done) fits.few))
           ∙ rw (known, family) refl)
     ]
 
-pub sets_walk : (s : ScriptData) → IsScript s → (done rest : List SetData) → done ++ rest ≡ s.sets → Walks (map spaced (map (set_words s.sets) rest)) (sets_only s done) (sets_only s s.sets)
-sets_walk s good done [] e = subst (λ (l : List SetData). Walks [] (sets_only s done) (sets_only s l)) (sym (append-nil done) ∙ e) (walk_none (sets_only s done))
+pub sets_walk : (s : ScriptData) → IsScript s → (done rest : List SetData) → done ++ rest ≡ s.sets → Walks s.version (map spaced (map (set_words s.sets) rest)) (sets_only s done) (sets_only s s.sets)
+sets_walk s good done [] e = subst (λ (l : List SetData). Walks s.version [] (sets_only s done) (sets_only s l)) (sym (append-nil done) ∙ e) (walk_none s.version (sets_only s done))
 sets_walk s good done (x ∷ rest) e =
-    walk_more (spaced (set_words s.sets x)) (map spaced (map (set_words s.sets) rest)) (sets_only s done) (sets_only s (done ++ x ∷ [])) (sets_only s s.sets)
+    walk_more s.version (spaced (set_words s.sets x)) (map spaced (map (set_words s.sets) rest)) (sets_only s done) (sets_only s (done ++ x ∷ [])) (sets_only s s.sets)
     (set_read s good done x rest e)
     (sets_walk s good (done ++ x ∷ []) rest (append_assoc done (x ∷ []) rest ∙ e))

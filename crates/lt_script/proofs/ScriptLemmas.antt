@@ -2,16 +2,18 @@
 use Rattle.std.proofs.Common.{◌≡◌, ℕ, zero, suc, ◌+◌, ◌<◌, ◌≤◌, ◌==◌, ◌⊎◌, cond, List, [], ◌∷◌, ◌++◌, length, Some, true, false, slice_get, refl, sym, ap, subst, ◌∙◌, inl, inr, arith}
 use Rattle.std.proofs.lemmas.Bool.{cases_eq, cases_lt, eq-eqb, ne_eqb}
 use Rattle.std.proofs.lemmas.List.{length_push}
+use Rattle.std.proofs.lemmas.List.Elements.{All-push}
 use Rattle.std.proofs.lemmas.List.Sums.{sum_by-append}
 use Rattle.std.proofs.lemmas.Option.{slice_get_within}
 use Rattle.std.proofs.lemmas.Slice.Eq.{bytes_eq-Decides}
 use Rattle.lt_modes.specs.declared.command.Command.{Command}
 use Rattle.lt_modes.specs.declared.command.Command.TheVariants.{Lock, Try, Unlock, Change, DropAll}
 use Rattle.lt_modes.specs.Script.{ScriptData, SetData, ClientData, family_at, home_at, name_of_set, family_of_set, name_of_client, node_of_client}
-use Rattle.lt_script.specs.declared.limits.TheConstants.{MAX_SETS, MAX_CLIENTS, MAX_CLIENTS_OF_NODE}
+use Rattle.lt_script.specs.declared.limits.TheConstants.{MAX_SETS, MAX_CLIENTS, MAX_CLIENTS_OF_FIRST, MAX_CLIENTS_OF_NODE, MAX_COMMANDS}
+use Rattle.std.specs.Prelude.{if◌then◌else◌}
 use Rattle.std.specs.Str.{bytes_eq}
 use Rattle.lt_script.specs.Names.{is_name}
-use Rattle.lt_script.specs.Script.{IsScript, IsFamilyOfNext, HasTargets, load_of, set_number, client_number, is_declared}
+use Rattle.lt_script.specs.Script.{IsScript, IsFamilyOfNext, IsRequest, HasModesOf, HasTargets, most_clients, load_of, set_number, client_number, is_declared}
 use Rattle.lt_script.proofs.NameLemmas.{found_stays, found_last, found_never, is_new, same_name, set_not_client}
 
 get_front : {X : Type 0} → (xs : List X) (y : X) (k : ℕ) → k < length xs → slice_get (xs ++ y ∷ []) k ≡ slice_get xs k
@@ -82,8 +84,10 @@ set_added s x good named undeclared room fits =
     let sets : List SetData = s.sets ++ x ∷ [] in
     let new = is_new s x.name undeclared in
     record {
+      version = good.version;
       some_node = good.some_node;
       few_nodes = good.few_nodes;
+      nodes_of_version = good.nodes_of_version;
       few_sets = omega (arith, length_push s.sets x);
       sets_named = λ set inside. elim (numbers_push s.sets x set inside) [
         | inl below ↦ rw (set_name_front s.sets x set below) (good.sets_named set below)
@@ -111,6 +115,7 @@ set_added s x good named undeclared room fits =
             ap (family_at sets) (family_last s.sets x set last) ∙ first_of_last s.sets x fits ∙ sym (family_last s.sets x set last)
       ];
       few_clients = good.few_clients;
+      clients_of_version = good.clients_of_version;
       clients_named = good.clients_named;
       clients_found = good.clients_found;
       clients_no_sets = λ client inside.
@@ -123,6 +128,7 @@ set_added s x good named undeclared room fits =
         (good.requests k d inside).0,
         more_sets s.sets x s.clients _ _ (good.requests k d inside).1,
       );
+      modes = good.modes;
     }
   where
     first_of_last : (sets : List SetData) (x : SetData) → IsFamilyOfNext sets x.family → family_at (sets ++ x ∷ []) x.family ≡ x.family
@@ -134,19 +140,28 @@ set_added s x good named undeclared room fits =
 load_push : (clients : List ClientData) (x : ClientData) (node : ℕ) → load_of (clients ++ x ∷ []) node ≡ load_of clients node + cond (x.node == node) 1 0
 load_push clients x node = omega (arith, sum_by-append (λ (y : ClientData). cond (y.node == node) 1 0) clients (x ∷ []))
 
-pub client_added : (s : ScriptData) (x : ClientData) → IsScript s → is_name x.name ≡ true → is_declared s x.name ≡ false → length s.clients < MAX_CLIENTS → x.node < s.nodes → load_of s.clients x.node < MAX_CLIENTS_OF_NODE
+most_within : (version : ℕ) → most_clients version ≤ MAX_CLIENTS
+most_within version = elim (version == 1) as (λ t. (if t then MAX_CLIENTS_OF_FIRST else MAX_CLIENTS) ≤ MAX_CLIENTS) [
+  | true ↦ omega arith
+  | false ↦ omega arith
+]
+
+pub client_added : (s : ScriptData) (x : ClientData) → IsScript s → is_name x.name ≡ true → is_declared s x.name ≡ false → length s.clients < most_clients s.version → x.node < s.nodes → load_of s.clients x.node < MAX_CLIENTS_OF_NODE
     → IsScript (record s { clients = s.clients ++ x ∷ [] })
 client_added s x good named undeclared room on_node load =
     let new = is_new s x.name undeclared in
     record {
+      version = good.version;
       some_node = good.some_node;
       few_nodes = good.few_nodes;
+      nodes_of_version = good.nodes_of_version;
       few_sets = good.few_sets;
       sets_named = good.sets_named;
       sets_found = good.sets_found;
       families_not_later = good.families_not_later;
       families_first = good.families_first;
-      few_clients = omega (arith, length_push s.clients x);
+      few_clients = omega (arith, length_push s.clients x, room, most_within s.version);
+      clients_of_version = omega (arith, length_push s.clients x, room);
       clients_named = λ client inside. elim (numbers_push s.clients x client inside) [
         | inl below ↦ rw (client_name_front s.clients x client below) (good.clients_named client below)
         | inr last ↦ rw (client_name_last s.clients x client last) named
@@ -176,6 +191,7 @@ client_added s x good named undeclared room on_node load =
         omega (arith, (good.requests k d inside).0, length_push s.clients x),
         more_clients s.sets s.clients x _ _ (good.requests k d inside).0 (good.requests k d inside).1,
       );
+      modes = good.modes;
     }
 
 -- a set with the name is the one that the name finds
@@ -191,3 +207,27 @@ pub client_named : (s : ScriptData) (client : ℕ) (x : ClientData) (name : List
 client_named s client x name good at same =
     let inside = slice_get_within s.clients client x at in
     (inside, subst (λ (n : List ℕ). client_number s n ≡ Some client) (ap name_of_client at ∙ (bytes_eq-Decides x.name name).0 same) (good.clients_found client inside))
+
+pub command_added : (s : ScriptData) (client : ℕ) (command : Command) → IsScript s → length s.commands < MAX_COMMANDS → IsRequest s.sets s.clients (client, command) → HasModesOf s.version command
+    → IsScript (record s { commands = s.commands ++ (client, command) ∷ [] })
+command_added s client command good room request modes = record {
+  version = good.version;
+  some_node = good.some_node;
+  few_nodes = good.few_nodes;
+  nodes_of_version = good.nodes_of_version;
+  few_sets = good.few_sets;
+  sets_named = good.sets_named;
+  sets_found = good.sets_found;
+  families_not_later = good.families_not_later;
+  families_first = good.families_first;
+  few_clients = good.few_clients;
+  clients_of_version = good.clients_of_version;
+  clients_named = good.clients_named;
+  clients_found = good.clients_found;
+  clients_no_sets = good.clients_no_sets;
+  homes = good.homes;
+  loads = good.loads;
+  few_commands = omega (arith, length_push s.commands (client, command), room);
+  requests = All-push (IsRequest s.sets s.clients) s.commands (client, command) good.requests request;
+  modes = All-push (λ (request : ℕ × Command). HasModesOf s.version request.1) s.commands (client, command) good.modes modes;
+}

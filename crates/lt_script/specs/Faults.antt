@@ -6,25 +6,26 @@ use Rattle.lt_modes.specs.declared.mode.Mode.{Mode}
 use Rattle.lt_modes.specs.declared.command.Command.{Command}
 use Rattle.lt_modes.specs.declared.command.Command.TheVariants as commands
 use Rattle.lt_modes.specs.Modes.{mode_of}
+use Rattle.lt_modes.specs.FiveModes.{is_of_version}
 use Rattle.lt_modes.specs.Script.{ScriptData, family_at, home_at}
 use Rattle.lt_text.specs.Text.{words}
 use Rattle.lt_text.specs.Number.{number}
 use Rattle.lt_script.specs.declared.fault.Fault.{Fault}
 use Rattle.lt_script.specs.declared.fault.Fault.TheVariants as faults
 use Rattle.lt_script.specs.declared.form.Form.{Form}
-use Rattle.lt_script.specs.declared.limits.TheConstants.{MAX_NODES, MAX_SETS, MAX_CLIENTS, MAX_CLIENTS_OF_NODE, MAX_COMMANDS, MAX_LINE}
+use Rattle.lt_script.specs.declared.limits.TheConstants.{MAX_SETS, MAX_CLIENTS_OF_NODE, MAX_COMMANDS, MAX_LINE}
 use Rattle.lt_script.specs.Names.{is_name}
-use Rattle.lt_script.specs.Script.{load_of, set_number, client_number, is_declared}
-use Rattle.lt_script.specs.Forms.{FormData, NodesForm, SetForm, SetWithForm, ClientForm, CommandForm, OrderData, LockOrder, TryOrder, UnlockOrder, ChangeOrder, DropOrder, form_of, form_seen}
+use Rattle.lt_script.specs.Script.{most_nodes, most_clients, load_of, set_number, client_number, is_declared}
+use Rattle.lt_script.specs.Forms.{FormData, VersionForm, NodesForm, SetForm, SetWithForm, ClientForm, CommandForm, CommandWordsData, LockWords, TryWords, UnlockWords, ChangeWords, DropWords, form_of, form_seen}
 
--- a script that declares nothing but the number of its nodes
-abbrev pub only_nodes : ℕ → ScriptData
-only_nodes nodes = record { nodes = nodes; sets = []; clients = []; commands = [] }
+-- a script of this version that declares nothing but the number of its nodes
+abbrev pub only_nodes : ℕ → ℕ → ScriptData
+only_nodes version nodes = record { version = version; nodes = nodes; sets = []; clients = []; commands = [] }
 
--- what the lines so far declare; there is no script before the line `nodes`
-abbrev pub declared : Option ScriptData → ScriptData
-declared None = only_nodes 0
-declared (Some s) = s
+-- what the lines so far declare, where the script has this version; there is no script before the line `nodes`
+abbrev pub declared : ℕ → Option ScriptData → ScriptData
+declared version None = only_nodes version 0
+declared version (Some s) = s
 
 abbrev pub is_positive : Option ℕ → Bool
 is_positive (Some n) = nat_lt 0 n
@@ -45,11 +46,12 @@ has_bad_number None (ClientForm c n) = is_none (number n)
 has_bad_number (Some s) (ClientForm c n) = not (is_below s.nodes (number n))
 has_bad_number st form = false
 
--- the line `nodes` is not the first one, or another line is
+-- the line `nodes` is not the first one, or another line is; a line `version` here is a later one
 abbrev pub has_nodes_misplaced : Option ScriptData → FormData → Bool
 has_nodes_misplaced None (NodesForm n) = false
 has_nodes_misplaced None form = true
 has_nodes_misplaced (Some s) (NodesForm n) = true
+has_nodes_misplaced (Some s) VersionForm = true
 has_nodes_misplaced (Some s) form = false
 
 -- a word is declared that is no name
@@ -66,39 +68,49 @@ declares_again s (SetWithForm name t) = is_declared s name
 declares_again s (ClientForm name n) = is_declared s name
 declares_again s form = false
 
--- the order names a set or a client that wasn't declared before
-abbrev pub names_unknown : ScriptData → OrderData → Bool
-names_unknown s (LockOrder set mode) = is_none (set_number s set)
-names_unknown s (TryOrder set mode) = is_none (set_number s set)
-names_unknown s (UnlockOrder set mode) = is_none (set_number s set)
-names_unknown s (ChangeOrder set gives_up mode) = is_none (set_number s set)
-names_unknown s (DropOrder other set) = is_none (client_number s other) || is_none (set_number s set)
+-- the command names a set or a client that wasn't declared before
+abbrev pub names_unknown : ScriptData → CommandWordsData → Bool
+names_unknown s (LockWords set mode) = is_none (set_number s set)
+names_unknown s (TryWords set mode) = is_none (set_number s set)
+names_unknown s (UnlockWords set mode) = is_none (set_number s set)
+names_unknown s (ChangeWords set gives_up mode) = is_none (set_number s set)
+names_unknown s (DropWords other set) = is_none (client_number s other) || is_none (set_number s set)
 
 -- a set or a client is used that wasn't declared before
 abbrev pub uses_unknown : ScriptData → FormData → Bool
 uses_unknown s (SetWithForm name t) = is_none (set_number s t)
-uses_unknown s (CommandForm c order) = is_none (client_number s c) || names_unknown s order
+uses_unknown s (CommandForm c asked) = is_none (client_number s c) || names_unknown s asked
 uses_unknown s form = false
 
 -- there are more nodes, sets, clients or commands than a script may have
 abbrev pub exceeds_limit : ScriptData → FormData → Bool
-exceeds_limit s (NodesForm n) = nat_lt MAX_NODES (unwrap_or (number n) 0)
+exceeds_limit s VersionForm = false
+exceeds_limit s (NodesForm n) = nat_lt (most_nodes s.version) (unwrap_or (number n) 0)
 exceeds_limit s (SetForm name) = nat_le MAX_SETS (length s.sets)
 exceeds_limit s (SetWithForm name t) = nat_le MAX_SETS (length s.sets)
-exceeds_limit s (ClientForm name n) = nat_le MAX_CLIENTS (length s.clients) || nat_le MAX_CLIENTS_OF_NODE (load_of s.clients (unwrap_or (number n) 0))
-exceeds_limit s (CommandForm c order) = nat_le MAX_COMMANDS (length s.commands)
+exceeds_limit s (ClientForm name n) = nat_le (most_clients s.version) (length s.clients) || nat_le MAX_CLIENTS_OF_NODE (load_of s.clients (unwrap_or (number n) 0))
+exceeds_limit s (CommandForm c asked) = nat_le MAX_COMMANDS (length s.commands)
 
--- a word in a mode's place is no mode
-abbrev pub names_no_mode : OrderData → Bool
-names_no_mode (LockOrder set mode) = is_none (mode_of mode)
-names_no_mode (TryOrder set mode) = is_none (mode_of mode)
-names_no_mode (UnlockOrder set mode) = is_none (mode_of mode)
-names_no_mode (ChangeOrder set gives_up mode) = is_none (mode_of gives_up) || is_none (mode_of mode)
-names_no_mode (DropOrder other set) = false
+-- the mode, where it is one of this version
+abbrev pub of_version : ℕ → Option Mode → Option Mode
+of_version version None = None
+of_version version (Some mode) = if is_of_version version mode then Some mode else None
 
-abbrev pub uses_no_mode : FormData → Bool
-uses_no_mode (CommandForm c order) = names_no_mode order
-uses_no_mode form = false
+-- the mode of this version with this word
+abbrev pub mode_in : ℕ → List ℕ → Option Mode
+mode_in version word = of_version version (mode_of word)
+
+-- a word in a mode's place is no mode of this version
+abbrev pub names_no_mode : ℕ → CommandWordsData → Bool
+names_no_mode version (LockWords set mode) = is_none (mode_in version mode)
+names_no_mode version (TryWords set mode) = is_none (mode_in version mode)
+names_no_mode version (UnlockWords set mode) = is_none (mode_in version mode)
+names_no_mode version (ChangeWords set gives_up mode) = is_none (mode_in version gives_up) || is_none (mode_in version mode)
+names_no_mode version (DropWords other set) = false
+
+abbrev pub uses_no_mode : ScriptData → FormData → Bool
+uses_no_mode s (CommandForm c asked) = names_no_mode s.version asked
+uses_no_mode s form = false
 
 abbrev pub home_by : ScriptData → Option ℕ → ℕ
 home_by s (Some client) = home_at s.clients client
@@ -110,7 +122,7 @@ home_of s name = home_by s (client_number s name)
 
 -- locks of a client of another node are dropped
 abbrev pub drops_elsewhere : ScriptData → FormData → Bool
-drops_elsewhere s (CommandForm c (DropOrder other set)) = not (home_of s other == home_of s c)
+drops_elsewhere s (CommandForm c (DropWords other set)) = not (home_of s other == home_of s c)
 drops_elsewhere s form = false
 
 -- the first fault whose test is true
@@ -119,33 +131,33 @@ first_true [] = None
 first_true (test ∷ tests) = if test.0 then Some test.1 else first_true tests
 
 -- the tests of a line of this form, in the order of the faults' numbers
-abbrev pub tests : Option ScriptData → FormData → List (Bool × Fault)
-tests st form =
+abbrev pub tests : ℕ → Option ScriptData → FormData → List (Bool × Fault)
+tests version st form =
     (has_bad_number st form, faults.Number)
     ∷ (has_nodes_misplaced st form, faults.Nodes)
     ∷ (declares_no_name form, faults.Name)
-    ∷ (declares_again (declared st) form, faults.Repeated)
-    ∷ (uses_unknown (declared st) form, faults.Unknown)
-    ∷ (exceeds_limit (declared st) form, faults.Limit)
-    ∷ (uses_no_mode form, faults.Mode)
-    ∷ (drops_elsewhere (declared st) form, faults.Node)
+    ∷ (declares_again (declared version st) form, faults.Repeated)
+    ∷ (uses_unknown (declared version st) form, faults.Unknown)
+    ∷ (exceeds_limit (declared version st) form, faults.Limit)
+    ∷ (uses_no_mode (declared version st) form, faults.Mode)
+    ∷ (drops_elsewhere (declared version st) form, faults.Node)
     ∷ []
 
 -- the first fault of a line of this form
-abbrev pub form_fault : Option ScriptData → FormData → Option Fault
-form_fault st form = first_true (tests st form)
+abbrev pub form_fault : ℕ → Option ScriptData → FormData → Option Fault
+form_fault version st form = first_true (tests version st form)
 
 -- the first fault of a line that may have no form
-abbrev pub fault_by_form : Option ScriptData → Option FormData → Option Fault
-fault_by_form st None = Some faults.Form
-fault_by_form st (Some form) = form_fault st form
+abbrev pub fault_by_form : ℕ → Option ScriptData → Option FormData → Option Fault
+fault_by_form version st None = Some faults.Form
+fault_by_form version st (Some form) = form_fault version st form
 
 -- the first fault of a line that isn't skipped
-abbrev pub line_fault : Option ScriptData → List ℕ → Option Fault
-line_fault st line =
+abbrev pub line_fault : ℕ → Option ScriptData → List ℕ → Option Fault
+line_fault version st line =
     if not (list_all is_plain_byte line) then Some faults.Bytes
     else if nat_lt MAX_LINE (length line) then Some faults.Length
-    else fault_by_form st (form_of (words line))
+    else fault_by_form version st (form_of (words line))
 
 -- what a line without fault adds
 
@@ -163,13 +175,13 @@ family_of s name = family_by s (set_number s name)
 abbrev pub mode_at : List ℕ → Mode
 mode_at word = unwrap_or (mode_of word) IntentionRead
 
--- the command of an order
-abbrev pub command_of : ScriptData → OrderData → Command
-command_of s (LockOrder set mode) = commands.Lock (set_at s set) (mode_at mode)
-command_of s (TryOrder set mode) = commands.Try (set_at s set) (mode_at mode)
-command_of s (UnlockOrder set mode) = commands.Unlock (set_at s set) (mode_at mode)
-command_of s (ChangeOrder set gives_up mode) = commands.Change (set_at s set) (mode_at gives_up) (mode_at mode)
-command_of s (DropOrder other set) = commands.DropAll (unwrap_or (client_number s other) 0) (set_at s set)
+-- the command of these words
+abbrev pub named_command : ScriptData → CommandWordsData → Command
+named_command s (LockWords set mode) = commands.Lock (set_at s set) (mode_at mode)
+named_command s (TryWords set mode) = commands.Try (set_at s set) (mode_at mode)
+named_command s (UnlockWords set mode) = commands.Unlock (set_at s set) (mode_at mode)
+named_command s (ChangeWords set gives_up mode) = commands.Change (set_at s set) (mode_at gives_up) (mode_at mode)
+named_command s (DropWords other set) = commands.DropAll (unwrap_or (client_number s other) 0) (set_at s set)
 
 abbrev pub with_set : ScriptData → List ℕ → ℕ → ScriptData
 with_set s name family = record s { sets = s.sets ++ record { name = name; family = family } ∷ [] }
@@ -182,11 +194,12 @@ with_command s client command = record s { commands = s.commands ++ (client, com
 
 -- the script with what a line of this form adds
 abbrev pub after_form : ScriptData → FormData → ScriptData
-after_form s (NodesForm n) = only_nodes (unwrap_or (number n) 0)
+after_form s VersionForm = s
+after_form s (NodesForm n) = only_nodes s.version (unwrap_or (number n) 0)
 after_form s (SetForm name) = with_set s name (length s.sets)
 after_form s (SetWithForm name t) = with_set s name (family_of s t)
 after_form s (ClientForm name n) = with_client s name (unwrap_or (number n) 0)
-after_form s (CommandForm c order) = with_command s (unwrap_or (client_number s c) 0) (command_of s order)
+after_form s (CommandForm c asked) = with_command s (unwrap_or (client_number s c) 0) (named_command s asked)
 
 -- what is found out of a line: its form, or its first fault
 abbrev pub Judges : Result Form Fault → Option Fault → Option FormData → Type 0

@@ -2,25 +2,31 @@
 use Rattle.std.specs.Prelude.{ℕ, List, [], ◌∷◌, Option, Some, None, codes, if◌then◌else◌, option_map}
 use Rattle.std.specs.Str.{bytes_eq}
 use Rattle.lt_script.specs.declared.form.Form.{Form}
-use Rattle.lt_script.specs.declared.form.Form.TheVariants.{Nodes, Set, SetWith, Client, Command}
-use Rattle.lt_script.specs.declared.form.Order.{Order}
-use Rattle.lt_script.specs.declared.form.Order.TheVariants.{Lock, Try, Unlock, Change, Drop}
+use Rattle.lt_script.specs.declared.form.Form.TheVariants.{Version, Nodes, Set, SetWith, Client, Command}
+use Rattle.lt_script.specs.declared.form.CommandWords.{CommandWords}
+use Rattle.lt_script.specs.declared.form.CommandWords.TheVariants.{Lock, Try, Unlock, Change, Drop}
 
 -- what a client asks for: words of sets, clients and modes
-pub data OrderData : Type 0 where
-  LockOrder : List ℕ → List ℕ → OrderData
-  TryOrder : List ℕ → List ℕ → OrderData
-  UnlockOrder : List ℕ → List ℕ → OrderData
-  ChangeOrder : List ℕ → List ℕ → List ℕ → OrderData
-  DropOrder : List ℕ → List ℕ → OrderData
+pub data CommandWordsData : Type 0 where
+  LockWords : List ℕ → List ℕ → CommandWordsData
+  TryWords : List ℕ → List ℕ → CommandWordsData
+  UnlockWords : List ℕ → List ℕ → CommandWordsData
+  ChangeWords : List ℕ → List ℕ → List ℕ → CommandWordsData
+  DropWords : List ℕ → List ℕ → CommandWordsData
 
 -- a line by its form
 pub data FormData : Type 0 where
+  VersionForm : FormData
   NodesForm : List ℕ → FormData
   SetForm : List ℕ → FormData
   SetWithForm : List ℕ → List ℕ → FormData
   ClientForm : List ℕ → List ℕ → FormData
-  CommandForm : List ℕ → OrderData → FormData
+  CommandForm : List ℕ → CommandWordsData → FormData
+
+-- `version 2`
+abbrev pub version_form : List (List ℕ) → Option FormData
+version_form (n ∷ []) = if bytes_eq n (codes "2") then Some VersionForm else None
+version_form words = None
 
 -- `nodes N`
 abbrev pub nodes_form : List (List ℕ) → Option FormData
@@ -39,41 +45,43 @@ client_form (c ∷ w ∷ n ∷ []) = if bytes_eq w (codes "at") then Some (Clien
 client_form words = None
 
 -- `lock S M`, `try S M`, `unlock S M` and `drop D S`
-abbrev pub two_word_order : List ℕ → List ℕ → List ℕ → Option OrderData
-two_word_order verb a b =
-    if bytes_eq verb (codes "lock") then Some (LockOrder a b)
-    else if bytes_eq verb (codes "try") then Some (TryOrder a b)
-    else if bytes_eq verb (codes "unlock") then Some (UnlockOrder a b)
-    else if bytes_eq verb (codes "drop") then Some (DropOrder a b)
+abbrev pub asked_in_two : List ℕ → List ℕ → List ℕ → Option CommandWordsData
+asked_in_two verb a b =
+    if bytes_eq verb (codes "lock") then Some (LockWords a b)
+    else if bytes_eq verb (codes "try") then Some (TryWords a b)
+    else if bytes_eq verb (codes "unlock") then Some (UnlockWords a b)
+    else if bytes_eq verb (codes "drop") then Some (DropWords a b)
     else None
 
 -- these, and `change S G M`
-abbrev pub order_of : List (List ℕ) → Option OrderData
-order_of (verb ∷ a ∷ b ∷ []) = two_word_order verb a b
-order_of (verb ∷ a ∷ b ∷ c ∷ []) = if bytes_eq verb (codes "change") then Some (ChangeOrder a b c) else None
-order_of words = None
+abbrev pub asked_of : List (List ℕ) → Option CommandWordsData
+asked_of (verb ∷ a ∷ b ∷ []) = asked_in_two verb a b
+asked_of (verb ∷ a ∷ b ∷ c ∷ []) = if bytes_eq verb (codes "change") then Some (ChangeWords a b c) else None
+asked_of words = None
 
 -- the form of a line with these words: the first word decides whether it declares something or is a command
 abbrev pub form_of : List (List ℕ) → Option FormData
 form_of [] = None
 form_of (w ∷ ws) =
-    if bytes_eq w (codes "nodes") then nodes_form ws
+    if bytes_eq w (codes "version") then version_form ws
+    else if bytes_eq w (codes "nodes") then nodes_form ws
     else if bytes_eq w (codes "set") then set_form ws
     else if bytes_eq w (codes "client") then client_form ws
-    else option_map (CommandForm w) (order_of ws)
+    else option_map (CommandForm w) (asked_of ws)
 
 -- what the code's values stand for
 
-abbrev pub order_seen : Order → OrderData
-order_seen (Lock set mode) = LockOrder set.now mode.now
-order_seen (Try set mode) = TryOrder set.now mode.now
-order_seen (Unlock set mode) = UnlockOrder set.now mode.now
-order_seen (Change set gives_up mode) = ChangeOrder set.now gives_up.now mode.now
-order_seen (Drop client set) = DropOrder client.now set.now
+abbrev pub asked_seen : CommandWords → CommandWordsData
+asked_seen (Lock set mode) = LockWords set.now mode.now
+asked_seen (Try set mode) = TryWords set.now mode.now
+asked_seen (Unlock set mode) = UnlockWords set.now mode.now
+asked_seen (Change set gives_up mode) = ChangeWords set.now gives_up.now mode.now
+asked_seen (Drop client set) = DropWords client.now set.now
 
 abbrev pub form_seen : Form → FormData
+form_seen Version = VersionForm
 form_seen (Nodes nodes) = NodesForm nodes.now
 form_seen (Set name) = SetForm name.now
 form_seen (SetWith name first) = SetWithForm name.now first.now
 form_seen (Client name node) = ClientForm name.now node.now
-form_seen (Command client order) = CommandForm client.now (order_seen order)
+form_seen (Command client asked) = CommandForm client.now (asked_seen asked)

@@ -1,12 +1,12 @@
 ghost use Rattle.std.specs.Prelude.{◌≡◌, option_map};
 ghost use Rattle.lt_text.specs.Text.{words};
-ghost use Rattle.lt_script.specs.Forms.{form_seen, order_seen, form_of, nodes_form, set_form, client_form, order_of, two_word_order, CommandForm};
+ghost use Rattle.lt_script.specs.Forms.{form_seen, asked_seen, form_of, version_form, nodes_form, set_form, client_form, asked_of, asked_in_two, CommandForm};
 
 use lt_text::{is, next_word};
 
 /// What a client asks for, in the words of its line.
 #[derive(Clone, Copy, Debug)]
-pub enum Order<'a> {
+pub enum CommandWords<'a> {
     Lock {
         set: &'a [u8],
         mode: &'a [u8],
@@ -33,12 +33,27 @@ pub enum Order<'a> {
 /// A line of a script by its form, with its words.
 #[derive(Clone, Copy, Debug)]
 pub enum Form<'a> {
-    Nodes { nodes: &'a [u8] },
-    Set { name: &'a [u8] },
+    /// The line `version 2`.
+    Version,
+    Nodes {
+        nodes: &'a [u8],
+    },
+    Set {
+        name: &'a [u8],
+    },
     /// A set in the family of another one.
-    SetWith { name: &'a [u8], relative: &'a [u8] },
-    Client { name: &'a [u8], node: &'a [u8] },
-    Command { client: &'a [u8], order: Order<'a> },
+    SetWith {
+        name: &'a [u8],
+        relative: &'a [u8],
+    },
+    Client {
+        name: &'a [u8],
+        node: &'a [u8],
+    },
+    Command {
+        client: &'a [u8],
+        asked: CommandWords<'a>,
+    },
 }
 
 /// The form of a line; none if it has none.
@@ -48,7 +63,9 @@ pub fn form_of<'a>(line: &'a [u8]) -> Option<Form<'a>>
     let Some((word, rest)) = next_word(line) else {
         return None;
     };
-    if is(word, "nodes") {
+    if is(word, "version") {
+        version_form(rest)
+    } else if is(word, "nodes") {
         nodes_form(rest)
     } else if is(word, "set") {
         set_form(rest)
@@ -57,6 +74,19 @@ pub fn form_of<'a>(line: &'a [u8]) -> Option<Form<'a>>
     } else {
         command_form(word, rest)
     }
+}
+
+// The form of a line that begins with `version`.
+fn version_form<'a>(line: &'a [u8]) -> Option<Form<'a>>
+    ensures { option_map form_seen result ≡ version_form (words line.now) }
+{
+    let Some((version, rest)) = next_word(line) else {
+        return None;
+    };
+    if next_word(rest).is_some() || !is(version, "2") {
+        return None;
+    }
+    Some(Form::Version)
 }
 
 // The form of a line that begins with `nodes`.
@@ -112,17 +142,17 @@ fn client_form<'a>(line: &'a [u8]) -> Option<Form<'a>>
 
 // The form of a command's line, which begins with the client's name.
 fn command_form<'a>(client: &'a [u8], line: &'a [u8]) -> Option<Form<'a>>
-    ensures { option_map form_seen result ≡ option_map (CommandForm client.now) (order_of (words line.now)) }
+    ensures { option_map form_seen result ≡ option_map (CommandForm client.now) (asked_of (words line.now)) }
 {
-    let Some(order) = order_of(line) else {
+    let Some(asked) = asked_of(line) else {
         return None;
     };
-    Some(Form::Command { client, order })
+    Some(Form::Command { client, asked })
 }
 
-// The order in the line behind the client's name.
-fn order_of<'a>(line: &'a [u8]) -> Option<Order<'a>>
-    ensures { option_map order_seen result ≡ order_of (words line.now) }
+// What is asked for in the line behind the client's name.
+fn asked_of<'a>(line: &'a [u8]) -> Option<CommandWords<'a>>
+    ensures { option_map asked_seen result ≡ asked_of (words line.now) }
 {
     let Some((verb, rest)) = next_word(line) else {
         return None;
@@ -134,39 +164,39 @@ fn order_of<'a>(line: &'a [u8]) -> Option<Order<'a>>
         return None;
     };
     let Some((third, rest)) = next_word(rest) else {
-        return two_word_order(verb, first, second);
+        return asked_in_two(verb, first, second);
     };
     if next_word(rest).is_some() || !is(verb, "change") {
         return None;
     }
-    Some(Order::Change {
+    Some(CommandWords::Change {
         set: first,
         gives_up: second,
         mode: third,
     })
 }
 
-// The order of a verb and two words.
-fn two_word_order<'a>(verb: &[u8], first: &'a [u8], second: &'a [u8]) -> Option<Order<'a>>
-    ensures { option_map order_seen result ≡ two_word_order verb.now first.now second.now }
+// What a verb and two words ask for.
+fn asked_in_two<'a>(verb: &[u8], first: &'a [u8], second: &'a [u8]) -> Option<CommandWords<'a>>
+    ensures { option_map asked_seen result ≡ asked_in_two verb.now first.now second.now }
 {
     if is(verb, "lock") {
-        Some(Order::Lock {
+        Some(CommandWords::Lock {
             set: first,
             mode: second,
         })
     } else if is(verb, "try") {
-        Some(Order::Try {
+        Some(CommandWords::Try {
             set: first,
             mode: second,
         })
     } else if is(verb, "unlock") {
-        Some(Order::Unlock {
+        Some(CommandWords::Unlock {
             set: first,
             mode: second,
         })
     } else if is(verb, "drop") {
-        Some(Order::Drop {
+        Some(CommandWords::Drop {
             client: first,
             set: second,
         })

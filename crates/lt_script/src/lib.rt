@@ -18,7 +18,8 @@ mod tests;
 pub use fault::{Fault, ReadError, ScriptFault};
 pub use laws::{law_faults, law_literals, law_print};
 pub use limits::{
-    MAX_CLIENTS, MAX_CLIENTS_OF_NODE, MAX_COMMANDS, MAX_LINE, MAX_NAME, MAX_NODES, MAX_SETS,
+    MAX_CLIENTS, MAX_CLIENTS_OF_FIRST, MAX_CLIENTS_OF_NODE, MAX_COMMANDS, MAX_LINE, MAX_NAME,
+    MAX_NODES, MAX_NODES_OF_FIRST, MAX_SETS,
 };
 pub use printing::print;
 pub use reading::read;

@@ -1,11 +1,20 @@
+ghost use Rattle.std.specs.Prelude.{◌≡◌};
+ghost use Rattle.lt_script.specs.Script.{most_nodes, most_clients};
+
 /// The most nodes of a script.
-pub const MAX_NODES: u8 = 16;
+pub const MAX_NODES: u8 = 64;
+
+/// The most nodes of a script of version 1.
+pub const MAX_NODES_OF_FIRST: u8 = 16;
 
 /// The most sets of a script.
 pub const MAX_SETS: u8 = 8;
 
 /// The most clients of a script.
-pub const MAX_CLIENTS: u16 = 64;
+pub const MAX_CLIENTS: u16 = 256;
+
+/// The most clients of a script of version 1.
+pub const MAX_CLIENTS_OF_FIRST: u16 = 64;
 
 /// The most clients on one node.
 pub const MAX_CLIENTS_OF_NODE: u16 = 16;
@@ -18,3 +27,23 @@ pub const MAX_NAME: usize = 32;
 
 /// The most bytes of a line that isn't skipped, without its line end.
 pub const MAX_LINE: usize = 200;
+
+/// The most nodes of a script of this version.
+pub(crate) fn most_nodes(version: u8) -> u8
+    ensures { result ≡ most_nodes version }
+{
+    match version {
+        1 => MAX_NODES_OF_FIRST,
+        _ => MAX_NODES,
+    }
+}
+
+/// The most clients of a script of this version.
+pub(crate) fn most_clients(version: u8) -> u16
+    ensures { result ≡ most_clients version }
+{
+    match version {
+        1 => MAX_CLIENTS_OF_FIRST,
+        _ => MAX_CLIENTS,
+    }
+}

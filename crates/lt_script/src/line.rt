@@ -1,23 +1,23 @@
-ghost use Rattle.std.specs.Prelude.{◌≡◌, None, Some, OnOk};
+ghost use Rattle.std.specs.Prelude.{◌≡◌, ℕ, None, Some, OnOk};
 ghost use Rattle.std.specs.List.{list_all};
 ghost use Rattle.lt_text.specs.Text.{words};
 ghost use Rattle.lt_script.specs.Script.{is_declared};
-ghost use Rattle.lt_script.specs.Forms.{FormData, form_of, form_seen, order_seen, NodesForm, SetForm, SetWithForm, ClientForm, CommandForm};
-ghost use Rattle.lt_script.specs.Faults.{Judges, line_fault, form_fault, is_plain_byte, names_unknown, names_no_mode, drops_elsewhere, home_of};
+ghost use Rattle.lt_script.specs.Forms.{FormData, form_of, form_seen, asked_seen, NodesForm, SetForm, SetWithForm, ClientForm, CommandForm};
+ghost use Rattle.lt_script.specs.Faults.{Judges, line_fault, form_fault, is_plain_byte, names_unknown, names_no_mode, mode_in, drops_elsewhere, home_of};
 
 use crate::fault::Fault;
-use crate::form::{Form, Order, form_of};
+use crate::form::{CommandWords, Form, form_of};
 use crate::limits::{
-    MAX_CLIENTS, MAX_CLIENTS_OF_NODE, MAX_COMMANDS, MAX_LINE, MAX_NODES, MAX_SETS,
+    MAX_CLIENTS_OF_NODE, MAX_COMMANDS, MAX_LINE, MAX_SETS, most_clients, most_nodes,
 };
 use crate::name::is_name;
 use crate::script::Script;
 use lt_modes::Mode;
 use lt_text::number;
 
-/// The form of a line that isn't skipped, or its first fault after the lines before it.
-pub fn judge<'a>(script: &Option<Script>, line: &'a [u8]) -> Result<Form<'a>, Fault>
-    ensures { Judges result (line_fault script.now line.now) (form_of (words line.now)) }
+/// The form of a line that isn't skipped, or its first fault after the lines before it, in a script of this version.
+pub fn judge<'a>(version: u8, script: &Option<Script>, line: &'a [u8]) -> Result<Form<'a>, Fault>
+    ensures { Judges result (line_fault version script.now line.now) (form_of (words line.now)) }
 {
     if !has_plain_bytes(line) {
         return Err(Fault::Bytes);
@@ -28,58 +28,59 @@ pub fn judge<'a>(script: &Option<Script>, line: &'a [u8]) -> Result<Form<'a>, Fa
     let Some(form) = form_of(line) else {
         return Err(Fault::Form);
     };
-    match form_fault(script, form) {
+    match form_fault(version, script, form) {
         Some(fault) => Err(fault),
         None => Ok(form),
     }
 }
 
 // The first fault of a line of this form.
-fn form_fault(script: &Option<Script>, form: Form<'_>) -> Option<Fault>
-    ensures { result ≡ form_fault script.now (form_seen form.entry) }
+fn form_fault(version: u8, script: &Option<Script>, form: Form<'_>) -> Option<Fault>
+    ensures { result ≡ form_fault version script.now (form_seen form.entry) }
 {
     match script {
         Some(script) => fault_after_nodes(script, form),
-        None => fault_before_nodes(form),
+        None => fault_before_nodes(version, form),
     }
 }
 
 // The first fault of a line where the line `nodes` was not before it.
-fn fault_before_nodes(form: Form<'_>) -> Option<Fault>
-    ensures { result ≡ form_fault None (form_seen form.entry) }
+fn fault_before_nodes(version: u8, form: Form<'_>) -> Option<Fault>
+    ensures { result ≡ form_fault version None (form_seen form.entry) }
 {
     match form {
-        Form::Nodes { nodes } => first_nodes_fault(nodes),
+        Form::Nodes { nodes } => first_nodes_fault(version, nodes),
         Form::Client { node, .. } if number(node).is_none() => Some(Fault::Number),
         _ => Some(Fault::Nodes),
     }
 }
 
-fn first_nodes_fault(nodes: &[u8]) -> Option<Fault>
-    ensures { result ≡ form_fault None (NodesForm nodes.now) }
+fn first_nodes_fault(version: u8, nodes: &[u8]) -> Option<Fault>
+    ensures { result ≡ form_fault version None (NodesForm nodes.now) }
 {
     match number(nodes) {
         None | Some(0) => Some(Fault::Number),
-        Some(nodes) if nodes > u32::from(MAX_NODES) => Some(Fault::Limit),
+        Some(nodes) if nodes > u32::from(most_nodes(version)) => Some(Fault::Limit),
         Some(_) => None,
     }
 }
 
 // The first fault of a line where the line `nodes` was before it.
 fn fault_after_nodes(script: &Script, form: Form<'_>) -> Option<Fault>
-    ensures { result ≡ form_fault (Some script.now) (form_seen form.entry) }
+    ensures { (version : ℕ) → result ≡ form_fault version (Some script.now) (form_seen form.entry) }
 {
     match form {
+        Form::Version => Some(Fault::Nodes),
         Form::Nodes { nodes } => later_nodes_fault(script, nodes),
         Form::Set { name } => set_fault(script, name),
         Form::SetWith { name, relative } => set_with_fault(script, name, relative),
         Form::Client { name, node } => client_fault(script, name, node),
-        Form::Command { client, order } => command_fault(script, client, order),
+        Form::Command { client, asked } => command_fault(script, client, asked),
     }
 }
 
 fn later_nodes_fault(_script: &Script, nodes: &[u8]) -> Option<Fault>
-    ensures { result ≡ form_fault (Some _script.now) (NodesForm nodes.now) }
+    ensures { (version : ℕ) → result ≡ form_fault version (Some _script.now) (NodesForm nodes.now) }
 {
     match number(nodes) {
         None | Some(0) => Some(Fault::Number),
@@ -88,7 +89,7 @@ fn later_nodes_fault(_script: &Script, nodes: &[u8]) -> Option<Fault>
 }
 
 fn set_fault(script: &Script, name: &[u8]) -> Option<Fault>
-    ensures { result ≡ form_fault (Some script.now) (SetForm name.now) }
+    ensures { (version : ℕ) → result ≡ form_fault version (Some script.now) (SetForm name.now) }
 {
     if !is_name(name) {
         Some(Fault::Name)
@@ -102,7 +103,7 @@ fn set_fault(script: &Script, name: &[u8]) -> Option<Fault>
 }
 
 fn set_with_fault(script: &Script, name: &[u8], relative: &[u8]) -> Option<Fault>
-    ensures { result ≡ form_fault (Some script.now) (SetWithForm name.now relative.now) }
+    ensures { (version : ℕ) → result ≡ form_fault version (Some script.now) (SetWithForm name.now relative.now) }
 {
     if !is_name(name) {
         Some(Fault::Name)
@@ -118,7 +119,7 @@ fn set_with_fault(script: &Script, name: &[u8], relative: &[u8]) -> Option<Fault
 }
 
 fn client_fault(script: &Script, name: &[u8], node: &[u8]) -> Option<Fault>
-    ensures { result ≡ form_fault (Some script.now) (ClientForm name.now node.now) }
+    ensures { (version : ℕ) → result ≡ form_fault version (Some script.now) (ClientForm name.now node.now) }
 {
     let Some(node) = number(node) else {
         return Some(Fault::Number);
@@ -129,65 +130,82 @@ fn client_fault(script: &Script, name: &[u8], node: &[u8]) -> Option<Fault>
         Some(Fault::Name)
     } else if script.is_declared(name) {
         Some(Fault::Repeated)
-    } else if script.clients() >= MAX_CLIENTS || script.load(node as u8) >= MAX_CLIENTS_OF_NODE {
+    } else if script.clients() >= most_clients(script.version())
+        || script.load(node as u8) >= MAX_CLIENTS_OF_NODE
+    {
         Some(Fault::Limit)
     } else {
         None
     }
 }
 
-fn command_fault(script: &Script, client: &[u8], order: Order<'_>) -> Option<Fault>
-    ensures { result ≡ form_fault (Some script.now) (CommandForm client.now (order_seen order.entry)) }
+fn command_fault(script: &Script, client: &[u8], asked: CommandWords<'_>) -> Option<Fault>
+    ensures { (version : ℕ) → result ≡ form_fault version (Some script.now) (CommandForm client.now (asked_seen asked.entry)) }
 {
-    if script.client_number(client).is_none() || names_unknown(script, order) {
+    if script.client_number(client).is_none() || names_unknown(script, asked) {
         Some(Fault::Unknown)
     } else if script.commands() >= MAX_COMMANDS {
         Some(Fault::Limit)
-    } else if names_no_mode(order) {
+    } else if names_no_mode(script.version(), asked) {
         Some(Fault::Mode)
-    } else if drops_elsewhere(script, client, order) {
+    } else if drops_elsewhere(script, client, asked) {
         Some(Fault::Node)
     } else {
         None
     }
 }
 
-// Whether the order names a set or a client that wasn't declared.
-fn names_unknown(script: &Script, order: Order<'_>) -> bool
-    ensures { result ≡ names_unknown script.now (order_seen order.entry) }
+// Whether the command names a set or a client that wasn't declared.
+fn names_unknown(script: &Script, asked: CommandWords<'_>) -> bool
+    ensures { result ≡ names_unknown script.now (asked_seen asked.entry) }
 {
-    match order {
-        Order::Lock { set, .. } => script.set_number(set).is_none(),
-        Order::Try { set, .. } => script.set_number(set).is_none(),
-        Order::Unlock { set, .. } => script.set_number(set).is_none(),
-        Order::Change { set, .. } => script.set_number(set).is_none(),
-        Order::Drop { client, set } => {
+    match asked {
+        CommandWords::Lock { set, .. } => script.set_number(set).is_none(),
+        CommandWords::Try { set, .. } => script.set_number(set).is_none(),
+        CommandWords::Unlock { set, .. } => script.set_number(set).is_none(),
+        CommandWords::Change { set, .. } => script.set_number(set).is_none(),
+        CommandWords::Drop { client, set } => {
             script.client_number(client).is_none() || script.set_number(set).is_none()
         }
     }
 }
 
-// Whether a word in a mode's place is no mode.
-fn names_no_mode(order: Order<'_>) -> bool
-    ensures { result ≡ names_no_mode (order_seen order.entry) }
+// Whether a word in a mode's place is no mode of this version.
+fn names_no_mode(version: u8, asked: CommandWords<'_>) -> bool
+    ensures { result ≡ names_no_mode version (asked_seen asked.entry) }
 {
-    match order {
-        Order::Lock { mode, .. } => Mode::from_word(mode).is_none(),
-        Order::Try { mode, .. } => Mode::from_word(mode).is_none(),
-        Order::Unlock { mode, .. } => Mode::from_word(mode).is_none(),
-        Order::Change { gives_up, mode, .. } => {
-            Mode::from_word(gives_up).is_none() || Mode::from_word(mode).is_none()
+    match asked {
+        CommandWords::Lock { mode, .. } => mode_in(version, mode).is_none(),
+        CommandWords::Try { mode, .. } => mode_in(version, mode).is_none(),
+        CommandWords::Unlock { mode, .. } => mode_in(version, mode).is_none(),
+        CommandWords::Change { gives_up, mode, .. } => {
+            mode_in(version, gives_up).is_none() || mode_in(version, mode).is_none()
         }
-        Order::Drop { .. } => false,
+        CommandWords::Drop { .. } => false,
     }
 }
 
-// Whether the order drops locks of a client of another node than this client's.
-fn drops_elsewhere(script: &Script, client: &[u8], order: Order<'_>) -> bool
-    ensures { result ≡ drops_elsewhere script.now (CommandForm client.now (order_seen order.entry)) }
+// The mode of this version with this word.
+fn mode_in(version: u8, word: &[u8]) -> Option<Mode>
+    ensures { result ≡ mode_in version word.now }
 {
-    match order {
-        Order::Drop { client: other, .. } => home_of(script, other) != home_of(script, client),
+    let Some(mode) = Mode::from_word(word) else {
+        return None;
+    };
+    if version != 1 || mode.is_of_five() {
+        Some(mode)
+    } else {
+        None
+    }
+}
+
+// Whether the command drops locks of a client of another node than this client's.
+fn drops_elsewhere(script: &Script, client: &[u8], asked: CommandWords<'_>) -> bool
+    ensures { result ≡ drops_elsewhere script.now (CommandForm client.now (asked_seen asked.entry)) }
+{
+    match asked {
+        CommandWords::Drop { client: other, .. } => home_of(script, other)
+            != home_of(script, client),
         _ => false,
     }
 }

@@ -4,7 +4,7 @@ ghost use Rattle.lt_modes.specs.Modes.{word_of};
 ghost use Rattle.lt_text.specs.Text.{each_after_space};
 ghost use Rattle.lt_script.specs.Script.{IsRequest};
 ghost use Rattle.lt_script.specs.Reading.{read_of};
-ghost use Rattle.lt_script.specs.Printing.{print_of, line_of, nodes_words, set_words, client_words, order_words, command_words};
+ghost use Rattle.lt_script.specs.Printing.{print_of, ended_line, version_words, nodes_words, set_words, client_words, asked_words, command_words};
 
 use crate::declarations::{ClientDecl, SetDecl};
 use crate::script::Script;
@@ -12,12 +12,14 @@ use lt_modes::{Command, Mode};
 use lt_text::push_number;
 use std::alloc::{AllocError, Global};
 
-/// Writes the script as `read` reads it: the line `nodes`, the sets, the clients and the commands.
+/// Writes the script as `read` reads it: for version 2 the line `version 2`, and then the line `nodes`, the sets, the
+/// clients and the commands.
 pub fn print(alloc: Global, script: &Script) -> Result<Vec<u8>, AllocError>
     ensures text { IfOk result (λ text. text.items ≡ print_of script.now) }
     ensures read_back { IfOk result (λ text. read_of text.items ≡ Ok script.now) }
 {
     let mut out = Vec::new(alloc);
+    push_version(&mut out, script.version())?;
     push_nodes(&mut out, script.nodes())?;
     push_sets(&mut out, script)?;
     push_clients(&mut out, script)?;
@@ -25,8 +27,18 @@ pub fn print(alloc: Global, script: &Script) -> Result<Vec<u8>, AllocError>
     Ok(out)
 }
 
+fn push_version(out: &mut Vec<u8>, version: u8) -> Result<(), AllocError>
+    ensures { OnOk result (out.new.items ≡ out.old.items ++ flat_map ended_line (version_words version)) }
+{
+    if version == 1 {
+        Ok(())
+    } else {
+        push_text(out, "version 2\n")
+    }
+}
+
 fn push_nodes(out: &mut Vec<u8>, nodes: u8) -> Result<(), AllocError>
-    ensures { OnOk result (out.new.items ≡ out.old.items ++ line_of (nodes_words nodes)) }
+    ensures { OnOk result (out.new.items ≡ out.old.items ++ ended_line (nodes_words nodes)) }
 {
     push_text(out, "nodes ")?;
     push_number(out, u32::from(nodes))?;
@@ -35,7 +47,7 @@ fn push_nodes(out: &mut Vec<u8>, nodes: u8) -> Result<(), AllocError>
 
 fn push_sets(out: &mut Vec<u8>, script: &Script) -> Result<(), AllocError>
     ensures { OnOk result (out.new.items
-        ≡ out.old.items ++ flat_map (λ x. line_of (set_words script.now.sets x)) script.now.sets) }
+        ≡ out.old.items ++ flat_map (λ x. ended_line (set_words script.now.sets x)) script.now.sets) }
 {
     for set in script.set_declarations() {
         push_set(out, script, set)?;
@@ -46,7 +58,7 @@ fn push_sets(out: &mut Vec<u8>, script: &Script) -> Result<(), AllocError>
 fn push_set(out: &mut Vec<u8>, script: &Script, set: &SetDecl) -> Result<(), AllocError>
     requires { set.now.family < length script.now.sets }
     ensures { OnOk result
-        (out.new.items ≡ out.old.items ++ line_of (set_words script.now.sets set.now)) }
+        (out.new.items ≡ out.old.items ++ ended_line (set_words script.now.sets set.now)) }
 {
     push_text(out, "set")?;
     push_word(out, set.name())?;
@@ -60,7 +72,7 @@ fn push_set(out: &mut Vec<u8>, script: &Script, set: &SetDecl) -> Result<(), All
 
 fn push_clients(out: &mut Vec<u8>, script: &Script) -> Result<(), AllocError>
     ensures { OnOk result
-        (out.new.items ≡ out.old.items ++ flat_map (λ x. line_of (client_words x)) script.now.clients) }
+        (out.new.items ≡ out.old.items ++ flat_map (λ x. ended_line (client_words x)) script.now.clients) }
 {
     for client in script.client_declarations() {
         push_client(out, client)?;
@@ -69,7 +81,7 @@ fn push_clients(out: &mut Vec<u8>, script: &Script) -> Result<(), AllocError>
 }
 
 fn push_client(out: &mut Vec<u8>, client: &ClientDecl) -> Result<(), AllocError>
-    ensures { OnOk result (out.new.items ≡ out.old.items ++ line_of (client_words client.now)) }
+    ensures { OnOk result (out.new.items ≡ out.old.items ++ ended_line (client_words client.now)) }
 {
     push_text(out, "client")?;
     push_word(out, client.name())?;
@@ -80,7 +92,7 @@ fn push_client(out: &mut Vec<u8>, client: &ClientDecl) -> Result<(), AllocError>
 
 fn push_commands(out: &mut Vec<u8>, script: &Script) -> Result<(), AllocError>
     ensures { OnOk result (out.new.items
-        ≡ out.old.items ++ flat_map (λ x. line_of (command_words script.now x)) script.now.commands) }
+        ≡ out.old.items ++ flat_map (λ x. ended_line (command_words script.now x)) script.now.commands) }
 {
     for request in script.requests() {
         push_command(out, script, *request)?;
@@ -95,18 +107,18 @@ fn push_command(
 ) -> Result<(), AllocError>
     requires { IsRequest script.now.sets script.now.clients request }
     ensures { OnOk result
-        (out.new.items ≡ out.old.items ++ line_of (command_words script.now request)) }
+        (out.new.items ≡ out.old.items ++ ended_line (command_words script.now request)) }
 {
     out.extend_from_slice(script.client_name(request.0))?;
-    push_order(out, script, request)?;
+    push_asked(out, script, request)?;
     push_text(out, "\n")
 }
 
 // Writes what stands behind the client's name.
-fn push_order(out: &mut Vec<u8>, script: &Script, request: (u16, Command)) -> Result<(), AllocError>
+fn push_asked(out: &mut Vec<u8>, script: &Script, request: (u16, Command)) -> Result<(), AllocError>
     requires { IsRequest script.now.sets script.now.clients request }
     ensures { OnOk result
-        (out.new.items ≡ out.old.items ++ each_after_space (order_words script.now request.1)) }
+        (out.new.items ≡ out.old.items ++ each_after_space (asked_words script.now request.1)) }
 {
     match request.1 {
         Command::Lock { set, mode } => push_set_and_mode(out, b"lock", script.set_name(set), mode),

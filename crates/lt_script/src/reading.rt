@@ -1,11 +1,12 @@
-ghost use Rattle.std.specs.Prelude.{◌≡◌, ◌<◌, ◌-◌, ◌^◌, None, Some, false, length, IfOk, OnOk};
-ghost use Rattle.lt_text.specs.Text.{words};
-ghost use Rattle.lt_script.specs.Forms.{form_of, form_seen, order_seen, SetWithForm, ClientForm, CommandForm};
-ghost use Rattle.lt_script.specs.Faults.{declared, form_fault, after_form, command_of, set_at, mode_at};
-ghost use Rattle.lt_script.specs.Reading.{TakesLine, Reads, is_skipped, line_step, read_of};
+ghost use Rattle.std.specs.Prelude.{◌≡◌, ◌⊎◌, ◌<◌, ◌≤◌, ◌+◌, ◌-◌, ◌^◌, None, Some, false, length, IfOk, OnOk};
+ghost use Rattle.lt_text.specs.Text.{lines, words};
+ghost use Rattle.lt_script.specs.Forms.{form_of, form_seen, asked_seen, SetWithForm, ClientForm, CommandForm};
+ghost use Rattle.lt_script.specs.Faults.{declared, form_fault, after_form, named_command, set_at, mode_at};
+ghost use Rattle.lt_script.specs.Reading.{TakesLine, Reads, is_skipped, says_version, line_step, script_body, read_of};
 
 use crate::fault::{Fault, ReadError, ScriptFault};
-use crate::form::{Form, Order};
+use crate::form::{CommandWords, Form, form_of};
+use crate::limits::MAX_LINE;
 use crate::line::judge;
 use crate::script::Script;
 use lt_modes::{Command, Mode};
@@ -20,11 +21,12 @@ pub fn read(alloc: Global, bytes: &[u8]) -> Result<Script, ReadError>
     requires { length bytes.now < 2 ^ 32 - 1 }
     ensures { Reads result (read_of bytes.now) }
 {
+    let body = body_of(bytes);
     let mut script: Option<Script> = None;
-    let mut rest = bytes;
-    let mut number: u32 = 1;
+    let mut rest = body.rest;
+    let mut number = body.number;
     while let Some((line, after)) = next_line(rest) {
-        let Ok(fault) = read_line(alloc, &mut script, line) else {
+        let Ok(fault) = read_line(alloc, body.version, &mut script, line) else {
             return Err(ReadError::Memory);
         };
         if let Some(fault) = fault {
@@ -45,21 +47,80 @@ pub fn read(alloc: Global, bytes: &[u8]) -> Result<Script, ReadError>
     }
 }
 
+// What a script is read from: its version, and the lines behind the line `version 2`, where there is one, with the
+// number of the first of them.
+#[derive(Clone, Copy, Debug)]
+struct Body<'a> {
+    version: u8,
+    number: u32,
+    rest: &'a [u8],
+}
+
+// The version of the script, and the lines that say more.
+fn body_of<'a>(bytes: &'a [u8]) -> Body<'a>
+    requires { length bytes.now < 2 ^ 32 - 1 }
+    ensures body { script_body (lines bytes.now) 1
+        ≡ record { version = result.version; first = result.number; lines = lines result.rest.now } }
+    ensures version { (result.version ≡ 1) ⊎ (result.version ≡ 2) }
+    ensures count { result.number + length result.rest.now ≤ length bytes.now + 1 }
+{
+    let mut rest = bytes;
+    let mut number: u32 = 1;
+    while let Some((line, after)) = next_line(rest) {
+        if !is_skipped(line) {
+            if says_version(line) {
+                return Body {
+                    version: 2,
+                    number: number + 1,
+                    rest: after,
+                };
+            }
+            return Body {
+                version: 1,
+                number,
+                rest,
+            };
+        }
+        rest = after;
+        number += 1;
+    }
+    Body {
+        version: 1,
+        number,
+        rest,
+    }
+}
+
+// Whether the line is `version 2`, and not too long.
+fn says_version(line: &[u8]) -> bool
+    ensures { result ≡ says_version line.now }
+{
+    if line.len() > MAX_LINE {
+        return false;
+    }
+    match form_of(line) {
+        Some(Form::Version) => true,
+        _ => false,
+    }
+}
+
 // Adds what the line says, or tells its first fault.
 #[tactic(auto, unfolding(crate::specs::Reading::line_step))]
 fn read_line(
     alloc: Global,
+    version: u8,
     script: &mut Option<Script>,
     line: &[u8],
 ) -> Result<Option<Fault>, AllocError>
-    ensures { IfOk result (λ fault. TakesLine fault script.new (line_step script.old line.now)) }
+    requires version { (version ≡ 1) ⊎ (version ≡ 2) }
+    ensures { IfOk result (λ fault. TakesLine fault script.new (line_step version script.old line.now)) }
 {
     if is_skipped(line) {
         return Ok(None);
     }
-    match judge(script, line) {
+    match judge(version, script, line) {
         Ok(form) => {
-            apply(alloc, script, form)?;
+            apply(alloc, version, script, form)?;
             Ok(None)
         }
         Err(fault) => Ok(Some(fault)),
@@ -76,51 +137,62 @@ fn is_skipped(line: &[u8]) -> bool
 }
 
 // Adds what a line of this form says.
-fn apply(alloc: Global, script: &mut Option<Script>, form: Form<'_>) -> Result<(), AllocError>
-    requires { form_fault script.old (form_seen form) ≡ None }
-    ensures { OnOk result (script.new ≡ Some (after_form (declared script.old) (form_seen form.entry))) }
+fn apply(
+    alloc: Global,
+    version: u8,
+    script: &mut Option<Script>,
+    form: Form<'_>,
+) -> Result<(), AllocError>
+    requires version { (version ≡ 1) ⊎ (version ≡ 2) }
+    requires clean { form_fault version script.old (form_seen form) ≡ None }
+    ensures { OnOk result (script.new ≡ Some (after_form (declared version script.old) (form_seen form.entry))) }
 {
     match script {
         Some(script) => add(script, form),
         None => {
-            *script = Some(start(alloc, form)?);
+            *script = Some(start(alloc, version, form)?);
             Ok(())
         }
     }
 }
 
 // The script that the line `nodes` begins.
-fn start(alloc: Global, form: Form<'_>) -> Result<Script, AllocError>
-    requires { form_fault None (form_seen form) ≡ None }
-    ensures { IfOk result (λ script. script ≡ after_form (declared None) (form_seen form.entry)) }
+fn start(alloc: Global, version: u8, form: Form<'_>) -> Result<Script, AllocError>
+    requires version { (version ≡ 1) ⊎ (version ≡ 2) }
+    requires clean { form_fault version None (form_seen form) ≡ None }
+    ensures { IfOk result (λ script. script ≡ after_form (declared version None) (form_seen form.entry)) }
 {
     let Form::Nodes { nodes } = form else {
         unreachable!();
     };
     let nodes = number(nodes).unwrap_or(0);
-    Script::new(alloc, nodes as u8)
+    if version == 1 {
+        Script::new(alloc, nodes as u8)
+    } else {
+        Script::new_v2(alloc, nodes as u8)
+    }
 }
 
 // Adds what a line after the line `nodes` says.
 fn add(script: &mut Script, form: Form<'_>) -> Result<(), AllocError>
-    requires { form_fault (Some script.old) (form_seen form) ≡ None }
+    requires { form_fault script.old.version (Some script.old) (form_seen form) ≡ None }
     ensures { OnOk result (script.new ≡ after_form script.old (form_seen form.entry)) }
 {
     match form {
-        Form::Nodes { .. } => unreachable!(),
+        Form::Version | Form::Nodes { .. } => unreachable!(),
         Form::Set { name } => {
             let family = script.sets();
             script.add_set(name, family)
         }
         Form::SetWith { name, relative } => add_relative(script, name, relative),
         Form::Client { name, node } => add_client(script, name, node),
-        Form::Command { client, order } => add_command(script, client, order),
+        Form::Command { client, asked } => add_command(script, client, asked),
     }
 }
 
 // Adds a set in the family of this one.
 fn add_relative(script: &mut Script, name: &[u8], relative: &[u8]) -> Result<(), AllocError>
-    requires { form_fault (Some script.old) (SetWithForm name.now relative.now) ≡ None }
+    requires { form_fault script.old.version (Some script.old) (SetWithForm name.now relative.now) ≡ None }
     ensures { OnOk result (script.new ≡ after_form script.old (SetWithForm name.now relative.now)) }
 {
     let Some(set) = script.set_number(relative) else {
@@ -131,7 +203,7 @@ fn add_relative(script: &mut Script, name: &[u8], relative: &[u8]) -> Result<(),
 }
 
 fn add_client(script: &mut Script, name: &[u8], node: &[u8]) -> Result<(), AllocError>
-    requires { form_fault (Some script.old) (ClientForm name.now node.now) ≡ None }
+    requires { form_fault script.old.version (Some script.old) (ClientForm name.now node.now) ≡ None }
     ensures { OnOk result (script.new ≡ after_form script.old (ClientForm name.now node.now)) }
 {
     let node = number(node).unwrap_or(0);
@@ -139,34 +211,38 @@ fn add_client(script: &mut Script, name: &[u8], node: &[u8]) -> Result<(), Alloc
     script.add_client(name, node as u8)
 }
 
-fn add_command(script: &mut Script, client: &[u8], order: Order<'_>) -> Result<(), AllocError>
-    requires { form_fault (Some script.old) (CommandForm client.now (order_seen order)) ≡ None }
+fn add_command(
+    script: &mut Script,
+    client: &[u8],
+    asked: CommandWords<'_>,
+) -> Result<(), AllocError>
+    requires { form_fault script.old.version (Some script.old) (CommandForm client.now (asked_seen asked)) ≡ None }
     ensures { OnOk result
-        (script.new ≡ after_form script.old (CommandForm client.now (order_seen order.entry))) }
+        (script.new ≡ after_form script.old (CommandForm client.now (asked_seen asked.entry))) }
 {
     let client = script.client_number(client).unwrap_or(0);
-    let command = command_of(script, order);
+    let command = command_of(script, asked);
     script.add_command(client, command)
 }
 
-// The command of an order that names declared sets and clients, and modes.
-fn command_of(script: &Script, order: Order<'_>) -> Command
-    ensures { result ≡ command_of script.now (order_seen order.entry) }
+// The command of words that name declared sets and clients, and modes.
+fn command_of(script: &Script, asked: CommandWords<'_>) -> Command
+    ensures { result ≡ named_command script.now (asked_seen asked.entry) }
 {
-    match order {
-        Order::Lock { set, mode } => Command::Lock {
+    match asked {
+        CommandWords::Lock { set, mode } => Command::Lock {
             set: set_at(script, set),
             mode: mode_at(mode),
         },
-        Order::Try { set, mode } => Command::Try {
+        CommandWords::Try { set, mode } => Command::Try {
             set: set_at(script, set),
             mode: mode_at(mode),
         },
-        Order::Unlock { set, mode } => Command::Unlock {
+        CommandWords::Unlock { set, mode } => Command::Unlock {
             set: set_at(script, set),
             mode: mode_at(mode),
         },
-        Order::Change {
+        CommandWords::Change {
             set,
             gives_up,
             mode,
@@ -175,7 +251,7 @@ fn command_of(script: &Script, order: Order<'_>) -> Command
             gives_up: mode_at(gives_up),
             mode: mode_at(mode),
         },
-        Order::Drop { client, set } => Command::DropAll {
+        CommandWords::Drop { client, set } => Command::DropAll {
             client: script.client_number(client).unwrap_or(0),
             set: set_at(script, set),
         },

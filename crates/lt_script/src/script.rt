@@ -2,8 +2,8 @@ ghost use Rattle.std.specs.Prelude.{◌≡◌, ◌<◌, ◌≤◌, ◌++◌, ◌
 ghost use Rattle.std.specs.Str.{bytes_eq};
 ghost use Rattle.lt_modes.specs.Script.{SetData, ClientData, set_name, family_at, client_name, home_at};
 ghost use Rattle.lt_script.specs.Names.{is_name};
-ghost use Rattle.lt_script.specs.Script.{IsScript, IsFamilyOfNext, IsRequest, load_of, set_number, client_number, is_declared};
-ghost use Rattle.lt_script.specs.declared.limits.TheConstants.{MAX_NODES, MAX_SETS, MAX_CLIENTS, MAX_CLIENTS_OF_NODE, MAX_COMMANDS};
+ghost use Rattle.lt_script.specs.Script.{IsScript, IsFamilyOfNext, IsRequest, HasModesOf, most_clients, load_of, set_number, client_number, is_declared};
+ghost use Rattle.lt_script.specs.declared.limits.TheConstants.{MAX_NODES, MAX_NODES_OF_FIRST, MAX_SETS, MAX_CLIENTS_OF_NODE, MAX_COMMANDS};
 
 use crate::declarations::{ClientDecl, SetDecl};
 use crate::hints::Hints;
@@ -16,6 +16,7 @@ use std::marker::Model;
 /// Sets and clients have numbers from 0, as they are declared. A client's commands are its own among all, in order.
 #[derive(Debug, Drop)]
 pub struct Script {
+    version: u8,
     nodes: u8,
     sets: Vec<SetDecl>,
     clients: Vec<ClientDecl>,
@@ -32,6 +33,7 @@ impl Model for Script {
     ghost Value = { ScriptData };
 
     ghost view = { λ s. record {
+      version = s.version;
       nodes = s.nodes;
       sets = s.sets.items;
       clients = s.clients.items;
@@ -39,6 +41,7 @@ impl Model for Script {
     } };
 
     ghost invariant = { λ s. IsScript (record {
+      version = s.version;
       nodes = s.nodes;
       sets = s.sets.items;
       clients = s.clients.items;
@@ -47,14 +50,15 @@ impl Model for Script {
 }
 
 impl Script {
-    /// A script with no sets, clients or commands.
+    /// A script of version 1 with no sets, clients or commands.
     pub fn new(alloc: Global, nodes: u8) -> Result<Script, AllocError>
         requires some_node { 0 < nodes }
-        requires few_nodes { nodes ≤ MAX_NODES }
+        requires few_nodes { nodes ≤ MAX_NODES_OF_FIRST }
         ensures { IfOk result
-            (λ s. s ≡ record { nodes = nodes; sets = []; clients = []; commands = [] }) }
+            (λ s. s ≡ record { version = 1; nodes = nodes; sets = []; clients = []; commands = [] }) }
     {
         Ok(Script {
+            version: 1,
             nodes,
             sets: Vec::new(alloc),
             clients: Vec::new(alloc),
@@ -62,6 +66,32 @@ impl Script {
             set_hints: Hints::new(),
             client_hints: Hints::new(),
         })
+    }
+
+    /// A script of version 2 with no sets, clients or commands.
+    pub fn new_v2(alloc: Global, nodes: u8) -> Result<Script, AllocError>
+        requires some_node { 0 < nodes }
+        requires few_nodes { nodes ≤ MAX_NODES }
+        ensures { IfOk result
+            (λ s. s ≡ record { version = 2; nodes = nodes; sets = []; clients = []; commands = [] }) }
+    {
+        Ok(Script {
+            version: 2,
+            nodes,
+            sets: Vec::new(alloc),
+            clients: Vec::new(alloc),
+            commands: Vec::new(alloc),
+            set_hints: Hints::new(),
+            client_hints: Hints::new(),
+        })
+    }
+
+    /// The version: 1 or 2.
+    pub fn version(&self) -> u8
+        ensures version { result ≡ self.now.version }
+        ensures kept { IsScript self.now }
+    {
+        self.version
     }
 
     /// The number of nodes.
@@ -244,7 +274,7 @@ impl Script {
     pub fn add_client(&mut self, name: &[u8], node: u8) -> Result<(), AllocError>
         requires name { is_name name.now ≡ true }
         requires new { is_declared self.old name.now ≡ false }
-        requires room { length self.old.clients < MAX_CLIENTS }
+        requires room { length self.old.clients < most_clients self.old.version }
         requires node { node < self.old.nodes }
         requires load { load_of self.old.clients node < MAX_CLIENTS_OF_NODE }
         ensures added { OnOk result (self.new ≡ record self.old {
@@ -263,6 +293,7 @@ impl Script {
     pub fn add_command(&mut self, client: u16, command: Command) -> Result<(), AllocError>
         requires room { length self.old.commands < MAX_COMMANDS }
         requires request { IsRequest self.old.sets self.old.clients (client, command) }
+        requires modes { HasModesOf self.old.version command }
         ensures added { OnOk result
             (self.new ≡ record self.old { commands = self.old.commands ++ (client, command) ∷ [] }) }
         ensures unchanged { OnErr result (self.new ≡ self.old) }

@@ -1,4 +1,4 @@
-use crate::{MAX_CLIENTS, ReadError, Script, print, read};
+use crate::{MAX_CLIENTS_OF_FIRST, ReadError, Script, print, read};
 use lt_modes::{Command, Mode};
 use lt_text::push_number;
 use std::alloc::{AllocError, Global};
@@ -38,6 +38,26 @@ fn tells_the_first_fault(rt: HostRuntime) -> Result<(), Fail> {
         ("nodes 1\nset s\nclient a at 0\na grab s read\n", (4, 3)),
         ("nodes 1\nset s\u{1}\n", (2, 1)),
         ("# \u{1}\r?\nnodes 1\n", (0, 0)),
+        (
+            "nodes 1\nset s\nclient a at 0\na lock s read_intention_write\n",
+            (4, 10),
+        ),
+        (
+            "version 2\nnodes 1\nset s\nclient a at 0\na lock s read_intention_write\n",
+            (0, 0),
+        ),
+        ("version 3\nnodes 1\n", (1, 3)),
+        ("version 02\nnodes 1\n", (1, 3)),
+        ("version 2\nnodes 1\nversion 2\n", (3, 5)),
+        ("nodes 1\nversion 2\n", (2, 5)),
+        ("version 2\nset s\n", (2, 5)),
+        ("version 2\n", (2, 5)),
+        ("\n# two\n version\t2 \r\nnodes 64\n", (0, 0)),
+        ("version 2\nnodes 65\n", (2, 9)),
+        (
+            "version 2\nnodes 1\nset s\nclient a at 0\na lock s reed\n",
+            (5, 10),
+        ),
     ];
     for (text, expected) in rows {
         let found = first_fault(rt.alloc(), text.as_bytes())?;
@@ -67,7 +87,7 @@ fn tells_long_lines(rt: HostRuntime) -> Result<(), Fail> {
 #[test]
 fn tells_one_client_too_many(rt: HostRuntime) -> Result<(), Fail> {
     let mut text = Vec::from_slice(rt.alloc(), b"nodes 16\n")?;
-    for client in 0..=u32::from(MAX_CLIENTS) {
+    for client in 0..=u32::from(MAX_CLIENTS_OF_FIRST) {
         text.extend_from_slice(b"client c")?;
         push_number(&mut text, client)?;
         text.extend_from_slice(b" at ")?;
@@ -104,6 +124,7 @@ fn prints_drawn_scripts_as_they_are_read(rt: HostRuntime) -> Result<(), Fail> {
         "nodes 16\nset s0\nset s1\nset s2\nset s3\nclient c0 at 0\nclient c1 at 1\nclient c2 at 2\nc0 try s3 intention_write\nc0 unlock s3 intention_write\nc1 lock s0 upgrade\nc1 unlock s0 upgrade\n",
         "nodes 5\nset s0\nset s1\nset s2\nset s3\nclient c0 at 0\nclient c1 at 1\nclient c2 at 2\nclient c3 at 3\nclient c4 at 4\nclient c5 at 0\nc0 lock s0 upgrade\nc0 change s0 upgrade write\nc0 unlock s0 write\nc1 try s2 write\nc1 unlock s2 write\nc2 try s0 upgrade\nc2 unlock s0 upgrade\n",
         "nodes 2\nset s0\nset s1\nset s2\nset s3\nclient c0 at 0\nc0 lock s0 intention_read\nc0 unlock s0 intention_read\nc0 unlock s0 read\n",
+        "version 2\nnodes 64\nset s\nclient a at 63\na lock s read_intention_write\na change s read_intention_write write\n",
     ];
     for text in texts {
         let again = printed_again(rt.alloc(), text.as_bytes())?;

@@ -1,22 +1,22 @@
 -- What an answer says of a command: once its text is written, and where it came to no end.
 use Rattle.std.proofs.Common.{◌≡◌, true, false, ℕ, List, [], Option, Some, refl, sym, subst, inl, inr}
-use Rattle.lt_io.specs.FaultCounts.{Counts}
+use Rattle.lt_io.specs.FaultCounts.{CountsFaults}
 use Rattle.lt_io.specs.Source.{SourceState}
-use Rattle.lt_runs.specs.Log.{Logged}
+use Rattle.lt_spec.specs.Log.{Logged}
 use Rattle.lt_words.specs.declared.command.Command.{Command}
 use Rattle.lt_words.specs.declared.command.Command.TheVariants.{Run, SimFirst, Sim, Check, Make, Soak}
 use Rattle.lt_serve.specs.declared.serving.Served.{Served}
 use Rattle.lt_serve.specs.declared.status.Status.{Status}
 use Rattle.lt_serve.specs.declared.status.Status.TheVariants.{Done, Stuck, Usage, Refused, TooLong, ReadFault, WriteFault, NoMemory, Cut, BadJournal}
-use Rattle.lt_serve.specs.Causes.{TellsSource, TellsSink, IsReadWhole, IsEnding, IsRefusal, WritesNothing, reads, limit_of}
+use Rattle.lt_serve.specs.Causes.{SaysOfSource, SaysOfSink, IsReadWhole, IsEnding, IsRefusal, WritesNothing, reads, limit_of}
 use Rattle.lt_serve.specs.Complete.{IsComplete, IsAnswered}
 use Rattle.lt_serve.specs.Serves.{Serves}
-use Rattle.lt_serve.specs.TopCall.{Does, TellsOf}
+use Rattle.lt_serve.specs.TopCall.{JournalsBy, DidOf}
 use Rattle.lt_serve.proofs.Causing.{HasWritten, written_causes, refused_causes, written_reading}
 use Rattle.lt_serve.proofs.Completing.{rose, refusal_complete}
 
 does_answered : (moves : ℕ) (command : Command) (status : Status) (left : Option (List ℕ)) (run : List Logged) (text : List ℕ)
-    → Does moves command status left run text → IsEnding status → IsAnswered command status
+    → JournalsBy moves command status left run text → IsEnding status → IsAnswered command status
 does_answered moves SimFirst status left run text does h = h
 does_answered moves (Sim seed) status left run text does h = h
 does_answered moves (Make nodes clients commands seed) status left run text does h = does.0
@@ -25,7 +25,7 @@ does_answered moves Run status left run text does h = h
 does_answered moves (Soak seed) status left run text does h = h
 
 told_answered : (moves : ℕ) (command : Command) (status : Status) (left : Option (List ℕ)) (run : List Logged) (old new : Option (List ℕ))
-    → TellsOf moves command status left run old new → IsEnding status → IsAnswered command status
+    → DidOf moves command status left run old new → IsEnding status → IsAnswered command status
 told_answered moves command Done left run old new told h = does_answered moves command Done left run told.0 told.1 h
 told_answered moves command Stuck left run old new told h = does_answered moves command Stuck left run told.0 told.1 h
 told_answered moves command (Cut node) left run old new told h = does_answered moves command (Cut node) left run told.0 told.1 h
@@ -38,27 +38,27 @@ told_answered moves command NoMemory left run old new told h = absurd h
 told_answered moves command (BadJournal line) left run old new told h = absurd h
 
 pub written_complete : (moves : ℕ) (command : Command) (status : Status) (left : Option (List ℕ)) (run : List Logged) (old new : Option (List ℕ))
-    (before after : SourceState) (w v : ℕ) → TellsOf moves command status left run old new → HasWritten status → (status ≡ WriteFault → Counts 1 w v)
+    (before after : SourceState) (w v : ℕ) → DidOf moves command status left run old new → HasWritten status → (status ≡ WriteFault → CountsFaults 1 w v)
     → IsComplete (Some command) status before after w v
 written_complete moves command status left run old new before after w v told (inl h) fault =
     λ good writes memory. told_answered moves command status left run old new told h
 written_complete moves command status left run old new before after w v told (inr e) fault =
     λ good writes memory. absurd (writes (rose 1 w v (fault e)))
 
-refusal_tells : (moves : ℕ) (command : Command) (status : Status) (left : Option (List ℕ)) (run : List Logged) (held : Option (List ℕ))
-    → IsRefusal command left status → run ≡ [] → TellsOf moves command status left run held held
-refusal_tells moves command (Refused fault) left run held h none = (none, refl)
-refusal_tells moves command TooLong left run held h none = (none, refl)
-refusal_tells moves command ReadFault left run held h none = (none, refl)
-refusal_tells moves command NoMemory left run held h none = (none, refl)
-refusal_tells moves command (BadJournal line) left run held h none = (none, refl)
-refusal_tells moves command Usage left run held h none = absurd h
-refusal_tells moves command Done left run held h none = absurd h
-refusal_tells moves command Stuck left run held h none = absurd h
-refusal_tells moves command (Cut node) left run held h none = absurd h
-refusal_tells moves command WriteFault left run held h none = absurd h
+refusal_did : (moves : ℕ) (command : Command) (status : Status) (left : Option (List ℕ)) (run : List Logged) (held : Option (List ℕ))
+    → IsRefusal command left status → run ≡ [] → DidOf moves command status left run held held
+refusal_did moves command (Refused fault) left run held h none = (none, refl)
+refusal_did moves command TooLong left run held h none = (none, refl)
+refusal_did moves command ReadFault left run held h none = (none, refl)
+refusal_did moves command NoMemory left run held h none = (none, refl)
+refusal_did moves command (BadJournal line) left run held h none = (none, refl)
+refusal_did moves command Usage left run held h none = absurd h
+refusal_did moves command Done left run held h none = absurd h
+refusal_did moves command Stuck left run held h none = absurd h
+refusal_did moves command (Cut node) left run held h none = absurd h
+refusal_did moves command WriteFault left run held h none = absurd h
 
-refusal_writes : (command : Command) (left : Option (List ℕ)) (status : Status) (w : ℕ) → IsRefusal command left status → TellsSink status w w
+refusal_writes : (command : Command) (left : Option (List ℕ)) (status : Status) (w : ℕ) → IsRefusal command left status → SaysOfSink status w w
 refusal_writes command left status w h = record {
   write_fault = λ e. absurd (subst (λ (s : Status). IsRefusal command left s) e h);
   no_write_fault = λ other. refl;
@@ -68,14 +68,14 @@ refusal_writes command left status w h = record {
 pub refusal_serves : {S K : Type 0} (state : S → SourceState) (held : K → Option (List ℕ)) (write_faults : K → ℕ)
     (moves : ℕ) (asked : Option Command) (command : Command) (answer : Served) (status : Status) (before after : S) (sink : K)
     → asked ≡ Some command → answer.status ≡ status → answer.run.entries ≡ [] → IsRefusal command (state before).left status
-    → (reads (Some command) ≡ true → TellsSource (limit_of (Some command)) status (state before) (state after))
+    → (reads (Some command) ≡ true → SaysOfSource (limit_of (Some command)) status (state before) (state after))
     → (reads (Some command) ≡ false → after ≡ before)
     → Serves state held write_faults moves asked answer before after sink sink
 refusal_serves state held write_faults moves asked command answer status before after sink is same none refused reading unread =
     let refusal = subst (λ (s : Status). IsRefusal command (state before).left s) (sym same) refused in
-    let read = subst (λ (s : Status). reads (Some command) ≡ true → TellsSource (limit_of (Some command)) s (state before) (state after)) (sym same) reading in
+    let read = subst (λ (s : Status). reads (Some command) ≡ true → SaysOfSource (limit_of (Some command)) s (state before) (state after)) (sym same) reading in
     subst (λ (a : Option Command). Serves state held write_faults moves a answer before after sink sink) (sym is) (record {
-      tells = refusal_tells moves command answer.status (state before).left answer.run.entries (held sink) refusal none;
+      did = refusal_did moves command answer.status (state before).left answer.run.entries (held sink) refusal none;
       causes = refused_causes (Some command) command (state before).left answer.status refl refusal;
       reading = read;
       unread = unread;
@@ -89,14 +89,14 @@ refusal_serves state held write_faults moves asked command answer status before 
 pub written_serves : {S K : Type 0} (state : S → SourceState) (held : K → Option (List ℕ)) (write_faults : K → ℕ)
     (moves : ℕ) (asked : Option Command) (command : Command) (answer : Served) (before after : S) (sink sink_after : K)
     → asked ≡ Some command → HasWritten answer.status
-    → TellsOf moves command answer.status (state before).left answer.run.entries (held sink) (held sink_after)
+    → DidOf moves command answer.status (state before).left answer.run.entries (held sink) (held sink_after)
     → (reads (Some command) ≡ true → IsReadWhole (limit_of (Some command)) (state before) (state after))
     → (reads (Some command) ≡ false → after ≡ before)
-    → TellsSink answer.status (write_faults sink) (write_faults sink_after) → (WritesNothing answer.status → sink_after ≡ sink)
+    → SaysOfSink answer.status (write_faults sink) (write_faults sink_after) → (WritesNothing answer.status → sink_after ≡ sink)
     → Serves state held write_faults moves asked answer before after sink sink_after
 written_serves state held write_faults moves asked command answer before after sink sink_after is written told whole unread writing unwritten =
     subst (λ (a : Option Command). Serves state held write_faults moves a answer before after sink sink_after) (sym is) (record {
-      tells = told;
+      did = told;
       causes = written_causes (Some command) command (state before).left answer.status refl written;
       reading = λ read. written_reading (limit_of (Some command)) answer.status (state before) (state after) (whole read) written;
       unread = unread;

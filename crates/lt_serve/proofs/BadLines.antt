@@ -5,9 +5,9 @@ use Rattle.std.proofs.lemmas.List.Quantifiers.{position-Some}
 use Rattle.lt_modes.specs.Script.{ScriptData}
 use Rattle.lt_merge.specs.Run.{RunData}
 use Rattle.lt_text.specs.Text.{cut_at, lines, put_front, is_line_end, without_return}
-use Rattle.lt_journal.specs.Split.{is_journal_line, parts_at, parts_of}
-use Rattle.lt_checking.specs.Checking.{Place, Reader, checked, first_reader, reader_after, after, is_over, led_to, read_at, read_on, verdict_at}
-use Rattle.lt_checker.specs.Checker.{Answers}
+use Rattle.lt_journal.specs.Split.{is_journal_line, parts_at, input_parts}
+use Rattle.lt_law_checking.specs.Checking.{Place, Reader, checked, first_reader, reader_after, place_after, is_over, led_to, read_at, read_on, verdict_at}
+use Rattle.lt_checker.specs.Checker.{IsAnswer}
 use Rattle.lt_checker.specs.declared.error.ReplayError.{ReplayError}
 use Rattle.lt_checker.specs.declared.error.ReplayError.TheVariants.{Memory, Bad}
 use Rattle.lt_io.specs.Source.{SourceState}
@@ -42,7 +42,7 @@ one_more script reader line = by_place reader.place
 
     by_place : (place : Option Place) → (read_at script reader line place).good ≤ suc reader.good
     by_place None = omega arith
-    by_place (Some place) = by_next (after script place line)
+    by_place (Some place) = by_next (place_after script place line)
 
 few_good : (script : ScriptData) (ls : List (List ℕ)) (reader : Reader) → (fold (read_on script) reader ls).good ≤ reader.good + length ls
 few_good script [] reader = omega arith
@@ -57,7 +57,7 @@ next_bad script good line (Some place) e = by_end (is_over script place.run plac
     by_end false e = cc
 
 -- what is told of so many bytes
-pub line_within : (script : ScriptData) (bytes : List ℕ) (told : Result RunData ReplayError) (size : ℕ) → Answers (checked script (lines bytes)) told
+pub line_within : (script : ScriptData) (bytes : List ℕ) (told : Result RunData ReplayError) (size : ℕ) → IsAnswer (checked script (lines bytes)) told
     → length bytes ≤ size → IsLineOf size told
 line_within script bytes (Ok run) size answers few = tt
 line_within script bytes (Err Memory) size answers few = tt
@@ -65,7 +65,7 @@ line_within script bytes (Err (Bad line)) size answers few =
     let last = reader_after script (lines bytes) in
     omega (arith, few, next_bad script last.good line last.place answers, few_good script (lines bytes) (first_reader script), few_lines bytes)
 
--- the bytes of a journal, those that come after the first ones too
+-- the bytes of a journal, those that come place_after the first ones too
 pub journal_few : (bytes rest : List ℕ) (at : ℕ) (room : Option ℕ) (y z : SourceState) → length bytes ≤ MAX_JOURNAL → IsRoom room → IsRest room rest y z
     → length (drop at bytes ++ rest) ≤ 2 * MAX_JOURNAL
 journal_few bytes rest at None y z few fits (none, kept) =
@@ -74,7 +74,7 @@ journal_few bytes rest at (Some room) y z few fits tail =
     omega (arith, few, length-append (drop at bytes) rest, length-drop at bytes, fits, tail.0)
 
 -- the lines before the journal
-pub lines_few : (bytes : List ℕ) → length bytes ≤ MAX_JOURNAL → (parts_of bytes).lines ≤ MAX_JOURNAL
+pub lines_few : (bytes : List ℕ) → length bytes ≤ MAX_JOURNAL → (input_parts bytes).lines ≤ MAX_JOURNAL
 lines_few bytes few = omega (arith, few, few_lines bytes, at (position is_journal_line (lines bytes)) refl)
   where
     at : (o : Option ℕ) → position is_journal_line (lines bytes) ≡ o → (parts_at bytes o).lines ≤ length (lines bytes)

@@ -8,8 +8,9 @@ use Rattle.lt_words.specs.declared.command.Command.{Command}
 use Rattle.lt_words.specs.declared.command.Command.TheVariants.{Sim, Make, Soak}
 use Rattle.lt_serve.specs.declared.status.Status.{Status}
 use Rattle.lt_serve.specs.declared.status.Status.TheVariants.{Done, Stuck, Usage, Refused, TooLong, ReadFault, WriteFault, NoMemory, Cut, BadJournal}
-use Rattle.lt_words.specs.Words.{seed_of, can_make, make_of, command_of}
-use Rattle.lt_serve.specs.Causes.{HasCause, TellsSource, IsReadWhole, WritesNothing, IsEnding, CanBeMade, IsRefusal}
+use Rattle.lt_words.specs.Words.{seed_of, make_of, command_of}
+use Rattle.lt_gen.specs.Sizes.{can_make}
+use Rattle.lt_serve.specs.Causes.{HasStatusCause, SaysOfSource, IsReadWhole, WritesNothing, IsEnding, CanBeMade, IsRefusal}
 
 -- the writing has begun
 abbrev pub HasWritten : Status → Type 0
@@ -41,7 +42,7 @@ is_other : (status other : Status) → HasWritten status → WritesNothing other
 is_other status other h n e = never_written status h (subst WritesNothing (sym e) n)
 
 pub written_causes : (asked : Option Command) (command : Command) (left : Option (List ℕ)) (status : Status) → asked ≡ Some command
-    → HasWritten status → HasCause asked left status
+    → HasWritten status → HasStatusCause asked left status
 written_causes asked command left status is h = record {
   usage = λ e. absurd (is_other status Usage h tt e);
   no_command = λ none. absurd (not_none (sym none ∙ is));
@@ -55,8 +56,8 @@ written_causes asked command left status is h = record {
     not_none e = cc
 
 pub refused_causes : (asked : Option Command) (command : Command) (left : Option (List ℕ)) (status : Status) → asked ≡ Some command
-    → IsRefusal command left status → HasCause asked left status
-refused_causes asked command left status is h = subst (λ (a : Option Command). HasCause a left status) (sym is) (record {
+    → IsRefusal command left status → HasStatusCause asked left status
+refused_causes asked command left status is h = subst (λ (a : Option Command). HasStatusCause a left status) (sym is) (record {
   usage = λ e. absurd (subst (λ (s : Status). IsRefusal command left s) e h);
   no_command = λ none. absurd (not_none none);
   refused = λ fault e. (subst (λ (s : Status). IsRefusal command left s) e h).1;
@@ -69,7 +70,7 @@ refused_causes asked command left status is h = subst (λ (a : Option Command). 
     not_none e = cc
 
 pub written_reading : (limit : ℕ) (status : Status) (before after : SourceState) → IsReadWhole limit before after → HasWritten status
-    → TellsSource limit status before after
+    → SaysOfSource limit status before after
 written_reading limit status before after whole h = record {
   too_long = λ e. absurd (is_other status TooLong h tt e);
   not_too_long = λ other. whole.few;

@@ -1,18 +1,18 @@
 -- Where the last line of some bytes begins, and when the line `journal` has come.
 use Rattle.std.proofs.Common.{◌≡◌, ◌∙◌, ℕ, ◌+◌, ◌-◌, ◌<◌, ◌≤◌, List, [], ◌∷◌, ◌++◌, get_or, length, take, drop, sym, ap, subst, arith, take-add, take-append-drop, length-drop}
 use Rattle.std.proofs.lemmas.List.{take_more, take-append-le, get_or-drop}
-use Rattle.lt_checking.specs.Input.{IsWhole, EndsLine}
+use Rattle.lt_law_checking.specs.Input.{EndsInLineFeed, EndsLine}
 
 -- a line feed ends a line
-whole_to : (bytes : List ℕ) (k : ℕ) → k < length bytes → get_or bytes k 0 ≡ 10 → IsWhole (take (k + 1) bytes)
+whole_to : (bytes : List ℕ) (k : ℕ) → k < length bytes → get_or bytes k 0 ≡ 10 → EndsInLineFeed (take (k + 1) bytes)
 whole_to bytes k inside e = (take k bytes, take_more bytes k 0 inside ∙ ap (λ (byte : ℕ). take k bytes ++ byte ∷ []) e)
 
 -- the line that ends here is whole
-pub line_whole : (bytes : List ℕ) (at k : ℕ) → at ≤ k → k < length bytes → get_or bytes k 0 ≡ 10 → IsWhole (take (k + 1 - at) (drop at bytes))
+pub line_whole : (bytes : List ℕ) (at k : ℕ) → at ≤ k → k < length bytes → get_or bytes k 0 ≡ 10 → EndsInLineFeed (take (k + 1 - at) (drop at bytes))
 line_whole bytes at k before inside e =
     let count : k - at + 1 ≡ k + 1 - at = omega (arith, before) in
     let place : at + (k - at) ≡ k = omega (arith, before) in
-    subst (λ (n : ℕ). IsWhole (take n (drop at bytes))) count
+    subst (λ (n : ℕ). EndsInLineFeed (take n (drop at bytes))) count
     (whole_to (drop at bytes) (k - at) (omega (arith, length-drop at bytes, inside, before))
     (get_or-drop at bytes (k - at) 0 ∙ (ap (λ (n : ℕ). get_or bytes n 0) place ∙ e)))
 

@@ -2,35 +2,38 @@
 use Rattle.std.proofs.Common.{◌≡◌, ◌∙◌, ℕ, suc, List, [], ◌∷◌, ◌++◌, Option, Some, None, length, refl, sym, ap}
 use Rattle.std.specs.Prelude.{option_map}
 use Rattle.lt_modes.specs.Script.{ScriptData}
-use Rattle.lt_runs.specs.Log.{Logged}
-use Rattle.lt_runs.specs.World.{World, after, after_run, logged}
-use Rattle.lt_runs.specs.FixedOrder.{Turn, pick, count_turns, first_run_from}
-use Rattle.lt_checking.proofs.Places.{stamp_node}
+use Rattle.lt_spec.specs.Log.{Logged}
+use Rattle.lt_spec.specs.World.{World, start, after, after_run, logged}
+use Rattle.lt_spec.specs.FixedOrder.{Turn, pick, count_turns, first_run_from}
+use Rattle.lt_law_checking.proofs.Places.{stamp_node}
 use Rattle.lt_world.specs.declared.choice.Choice.{Choice}
 use Rattle.lt_world.specs.Choice.{choice_of}
-use Rattle.lt_serve.specs.declared.order.Order.{Order}
-use Rattle.lt_serve.specs.declared.order.Order.TheVariants.{First}
-use Rattle.lt_serve.specs.Orders.{place_of, IsAt, AreInOrderFrom}
+use Rattle.lt_serve.specs.declared.schedule.Schedule.{Schedule}
+use Rattle.lt_serve.specs.declared.schedule.Schedule.TheVariants.{First, Drawn}
+use Rattle.lt_gen.specs.Draws.{seeded}
+use Rattle.lt_serve.specs.declared.status.Status.{Status}
+use Rattle.lt_serve.specs.TopCall.{JournalsInOrder, JournalsFirst, JournalsDrawn}
+use Rattle.lt_serve.specs.Schedules.{scheduled, IsAt, AreInOrderFrom}
 
--- the order after these moves
-abbrev pub order_after : ScriptData → World → Order → List Logged → Order
-order_after script w order [] = order
-order_after script w order (entry ∷ rest) =
-    order_after script (after script w entry.made.stamp.node entry.made.step) (place_of order (count_turns script w)).1 rest
+-- the schedule after these moves
+abbrev pub schedule_after : ScriptData → World → Schedule → List Logged → Schedule
+schedule_after script w schedule [] = schedule
+schedule_after script w schedule (entry ∷ rest) =
+    schedule_after script (after script w entry.made.stamp.node entry.made.step) (scheduled schedule (count_turns script w)).1 rest
 
-pub one_more : (script : ScriptData) (w : World) (order : Order) (run : List Logged) (entry : Logged) → AreInOrderFrom script w order run
-    → IsAt script (after_run script w run) (place_of (order_after script w order run) (count_turns script (after_run script w run))).0 entry
-    → AreInOrderFrom script w order (run ++ entry ∷ [])
-one_more script w order [] entry h at = (at, tt)
-one_more script w order (first ∷ rest) entry h at =
-    (h.0, one_more script (after script w first.made.stamp.node first.made.step) (place_of order (count_turns script w)).1 rest entry h.1 at)
+pub one_more : (script : ScriptData) (w : World) (schedule : Schedule) (run : List Logged) (entry : Logged) → AreInOrderFrom script w schedule run
+    → IsAt script (after_run script w run) (scheduled (schedule_after script w schedule run) (count_turns script (after_run script w run))).0 entry
+    → AreInOrderFrom script w schedule (run ++ entry ∷ [])
+one_more script w schedule [] entry h at = (at, tt)
+one_more script w schedule (first ∷ rest) entry h at =
+    (h.0, one_more script (after script w first.made.stamp.node first.made.step) (scheduled schedule (count_turns script w)).1 rest entry h.1 at)
 
-pub order_more : (script : ScriptData) (w : World) (order : Order) (run : List Logged) (entry : Logged)
-    → order_after script w order (run ++ entry ∷ [])
-    ≡ (place_of (order_after script w order run) (count_turns script (after_run script w run))).1
-order_more script w order [] entry = refl
-order_more script w order (first ∷ rest) entry =
-    order_more script (after script w first.made.stamp.node first.made.step) (place_of order (count_turns script w)).1 rest entry
+pub schedule_more : (script : ScriptData) (w : World) (schedule : Schedule) (run : List Logged) (entry : Logged)
+    → schedule_after script w schedule (run ++ entry ∷ [])
+    ≡ (scheduled (schedule_after script w schedule run) (count_turns script (after_run script w run))).1
+schedule_more script w schedule [] entry = refl
+schedule_more script w schedule (first ∷ rest) entry =
+    schedule_more script (after script w first.made.stamp.node first.made.step) (scheduled schedule (count_turns script w)).1 rest entry
 
 -- the move that was picked, as an entry
 pub picked : (script : ScriptData) (w : World) (place : ℕ) (choice : Choice) → Some choice ≡ option_map choice_of (pick script w place)
@@ -61,3 +64,20 @@ first_from script w (entry ∷ rest) h =
     let later : rest ≡ first_run_from (length rest) script (after script w turn.node turn.step) =
     rw (sym node, sym step) (first_from script (after script w entry.made.stamp.node entry.made.step) rest h.1) in
     ap (λ (e : Logged). e ∷ rest) made ∙ first_more script w turn rest h.0.1 later
+
+-- a journal of the first moves, and one of drawn moves
+pub first_journals : (moves : ℕ) (ending : Status) (left : Option (List ℕ)) (run : List Logged) (text : List ℕ)
+    → JournalsInOrder First moves ending left run text → JournalsFirst moves ending left run text
+first_journals moves ending left run text h = record {
+  journals = h.journals;
+  in_order = first_from h.journals.script (start h.journals.script) run h.in_order;
+  in_time = h.in_time;
+}
+
+pub drawn_journals : (seed moves : ℕ) (ending : Status) (left : Option (List ℕ)) (run : List Logged) (text : List ℕ)
+    → JournalsInOrder (Drawn (seeded seed)) moves ending left run text → JournalsDrawn seed moves ending left run text
+drawn_journals seed moves ending left run text h = record {
+  journals = h.journals;
+  drawn = h.in_order;
+  in_time = h.in_time;
+}

@@ -10,10 +10,10 @@ use Rattle.lt_script.specs.Script.{IsScript}
 use Rattle.lt_lists.specs.Below.{sum_below, any_below, first_below, earlier}
 use Rattle.lt_lists.proofs.Searches.{any_below_at}
 use Rattle.lt_lists.proofs.Sums.{sum_below-change}
-use Rattle.lt_runs.specs.Log.{Logged}
-use Rattle.lt_runs.specs.World.{World, world_after, logged, is_enabled}
-use Rattle.lt_checking.proofs.Places.{stamp_node, count_push}
-use Rattle.lt_world.specs.Fields.{moves_of, can_move, is_full, full_node}
+use Rattle.lt_spec.specs.Log.{Logged}
+use Rattle.lt_spec.specs.World.{World, world_after, logged, is_enabled}
+use Rattle.lt_law_checking.proofs.Places.{stamp_node, count_push}
+use Rattle.lt_limits.specs.Cut.{moves_of, can_move, is_full, full_node}
 use Rattle.lt_serve.specs.Endings.{StopsInTime}
 
 -- the moves that the nodes may still make

@@ -4,18 +4,18 @@ use Rattle.std.proofs.lemmas.List.{take-append-le, drop-append-le}
 use Rattle.lt_io.specs.Source.{SourceState}
 use Rattle.lt_text.specs.Text.{lines}
 use Rattle.lt_journal.specs.declared.splitting.Parts.{Parts}
-use Rattle.lt_journal.specs.Split.{is_journal_line, parts_at, parts_of}
-use Rattle.lt_serve.specs.Heads.{IsCut, IsRest}
+use Rattle.lt_journal.specs.Split.{is_journal_line, parts_at, input_parts}
+use Rattle.lt_serve.specs.Heads.{IsHeadCut, IsRest}
 
 -- the parts of the whole input, by its first bytes
 pub record SameParts (bytes rest : List ℕ) : Type 0 where
-  pub parts : parts_of (bytes ++ rest) ≡ parts_of bytes
-  pub script : take (parts_of (bytes ++ rest)).script (bytes ++ rest) ≡ take (parts_of bytes).script bytes
-  pub journal : drop (parts_of (bytes ++ rest)).journal (bytes ++ rest) ≡ drop (parts_of bytes).journal bytes ++ rest
+  pub parts : input_parts (bytes ++ rest) ≡ input_parts bytes
+  pub script : take (input_parts (bytes ++ rest)).script (bytes ++ rest) ≡ take (input_parts bytes).script bytes
+  pub journal : drop (input_parts (bytes ++ rest)).journal (bytes ++ rest) ≡ drop (input_parts bytes).journal bytes ++ rest
 
 record AreWithin (bytes : List ℕ) : Type 0 where
-  script : (parts_of bytes).script ≤ length bytes
-  journal : (parts_of bytes).journal ≤ length bytes
+  script : (input_parts bytes).script ≤ length bytes
+  journal : (input_parts bytes).journal ≤ length bytes
 
 within : (bytes : List ℕ) → AreWithin bytes
 within bytes = record { script = script_at (position is_journal_line (lines bytes)); journal = journal_at (position is_journal_line (lines bytes)) }
@@ -28,16 +28,16 @@ within bytes = record { script = script_at (position is_journal_line (lines byte
     journal_at None = omega arith
     journal_at (Some k) = omega arith
 
-same : (bytes rest : List ℕ) → parts_of (bytes ++ rest) ≡ parts_of bytes → SameParts bytes rest
+same : (bytes rest : List ℕ) → input_parts (bytes ++ rest) ≡ input_parts bytes → SameParts bytes rest
 same bytes rest e =
     let inside = within bytes in
     record {
       parts = e;
-      script = ap (λ (p : Parts). take p.script (bytes ++ rest)) e ∙ take-append-le (parts_of bytes).script bytes rest inside.script;
-      journal = ap (λ (p : Parts). drop p.journal (bytes ++ rest)) e ∙ drop-append-le (parts_of bytes).journal bytes rest inside.journal;
+      script = ap (λ (p : Parts). take p.script (bytes ++ rest)) e ∙ take-append-le (input_parts bytes).script bytes rest inside.script;
+      journal = ap (λ (p : Parts). drop p.journal (bytes ++ rest)) e ∙ drop-append-le (input_parts bytes).journal bytes rest inside.journal;
     }
 
-pub same_parts : (bytes rest : List ℕ) (room : Option ℕ) (y z : SourceState) → IsCut bytes room → IsRest room rest y z → SameParts bytes rest
+pub same_parts : (bytes rest : List ℕ) (room : Option ℕ) (y z : SourceState) → IsHeadCut bytes room → IsRest room rest y z → SameParts bytes rest
 same_parts bytes rest None y z cut (none, kept) =
-    same bytes rest (ap (λ (t : List ℕ). parts_of (bytes ++ t)) none ∙ ap parts_of (append-nil bytes))
+    same bytes rest (ap (λ (t : List ℕ). input_parts (bytes ++ t)) none ∙ ap input_parts (append-nil bytes))
 same_parts bytes rest (Some room) y z cut tail = same bytes rest (cut rest)

@@ -1,6 +1,6 @@
 -- Why an answer comes, and what it says of the source and the sink.
 use Rattle.std.specs.Prelude.{◌≡◌, ◌≢◌, Bool, true, false, ℕ, ◌+◌, ◌≤◌, Option, Some, None, List}
-use Rattle.lt_io.specs.FaultCounts.{Counts}
+use Rattle.lt_io.specs.FaultCounts.{CountsFaults}
 use Rattle.lt_io.specs.Source.{SourceState}
 use Rattle.lt_io.specs.declared.whole.ReadFailure.{ReadFailure}
 use Rattle.lt_io.specs.declared.whole.ReadFailure.TheVariants.{Memory, Failed, TooLong as Long}
@@ -10,7 +10,7 @@ use Rattle.lt_words.specs.declared.command.Command.TheVariants.{Run, SimFirst, S
 use Rattle.lt_modes.specs.Script.{ScriptData}
 use Rattle.lt_serve.specs.declared.limits.TheConstants.{MAX_INPUT, MAX_JOURNAL}
 use Rattle.lt_serve.specs.TopCall.{HasFault, HasFaultBefore, DenotesBefore, IsBadLine}
-use Rattle.lt_words.specs.Words.{can_make}
+use Rattle.lt_gen.specs.Sizes.{can_make}
 use Rattle.lt_serve.specs.declared.status.Status.{Status}
 use Rattle.lt_serve.specs.declared.status.Status.TheVariants.{Done, Stuck, Usage, Refused, TooLong, ReadFault, WriteFault, NoMemory, Cut, BadJournal}
 
@@ -27,7 +27,7 @@ abbrev pub limit_of : Option Command → ℕ
 limit_of (Some Check) = MAX_JOURNAL
 limit_of other = MAX_INPUT
 
--- where the bytes are told, this is the first fault of the script that the command reads
+-- if the bytes are known, this is the first fault of the script that the command reads
 abbrev pub IsRefused : Option Command → Option (List ℕ) → ScriptFault → Type 0
 IsRefused (Some Check) left fault = HasFaultBefore left fault
 IsRefused other left fault = HasFault left fault
@@ -37,8 +37,8 @@ abbrev pub IsBad : Option (List ℕ) → ℕ → Type 0
 IsBad left line = (script : ScriptData) × DenotesBefore left script × IsBadLine left script line
 
 -- why a command is answered so, where the source had these bytes left: each answer has a cause here but want of memory, and but
--- for the ends of a run, of which `Tells` speaks
-pub record HasCause (asked : Option Command) (left : Option (List ℕ)) (answer : Status) : Type 0 where
+-- for the ends of a run, of which `Did` speaks
+pub record HasStatusCause (asked : Option Command) (left : Option (List ℕ)) (answer : Status) : Type 0 where
   pub usage : answer ≡ Usage → asked ≡ None
   pub no_command : asked ≡ None → answer ≡ Usage
   pub refused : (fault : ScriptFault) → answer ≡ Refused fault → IsRefused asked left fault
@@ -47,7 +47,7 @@ pub record HasCause (asked : Option Command) (left : Option (List ℕ)) (answer 
   pub read_fault : answer ≡ ReadFault → reads asked ≡ true
   pub too_long : answer ≡ TooLong → reads asked ≡ true
 
--- the answer tells what the bytes are, or what came of them
+-- the answer says what the bytes are, or what came of them
 abbrev pub HasRead : Status → Type 0
 HasRead Done = Unit {0}
 HasRead Stuck = Unit {0}
@@ -58,25 +58,25 @@ HasRead (Refused fault) = Unit {0}
 HasRead other = ⊥
 
 -- what the answer says of the source's counts, before and after, where the input may have so many bytes
-pub record TellsSource (limit : ℕ) (answer : Status) (before after : SourceState) : Type 0 where
+pub record SaysOfSource (limit : ℕ) (answer : Status) (before after : SourceState) : Type 0 where
   -- it gave one byte more than that, or no more than that
-  pub too_long : answer ≡ TooLong → Counts (limit + 1) before.given after.given
+  pub too_long : answer ≡ TooLong → CountsFaults (limit + 1) before.given after.given
   pub not_too_long : answer ≢ TooLong → after.given ≤ before.given + limit
   -- one read failed, or none
-  pub read_fault : answer ≡ ReadFault → Counts 1 before.faults after.faults
+  pub read_fault : answer ≡ ReadFault → CountsFaults 1 before.faults after.faults
   pub no_read_fault : answer ≢ ReadFault → after.faults ≡ before.faults
   -- it came to its end
-  pub whole : HasRead answer → Counts 1 before.ends after.ends
+  pub whole : HasRead answer → CountsFaults 1 before.ends after.ends
 
 -- the source came to its end, no read failed, and it gave no more bytes than the input may have
 pub record IsReadWhole (limit : ℕ) (before after : SourceState) : Type 0 where
-  pub ended : Counts 1 before.ends after.ends
+  pub ended : CountsFaults 1 before.ends after.ends
   pub few : after.given ≤ before.given + limit
   pub without_fault : after.faults ≡ before.faults
 
 -- what the answer says of the sink's count of faults: one write failed, or none
-pub record TellsSink (answer : Status) (before after : ℕ) : Type 0 where
-  pub write_fault : answer ≡ WriteFault → Counts 1 before after
+pub record SaysOfSink (answer : Status) (before after : ℕ) : Type 0 where
+  pub write_fault : answer ≡ WriteFault → CountsFaults 1 before after
   pub no_write_fault : answer ≢ WriteFault → after ≡ before
 
 -- no write is made before the answer

@@ -9,7 +9,7 @@ use Rattle.lt_serve.specs.declared.status.Status.{Status}
 use Rattle.lt_serve.specs.declared.status.Status.TheVariants.{Done, NoMemory}
 use Rattle.lt_serve.specs.Causes.{IsRefused, IsBad, IsEnding, reads, limit_of}
 
--- the source failed at no read and gave no more than the input may have, and its bytes are told: their script has no fault,
+-- the source failed at no read and gave no more than the input may have, and its bytes are known: their script has no fault,
 -- and the journal that `check` reads has no bad line
 pub record IsGood (command : Command) (before after : SourceState) : Type 0 where
   pub no_read_fault : Rose before.faults after.faults → ⊥
@@ -18,7 +18,7 @@ pub record IsGood (command : Command) (before after : SourceState) : Type 0 wher
   pub no_bad_line : command ≡ Check → (line : ℕ) → IsBad before.left line → ⊥
 
 -- `make` and `check` are done; every other command has made a run to its end, which is Done, Stuck or Cut: of which end it is,
--- and that a node met its limit at Cut, `Tells` speaks
+-- and that a node met its limit at Cut, `Did` speaks
 abbrev pub IsAnswered : Command → Status → Type 0
 IsAnswered (Make nodes clients commands seed) answer = answer ≡ Done
 IsAnswered Check answer = answer ≡ Done

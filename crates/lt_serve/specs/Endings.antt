@@ -1,23 +1,21 @@
 -- How a run ended, and what is known of a run that was made.
-use Rattle.std.specs.Prelude.{◌≡◌, ◌<◌, true, false, ℕ, List, Option, Some, None, length, take}
+use Rattle.std.specs.Prelude.{◌≡◌, ◌<◌, ℕ, List, Option, Some, None, length, take}
 use Rattle.lt_modes.specs.Script.{ScriptData}
-use Rattle.lt_runs.specs.Log.{Logged}
-use Rattle.lt_runs.specs.World.{world_after, IsRun, is_at_rest, anyone_waits}
-use Rattle.lt_promises.specs.Promised.{Promised}
-use Rattle.lt_world.specs.Fields.{full_node}
+use Rattle.lt_spec.specs.Log.{Logged}
+use Rattle.lt_spec.specs.World.{IsRun}
+use Rattle.lt_law_promises.specs.Promised.{Promised}
+use Rattle.lt_limits.specs.declared.ending.Ending.{Ending}
+use Rattle.lt_limits.specs.declared.ending.Ending.TheVariants as ending
+use Rattle.lt_limits.specs.Endings.{EndsBy}
+use Rattle.lt_limits.specs.Cut.{full_node}
 use Rattle.lt_serve.specs.declared.status.Status.{Status}
 use Rattle.lt_serve.specs.declared.status.Status.TheVariants.{Done, Stuck, Cut}
-use Rattle.lt_threads.specs.declared.threads.Ending.{Ending}
-use Rattle.lt_threads.specs.declared.threads.Ending.TheVariants as ending
 
--- the run ended as this status says: at rest with nobody waiting, at rest with somebody waiting, or where this node, the least
--- such one, has made as many moves as it may and has a further one
+-- the run ended as this status says
 abbrev pub EndsAs : ℕ → Status → ScriptData → List Logged → Type 0
-EndsAs moves Done script run =
-    (is_at_rest script (world_after script run) ≡ true) × (anyone_waits script (world_after script run) ≡ false)
-EndsAs moves Stuck script run =
-    (is_at_rest script (world_after script run) ≡ true) × (anyone_waits script (world_after script run) ≡ true)
-EndsAs moves (Cut node) script run = full_node script moves run ≡ Some node
+EndsAs moves Done script run = EndsBy moves ending.Done script run
+EndsAs moves Stuck script run = EndsBy moves ending.Stuck script run
+EndsAs moves (Cut node) script run = EndsBy moves (ending.Cut node) script run
 EndsAs moves other script run = ⊥
 
 -- before each move of the run no node had made as many moves as it may and had a further one: so the run stops at the first
@@ -30,7 +28,7 @@ abbrev pub cut_of : Status → Option ℕ
 cut_of (Cut node) = Some node
 cut_of other = None
 
--- how a run on threads ended, as a status
+-- how a run ended, as a status
 abbrev pub status_of_end : Ending → Status
 status_of_end ending.Done = Done
 status_of_end ending.Stuck = Stuck

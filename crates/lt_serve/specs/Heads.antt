@@ -5,7 +5,7 @@ use Rattle.lt_io.specs.Reading.{ReadsOn, ReadsOut, FailsBy}
 use Rattle.lt_io.specs.declared.whole.ReadFailure.{ReadFailure}
 use Rattle.lt_io.specs.declared.whole.ReadFailure.TheVariants.{Memory}
 use Rattle.lt_merge.specs.Run.{RunData}
-use Rattle.lt_checking.specs.Input.{IsSettled}
+use Rattle.lt_law_checking.specs.Input.{IsSettled}
 use Rattle.lt_checker.specs.Checker.{CheckerData, StandsFor}
 use Rattle.lt_checker.specs.declared.error.ReplayError.{ReplayError}
 use Rattle.lt_checker.specs.declared.error.ReplayError.TheVariants.{Bad}
@@ -18,9 +18,9 @@ use Rattle.lt_serve.specs.Input.{IsAnswerOfBytes}
 use Rattle.lt_serve.specs.TopCall.{Checks}
 
 -- these bytes tell where the input is cut: there are no others, or whatever comes after them, it is cut where they are
-abbrev pub IsCut : List ℕ → Option ℕ → Type 0
-IsCut bytes None = Unit {0}
-IsCut bytes (Some room) = IsSettled bytes
+abbrev pub IsHeadCut : List ℕ → Option ℕ → Type 0
+IsHeadCut bytes None = Unit {0}
+IsHeadCut bytes (Some room) = IsSettled bytes
 
 -- an input was read as far as these bytes: to its end, or so that so many more may come
 abbrev pub IsHead : List ℕ → Option ℕ → SourceState → SourceState → Type 0
@@ -47,12 +47,12 @@ abbrev pub IsRoom : Option ℕ → Type 0
 IsRoom None = Unit {0}
 IsRoom (Some room) = room ≤ MAX_JOURNAL
 
--- a line that is told as bad is one of so many bytes, or the one after them
+-- a line that is called bad is one of so many bytes, or the one after them
 abbrev pub IsLineOf : ℕ → Result RunData ReplayError → Type 0
 IsLineOf size (Err (Bad line)) = line ≤ size + 1
 IsLineOf size told = Unit {0}
 
 -- an input of these bytes is answered so
-abbrev pub IsAnswer : List ℕ → Result Made Status → Type 0
-IsAnswer bytes (Ok made) = Checks made.ending (Some bytes) made.run.entries made.text.items
-IsAnswer bytes (Err answer) = IsAnswerOfBytes answer × IsRefusal Check (Some bytes) answer
+abbrev pub AnswersInput : List ℕ → Result Made Status → Type 0
+AnswersInput bytes (Ok made) = Checks made.ending (Some bytes) made.run.entries made.text.items
+AnswersInput bytes (Err answer) = IsAnswerOfBytes answer × IsRefusal Check (Some bytes) answer

@@ -4,7 +4,7 @@ use Rattle.lt_script.specs.Reading.{read_of}
 use Rattle.lt_serve.specs.declared.status.Status.{Status}
 use Rattle.lt_serve.specs.declared.status.Status.TheVariants.{Refused, TooLong, ReadFault, NoMemory, BadJournal}
 
--- where the bytes that were left are told, they are these
+-- if the bytes that were left are known, they are these
 abbrev pub Left : Option (List ℕ) → List ℕ → Type 0
 Left None bytes = Unit {0}
 Left (Some left) bytes = left ≡ bytes

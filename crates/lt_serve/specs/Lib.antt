@@ -1,4 +1,4 @@
-pub mod Orders
+pub mod Schedules
 pub mod Endings
 pub mod Status
 pub mod TopCall

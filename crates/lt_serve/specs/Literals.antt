@@ -11,17 +11,17 @@ use Rattle.lt_serve.specs.declared.limits.TheConstants.{MAX_INPUT, MAX_JOURNAL}
 use Rattle.lt_serve.specs.declared.serving.TheConstants.{USUAL}
 use Rattle.lt_serve.specs.declared.status.Status.{Status}
 use Rattle.lt_serve.specs.declared.status.Status.TheVariants.{Done, Stuck, Usage, Refused, TooLong, ReadFault, WriteFault, NoMemory, Cut, BadJournal}
-use Rattle.lt_serve.specs.Status.{code_of, text_of}
+use Rattle.lt_serve.specs.Status.{code_of, status_text}
 use Rattle.lt_serve.specs.TopCall.{greatest_script}
 
 -- the fault that a script of nothing has
-abbrev pub empty_script : Status
-empty_script = Refused (record { line = 1; fault = faults.Nodes })
+abbrev pub fault_of_nothing : Status
+fault_of_nothing = Refused (record { line = 1; fault = faults.Nodes })
 
 pub record CodesAre : Type 0 where
   pub done : code_of Done ≡ 0
   pub usage : code_of Usage ≡ 1
-  pub refused : code_of empty_script ≡ 2
+  pub refused : code_of fault_of_nothing ≡ 2
   pub too_long : code_of TooLong ≡ 2
   pub stuck : code_of Stuck ≡ 3
   pub read_fault : code_of ReadFault ≡ 4
@@ -31,18 +31,18 @@ pub record CodesAre : Type 0 where
   pub bad_journal : code_of (BadJournal 4) ≡ 8
 
 pub record TextsAre : Type 0 where
-  pub done : text_of Done ≡ []
-  pub stuck : text_of Stuck ≡ []
-  pub usage : text_of Usage ≡ codes "lockrun: usage: run | sim first | sim SEED | check | make NODES CLIENTS COMMANDS SEED | soak SEED"
-  pub refused : text_of empty_script ≡ codes "lockrun: line 1: S5"
-  pub too_long : text_of TooLong ≡ codes "lockrun: input too long"
-  pub read_fault : text_of ReadFault ≡ codes "lockrun: read fault"
-  pub write_fault : text_of WriteFault ≡ codes "lockrun: write fault"
-  pub no_memory : text_of NoMemory ≡ codes "lockrun: no memory"
-  pub cut : text_of (Cut 7) ≡ codes "lockrun: cut at node 7"
-  pub bad_journal : text_of (BadJournal 4) ≡ codes "lockrun: line 4: journal"
+  pub done : status_text Done ≡ []
+  pub stuck : status_text Stuck ≡ []
+  pub usage : status_text Usage ≡ codes "lockrun: usage: run | sim first | sim SEED | check | make NODES CLIENTS COMMANDS SEED | soak SEED"
+  pub refused : status_text fault_of_nothing ≡ codes "lockrun: line 1: S5"
+  pub too_long : status_text TooLong ≡ codes "lockrun: input too long"
+  pub read_fault : status_text ReadFault ≡ codes "lockrun: read fault"
+  pub write_fault : status_text WriteFault ≡ codes "lockrun: write fault"
+  pub no_memory : status_text NoMemory ≡ codes "lockrun: no memory"
+  pub cut : status_text (Cut 7) ≡ codes "lockrun: cut at node 7"
+  pub bad_journal : status_text (BadJournal 4) ≡ codes "lockrun: line 4: journal"
 
-pub record LimitsAre : Type 0 where
+pub record SoakLimitsAre : Type 0 where
   pub input : MAX_INPUT ≡ 1048576
   pub journal : MAX_JOURNAL ≡ 67108864
   pub capacity : MAX_CAPACITY ≡ 1024

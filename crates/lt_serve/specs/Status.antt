@@ -1,4 +1,4 @@
--- The exit status of each answer, and the line that tells it.
+-- The exit status of each answer, and the line that says it.
 use Rattle.std.specs.Prelude.{ℕ, List, [], ◌++◌, codes}
 use Rattle.std.specs.Fmt.{decimal}
 use Rattle.lt_script.specs.Fault.{text_of_fault}
@@ -17,14 +17,14 @@ code_of NoMemory = 6
 code_of (Cut node) = 7
 code_of (BadJournal line) = 8
 
-abbrev pub text_of : Status → List ℕ
-text_of Done = []
-text_of Stuck = []
-text_of Usage = codes "lockrun: usage: run | sim first | sim SEED | check | make NODES CLIENTS COMMANDS SEED | soak SEED"
-text_of (Refused fault) = codes "lockrun: " ++ text_of_fault fault
-text_of TooLong = codes "lockrun: input too long"
-text_of ReadFault = codes "lockrun: read fault"
-text_of WriteFault = codes "lockrun: write fault"
-text_of NoMemory = codes "lockrun: no memory"
-text_of (Cut node) = codes "lockrun: cut at node " ++ decimal node
-text_of (BadJournal line) = codes "lockrun: line " ++ decimal line ++ codes ": journal"
+abbrev pub status_text : Status → List ℕ
+status_text Done = []
+status_text Stuck = []
+status_text Usage = codes "lockrun: usage: run | sim first | sim SEED | check | make NODES CLIENTS COMMANDS SEED | soak SEED"
+status_text (Refused fault) = codes "lockrun: " ++ text_of_fault fault
+status_text TooLong = codes "lockrun: input too long"
+status_text ReadFault = codes "lockrun: read fault"
+status_text WriteFault = codes "lockrun: write fault"
+status_text NoMemory = codes "lockrun: no memory"
+status_text (Cut node) = codes "lockrun: cut at node " ++ decimal node
+status_text (BadJournal line) = codes "lockrun: line " ++ decimal line ++ codes ": journal"

@@ -4,16 +4,16 @@ use Rattle.std.specs.Fmt.{decimal}
 use Rattle.std.specs.Io.KnownBytes.{Appends}
 use Rattle.lt_io.specs.Sink.{AppendsPart}
 use Rattle.lt_modes.specs.Script.{ScriptData}
-use Rattle.lt_runs.specs.Log.{Logged}
+use Rattle.lt_spec.specs.Log.{Logged}
 use Rattle.lt_merge.specs.Merging.{AreRising}
-use Rattle.lt_runs.specs.FixedOrder.{first_run}
-use Rattle.lt_journal.specs.Split.{parts_of}
+use Rattle.lt_spec.specs.FixedOrder.{first_run}
+use Rattle.lt_journal.specs.Split.{input_parts}
 use Rattle.lt_journal.specs.Text.{text_of, lines_text}
 use Rattle.lt_journal.specs.declared.line.Line.TheVariants.{Cut as CutLine}
 use Rattle.lt_text.specs.Text.{lines}
-use Rattle.lt_checking.specs.Input.{checked_input}
-use Rattle.lt_checking.specs.Journals.{IsFinished}
-use Rattle.lt_promises.specs.Promised.{Promised}
+use Rattle.lt_law_checking.specs.Input.{checked_input}
+use Rattle.lt_law_checking.specs.Journals.{IsFinished}
+use Rattle.lt_law_promises.specs.Promised.{Promised}
 use Rattle.lt_gen.specs.Generator.{script_of}
 use Rattle.lt_summary.specs.Summary.{summary_of, summary_text}
 use Rattle.lt_script.specs.declared.fault.ScriptFault.{ScriptFault}
@@ -24,14 +24,15 @@ use Rattle.lt_words.specs.declared.command.Command.TheVariants.{Run, SimFirst, S
 use Rattle.lt_serve.specs.declared.status.Status.{Status}
 use Rattle.lt_serve.specs.declared.status.Status.TheVariants.{Done, Stuck, Usage, Refused, TooLong, ReadFault, WriteFault, NoMemory, Cut, BadJournal}
 use Rattle.lt_serve.specs.Endings.{RanTo, StopsInTime, cut_of}
-use Rattle.lt_serve.specs.Orders.{AreDrawn}
+use Rattle.lt_serve.specs.declared.schedule.Schedule.{Schedule}
+use Rattle.lt_serve.specs.Schedules.{AreInOrder, AreDrawn}
 
--- where the bytes are told, they denote this script
+-- if the bytes are known, they denote this script
 abbrev pub Denotes : Option (List ℕ) → ScriptData → Type 0
 Denotes None script = Unit {0}
 Denotes (Some bytes) script = read_of bytes ≡ Ok script
 
--- where the bytes are told, this is their first fault
+-- if the bytes are known, this is their first fault
 abbrev pub HasFault : Option (List ℕ) → ScriptFault → Type 0
 HasFault None fault = Unit {0}
 HasFault (Some bytes) fault = read_of bytes ≡ Err fault
@@ -42,6 +43,12 @@ pub record Journals (moves : ℕ) (ending : Status) (left : Option (List ℕ)) (
   pub denoted : Denotes left script
   pub ran : RanTo moves ending script run
   pub journal : text ≡ text_of script run (cut_of ending)
+
+-- the same, each move the one that the schedule gives
+pub record JournalsInOrder (schedule : Schedule) (moves : ℕ) (ending : Status) (left : Option (List ℕ)) (run : List Logged) (text : List ℕ) : Type 0 where
+  pub journals : Journals moves ending left run text
+  pub in_order : AreInOrder schedule journals.script run
+  pub in_time : StopsInTime moves journals.script run
 
 -- the same, each move the first enabled one
 pub record JournalsFirst (moves : ℕ) (ending : Status) (left : Option (List ℕ)) (run : List Logged) (text : List ℕ) : Type 0 where
@@ -80,22 +87,22 @@ abbrev pub Prints : ℕ → ℕ → ℕ → ℕ → Status → List Logged → L
 Prints nodes clients commands seed ending run text =
     (ending ≡ Done) × (run ≡ []) × (text ≡ print_of (script_of nodes clients commands seed))
 
--- where the bytes are told, their lines before the journal denote this script
+-- if the bytes are known, their lines before the journal denote this script
 abbrev pub DenotesBefore : Option (List ℕ) → ScriptData → Type 0
 DenotesBefore None script = Unit {0}
-DenotesBefore (Some bytes) script = read_of (take (parts_of bytes).script bytes) ≡ Ok script
+DenotesBefore (Some bytes) script = read_of (take (input_parts bytes).script bytes) ≡ Ok script
 
--- where the bytes are told, this is the first fault of the lines before the journal
+-- if the bytes are known, this is the first fault of the lines before the journal
 abbrev pub HasFaultBefore : Option (List ℕ) → ScriptFault → Type 0
 HasFaultBefore None fault = Unit {0}
-HasFaultBefore (Some bytes) fault = read_of (take (parts_of bytes).script bytes) ≡ Err fault
+HasFaultBefore (Some bytes) fault = read_of (take (input_parts bytes).script bytes) ≡ Err fault
 
--- where the bytes are told, the journal in them is that of this run of the script
+-- if the bytes are known, the journal in them is that of this run of the script
 abbrev pub IsJournalOf : Option (List ℕ) → ScriptData → List Logged → Type 0
 IsJournalOf None script run = Unit {0}
 IsJournalOf (Some bytes) script run = checked_input script (lines bytes) ≡ Ok run
 
--- where the bytes are told, this is the first line in them that is bad
+-- if the bytes are known, this is the first line in them that is bad
 abbrev pub IsBadLine : Option (List ℕ) → ScriptData → ℕ → Type 0
 IsBadLine None script line = Unit {0}
 IsBadLine (Some bytes) script line = checked_input script (lines bytes) ≡ Err line
@@ -104,7 +111,7 @@ IsBadLine (Some bytes) script line = checked_input script (lines bytes) ≡ Err 
 abbrev pub ok_text : List Logged → List ℕ
 ok_text run = codes "ok " ++ decimal (length run) ++ codes "\n"
 
--- the input is a script and the journal of a run of it that ended at rest, which is told, and the number of its moves is written
+-- the input is a script and the journal of a run of it that ended at rest, which is the answer's, and the number of its moves is written
 pub record Checks (ending : Status) (left : Option (List ℕ)) (run : List Logged) (text : List ℕ) : Type 0 where
   pub done : ending ≡ Done
   pub script : ScriptData
@@ -115,41 +122,41 @@ pub record Checks (ending : Status) (left : Option (List ℕ)) (run : List Logge
   pub counted : text ≡ ok_text run
 
 -- what a command did that ended so: its run, and the text that is to be written
-abbrev pub Does : ℕ → Command → Status → Option (List ℕ) → List Logged → List ℕ → Type 0
-Does moves SimFirst ending left run text = JournalsFirst moves ending left run text
-Does moves (Sim seed) ending left run text = JournalsDrawn seed moves ending left run text
-Does moves (Make nodes clients commands seed) ending left run text = Prints nodes clients commands seed ending run text
-Does moves Check ending left run text = Checks ending left run text
-Does moves Run ending left run text = JournalsThreads moves ending left run text
-Does moves (Soak seed) ending left run text = Soaks seed moves ending run text
+abbrev pub JournalsBy : ℕ → Command → Status → Option (List ℕ) → List Logged → List ℕ → Type 0
+JournalsBy moves SimFirst ending left run text = JournalsFirst moves ending left run text
+JournalsBy moves (Sim seed) ending left run text = JournalsDrawn seed moves ending left run text
+JournalsBy moves (Make nodes clients commands seed) ending left run text = Prints nodes clients commands seed ending run text
+JournalsBy moves Check ending left run text = Checks ending left run text
+JournalsBy moves Run ending left run text = JournalsThreads moves ending left run text
+JournalsBy moves (Soak seed) ending left run text = Soaks seed moves ending run text
 
--- no run is told, and nothing was written
-abbrev pub TellsNothing : List Logged → Option (List ℕ) → Option (List ℕ) → Type 0
-TellsNothing run old new = (run ≡ []) × (new ≡ old)
+-- it gives no run, and nothing was written
+abbrev pub DidNothing : List Logged → Option (List ℕ) → Option (List ℕ) → Type 0
+DidNothing run old new = (run ≡ []) × (new ≡ old)
 
 -- it ended so, and its whole text was appended
-abbrev pub TellsAll : ℕ → Command → Status → Option (List ℕ) → List Logged → Option (List ℕ) → Option (List ℕ) → Type 0
-TellsAll moves command ending left run old new = (text : List ℕ) × Does moves command ending left run text × Appends old new text
+abbrev pub WroteAll : ℕ → Command → Status → Option (List ℕ) → List Logged → Option (List ℕ) → Option (List ℕ) → Type 0
+WroteAll moves command ending left run old new = (text : List ℕ) × JournalsBy moves command ending left run text × Appends old new text
 
 -- it ended in some way, and a first part of its text was appended
-abbrev pub TellsPart : ℕ → Command → Option (List ℕ) → List Logged → Option (List ℕ) → Option (List ℕ) → Type 0
-TellsPart moves command left run old new =
-    (ending : Status) × (text : List ℕ) × Does moves command ending left run text × AppendsPart old new text
+abbrev pub WrotePart : ℕ → Command → Option (List ℕ) → List Logged → Option (List ℕ) → Option (List ℕ) → Type 0
+WrotePart moves command left run old new =
+    (ending : Status) × (text : List ℕ) × JournalsBy moves command ending left run text × AppendsPart old new text
 
 -- what the status says of a command: of the run, and of what the sink held before and after
-abbrev pub TellsOf : ℕ → Command → Status → Option (List ℕ) → List Logged → Option (List ℕ) → Option (List ℕ) → Type 0
-TellsOf moves command Done left run old new = TellsAll moves command Done left run old new
-TellsOf moves command Stuck left run old new = TellsAll moves command Stuck left run old new
-TellsOf moves command (Cut node) left run old new = TellsAll moves command (Cut node) left run old new
-TellsOf moves command WriteFault left run old new = TellsPart moves command left run old new
-TellsOf moves command Usage left run old new = TellsNothing run old new
-TellsOf moves command (Refused fault) left run old new = TellsNothing run old new
-TellsOf moves command TooLong left run old new = TellsNothing run old new
-TellsOf moves command ReadFault left run old new = TellsNothing run old new
-TellsOf moves command NoMemory left run old new = TellsNothing run old new
-TellsOf moves command (BadJournal line) left run old new = TellsNothing run old new
+abbrev pub DidOf : ℕ → Command → Status → Option (List ℕ) → List Logged → Option (List ℕ) → Option (List ℕ) → Type 0
+DidOf moves command Done left run old new = WroteAll moves command Done left run old new
+DidOf moves command Stuck left run old new = WroteAll moves command Stuck left run old new
+DidOf moves command (Cut node) left run old new = WroteAll moves command (Cut node) left run old new
+DidOf moves command WriteFault left run old new = WrotePart moves command left run old new
+DidOf moves command Usage left run old new = DidNothing run old new
+DidOf moves command (Refused fault) left run old new = DidNothing run old new
+DidOf moves command TooLong left run old new = DidNothing run old new
+DidOf moves command ReadFault left run old new = DidNothing run old new
+DidOf moves command NoMemory left run old new = DidNothing run old new
+DidOf moves command (BadJournal line) left run old new = DidNothing run old new
 
 -- the same where the words are this command, or none
-abbrev pub Tells : ℕ → Option Command → Status → Option (List ℕ) → List Logged → Option (List ℕ) → Option (List ℕ) → Type 0
-Tells moves None status left run old new = TellsNothing run old new
-Tells moves (Some command) status left run old new = TellsOf moves command status left run old new
+abbrev pub Did : ℕ → Option Command → Status → Option (List ℕ) → List Logged → Option (List ℕ) → Option (List ℕ) → Type 0
+Did moves None status left run old new = DidNothing run old new
+Did moves (Some command) status left run old new = DidOf moves command status left run old new

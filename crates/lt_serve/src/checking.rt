@@ -5,13 +5,13 @@ ghost use Rattle.lt_text.specs.Text.{lines};
 ghost use Rattle.lt_modes.specs.Script.{ScriptData};
 ghost use Rattle.lt_script.specs.Script.{IsScript};
 ghost use Rattle.lt_script.specs.Reading.{read_of};
-ghost use Rattle.lt_journal.specs.Split.{parts_of};
-ghost use Rattle.lt_checking.specs.Checking.{checked};
-ghost use Rattle.lt_checker.specs.Checker.{Answers};
+ghost use Rattle.lt_journal.specs.Split.{input_parts};
+ghost use Rattle.lt_law_checking.specs.Checking.{checked};
+ghost use Rattle.lt_checker.specs.Checker.{IsAnswer};
 ghost use Rattle.lt_serve.specs.declared.limits.TheConstants.{MAX_JOURNAL};
 ghost use Rattle.lt_words.specs.declared.command.Command.TheVariants as command;
-ghost use Rattle.lt_serve.specs.Causes.{TellsSource, IsReadWhole, IsRefusal};
-ghost use Rattle.lt_serve.specs.Heads.{IsCut, IsRest, FailsRest, IsRoom, IsLineOf, IsAnswer};
+ghost use Rattle.lt_serve.specs.Causes.{SaysOfSource, IsReadWhole, IsRefusal};
+ghost use Rattle.lt_serve.specs.Heads.{IsHeadCut, IsRest, FailsRest, IsRoom, IsLineOf, AnswersInput};
 ghost use Rattle.lt_serve.specs.TopCall.{Checks, ok_text};
 
 use crate::head::read_head;
@@ -20,20 +20,20 @@ use crate::reading::status_of;
 use crate::rest::{feed_rest, skip_rest};
 use crate::status::Status;
 use lt_checker::{Checker, ReplayError};
-use lt_checking::{law_input, law_means};
 use lt_io::{ReadFailure, Source};
 use lt_journal::split;
+use lt_law_checking::{law_input, law_means};
+use lt_law_promises::law_promised;
 use lt_merge::Run;
-use lt_promises::law_promised;
 use lt_script::{ReadError, Script, read};
 use std::alloc::{AllocError, Global};
 use std::fmt::Write;
 
-/// Reads a script and a journal, and tells whether the journal is that of a run of the script.
+/// Reads a script and a journal, and says whether the journal is that of a run of the script.
 pub(crate) fn checked<S: Source>(alloc: Global, source: &mut S) -> Result<Made, Status>
     ensures does { IfOk result (λ made. Checks made.ending (S.state source.old).left made.run.entries made.text.items) }
     ensures whole { OnOk result (IsReadWhole MAX_JOURNAL (S.state source.old) (S.state source.new)) }
-    ensures reading { IfErr result (λ answer. TellsSource MAX_JOURNAL answer (S.state source.old) (S.state source.new)) }
+    ensures reading { IfErr result (λ answer. SaysOfSource MAX_JOURNAL answer (S.state source.old) (S.state source.new)) }
     ensures refused { IfErr result (IsRefusal command.Check (S.state source.old).left) }
 {
     let head = match read_head(alloc, source) {
@@ -46,7 +46,7 @@ pub(crate) fn checked<S: Source>(alloc: Global, source: &mut S) -> Result<Made, 
     }
 }
 
-// Reads what comes after the first bytes of an input, and answers the whole input. A script with a fault is told
+// Reads what comes after the first bytes of an input, and answers the whole input. A script with a fault is the answer
 // once all was read.
 fn judged<S: Source>(
     alloc: Global,
@@ -55,9 +55,9 @@ fn judged<S: Source>(
     room: Option<usize>,
 ) -> Result<Result<Made, Status>, ReadFailure>
     requires few { length bytes.now ≤ MAX_JOURNAL }
-    requires cut { IsCut bytes.now room }
+    requires cut { IsHeadCut bytes.now room }
     requires room { IsRoom room }
-    ensures answer { IfOk result (λ answer. (rest : List ℕ) × IsAnswer (bytes.now ++ rest) answer × IsRest room rest (S.state source.old) (S.state source.new)) }
+    ensures answer { IfOk result (λ answer. (rest : List ℕ) × AnswersInput (bytes.now ++ rest) answer × IsRest room rest (S.state source.old) (S.state source.new)) }
     ensures err { IfErr result (λ why. FailsRest room why (S.state source.old) (S.state source.new)) }
 {
     let parts = split(bytes);
@@ -74,7 +74,7 @@ fn judged<S: Source>(
     Ok(answered(alloc, parts.lines, told))
 }
 
-// What a checker tells of the journal that begins with these bytes and goes on with what is left of the input.
+// What a checker says of the journal that begins with these bytes and goes on with what is left of the input.
 fn checked_journal<S: Source>(
     alloc: Global,
     source: &mut S,
@@ -82,7 +82,7 @@ fn checked_journal<S: Source>(
     first: &[u8],
     room: Option<usize>,
 ) -> Result<Result<Run, ReplayError>, ReadFailure>
-    ensures told { IfOk result (λ told. (rest : List ℕ) × Answers (checked script.now (lines (first.now ++ rest))) told × IsRest room rest (S.state source.old) (S.state source.new)) }
+    ensures told { IfOk result (λ told. (rest : List ℕ) × IsAnswer (checked script.now (lines (first.now ++ rest))) told × IsRest room rest (S.state source.old) (S.state source.new)) }
     ensures err { IfErr result (λ why. FailsRest room why (S.state source.old) (S.state source.new)) }
 {
     let mut checker = Checker::new(alloc, script)?;
@@ -91,12 +91,12 @@ fn checked_journal<S: Source>(
     Ok(checker.end())
 }
 
-// The answer to an input with so many lines before its journal, of which a checker told this.
+// The answer to an input with so many lines before its journal, of which a checker said this.
 fn answered(alloc: Global, before: u32, told: Result<Run, ReplayError>) -> Result<Made, Status>
     requires few { before ≤ MAX_JOURNAL }
     requires line { IsLineOf (2 * MAX_JOURNAL) told }
-    ensures { (script : ScriptData) → (bytes : List ℕ) → IsScript script → read_of (take (parts_of bytes).script bytes) ≡ Ok script
-        → before ≡ (parts_of bytes).lines → Answers (checked script (lines (drop (parts_of bytes).journal bytes))) told → IsAnswer bytes result }
+    ensures { (script : ScriptData) → (bytes : List ℕ) → IsScript script → read_of (take (input_parts bytes).script bytes) ≡ Ok script
+        → before ≡ (input_parts bytes).lines → IsAnswer (checked script (lines (drop (input_parts bytes).journal bytes))) told → AnswersInput bytes result }
 {
     law_promised();
     law_means();
@@ -110,7 +110,7 @@ fn answered(alloc: Global, before: u32, told: Result<Run, ReplayError>) -> Resul
     }
 }
 
-// The run, with the line that tells the number of its moves.
+// The run, with the line that says the number of its moves.
 fn with_count(alloc: Global, run: Run) -> Result<Made, Status>
     ensures made { IfOk result (λ made. (made.ending ≡ Status.Done) × (made.run.entries ≡ run.entries) × (made.text.items ≡ ok_text run.entries)) }
     ensures refused { IfErr result (λ answer. answer ≡ Status.NoMemory) }

@@ -1,13 +1,13 @@
 ghost use Rattle.std.specs.Prelude.{◌≤◌, take, length, IfOk, IfErr, IfSome, IfNone, IsTrue};
-ghost use Rattle.lt_checking.specs.Input.{IsWhole, EndsLine, HasJournal, IsSettled};
+ghost use Rattle.lt_law_checking.specs.Input.{EndsInLineFeed, EndsLine, HasJournal, IsSettled};
 ghost use Rattle.lt_io.specs.Reading.{FailsBy};
 ghost use Rattle.lt_serve.specs.declared.limits.TheConstants.{MAX_JOURNAL};
-ghost use Rattle.lt_serve.specs.Heads.{IsCut, IsHead, IsRoom};
+ghost use Rattle.lt_serve.specs.Heads.{IsHeadCut, IsHead, IsRoom};
 
 use crate::limits::MAX_JOURNAL;
-use lt_checking::law_settled;
 use lt_io::{MAX_PIECE, ReadFailure, Source, read_piece};
 use lt_journal::split;
+use lt_law_checking::law_settled;
 use std::alloc::Global;
 
 /// The first bytes of an input: at least those up to and with the line `journal`, or all of them.
@@ -21,7 +21,7 @@ pub(crate) struct Head {
 /// Reads piece by piece, until the line `journal` has come or the source is at its end.
 pub(crate) fn read_head<S: Source>(alloc: Global, source: &mut S) -> Result<Head, ReadFailure>
     ensures few { IfOk result (λ head. length head.bytes.items ≤ MAX_JOURNAL) }
-    ensures cut { IfOk result (λ head. IsCut head.bytes.items head.room) }
+    ensures cut { IfOk result (λ head. IsHeadCut head.bytes.items head.room) }
     ensures room { IfOk result (λ head. IsRoom head.room) }
     ensures head { IfOk result (λ head. IsHead head.bytes.items head.room (S.state source.old) (S.state source.new)) }
     ensures err { IfErr result (λ why. FailsBy why MAX_JOURNAL (S.state source.old) (S.state source.new)) }

@@ -1,4 +1,4 @@
-ghost use Rattle.lt_serve.specs.Literals.{CodesAre, TextsAre, LimitsAre, SoakIs};
+ghost use Rattle.lt_serve.specs.Literals.{CodesAre, TextsAre, SoakLimitsAre, SoakIs};
 
 use lt_gen::law_generated;
 
@@ -6,7 +6,7 @@ use lt_gen::law_generated;
 pub fn law_literals()
     ensures codes { CodesAre }
     ensures texts { TextsAre }
-    ensures limits { LimitsAre }
+    ensures limits { SoakLimitsAre }
     ensures soak { SoakIs }
 {
     law_generated();

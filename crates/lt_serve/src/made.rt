@@ -1,7 +1,7 @@
 ghost use Rattle.std.specs.Prelude.{◌≡◌, ◌⊎◌, ℕ, Option, List};
 ghost use Rattle.lt_words.specs.declared.command.Command.{Command as AnyCommand};
-ghost use Rattle.lt_serve.specs.Causes.{TellsSink, WritesNothing, IsEnding};
-ghost use Rattle.lt_serve.specs.TopCall.{Does, TellsOf};
+ghost use Rattle.lt_serve.specs.Causes.{SaysOfSink, WritesNothing, IsEnding};
+ghost use Rattle.lt_serve.specs.TopCall.{JournalsBy, DidOf};
 
 use crate::serving::Served;
 use crate::status::Status;
@@ -19,11 +19,11 @@ pub struct Made {
 /// Writes the text.
 pub(crate) fn write_made<K: Sink>(sink: &mut K, made: Made) -> Served
     requires ended { IsEnding made.ending }
-    ensures tells { (moves : ℕ) → (command : AnyCommand) → (left : Option (List ℕ))
-        → Does moves command made.ending left made.run.entries made.text.items
-        → TellsOf moves command result.status left result.run.entries (K.held sink.old) (K.held sink.new) }
+    ensures did { (moves : ℕ) → (command : AnyCommand) → (left : Option (List ℕ))
+        → JournalsBy moves command made.ending left made.run.entries made.text.items
+        → DidOf moves command result.status left result.run.entries (K.held sink.old) (K.held sink.new) }
     ensures written { IsEnding result.status ⊎ (result.status ≡ Status.WriteFault) }
-    ensures writing { TellsSink result.status (K.faults sink.old) (K.faults sink.new) }
+    ensures writing { SaysOfSink result.status (K.faults sink.old) (K.faults sink.new) }
     ensures unwritten { WritesNothing result.status → sink.new ≡ sink.old }
 {
     let status = match write_all(sink, &made.text) {

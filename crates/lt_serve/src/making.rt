@@ -1,5 +1,5 @@
 ghost use Rattle.std.specs.Prelude.{◌≡◌, true, IfOk};
-ghost use Rattle.lt_words.specs.Words.{can_make};
+ghost use Rattle.lt_gen.specs.Sizes.{can_make};
 ghost use Rattle.lt_serve.specs.TopCall.{Prints};
 
 use crate::made::Made;

@@ -3,7 +3,7 @@ ghost use Rattle.lt_script.specs.Script.{IsScript};
 ghost use Rattle.lt_script.specs.Reading.{read_of};
 ghost use Rattle.lt_serve.specs.declared.limits.TheConstants.{MAX_INPUT, MAX_JOURNAL};
 ghost use Rattle.lt_words.specs.declared.command.Command.TheVariants as command;
-ghost use Rattle.lt_serve.specs.Causes.{TellsSource, IsReadWhole, IsRefusal, status_of};
+ghost use Rattle.lt_serve.specs.Causes.{SaysOfSource, IsReadWhole, IsRefusal, status_of};
 ghost use Rattle.lt_serve.specs.Input.{Left, IsReadFailure, IsFaultOf};
 ghost use Rattle.lt_serve.specs.TopCall.{Denotes};
 
@@ -18,7 +18,7 @@ pub(crate) fn read_script<S: Source>(alloc: Global, source: &mut S) -> Result<Sc
     ensures script { IfOk result (Denotes (S.state source.old).left) }
     ensures kept { IfOk result IsScript }
     ensures whole { OnOk result (IsReadWhole MAX_INPUT (S.state source.old) (S.state source.new)) }
-    ensures reading { IfErr result (λ answer. TellsSource MAX_INPUT answer (S.state source.old) (S.state source.new)) }
+    ensures reading { IfErr result (λ answer. SaysOfSource MAX_INPUT answer (S.state source.old) (S.state source.new)) }
     ensures refused { IfErr result (IsRefusal command.SimFirst (S.state source.old).left) }
 {
     let bytes = read_bytes(alloc, source, MAX_INPUT)?;
@@ -34,7 +34,7 @@ pub(crate) fn read_bytes<S: Source>(
     ensures bytes { IfOk result (λ bytes. Left (S.state source.old).left bytes.items) }
     ensures few { IfOk result (λ bytes. length bytes.items ≤ limit) }
     ensures whole { OnOk result (IsReadWhole limit (S.state source.old) (S.state source.new)) }
-    ensures reading { IfErr result (λ answer. TellsSource limit answer (S.state source.old) (S.state source.new)) }
+    ensures reading { IfErr result (λ answer. SaysOfSource limit answer (S.state source.old) (S.state source.new)) }
     ensures refused { IfErr result IsReadFailure }
 {
     match read_all(alloc, source, limit) {

@@ -3,17 +3,19 @@ ghost use Rattle.std.specs.String.{string_bytes};
 ghost use Rattle.lt_limits.specs.declared.moves.TheConstants.{MAX_MOVES};
 ghost use Rattle.lt_mail.specs.declared.opening.TheConstants.{MAX_CAPACITY};
 ghost use Rattle.lt_words.specs.Words.{command_of};
-ghost use Rattle.lt_serve.specs.Causes.{TellsSource, IsReadWhole, IsEnding, IsRefusal, CanBeMade, reads, limit_of};
+ghost use Rattle.lt_serve.specs.Causes.{SaysOfSource, IsReadWhole, IsEnding, IsRefusal, CanBeMade, reads, limit_of};
 ghost use Rattle.lt_serve.specs.Serves.{Serves};
-ghost use Rattle.lt_serve.specs.TopCall.{Does};
+ghost use Rattle.lt_serve.specs.TopCall.{JournalsBy};
 
 use crate::checking::checked;
 use crate::made::{Made, write_made};
 use crate::making::printed;
-use crate::simulated::{simulated_drawn, simulated_first};
+use crate::schedule::Schedule;
+use crate::simulated::simulated;
 use crate::soaking::soaked;
 use crate::status::Status;
 use crate::threaded::threaded;
+use lt_gen::Draws;
 use lt_io::{Sink, Source};
 use lt_limits::MAX_MOVES;
 use lt_merge::Run;
@@ -115,15 +117,18 @@ fn make<R: Threads + Sync, S: Source, G: Gate>(
     requires capacity { (0 < setup.capacity) × (setup.capacity ≤ MAX_CAPACITY) }
     requires possible { CanBeMade command }
     ensures ended { IfOk result (λ made. IsEnding made.ending) }
-    ensures does { IfOk result (λ made. Does setup.moves command made.ending (S.state source.old).left made.run.entries made.text.items) }
+    ensures does { IfOk result (λ made. JournalsBy setup.moves command made.ending (S.state source.old).left made.run.entries made.text.items) }
     ensures whole { OnOk result (reads (Some command) ≡ true → IsReadWhole (limit_of (Some command)) (S.state source.old) (S.state source.new)) }
-    ensures reading { IfErr result (λ answer. reads (Some command) ≡ true → TellsSource (limit_of (Some command)) answer (S.state source.old) (S.state source.new)) }
+    ensures reading { IfErr result (λ answer. reads (Some command) ≡ true → SaysOfSource (limit_of (Some command)) answer (S.state source.old) (S.state source.new)) }
     ensures refused { IfErr result (IsRefusal command (S.state source.old).left) }
     ensures unread { reads (Some command) ≡ false → source.new ≡ source.old }
 {
     match command {
-        Command::SimFirst => simulated_first(alloc, setup.moves, source),
-        Command::Sim { seed } => simulated_drawn(alloc, setup.moves, seed, source),
+        Command::SimFirst => simulated(alloc, setup.moves, Schedule::First, source),
+        Command::Sim { seed } => {
+            let schedule = Schedule::Drawn(Draws::new(seed));
+            simulated(alloc, setup.moves, schedule, source)
+        }
         Command::Make {
             nodes,
             clients,

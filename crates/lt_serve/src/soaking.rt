@@ -5,6 +5,7 @@ ghost use Rattle.lt_serve.specs.TopCall.{Soaks, soak_text};
 
 use crate::made::Made;
 use crate::serving::Setup;
+use crate::status::Status;
 use crate::threaded::run_nodes;
 use lt_journal::write_closing;
 use lt_merge::Run;
@@ -27,7 +28,8 @@ pub(crate) fn soaked<R: Threads + Sync, G: Gate>(
     ensures { IfOk result (λ made. Soaks seed setup.moves made.ending made.run.entries made.text.items) }
 {
     let script = lt_gen::script(alloc, 16, 64, 4_096, seed)?;
-    let (ending, run) = run_nodes(rt, alloc, &script, setup, gate)?;
+    let (end, run) = run_nodes(rt, alloc, &script, setup, gate)?;
+    let ending = Status::from(end);
     let text = soak_text(alloc, &script, &run, ending.cut())?;
     Ok(Made { ending, run, text })
 }

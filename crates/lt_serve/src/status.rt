@@ -1,6 +1,7 @@
 ghost use Rattle.std.specs.Prelude.{◌≡◌, ◌≢◌, ◌↔◌, [], IsTrue};
-ghost use Rattle.lt_serve.specs.Status.{code_of, text_of};
+ghost use Rattle.lt_serve.specs.Status.{code_of, status_text};
 
+use lt_limits::Ending;
 use lt_script::ScriptFault;
 use std::fmt;
 
@@ -57,19 +58,33 @@ impl Status {
     }
 
     /// Whether the program writes a line on standard error.
-    pub fn is_told(&self) -> bool
-        ensures { IsTrue result ↔ (text_of self.now ≢ []) }
+    pub fn has_line(&self) -> bool
+        ensures { IsTrue result ↔ (status_text self.now ≢ []) }
     {
         !matches!(self, Status::Done | Status::Stuck)
+    }
+}
+
+impl From<Ending> for Status {
+    ghost use Rattle.lt_serve.specs.Endings.{status_of_end};
+
+    ghost from_gives = { λ ending status. status ≡ status_of_end ending };
+
+    fn from(ending: Ending) -> Status {
+        match ending {
+            Ending::Done => Status::Done,
+            Ending::Stuck => Status::Stuck,
+            Ending::Cut { node } => Status::Cut { node },
+        }
     }
 }
 
 /// The line that the program writes on standard error, without its line end; empty where it writes none.
 impl fmt::Display for Status {
     ghost use Rattle.std.specs.Prelude.{Some};
-    ghost use Rattle.lt_serve.specs.Status.{text_of};
+    ghost use Rattle.lt_serve.specs.Status.{status_text};
 
-    ghost output = { λ status. Some (text_of status) };
+    ghost output = { λ status. Some (status_text status) };
 
     fn fmt<W: fmt::Write>(&self, f: &mut fmt::Formatter<W>) -> fmt::Result {
         match self {

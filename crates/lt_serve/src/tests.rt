@@ -3,23 +3,19 @@ mod journals;
 mod meeting;
 mod pieces;
 mod refusals;
+mod sizes;
 mod threads;
+mod wide;
 
 ghost use Rattle.std.specs.Prelude.{◌<◌, ◌≤◌};
 ghost use Rattle.lt_limits.specs.declared.moves.TheConstants.{MAX_MOVES};
 ghost use Rattle.lt_mail.specs.declared.opening.TheConstants.{MAX_CAPACITY};
 
-use super::{Gate, Setup, Status, USUAL, serve_with};
+use super::{Setup, Status, USUAL, serve_with};
 use lt_io::{MemorySink, MemorySource};
+use lt_runner::Open;
 use std::alloc::{AllocError, Global};
 use std::thread::Threads;
-
-#[derive(Drop)]
-struct Open;
-
-impl Gate for Open {
-    fn pass(&self, _node: u8) {}
-}
 
 // The words of a line, parted by one space.
 fn words_of(alloc: Global, line: &str) -> Result<Vec<String>, AllocError> {

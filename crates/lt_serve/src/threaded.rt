@@ -7,8 +7,8 @@ ghost use Rattle.lt_serve.specs.Endings.{RanTo, cut_of, status_of_end};
 ghost use Rattle.lt_mail.specs.declared.opening.TheConstants.{MAX_CAPACITY};
 ghost use Rattle.lt_serve.specs.declared.limits.TheConstants.{MAX_INPUT};
 ghost use Rattle.lt_words.specs.declared.command.Command.TheVariants as command;
-ghost use Rattle.lt_serve.specs.Causes.{TellsSource, IsReadWhole, IsRefusal};
-ghost use Rattle.lt_serve.specs.TopCall.{Does};
+ghost use Rattle.lt_serve.specs.Causes.{SaysOfSource, IsReadWhole, IsRefusal};
+ghost use Rattle.lt_serve.specs.TopCall.{JournalsBy};
 
 use crate::made::Made;
 use crate::reading::read_script;
@@ -16,12 +16,12 @@ use crate::serving::Setup;
 use crate::status::Status;
 use lt_io::Source;
 use lt_journal::write;
-use lt_limits::MAX_MOVES;
+use lt_law_promises::law_promised;
+use lt_limits::Ending;
 use lt_merge::Run;
-use lt_promises::law_promised;
 use lt_runner::Gate;
 use lt_script::Script;
-use lt_threads::{Ending, run_on_threads};
+use lt_threads::run_on_threads;
 use std::alloc::{AllocError, Global};
 use std::thread::Threads;
 
@@ -32,15 +32,15 @@ pub(crate) fn run_nodes<R: Threads + Sync, G: Gate>(
     script: &Script,
     setup: Setup,
     gate: &G,
-) -> Result<(Status, Run), AllocError>
+) -> Result<(Ending, Run), AllocError>
     requires kept { IsScript script.now }
     requires moves { (0 < setup.moves) × (setup.moves ≤ MAX_MOVES) }
     requires capacity { (0 < setup.capacity) × (setup.capacity ≤ MAX_CAPACITY) }
-    ensures ran { IfOk result (λ made. RanTo setup.moves made.0 script.now made.1.entries) }
+    ensures ran { IfOk result (λ made. RanTo setup.moves (status_of_end made.0) script.now made.1.entries) }
     ensures rising { IfOk result (λ made. AreRising made.1.entries) }
 {
     law_promised();
-    let (ending, run) = run_on_threads(
+    run_on_threads(
         rt,
         alloc,
         script,
@@ -48,18 +48,7 @@ pub(crate) fn run_nodes<R: Threads + Sync, G: Gate>(
         setup.moves,
         setup.patience,
         gate,
-    )?;
-    Ok((status_of(ending), run))
-}
-
-fn status_of(ending: Ending) -> Status
-    ensures { result ≡ status_of_end ending }
-{
-    match ending {
-        Ending::Done => Status::Done,
-        Ending::Stuck => Status::Stuck,
-        Ending::Cut(node) => Status::Cut { node },
-    }
+    )
 }
 
 /// The run of a script on threads, and its journal.
@@ -77,7 +66,8 @@ pub(crate) fn threads_journal<R: Threads + Sync, G: Gate>(
     ensures rising { IfOk result (λ made. AreRising made.run.entries) }
     ensures text { IfOk result (λ made. made.text.items ≡ text_of script.now made.run.entries (cut_of made.ending)) }
 {
-    let (ending, run) = run_nodes(rt, alloc, script, setup, gate)?;
+    let (end, run) = run_nodes(rt, alloc, script, setup, gate)?;
+    let ending = Status::from(end);
     let text = write(alloc, script, &run, ending.cut())?;
     Ok(Made { ending, run, text })
 }
@@ -92,9 +82,9 @@ pub(crate) fn threaded<R: Threads + Sync, S: Source, G: Gate>(
 ) -> Result<Made, Status>
     requires moves { (0 < setup.moves) × (setup.moves ≤ MAX_MOVES) }
     requires capacity { (0 < setup.capacity) × (setup.capacity ≤ MAX_CAPACITY) }
-    ensures does { IfOk result (λ made. Does setup.moves (command.Run) made.ending (S.state source.old).left made.run.entries made.text.items) }
+    ensures does { IfOk result (λ made. JournalsBy setup.moves (command.Run) made.ending (S.state source.old).left made.run.entries made.text.items) }
     ensures whole { OnOk result (IsReadWhole MAX_INPUT (S.state source.old) (S.state source.new)) }
-    ensures reading { IfErr result (λ answer. TellsSource MAX_INPUT answer (S.state source.old) (S.state source.new)) }
+    ensures reading { IfErr result (λ answer. SaysOfSource MAX_INPUT answer (S.state source.old) (S.state source.new)) }
     ensures refused { IfErr result (IsRefusal (command.Run) (S.state source.old).left) }
 {
     let script = read_script(alloc, source)?;

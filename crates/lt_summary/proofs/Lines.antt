@@ -4,8 +4,8 @@ use Rattle.std.specs.Prelude.{fold}
 use Rattle.std.proofs.lemmas.List.{append_assoc}
 use Rattle.std.proofs.lemmas.List.Sums.{fold-append}
 use Rattle.lt_modes.specs.declared.event.Event.{Event}
-use Rattle.lt_runs.specs.Log.{Logged}
-use Rattle.lt_runs.specs.Holdings.{lines_of}
+use Rattle.lt_spec.specs.Log.{Logged}
+use Rattle.lt_spec.specs.Holdings.{lines_of}
 use Rattle.lt_merge.specs.Run.{events_at}
 
 append_nil : {X : Type 0} (xs : List X) → xs ++ [] ≡ xs

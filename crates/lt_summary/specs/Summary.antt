@@ -3,8 +3,8 @@ use Rattle.std.specs.Prelude.{Bool, ℕ, List, ◌++◌, length, codes, is_some}
 use Rattle.std.specs.Fmt.{decimal}
 use Rattle.lt_modes.specs.Script.{ScriptData}
 use Rattle.lt_lists.specs.Below.{count_below}
-use Rattle.lt_runs.specs.Log.{Logged}
-use Rattle.lt_runs.specs.Holdings.{holdings, wanted, lines_of}
+use Rattle.lt_spec.specs.Log.{Logged}
+use Rattle.lt_spec.specs.Holdings.{holdings, wanted, lines_of}
 use Rattle.lt_summary.specs.declared.summary.Summary.{Summary}
 
 -- how many locks are held

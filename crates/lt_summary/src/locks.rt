@@ -1,33 +1,18 @@
 ghost use Rattle.std.specs.Prelude.{◌≡◌, ◌<◌, ◌++◌, ◌∷◌, [], not, fold, filter, length, position, IfOk, OnOk, IfSome};
-ghost use Rattle.lt_runs.specs.Families.{family};
-ghost use Rattle.lt_runs.specs.Holdings.{Holding, holding, after_line, without_one, same_holding, is_dropped, holdings, lines_of};
+ghost use Rattle.lt_spec.specs.Holdings.{Holding as AnyHolding, holding, after_line, without_one, same_holding, is_dropped, holdings, lines_of};
 
 use lt_merge::Run;
 use lt_modes::{Event, Mode};
 use lt_script::Script;
+use lt_tally::{Holding, is_related};
 use std::alloc::{AllocError, Global};
-use std::marker::Model;
-
-/// One lock of a client in a set.
-#[derive(Clone, Copy, Debug)]
-pub(crate) struct Lock {
-    pub client: u16,
-    pub set: u8,
-    pub mode: Mode,
-}
-
-impl Model for Lock {
-    ghost use Rattle.lt_runs.specs.Holdings.{Holding};
-
-    ghost Value = { Holding };
-
-    ghost view = { λ l. record { client = l.client; set = l.set; mode = l.mode } };
-
-    ghost inverse = { λ l. record { client = l.client; set = l.set; mode = l.mode } };
-}
 
 /// The locks that are held after a run.
-pub(crate) fn locks_held(alloc: Global, script: &Script, run: &Run) -> Result<Vec<Lock>, AllocError>
+pub(crate) fn locks_held(
+    alloc: Global,
+    script: &Script,
+    run: &Run,
+) -> Result<Vec<Holding>, AllocError>
     ensures { IfOk result (λ locks. locks.items ≡ holdings script.now (lines_of run.now.entries)) }
 {
     let mut held = Vec::new(alloc);
@@ -38,7 +23,7 @@ pub(crate) fn locks_held(alloc: Global, script: &Script, run: &Run) -> Result<Ve
 }
 
 // What is held after these events.
-fn apply_all(held: &mut Vec<Lock>, script: &Script, events: &[Event]) -> Result<(), AllocError>
+fn apply_all(held: &mut Vec<Holding>, script: &Script, events: &[Event]) -> Result<(), AllocError>
     ensures { OnOk result (held.new.items ≡ fold (after_line script.now) held.old.items events.now) }
 {
     for event in events {
@@ -48,11 +33,11 @@ fn apply_all(held: &mut Vec<Lock>, script: &Script, events: &[Event]) -> Result<
 }
 
 // What is held after one event more.
-fn apply(held: &mut Vec<Lock>, script: &Script, event: Event) -> Result<(), AllocError>
+fn apply(held: &mut Vec<Holding>, script: &Script, event: Event) -> Result<(), AllocError>
     ensures { OnOk result (held.new.items ≡ after_line script.now held.old.items event) }
 {
     match event {
-        Event::Grant { client, set, mode } => held.push(Lock { client, set, mode })?,
+        Event::Grant { client, set, mode } => held.push(Holding { client, set, mode })?,
         Event::Try {
             client,
             set,
@@ -60,10 +45,10 @@ fn apply(held: &mut Vec<Lock>, script: &Script, event: Event) -> Result<(), Allo
             got,
         } => {
             if got {
-                held.push(Lock { client, set, mode })?;
+                held.push(Holding { client, set, mode })?;
             }
         }
-        Event::Unlock { client, set, mode } => give_up(held, Lock { client, set, mode }),
+        Event::Unlock { client, set, mode } => give_up(held, Holding { client, set, mode }),
         Event::Change {
             client,
             set,
@@ -83,7 +68,7 @@ fn apply(held: &mut Vec<Lock>, script: &Script, event: Event) -> Result<(), Allo
 
 // One lock less of the first mode, and one more of the second.
 fn change(
-    held: &mut Vec<Lock>,
+    held: &mut Vec<Holding>,
     client: u16,
     set: u8,
     gives_up: Mode,
@@ -91,18 +76,18 @@ fn change(
 ) -> Result<(), AllocError>
     ensures { OnOk result (held.new.items ≡ without_one held.old.items (holding client set gives_up) ++ holding client set mode ∷ []) }
 {
-    let old = Lock {
+    let old = Holding {
         client,
         set,
         mode: gives_up,
     };
     give_up(held, old);
-    held.push(Lock { client, set, mode })?;
+    held.push(Holding { client, set, mode })?;
     Ok(())
 }
 
 // One such lock less, where there is one.
-fn give_up(held: &mut Vec<Lock>, lock: Lock)
+fn give_up(held: &mut Vec<Holding>, lock: Holding)
     ensures { held.new.items ≡ without_one held.old.items lock }
 {
     if let Some(k) = place_of(held, lock) {
@@ -111,7 +96,7 @@ fn give_up(held: &mut Vec<Lock>, lock: Lock)
 }
 
 // The place of the first such lock.
-fn place_of(held: &[Lock], lock: Lock) -> Option<usize>
+fn place_of(held: &[Holding], lock: Holding) -> Option<usize>
     ensures place { result ≡ position (same_holding lock) held.now }
     ensures within { IfSome result (λ k. k < length held.now) }
 {
@@ -121,26 +106,15 @@ fn place_of(held: &[Lock], lock: Lock) -> Option<usize>
 }
 
 // The locks but those of the client in the family of the set.
-fn drop_all(held: &mut Vec<Lock>, script: &Script, client: u16, set: u8)
-    ensures { held.new.items ≡ filter (λ (lock : Holding). not (is_dropped script.now client set lock)) held.old.items }
+fn drop_all(held: &mut Vec<Holding>, script: &Script, client: u16, set: u8)
+    ensures { held.new.items ≡ filter (λ (lock : AnyHolding). not (is_dropped script.now client set lock)) held.old.items }
 {
     held.retain(|lock| !is_dropped(script, client, set, *lock));
 }
 
 // Whether the lock is one of the client in the family of the set.
-fn is_dropped(script: &Script, client: u16, set: u8, lock: Lock) -> bool
+fn is_dropped(script: &Script, client: u16, set: u8, lock: Holding) -> bool
     ensures { result ≡ is_dropped script.now client set lock }
 {
-    lock.client == client && family(script, lock.set) == family(script, set)
-}
-
-// The number of the first set of the set's family; 0 of a set that the script doesn't have.
-fn family(script: &Script, set: u8) -> u8
-    ensures { result ≡ family script.now set }
-{
-    if set < script.sets() {
-        script.family(set)
-    } else {
-        0
-    }
+    lock.client == client && is_related(script, lock.set, set)
 }

@@ -5,6 +5,7 @@ use crate::locks::locks_held;
 use crate::waiting::clients_waiting;
 use lt_merge::Run;
 use lt_script::Script;
+use lt_tally::tally_of;
 use std::alloc::{AllocError, Global};
 use std::fmt;
 
@@ -22,18 +23,19 @@ pub struct Summary {
 }
 
 impl Summary {
-    /// Reads the run once for the locks, and once for each client.
+    /// Reads the run once for the locks, and once for the clients.
     pub fn new(alloc: Global, script: &Script, run: &Run) -> Result<Summary, AllocError>
         ensures { IfOk result (λ summary. summary ≡ summary_of script.now run.now.entries) }
     {
         let held = locks_held(alloc, script, run)?;
+        let tally = tally_of(alloc, script, run)?;
         Ok(Summary {
             nodes: script.nodes(),
             sets: script.sets(),
             clients: script.clients(),
             commands: script.commands(),
             held: held.len(),
-            waiting: clients_waiting(script, run),
+            waiting: clients_waiting(script, &tally),
         })
     }
 }

@@ -1,2 +1,4 @@
-mod StampLemmas
+mod OwedLemmas
 mod EntryLemmas
+mod CountLemmas
+mod RecountLemmas

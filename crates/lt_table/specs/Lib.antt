@@ -1,3 +1,3 @@
-pub mod Stamps
 pub mod TableData
 pub mod Seen
+pub mod NodeCounts

@@ -3,10 +3,8 @@
 #![tactic(auto)]
 
 mod entry;
-mod pending;
 mod table;
 #[cfg(test)]
 mod tests;
 
-pub use pending::Pending;
 pub use table::Table;

@@ -1,17 +1,18 @@
-ghost use Rattle.std.specs.Prelude.{◌≡◌, ◌≤◌, ◌<◌, ◌+◌, List, length, map, replicate, IfOk, OnOk, if◌then◌else◌, ◌==◌};
-ghost use Rattle.lt_modes.specs.Modes.{no_modes};
+ghost use Rattle.std.specs.Prelude.{◌≡◌, ◌≤◌, ◌<◌, ◌+◌, List, length, map, replicate, IfOk, OnOk, ◌==◌, ◌&&◌, not, nat_lt};
 ghost use Rattle.lt_modes.specs.declared.ask.Ask.{Ask};
 ghost use Rattle.lt_modes.specs.State.{SetState, Desk, first_entry};
 ghost use Rattle.lt_modes.specs.Held.{held_modes};
-ghost use Rattle.lt_modes.specs.Records.{record_of, modes_of_owed, still_owed, own_part, modes_at, others};
+ghost use Rattle.lt_modes.specs.Records.{record_of, modes_of_owed, still_owed, own_part, others};
 ghost use Rattle.lt_modes.specs.Tells.{told, is_newer};
 ghost use Rattle.lt_modes.specs.Serving.{owing};
 ghost use Rattle.lt_modes.specs.HandingOver.{stamps_of, settled};
 ghost use Rattle.lt_table.specs.TableData.{entry_at, put_by, ask_with, told_frozen};
 ghost use Rattle.lt_table.specs.Seen.{entry_seen, spare_in};
+ghost use Rattle.lt_table.specs.NodeCounts.{nodes_with};
 
 use crate::entry::Entry;
-use crate::pending::Pending;
+use lt_asks::Pending;
+use lt_counts::ModeCounts;
 use lt_modes::{Mode, ModeSet, Stamp};
 use std::alloc::{AllocError, Global};
 use std::marker::Model;
@@ -22,18 +23,21 @@ use std::marker::Model;
 #[derive(Drop)]
 pub struct Table {
     entries: Vec<Entry>,
+    // For each mode, how many nodes have it in their record.
+    counts: ModeCounts,
 }
 
 impl Model for Table {
     ghost use Rattle.std.specs.Prelude.{◌<◌, map, length};
     ghost use Rattle.lt_table.specs.TableData.{TableData};
     ghost use Rattle.lt_table.specs.Seen.{entry_seen, spare_in};
+    ghost use Rattle.lt_table.specs.NodeCounts.{AreNodeCounts};
 
     ghost Value = { TableData };
 
     ghost view = { λ t. record { entries = map entry_seen t.entries.items; spare = spare_in t.entries.items } };
 
-    ghost invariant = { λ t. length t.entries.items < 256 };
+    ghost invariant = { λ t. (length t.entries.items < 256) × AreNodeCounts (map entry_seen t.entries.items) t.counts };
 }
 
 impl Table {
@@ -42,6 +46,7 @@ impl Table {
     {
         Ok(Table {
             entries: first_entries(alloc, nodes)?,
+            counts: ModeCounts::new(),
         })
     }
 
@@ -73,12 +78,26 @@ impl Table {
         ensures { (s : SetState) (desk : Desk) → desk.entries ≡ self.now.entries → own_part me s desk ≡ own
             → result ≡ others me s desk node }
     {
-        others(
-            self.entries.as_slice(),
-            usize::from(node),
-            usize::from(me),
-            own,
-        )
+        let at_node = self.rec(node);
+        if self.counts_apart(me, node) {
+            self.counts.beyond(at_node, self.rec(me)).union(own)
+        } else {
+            self.counts.beyond(at_node, ModeSet::empty())
+        }
+    }
+
+    // Whether node `me` is another node than this one, and has an entry.
+    fn counts_apart(&self, me: u8, node: u8) -> bool
+        ensures { result ≡ (not (me == node) && nat_lt me (length self.now.entries)) }
+    {
+        me != node && me < self.nodes()
+    }
+
+    /// The number of nodes whose record has the mode.
+    pub fn nodes_with(&self, mode: Mode) -> u32
+        ensures { result ≡ nodes_with mode self.now.entries }
+    {
+        self.counts.get(mode)
     }
 
     /// Applies a tell of a node; false where it isn't newer than the last one.
@@ -91,7 +110,11 @@ impl Table {
         let x = usize::from(node);
         let newer = stamp.is_newer(told_at(self.entries.as_slice(), x));
         if x < self.entries.len() {
-            self.entries[x].tell(modes, pending, stamp);
+            let entry = &mut self.entries[x];
+            let before = entry.record();
+            entry.tell(modes, pending, stamp);
+            let after = entry.record();
+            self.counts = self.counts.shifted(before, after);
         }
         newer
     }
@@ -104,7 +127,11 @@ impl Table {
     {
         let x = usize::from(node);
         if x < self.entries.len() {
-            self.entries[x].owe(stamp, mode);
+            let entry = &mut self.entries[x];
+            let before = entry.record();
+            entry.owe(stamp, mode);
+            let after = entry.record();
+            self.counts = self.counts.shifted(before, after);
         }
     }
 
@@ -144,7 +171,11 @@ impl Table {
     {
         let x = usize::from(node);
         if x < self.entries.len() {
-            self.entries[x].settle(modes, pending, stamp);
+            let entry = &mut self.entries[x];
+            let before = entry.record();
+            entry.settle(modes, pending, stamp);
+            let after = entry.record();
+            self.counts = self.counts.shifted(before, after);
         }
     }
 }
@@ -174,31 +205,6 @@ fn told_at(entries: &[Entry], x: usize) -> Stamp
     match entries.get(x) {
         Some(entry) => entry.told_at,
         None => Stamp { clock: 0, node: 0 },
-    }
-}
-
-fn others(entries: &[Entry], node: usize, me: usize, own: ModeSet) -> ModeSet
-    ensures { (s : SetState) (desk : Desk) → desk.entries ≡ map entry_seen entries.now → own_part me s desk ≡ own
-        → result ≡ others me s desk node }
-{
-    let mut all = ModeSet::empty();
-    for x in 0..entries.len() {
-        all = all.union(counted(entries, x, node, me, own));
-    }
-    all
-}
-
-// What counts of node x, where this node counts nothing.
-fn counted(entries: &[Entry], x: usize, node: usize, me: usize, own: ModeSet) -> ModeSet
-    ensures { (s : SetState) (desk : Desk) → desk.entries ≡ map entry_seen entries.now → own_part me s desk ≡ own
-        → result ≡ (if x == node then no_modes else modes_at me s desk x) }
-{
-    if x == node {
-        ModeSet::empty()
-    } else if x == me {
-        own
-    } else {
-        record_at(entries, x)
     }
 }
 

@@ -1,4 +1,5 @@
-use super::{Pending, Table};
+use super::Table;
+use lt_asks::Pending;
 use lt_modes::{Mode, ModeSet, Stamp};
 use std::alloc::{AllocError, Global};
 use std::test::Fail;
@@ -18,22 +19,6 @@ fn listed(first: u64, second: u64) -> Pending {
     add(&mut pending, first);
     add(&mut pending, second);
     pending
-}
-
-#[test]
-fn lists_stamps_in_order(rt: HostRuntime) {
-    let mut pending = listed(5, 3);
-    add(&mut pending, 5);
-    let copy = pending.copied();
-    for (clock, left) in [(3, true), (5, true), (5, true), (5, false), (9, false)] {
-        assert_eq!(rt; pending.remove(stamp(clock)), left, "{clock}");
-    }
-    assert_eq!(rt; (pending.len(), copy.len()), (0, 3));
-    for (k, clock) in [(0, 5), (1, 3), (2, 5)] {
-        assert!(rt; k < copy.len());
-        assert_eq!(rt; copy.get(k), stamp(clock));
-    }
-    assert!(rt; copy.has(stamp(3)) && !copy.has(Stamp { clock: 3, node: 2 }));
 }
 
 // Node 1 was sent copies at clocks 3, 5 and 7, and told at clock 6 that it waits for the ask of clock 3 alone.
@@ -93,5 +78,28 @@ fn keeps_what_was_told_to_be_frozen(rt: HostRuntime) -> Result<(), Fail> {
     table.tell_frozen(1, ModeSet::one(Mode::Read));
     assert!(rt; table.frozen_told(1) == ModeSet::one(Mode::Read));
     assert!(rt; table.frozen_told(0).is_empty());
+    Ok(())
+}
+
+#[test]
+fn counts_each_node_once(rt: HostRuntime) -> Result<(), Fail> {
+    let mut table = Table::new(rt.alloc(), 2)?;
+    table.reserve(2)?;
+    let mut pending = Pending::new();
+    pending.push(stamp(3));
+    assert_eq!(rt; table.nodes_with(Mode::Read), 0);
+    table.owe(1, stamp(2), Mode::Read);
+    assert_eq!(rt; table.nodes_with(Mode::Read), 1);
+    table.owe(1, stamp(3), Mode::Read);
+    assert_eq!(rt; table.nodes_with(Mode::Read), 1);
+    let read = ModeSet::one(Mode::Read);
+    assert!(rt; table.tell(1, read, &pending, stamp(4)));
+    assert_eq!(rt; table.nodes_with(Mode::Read), 1);
+    assert!(rt; table.tell(1, ModeSet::empty(), &pending, stamp(5)));
+    assert_eq!(rt; table.nodes_with(Mode::Read), 1);
+    assert!(rt; !table.tell(1, ModeSet::empty(), &Pending::new(), stamp(4)));
+    assert_eq!(rt; table.nodes_with(Mode::Read), 1);
+    assert!(rt; table.tell(1, ModeSet::empty(), &Pending::new(), stamp(6)));
+    assert_eq!(rt; table.nodes_with(Mode::Read), 0);
     Ok(())
 }

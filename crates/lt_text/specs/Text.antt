@@ -1,6 +1,6 @@
 -- Lines of a text, words and fields of a line, and what is written of them.
 use Rattle.std.specs.Prelude.{◌≡◌, ℕ, ◌<◌, ◌-◌, Bool, true, false, ◌||◌, ◌&&◌, not, List, [], ◌∷◌, ◌++◌, length, take, map, filter, slice_index, Option, Some, None, ◌==◌, nat_lt, if◌then◌else◌}
-use Rattle.std.specs.List.{AllByRecursion}
+use Rattle.std.specs.List.{AllByRecursion, flat_map}
 use denote.Ref.{Bor}
 
 -- a line feed
@@ -79,10 +79,13 @@ abbrev pub text : List (List ℕ) → List ℕ
 text [] = []
 text (line ∷ rest) = line ++ 10 ∷ text rest
 
+-- a word with the space before it
+abbrev pub after_space : List ℕ → List ℕ
+after_space word = 32 ∷ word
+
 -- what follows a word: a space before each further word
 abbrev pub each_after_space : List (List ℕ) → List ℕ
-each_after_space [] = []
-each_after_space (word ∷ rest) = 32 ∷ word ++ each_after_space rest
+each_after_space words = flat_map after_space words
 
 -- the words with one space between two
 abbrev pub spaced : List (List ℕ) → List ℕ

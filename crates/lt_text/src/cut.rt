@@ -65,8 +65,8 @@ pub fn next_field(line: &[u8]) -> (&[u8], Option<&[u8]>)
     }
 }
 
-// The line without a carriage return at its end.
-fn trim_return(line: &[u8]) -> &[u8]
+/// The line without a carriage return at its end.
+pub fn trim_return(line: &[u8]) -> &[u8]
     ensures { result.now ≡ without_return line.now }
 {
     if !line.is_empty() && line[line.len() - 1] == b'\r' {

@@ -52,7 +52,8 @@ fn value(word: &[u8]) -> u64
     value
 }
 
-fn are_digits(word: &[u8]) -> bool
+/// Whether all bytes are decimal digits.
+pub fn are_digits(word: &[u8]) -> bool
     ensures { result ≡ are_digits word.now }
 {
     word.iter().all(|byte| byte.is_ascii_digit())

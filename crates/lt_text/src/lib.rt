@@ -4,11 +4,9 @@
 mod cut;
 mod digits;
 mod laws;
-mod name;
 #[cfg(test)]
 mod tests;
 
-pub use cut::{is, next_field, next_line, next_word};
-pub use digits::{exact_number, number, push_number};
+pub use cut::{is, next_field, next_line, next_word, trim_return};
+pub use digits::{are_digits, exact_number, number, push_number};
 pub use laws::{law_exact_number, law_fields, law_lines, law_number, law_words};
-pub use name::{MAX_NAME, is_name};

@@ -1,33 +1,28 @@
 -- The run of a crew, and how it ended.
 use Rattle.std.proofs.Common.{◌≡◌, ℕ, zero, suc, ◌+◌, ◌<◌, List, [], ◌∷◌, length, Some, Bool, true, false, refl, sym, ap, subst, arith, ◌∙◌}
-use Rattle.std.specs.Prelude.{◌==◌, ◌||◌, ◌&&◌, if◌then◌else◌, filter, slice_get}
+use Rattle.std.specs.Prelude.{◌==◌, ◌&&◌, if◌then◌else◌, filter, slice_get}
 use Rattle.std.proofs.lemmas.Bool.{eq-eqb, and_from}
 use Rattle.std.proofs.lemmas.List.Sums.{sum_by-cons}
-use Rattle.lt_modes.specs.declared.moves.Step.TheVariants.{Act}
 use Rattle.lt_modes.specs.Script.{ScriptData}
-use Rattle.lt_lists.specs.Below.{any_below}
-use Rattle.lt_lists.proofs.Searches.{any_below_same}
-use Rattle.lt_runs.specs.Log.{Logged}
-use Rattle.lt_runs.specs.World.{World, world_after, is_enabled, has_mail, is_of_node, is_at_rest, anyone_waits}
-use Rattle.lt_plays.specs.Plays.{can_act}
-use Rattle.lt_joined.specs.CanMove as joined
-use Rattle.lt_joined.proofs.Moving.{act_is_seen}
+use Rattle.lt_spec.specs.Log.{Logged}
+use Rattle.lt_spec.specs.World.{World, world_after, is_of_node, is_at_rest, anyone_waits}
 use Rattle.lt_merge.specs.Run.{RunData}
 use Rattle.lt_merge.specs.Merging.{Merges}
 use Rattle.lt_runner.specs.declared.parts.Parts.{Parts}
 use Rattle.lt_runner.specs.Kept.{SameRunner, AsSeen, Grew}
-use Rattle.lt_world.specs.Fields.{moves_of, can_move, full_node}
-use Rattle.lt_world.proofs.Counts.{least_full}
-use Rattle.lt_crew.specs.Together.{EachIs, IsCrew, crew_run, crew_world}
-use Rattle.lt_crew.specs.Rounds.{IsCut}
-use Rattle.lt_crew.specs.Finished.{AreCrewLogs}
-use Rattle.lt_crew.specs.Starting.{IsFirstCrew}
-use Rattle.lt_crew.proofs.Each.{each_weaker, each_before}
-use Rattle.lt_crew.proofs.Pushing.{same_world}
-use Rattle.lt_threads.specs.declared.threads.Ending.{Ending}
-use Rattle.lt_threads.specs.declared.threads.Ending.TheVariants.{Done, Stuck, Cut}
+use Rattle.lt_limits.specs.Endings.{EndsBy}
+use Rattle.lt_limits.specs.Cut.{moves_of, can_move, full_node}
+use Rattle.lt_limits.proofs.LeastFull.{least_full}
+use Rattle.lt_threads.specs.Together.{EachIs, IsCrew, crew_run, crew_world}
+use Rattle.lt_threads.specs.Rounds.{IsCrewCut}
+use Rattle.lt_threads.specs.Finished.{AreCrewLogs}
+use Rattle.lt_threads.specs.Starting.{IsFirstCrew}
+use Rattle.lt_threads.proofs.Each.{each_weaker, each_before}
+use Rattle.lt_threads.proofs.Pushing.{same_world}
+use Rattle.lt_limits.specs.declared.ending.Ending.{Ending}
+use Rattle.lt_limits.specs.declared.ending.Ending.TheVariants.{Done, Stuck, Cut}
 use Rattle.lt_threads.specs.Crews.{CrewEnds, HasLimit}
-use Rattle.lt_threads.specs.Threads.{EndsBy, IsThreadRun}
+use Rattle.lt_threads.specs.Threads.{IsThreadRun}
 
 -- limits last
 limit_lasts : (limit : ℕ) (old new : List Parts) → EachIs SameRunner old new → HasLimit limit old → HasLimit limit new
@@ -46,27 +41,14 @@ counted q (entry ∷ run) = sum_by-cons (λ (x : Logged). if is_of_node q x then
     by_test true e = omega (arith, e)
     by_test false e = omega (arith, e)
 
--- the two words of whether a node can move
-same_can : (script : ScriptData) (w : World) (q : ℕ) → can_move script w q ≡ joined.can_move script w q
-same_can script w q =
-    let acts = any_below_same (length script.clients) (λ client. is_enabled script w q (Act client)) (can_act script q (w.node q)) (λ k h. act_is_seen script w q k) in
-    ap (λ (b : Bool). any_below script.nodes (λ p. has_mail script w p q) || b) acts
-    ∙ or_swap (any_below script.nodes (λ p. has_mail script w p q)) (any_below (length script.clients) (can_act script q (w.node q)))
-  where
-    or_swap : (a b : Bool) → (a || b) ≡ (b || a)
-    or_swap true true = refl
-    or_swap true false = refl
-    or_swap false true = refl
-    or_swap false false = refl
-
 cut_full : (limit k : ℕ) (script : ScriptData) (rs : List Parts) (logs : List RunData) (run : List Logged) → IsCrew script rs → HasLimit limit rs
-    → AreCrewLogs script rs logs → Merges logs run → IsCut k script rs → full_node script limit run ≡ Some k
+    → AreCrewLogs script rs logs → Merges logs run → IsCrewCut k script rs → full_node script limit run ≡ Some k
 cut_full limit k script rs logs run crew limits finished merges cut =
     least_full script limit run k cut.below
     (λ j below.
-    let can = same_can script (world_after script run) j ∙ (ap (λ (moves : List Logged). joined.can_move script (world_after script moves) j) same ∙ cut.least j below) in
+    let can = ap (λ (moves : List Logged). can_move script (world_after script moves) j) same ∙ cut.least j below in
     rw can (no_and (moves_of j run == limit)))
-    (and_from _ _ (eq-eqb (moves_of k run) limit made) (same_can script (world_after script run) k ∙ (ap (λ (moves : List Logged). joined.can_move script (world_after script moves) k) same ∙ cut.moves)))
+    (and_from _ _ (eq-eqb (moves_of k run) limit made) (ap (λ (moves : List Logged). can_move script (world_after script moves) k) same ∙ cut.moves))
   where
     same : run ≡ crew_run script rs
     same = finished.is_crew_run run merges

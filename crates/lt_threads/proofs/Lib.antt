@@ -1,1 +1,14 @@
+pub mod Each
+pub mod Linked
+pub mod Pairs
+pub mod Fetches
+pub mod Joined
+pub mod SameRun
+pub mod Shown
+pub mod Enabling
+pub mod Turns
+pub mod Pushing
+pub mod Starts
+pub mod Logs
+pub mod Waiters
 pub mod Ends

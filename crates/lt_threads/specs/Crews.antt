@@ -1,12 +1,12 @@
 -- How the rounds of a crew end its run.
 use Rattle.std.specs.Prelude.{◌≡◌, true, false, ℕ, List, Some, slice_get}
 use Rattle.lt_modes.specs.Script.{ScriptData}
-use Rattle.lt_runs.specs.World.{is_at_rest, anyone_waits}
+use Rattle.lt_spec.specs.World.{is_at_rest, anyone_waits}
 use Rattle.lt_runner.specs.declared.parts.Parts.{Parts}
-use Rattle.lt_crew.specs.Together.{crew_world}
-use Rattle.lt_crew.specs.Rounds.{IsCut}
-use Rattle.lt_threads.specs.declared.threads.Ending.{Ending}
-use Rattle.lt_threads.specs.declared.threads.Ending.TheVariants.{Done, Stuck, Cut}
+use Rattle.lt_threads.specs.Together.{crew_world}
+use Rattle.lt_threads.specs.Rounds.{IsCrewCut}
+use Rattle.lt_limits.specs.declared.ending.Ending.{Ending}
+use Rattle.lt_limits.specs.declared.ending.Ending.TheVariants.{Done, Stuck, Cut}
 
 -- the crew's world is at rest with nobody waiting, at rest with somebody waiting, or this node is cut
 abbrev pub CrewEnds : Ending → ScriptData → List Parts → Type 0
@@ -14,7 +14,7 @@ CrewEnds Done script rs =
     (is_at_rest script (crew_world script rs) ≡ true) × (anyone_waits script (crew_world script rs) ≡ false)
 CrewEnds Stuck script rs =
     (is_at_rest script (crew_world script rs) ≡ true) × (anyone_waits script (crew_world script rs) ≡ true)
-CrewEnds (Cut node) script rs = IsCut node script rs
+CrewEnds (Cut node) script rs = IsCrewCut node script rs
 
 -- each runner may make so many moves
 abbrev pub HasLimit : ℕ → List Parts → Type 0

@@ -1,2 +1,9 @@
-pub mod Threads
+pub mod Together
+pub mod Meeting
+pub mod Enabled
+pub mod Rounds
+pub mod Pushes
+pub mod Starting
+pub mod Finished
 pub mod Crews
+pub mod Threads

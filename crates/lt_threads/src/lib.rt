@@ -1,8 +1,21 @@
-//! A script's run on threads: each node by a runner, in rounds, until rest or a cut; and the one list of its moves.
+//! The runners of a script together: each two look at the rings between them; and its run on threads: all work in rounds,
+//! until rest or a cut, and the one list of their moves.
 #![tactic(auto)]
 
+mod enabled;
+mod fetching;
+mod finishing;
+mod meeting;
+mod rounds;
+mod starting;
 #[cfg(test)]
 mod tests;
 mod threads;
+mod waiting;
 
-pub use threads::{Ending, run_on_threads};
+pub use enabled::any_enabled;
+pub use finishing::finish;
+pub use rounds::{Ended, run_rounds};
+pub use starting::start_crew;
+pub use threads::run_on_threads;
+pub use waiting::anyone_waits;

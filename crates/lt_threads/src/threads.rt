@@ -1,28 +1,22 @@
-ghost use Rattle.std.specs.Prelude.{◌≡◌, ◌<◌, ◌≤◌, IfOk};
-ghost use Rattle.lt_crew.specs.Together.{IsCrew, EachIs};
-ghost use Rattle.lt_crew.specs.Rounds.{RoundsEnd};
+ghost use Rattle.std.specs.Prelude.{◌<◌, ◌≤◌, IfOk};
+ghost use Rattle.lt_limits.specs.declared.moves.TheConstants.{MAX_MOVES};
+ghost use Rattle.lt_threads.specs.Together.{IsCrew, EachIs};
+ghost use Rattle.lt_threads.specs.Rounds.{RoundsEnd};
 ghost use Rattle.lt_runner.specs.Kept.{AsSeen};
 ghost use Rattle.lt_threads.specs.Threads.{IsThreadRun};
-ghost use Rattle.lt_threads.specs.Crews.{HasLimit, CrewEnds};
+ghost use Rattle.lt_threads.specs.Crews.{CrewEnds};
 
-use lt_crew::{Ended, anyone_waits, finish, run_rounds, start_crew};
+use crate::finishing::finish;
+use crate::rounds::{Ended, run_rounds};
+use crate::starting::start_crew;
+use crate::waiting::anyone_waits;
+use lt_limits::Ending;
 use lt_mail::MAX_CAPACITY;
 use lt_merge::{Run, merge};
 use lt_runner::{Gate, Runner};
 use lt_script::Script;
 use std::alloc::{AllocError, Global};
 use std::thread::Threads;
-
-/// How the run of a script on threads ended.
-#[derive(Clone, Copy, Debug, PartialEq, Eq)]
-pub enum Ending {
-    /// At rest, and no client waits.
-    Done,
-    /// At rest, and a client waits.
-    Stuck,
-    /// This node has made as many moves as it may, and has a further one.
-    Cut(u8),
-}
 
 /// Runs a script, each node by a runner that makes up to `limit` moves, with rings of so many places between them.
 pub fn run_on_threads<R: Threads + Sync, G: Gate>(
@@ -35,7 +29,7 @@ pub fn run_on_threads<R: Threads + Sync, G: Gate>(
     gate: &G,
 ) -> Result<(Ending, Run), AllocError>
     requires capacity { (0 < capacity) × (capacity ≤ MAX_CAPACITY) }
-    requires limit { (0 < limit) × (limit ≤ 1048576) }
+    requires limit { (0 < limit) × (limit ≤ MAX_MOVES) }
     ensures { IfOk result (λ made. IsThreadRun limit made.0 script.now made.1.entries) }
 {
     let mut runners = start_crew(alloc, script, capacity, limit)?;
@@ -60,7 +54,7 @@ fn end_of<'a>(
 {
     match ended {
         Ended::NoMemory => Err(AllocError),
-        Ended::Cut(node) => Ok(Ending::Cut(node)),
+        Ended::Cut(node) => Ok(Ending::Cut { node }),
         Ended::Rest if anyone_waits(script, runners) => Ok(Ending::Stuck),
         Ended::Rest => Ok(Ending::Done),
     }

@@ -3,6 +3,8 @@ use Rattle.std.proofs.Common.{◌≡◌, ◌⊎◌, refl, ℕ, true, false, ◌&
 use Rattle.std.specs.Str.{bytes_eq}
 use Rattle.std.proofs.lemmas.Bool.{and_cases, and_right, or_parts, cases_Bool, eqb-true}
 use Rattle.lt_text.specs.Number.{are_digits, is_numeral, number}
+use Rattle.std.specs.Prelude.{is_some}
+use Rattle.lt_words.specs.declared.command.Command.{Command}
 use Rattle.lt_words.specs.Words.{command_of, one_word, two_words, sim_of, seed_of, make_of, five_words}
 use Rattle.lt_words.specs.Grammar.{is_plain, has_verb, is_form}
 
@@ -105,3 +107,7 @@ no_form (verb ∷ t ∷ u ∷ v ∷ w ∷ []) form =
       ]
     ]
 no_form (verb ∷ t ∷ u ∷ v ∷ w ∷ x ∷ rest) form = refl
+
+pub none_found : (found : Option Command) → is_some found ≡ false → None ≡ found
+none_found None e = refl
+none_found (Some command) e = absurd (cc)

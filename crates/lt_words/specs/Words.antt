@@ -1,9 +1,9 @@
 -- Which words are a command. They don't have the program's name.
-use Rattle.std.specs.Prelude.{◌*◌, ◌^◌, Bool, ◌&&◌, nat_lt, nat_le, if◌then◌else◌, ℕ, List, [], ◌∷◌, Option, Some, None, option_map, codes}
+use Rattle.std.specs.Prelude.{◌^◌, ◌&&◌, nat_lt, if◌then◌else◌, ℕ, List, [], ◌∷◌, Option, Some, None, option_map, codes}
 use Rattle.std.specs.Str.{bytes_eq}
 use Rattle.std.specs.Str.Parse.{digits_value}
 use Rattle.lt_text.specs.Number.{is_numeral, number}
-use Rattle.lt_script.specs.declared.limits.TheConstants.{MAX_NODES, MAX_CLIENTS, MAX_CLIENTS_OF_NODE, MAX_COMMANDS}
+use Rattle.lt_gen.specs.Sizes.{can_make}
 use Rattle.lt_words.specs.declared.command.Command.{Command}
 use Rattle.lt_words.specs.declared.command.Command.TheVariants.{Run, SimFirst, Sim, Check, Make, Soak}
 
@@ -26,19 +26,12 @@ sim_of word = if bytes_eq word (codes "first") then Some SimFirst else option_ma
 abbrev pub soak_of : List ℕ → Option Command
 soak_of word = option_map Soak (seed_of word)
 
--- these
+-- one of these
 abbrev pub two_words : List ℕ → List ℕ → Option Command
 two_words word seed =
     if bytes_eq word (codes "sim") then sim_of seed
     else if bytes_eq word (codes "soak") then soak_of seed
     else None
-
--- a script can be made with so many nodes, clients and commands
-abbrev pub can_make : ℕ → ℕ → ℕ → Bool
-can_make nodes clients commands =
-    nat_le 1 nodes && nat_le nodes MAX_NODES
-    && nat_le 1 clients && nat_le clients MAX_CLIENTS && nat_le clients (nodes * MAX_CLIENTS_OF_NODE)
-    && nat_le commands MAX_COMMANDS
 
 -- `make` with these numbers, where each word was one
 abbrev pub make_of : Option ℕ → Option ℕ → Option ℕ → Option ℕ → Option Command

@@ -38,21 +38,20 @@ pub enum Command {
 }
 
 impl Command {
-    /// The command that the words are, which don't have the program's name.
+    /// The command that the words are, which don't have the program's name. It is read with `clap`; only if memory runs
+    /// out there, the words themselves decide whether they are a command.
     pub fn from_words(alloc: Global, words: &[String]) -> Result<Option<Command>, AllocError>
         ensures command { IfOk result (λ command. command ≡ command_of (map string_bytes words.now)) }
         ensures refused { IsErr result → IsSome (command_of (map string_bytes words.now)) }
     {
-        if !is_command(words) {
-            return Ok(None);
-        }
         if !is_form(words) {
             return Ok(None);
         }
         match parse(alloc, words) {
             Ok(matches) => Ok(Command::found(&matches)),
             // The words have a form, so that there was no memory.
-            Err(_) => Err(AllocError),
+            Err(_) if is_command(words) => Err(AllocError),
+            Err(_) => Ok(None),
         }
     }
 
@@ -75,7 +74,7 @@ impl Command {
     }
 }
 
-// Whether the words are a command, which takes no memory to see.
+// Whether the words are a command, seen without memory.
 fn is_command(words: &[String]) -> bool
     ensures { result ≡ is_some (command_of (map string_bytes words.now)) }
 {

@@ -1,10 +1,10 @@
 ghost use Rattle.std.specs.Prelude.{◌≡◌, Some};
-ghost use Rattle.lt_text.specs.Number.{are_digits, is_numeral, number};
-ghost use Rattle.lt_words.specs.Words.{seed_of, can_make, make_of};
+ghost use Rattle.lt_text.specs.Number.{is_numeral, number};
+ghost use Rattle.lt_words.specs.Words.{seed_of, make_of};
 
 use crate::command::Command;
-use lt_script::{MAX_CLIENTS, MAX_CLIENTS_OF_NODE, MAX_COMMANDS, MAX_NODES};
-use lt_text::number;
+use lt_gen::can_make;
+use lt_text::{are_digits, number};
 
 pub fn make_of(nodes: &str, clients: &str, commands: &str, seed: &str) -> Option<Command>
     ensures { result ≡ make_of (number nodes.now) (number clients.now) (number commands.now) (seed_of seed.now) }
@@ -29,18 +29,6 @@ fn make(nodes: u32, clients: u32, commands: u32, seed: u64) -> Option<Command>
     })
 }
 
-// Whether a script can be made with so many nodes, clients and commands.
-fn can_make(nodes: u32, clients: u32, commands: u32) -> bool
-    ensures { result ≡ can_make nodes clients commands }
-{
-    1 <= nodes
-        && nodes <= u32::from(MAX_NODES)
-        && 1 <= clients
-        && clients <= u32::from(MAX_CLIENTS)
-        && clients <= nodes * u32::from(MAX_CLIENTS_OF_NODE)
-        && commands <= MAX_COMMANDS
-}
-
 /// The number below 2^64 that 1 to 20 decimal digits write.
 pub fn seed_of(word: &str) -> Option<u64>
     ensures { result ≡ seed_of word.now }
@@ -55,11 +43,5 @@ pub fn seed_of(word: &str) -> Option<u64>
 fn is_numeral(word: &str, most: usize) -> bool
     ensures { result ≡ is_numeral word.now most }
 {
-    !word.is_empty() && word.len() <= most && are_digits(word)
-}
-
-fn are_digits(word: &str) -> bool
-    ensures { result ≡ are_digits word.now }
-{
-    word.as_bytes().iter().all(|byte| byte.is_ascii_digit())
+    !word.is_empty() && word.len() <= most && are_digits(word.as_bytes())
 }

@@ -2,8 +2,8 @@
 use Rattle.std.proofs.Common.{◌≡◌, ℕ, zero, suc, ◌<◌, ◌-◌, Option, Some, None, refl, subst, arith}
 use Rattle.std.specs.Prelude.{option_and_then}
 use Rattle.lt_modes.specs.Script.{ScriptData}
-use Rattle.lt_runs.specs.World.{World}
-use Rattle.lt_runs.specs.FixedOrder.{next_act, act_after}
+use Rattle.lt_spec.specs.World.{World}
+use Rattle.lt_spec.specs.FixedOrder.{next_act, act_after}
 
 act_after_more : (script : ScriptData) (w : World) (earlier : Option ℕ) (k : ℕ) → 0 < k
     → act_after script w earlier k ≡ option_and_then (λ next. act_after script w (Some next) (k - 1)) (next_act script w earlier)

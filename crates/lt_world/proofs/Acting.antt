@@ -5,10 +5,10 @@ use Rattle.lt_modes.specs.declared.stamp.Stamp.{Stamp}
 use Rattle.lt_modes.specs.declared.moves.Step.TheVariants.{Act}
 use Rattle.lt_modes.specs.Script.{ScriptData}
 use Rattle.lt_modes.specs.Made.{Post}
-use Rattle.lt_runs.specs.Log.{Logged}
-use Rattle.lt_runs.specs.NodeMove.{NodeState, node_act, act_stamp}
-use Rattle.lt_runs.specs.World.{world_after, is_enabled}
-use Rattle.lt_letter.specs.OutData.{OutData}
+use Rattle.lt_spec.specs.Log.{Logged}
+use Rattle.lt_spec.specs.NodeMove.{NodeState, node_act, act_stamp}
+use Rattle.lt_spec.specs.World.{world_after, is_enabled}
+use Rattle.lt_desk.specs.OutData.{OutData}
 use Rattle.lt_node.specs.NodeData.{NodeData, NodeDoes, state_of}
 use Rattle.lt_world.specs.Mail.{WireData, SameLetters, AreDelivered}
 use Rattle.lt_world.specs.Fields.{IsNodeOf, Holds, OnlyMemory, node_at}

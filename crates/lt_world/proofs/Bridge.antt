@@ -7,10 +7,10 @@ use Rattle.lt_modes.specs.Script.{ScriptData}
 use Rattle.lt_modes.specs.State.{Letter}
 use Rattle.lt_lists.specs.Below.{put}
 use Rattle.lt_lists.proofs.Puts.{put-same, put-other}
-use Rattle.lt_runs.specs.NodeMove.{NodeState, NodeMade}
-use Rattle.lt_runs.specs.World.{World, put_mail, after_made, letter_for}
-use Rattle.lt_letter.specs.OutData.{OutData}
-use Rattle.lt_node.specs.NodeData.{NodeData, NodeDoes, SameNode, state_of, sent_by}
+use Rattle.lt_spec.specs.NodeMove.{NodeState, NodeMade}
+use Rattle.lt_spec.specs.World.{World, put_mail, after_made, letter_for}
+use Rattle.lt_desk.specs.OutData.{OutData}
+use Rattle.lt_node.specs.NodeData.{NodeData, NodeDoes, SameNode, state_of, with_sent}
 use Rattle.lt_world.specs.Mail.{WireData, inbox_at, mail_in, put_wire, SameLetters, AreDelivered}
 use Rattle.lt_world.specs.Fields.{no_node, node_at, IsNodeOf, IsWorld, OnlyMemory}
 use Rattle.lt_world.proofs.Wires.{senders_put, mail_put}
@@ -90,7 +90,7 @@ world_moved script w q made d nodes boxes boxes' h inside is sent = record {
 -- the node of the world did what the rule makes
 pub record Did (script : ScriptData) (q : ℕ) (made : NodeMade) (had : OutData) (new : NodeData) (out : OutData) : Type 0 where
   pub node : IsNodeOf script q made.node new
-  pub sent : out ≡ sent_by made had
+  pub sent : out ≡ with_sent made had
 
 pub did : (script : ScriptData) (q : ℕ) (state : NodeState) (rule : ScriptData → ℕ → NodeState → NodeMade) (old : NodeData) (had : OutData) (new : NodeData) (out : OutData)
     → IsNodeOf script q state old → NodeDoes (rule old.script old.me (state_of old)) old had new out → Did script q (rule script q state) had new out
@@ -104,5 +104,5 @@ did script q state rule old had new out is does =
         me = does.me ∙ is.me;
         state_is = does.state ∙ ap (λ (m : NodeMade). m.node) same;
       };
-      sent = does.sent ∙ ap (λ (m : NodeMade). sent_by m had) same;
+      sent = does.sent ∙ ap (λ (m : NodeMade). with_sent m had) same;
     }

@@ -1,23 +1,25 @@
 -- How many moves each node has made, and all nodes together.
-use Rattle.std.proofs.Common.{◌≡◌, ◌≢◌, Bool, true, false, ℕ, zero, suc, ◌+◌, ◌*◌, ◌<◌, ◌≤◌, ◌^◌, List, [], ◌∷◌, ◌++◌, length, Some, None, inl, inr, refl, sym, ap, subst, ◌∙◌, arith, length-set, get_or-set_same, get_or-set_other}
-use Rattle.std.specs.Prelude.{◌==◌, nat_lt, if◌then◌else◌, slice_set, slice_index_or, count_by, IsTrue}
-use Rattle.std.proofs.lemmas.Bool.{cases_eq, cases_order, eq-eqb, ne_eqb, and_from, or_left, or_right, false≢true, ltb-true, false_from_ne_true}
+use Rattle.std.proofs.Common.{◌≡◌, ◌≢◌, Bool, true, false, ℕ, zero, suc, ◌+◌, ◌*◌, ◌<◌, ◌≤◌, ◌^◌, List, [], ◌∷◌, ◌++◌, length, inl, inr, refl, sym, ap, subst, ◌∙◌, arith, length-set, get_or-set_same, get_or-set_other}
+use Rattle.std.specs.Prelude.{◌==◌, if◌then◌else◌, slice_set, slice_index_or, count_by, IsTrue}
+use Rattle.std.proofs.lemmas.Bool.{cases_eq, eq-eqb, ne_eqb, and_from, or_left, or_right, false≢true}
 use Rattle.std.proofs.lemmas.List.{length_push}
 use Rattle.std.proofs.lemmas.List.Sums.{sum_by-append}
-use Rattle.lt_lists.specs.Below.{sum_below, any_below, first_below, earlier}
+use Rattle.lt_lists.specs.Below.{sum_below, any_below}
 use Rattle.lt_lists.proofs.Sums.{sum_below-change, sum_below-none}
 use Rattle.lt_lists.proofs.Searches.{any_below_at}
 use Rattle.lt_modes.specs.declared.moves.Step.{Step}
 use Rattle.lt_modes.specs.declared.moves.Step.TheVariants.{Act, Take}
 use Rattle.lt_modes.specs.Script.{ScriptData}
 use Rattle.lt_script.specs.Script.{IsScript}
-use Rattle.lt_runs.specs.Log.{Logged}
-use Rattle.lt_runs.specs.World.{World, world_after, is_enabled, is_of_node}
-use Rattle.lt_order.proofs.Order.{takes_where}
-use Rattle.lt_world.specs.Fields.{moves_of, can_move, is_full, full_node, AreCounted, AreAtMost}
+use Rattle.lt_spec.specs.Log.{Logged}
+use Rattle.lt_spec.specs.World.{World, world_after, is_enabled, is_of_node}
+use Rattle.lt_law_enabled.proofs.Order.{takes_where}
+use Rattle.lt_limits.specs.declared.moves.TheConstants.{MAX_MOVES}
+use Rattle.lt_limits.specs.Cut.{moves_of, can_move, is_full}
+use Rattle.lt_world.specs.Fields.{AreCounted, AreAtMost}
 use Rattle.lt_world.proofs.Premises.{act_parts, act_inside}
 
-few_below : (n : ℕ) (f : ℕ → ℕ) → ((k : ℕ) → k < n → f k ≤ 1048576) → sum_below n f ≤ n * 1048576
+few_below : (n : ℕ) (f : ℕ → ℕ) → ((k : ℕ) → k < n → f k ≤ MAX_MOVES) → sum_below n f ≤ n * MAX_MOVES
 few_below zero f h = omega arith
 few_below (suc n) f h = omega (arith, few_below n f (λ k below. h k (omega (arith, below))), h n (omega arith))
 
@@ -71,7 +73,7 @@ at_most_moved script most new run entry q h e own more = λ k below. elim (cases
   | inr other ↦ omega (arith, moves_other k run entry (λ f. other (sym f ∙ e)), h k below, more)
 ]
 
-pub counted_at_start : (script : ScriptData) (limit : ℕ) (moves : List ℕ) → limit ≤ 1048576 → length moves ≡ script.nodes
+pub counted_at_start : (script : ScriptData) (limit : ℕ) (moves : List ℕ) → limit ≤ MAX_MOVES → length moves ≡ script.nodes
     → ((q : ℕ) → slice_index_or moves q 0 ≡ 0) → AreCounted script limit moves []
 counted_at_start script limit moves small count none = record {
   count = count;
@@ -80,42 +82,6 @@ counted_at_start script limit moves small count none = record {
   all = sum_below-none script.nodes (λ q. moves_of q []) (λ k below. refl);
   small = small;
 }
-
--- the least number that passes
-least_on : (n q : ℕ) (test : ℕ → Bool) → q < n → ((k : ℕ) → k < q → test k ≡ false) → test q ≡ true → first_below n test nat_lt ≡ Some q
-least_on zero q test inside none here = absurd (omega (arith, inside))
-least_on (suc n) q test inside none here = elim (cases_order n q) [
-  | inl same ↦
-      let before : first_below n test nat_lt ≡ None = least_none n test (λ k below. none k (omega (arith, below, same))) in
-      let at : test n ≡ true = ap test same ∙ here in
-      rw (at, before) (ap Some same)
-  | inr (inl less) ↦ absurd (omega (arith, less, inside))
-  | inr (inr more) ↦
-      let before = least_on n q test more none here in
-      elim (test n) as (λ t. (if t then earlier nat_lt (first_below n test nat_lt) n else first_below n test nat_lt) ≡ Some q) [
-        | true ↦ rw (before, not_less n q more) refl
-        | false ↦ before
-      ]
-]
-  where
-    not_less : (n q : ℕ) → q < n → nat_lt n q ≡ false
-    not_less n q h = false_from_ne_true (nat_lt n q) (λ e. omega (arith, ltb-true n q e, h))
-
-    least_none : (n : ℕ) (test : ℕ → Bool) → ((k : ℕ) → k < n → test k ≡ false) → first_below n test nat_lt ≡ None
-    least_none zero test h = refl
-    least_none (suc n) test h = rw (h n (omega arith)) (least_none n test (λ k below. h k (omega (arith, below))))
-
-pub least_full : (script : ScriptData) (limit : ℕ) (run : List Logged) (q : ℕ) → q < script.nodes
-    → ((k : ℕ) → k < q → is_full script limit run k ≡ false) → is_full script limit run q ≡ true → full_node script limit run ≡ Some q
-least_full script limit run q inside none here = least_on script.nodes q (is_full script limit run) inside none here
-
-pub none_full : (script : ScriptData) (limit : ℕ) (run : List Logged) → ((k : ℕ) → k < script.nodes → is_full script limit run k ≡ false)
-    → full_node script limit run ≡ None
-none_full script limit run h = go script.nodes h
-  where
-    go : (n : ℕ) → ((k : ℕ) → k < n → is_full script limit run k ≡ false) → first_below n (is_full script limit run) nat_lt ≡ None
-    go zero h = refl
-    go (suc n) h = rw (h n (omega arith)) (go n (λ k below. h k (omega (arith, below))))
 
 -- where none has made as many as it may, none is full
 pub none_at_limit : (script : ScriptData) (limit most : ℕ) (run : List Logged) → AreAtMost script most run → most < limit

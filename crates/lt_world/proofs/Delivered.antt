@@ -6,7 +6,7 @@ use Rattle.std.proofs.lemmas.List.{length_push}
 use Rattle.std.proofs.lemmas.List.Elements.{All-rest}
 use Rattle.lt_modes.specs.State.{Letter}
 use Rattle.lt_modes.specs.Made.{Post}
-use Rattle.lt_runs.specs.World.{put_mail}
+use Rattle.lt_spec.specs.World.{put_mail}
 use Rattle.lt_world.specs.Mail.{WireData, inbox_at, wire_between, mail_in, put_wire, longer, letters_of, HasRoomFrom}
 use Rattle.lt_world.proofs.Wires.{wire_put_same, wire_put_other, senders_put, mail_put}
 

@@ -1,4 +1,3 @@
-mod Recorded
 pub mod Senders
 pub mod Wires
 pub mod Delivered
@@ -13,3 +12,4 @@ pub mod ActOrder
 pub mod Counts
 pub mod Rest
 pub mod Picks
+pub mod MadeLemmas

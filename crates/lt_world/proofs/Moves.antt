@@ -6,26 +6,27 @@ use Rattle.lt_modes.specs.declared.event.Event.{Event}
 use Rattle.lt_modes.specs.declared.moves.Step.{Step}
 use Rattle.lt_modes.specs.Script.{ScriptData}
 use Rattle.lt_modes.specs.Made.{Post}
-use Rattle.lt_runs.specs.Log.{Logged}
-use Rattle.lt_runs.specs.NodeMove.{NodeMade}
-use Rattle.lt_runs.specs.World.{World, world_after, is_enabled, node_move, opened, move_stamp, logged, IsRun}
-use Rattle.lt_letter.specs.OutData.{OutData}
-use Rattle.lt_node.specs.NodeData.{NodeData, sent_by}
+use Rattle.lt_spec.specs.Log.{Logged}
+use Rattle.lt_spec.specs.NodeMove.{NodeMade}
+use Rattle.lt_spec.specs.World.{World, world_after, is_enabled, node_move, opened, move_stamp, logged, IsRun}
+use Rattle.lt_desk.specs.OutData.{OutData}
+use Rattle.lt_node.specs.NodeData.{NodeData, with_sent}
 use Rattle.lt_world.specs.Mail.{WireData, AreDelivered}
 use Rattle.lt_world.specs.Fields.{IsWorld, Holds}
 use Rattle.lt_world.proofs.Bridge.{Did, world_moved}
-use Rattle.lt_world.proofs.Runs.{longer, longer_is_run, longer_world}
+use Rattle.lt_world.specs.Network.{run_with}
+use Rattle.lt_world.proofs.Runs.{longer_is_run, longer_world}
 
 -- what was sent out from an empty out
-pub posts_sent : (made : NodeMade) (had out : OutData) → had.posts ≡ [] → out ≡ sent_by made had → out.posts ≡ made.posts
+pub posts_sent : (made : NodeMade) (had out : OutData) → had.posts ≡ [] → out ≡ with_sent made had → out.posts ≡ made.posts
 posts_sent made had out none e = ap (λ (o : OutData). o.posts) e ∙ ap (λ (ps : List Post). ps ++ made.posts) none
 
-events_sent : (made : NodeMade) (had out : OutData) → had.events ≡ [] → out ≡ sent_by made had → out.events ≡ made.events
+events_sent : (made : NodeMade) (had out : OutData) → had.events ≡ [] → out ≡ with_sent made had → out.events ≡ made.events
 events_sent made had out none e = ap (λ (o : OutData). o.events) e ∙ ap (λ (es : List Event). es ++ made.events) none
 
 -- the entry of the move
 pub entry_is : (script : ScriptData) (w : World) (q : ℕ) (step : Step) (stamp : Stamp) (had out : OutData) (run : List Logged) → stamp ≡ move_stamp w q step
-    → had.events ≡ [] → out ≡ sent_by (node_move script w q step) had
+    → had.events ≡ [] → out ≡ with_sent (node_move script w q step) had
     → run ++ record { made = record { stamp = stamp; step = step }; events = out.events } ∷ [] ≡ run ++ logged script w q step ∷ []
 entry_is script w q step stamp had out run at none sent =
     ap (λ (s : Stamp). run ++ record { made = record { stamp = s; step = step }; events = out.events } ∷ []) at
@@ -39,7 +40,7 @@ pub holds_moved : (script : ScriptData) (run : List Logged) (q : ℕ) (step : St
     → (nodes1 : List NodeData) (boxes1 : List (List WireData)) → IsWorld script nodes1 boxes1 (opened (world_after script run) q step)
     → (had1 : OutData) → had1.posts ≡ []
     → Did script q (node_move script (world_after script run) q step) had1 n out → AreDelivered q out.posts boxes1 boxes'
-    → run' ≡ longer script run q step → out'.posts ≡ [] → out'.events ≡ []
+    → run' ≡ run_with script run q step → out'.posts ≡ [] → out'.events ≡ []
     → Holds script (slice_set nodes1 q n) boxes' out' run'
 holds_moved script run q step nodes boxes boxes' had out out' n run' h inside enabled nodes1 boxes1 opening had1 none done sent is_longer no_posts no_events = record {
   is_script = h.is_script;

@@ -4,11 +4,11 @@ use Rattle.std.specs.Prelude.{◌↔◌, nat_lt, if◌then◌else◌, IsTrue, Is
 use Rattle.std.specs.List.{range_with_len, AllByRecursion}
 use Rattle.std.proofs.lemmas.Bool.{and_parts}
 use Rattle.lt_modes.specs.Script.{ScriptData}
-use Rattle.lt_runs.specs.World.{World, has_mail, is_enabled, is_runnable, is_at_rest}
-use Rattle.lt_runs.specs.FixedOrder.{Turn, take_turn, act_turn, senders, takes, acts_before, next_act, act_after, count_turns, pick}
+use Rattle.lt_spec.specs.World.{World, has_mail, is_enabled, is_runnable, is_at_rest}
+use Rattle.lt_spec.specs.FixedOrder.{Turn, take_turn, act_turn, senders, takes, acts_before, next_act, act_after, count_turns, pick}
 use Rattle.lt_lists.proofs.Searches.{Found, found}
-use Rattle.lt_order.proofs.Acts.{after_this, acts_order}
-use Rattle.lt_order.proofs.Order.{picks_within}
+use Rattle.lt_law_enabled.proofs.Acts.{after_this, acts_order}
+use Rattle.lt_law_enabled.proofs.Order.{picks_within}
 use Rattle.lt_world.specs.declared.choice.Choice.{Choice}
 use Rattle.lt_world.specs.Choice.{choice_of}
 use Rattle.lt_world.proofs.Rest.{at_rest_where_none, not_at_rest, act_enabled}

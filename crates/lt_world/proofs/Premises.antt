@@ -5,19 +5,19 @@ use Rattle.std.proofs.lemmas.Bool.{and_parts, eqb-true, ltb-true}
 use Rattle.lt_modes.specs.declared.moves.Step.TheVariants.{Act, Take}
 use Rattle.lt_modes.specs.Script.{ScriptData}
 use Rattle.lt_modes.specs.State.{Letter}
-use Rattle.lt_modes.specs.Fits.{Numbers, fits, head_fits}
+use Rattle.lt_modes.specs.Fits.{Numbers, fits, head_fits, numbers_of}
 use Rattle.lt_script.specs.Script.{IsScript}
 use Rattle.lt_limits.specs.Limits.{node_within, leaves_asks}
-use Rattle.lt_runs.specs.Log.{Logged}
-use Rattle.lt_runs.specs.Families.{home}
-use Rattle.lt_runs.specs.NodeMove.{NodeState, node_waits, has_command}
-use Rattle.lt_runs.specs.World.{World, world_after, is_enabled, is_runnable, IsRun}
+use Rattle.lt_spec.specs.Log.{Logged}
+use Rattle.lt_spec.specs.Families.{home}
+use Rattle.lt_spec.specs.NodeMove.{NodeState, node_waits, has_command}
+use Rattle.lt_spec.specs.World.{World, world_after, is_enabled, is_runnable, IsRun}
 use Rattle.lt_model.proofs.ClocksGrow.{clocks_in_runs}
-use Rattle.lt_kept.proofs.KeptRuns.{letters_fit_in_runs}
-use Rattle.lt_bounds.proofs.Within.{nodes_within, asks_placed, whole}
-use Rattle.lt_order.specs.OrderLaws.{HasLetter}
-use Rattle.lt_order.proofs.Order.{takes_where}
-use Rattle.lt_node.specs.NodeData.{NodeData, state_of, numbers_of}
+use Rattle.lt_law_invariant.proofs.KeptRuns.{letters_fit_in_runs}
+use Rattle.lt_law_limits.proofs.Within.{nodes_within, asks_placed, whole}
+use Rattle.lt_law_enabled.specs.OrderLaws.{HasLetter}
+use Rattle.lt_law_enabled.proofs.Order.{takes_where}
+use Rattle.lt_node.specs.NodeData.{NodeData, state_of}
 use Rattle.lt_world.specs.Fields.{IsNodeOf}
 use Rattle.lt_world.specs.Moving.{IsWithin, CanAct, CanTake}
 use Rattle.lt_world.proofs.Runs.{whole_run}

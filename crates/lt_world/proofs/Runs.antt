@@ -1,5 +1,5 @@
 -- A run and one enabled move more.
-use Rattle.std.proofs.Common.{◌≡◌, ℕ, ◌<◌, List, [], ◌∷◌, ◌++◌, length, take, refl, sym, ap, subst, ◌∙◌, arith}
+use Rattle.std.proofs.Common.{◌≡◌, ℕ, ◌<◌, List, [], ◌∷◌, length, take, refl, sym, ap, subst, ◌∙◌, arith}
 use Rattle.std.specs.Prelude.{IsTrue, All, Contains, ◌==◌, if◌then◌else◌}
 use Rattle.std.specs.List.{filter_map}
 use Rattle.std.proofs.lemmas.Bool.{eq-eqb}
@@ -11,10 +11,11 @@ use Rattle.lt_modes.specs.Script.{ScriptData}
 use Rattle.lt_modes.specs.State.{Letter}
 use Rattle.lt_modes.specs.Made.{Post}
 use Rattle.lt_lists.proofs.Members.{all_of, filter_map-at}
-use Rattle.lt_runs.specs.Log.{Logged}
-use Rattle.lt_runs.specs.NodeMove.{NodeState}
-use Rattle.lt_runs.specs.World.{World, world_after, is_enabled, logged, after, opened, node_move, front_stamp, move_stamp, letter_for, IsMove, IsRun}
-use Rattle.lt_runs.specs.World as runs
+use Rattle.lt_spec.specs.Log.{Logged}
+use Rattle.lt_spec.specs.NodeMove.{NodeState}
+use Rattle.lt_spec.specs.World.{World, world_after, is_enabled, logged, after, opened, node_move, front_stamp, move_stamp, letter_for, IsRun}
+use Rattle.lt_spec.specs.World as runs
+use Rattle.lt_world.specs.Network.{run_with}
 use Rattle.lt_model.specs.Paths.{Paths}
 use Rattle.lt_model.proofs.Runs.{after_run-push, IsRunFrom-push}
 use Rattle.lt_model.proofs.PathsInRuns.{paths_in_runs}
@@ -27,12 +28,8 @@ pub stamp_node : (w : World) (q : ℕ) (step : Step) → (move_stamp w q step).n
 stamp_node w q (Act client) = refl
 stamp_node w q (Take p) = front_node q (w.node q) (w.mail p q)
 
--- the run with the move
-abbrev pub longer : ScriptData → List Logged → ℕ → Step → List Logged
-longer script run q step = run ++ logged script (world_after script run) q step ∷ []
-
 pub longer_is_run : (script : ScriptData) (run : List Logged) (q : ℕ) (step : Step) → IsRun script run
-    → IsTrue (is_enabled script (world_after script run) q step) → IsRun script (longer script run q step)
+    → IsTrue (is_enabled script (world_after script run) q step) → IsRun script (run_with script run q step)
 longer_is_run script run q step is_run enabled =
     IsRunFrom-push script (runs.start script) run (logged script (world_after script run) q step) is_run
     (record {
@@ -41,7 +38,7 @@ longer_is_run script run q step is_run enabled =
     })
 
 pub longer_world : (script : ScriptData) (run : List Logged) (q : ℕ) (step : Step)
-    → world_after script (longer script run q step) ≡ after script (world_after script run) q step
+    → world_after script (run_with script run q step) ≡ after script (world_after script run) q step
 longer_world script run q step =
     after_run-push script (runs.start script) run (logged script (world_after script run) q step)
     ∙ ap (λ (x : ℕ). after script (world_after script run) x step) (stamp_node (world_after script run) q step)
@@ -68,13 +65,13 @@ pub posts_inside : (script : ScriptData) (run : List Logged) (q : ℕ) (step : S
     → IsTrue (is_enabled script (world_after script run) q step)
     → All (λ (post : Post). post.to < script.nodes) (node_move script (world_after script run) q step).posts
 posts_inside script run q step some is_run below enabled = all_of _ posts (λ post on.
-    let later = paths script (longer script run q step) post.letter.set some (longer_is_run script run q step is_run enabled) in
+    let later = paths script (run_with script run q step) post.letter.set some (longer_is_run script run q step is_run enabled) in
     (later.letters q post.to post.letter below (record { among = there post on; set = refl })).to)
   where
     posts : List Post
     posts = (node_move script (world_after script run) q step).posts
 
-    there : (post : Post) → Contains posts post → Contains ((world_after script (longer script run q step)).mail q post.to) post.letter
+    there : (post : Post) → Contains posts post → Contains ((world_after script (run_with script run q step)).mail q post.to) post.letter
     there post on =
         let sent : Contains (if q == q then filter_map (letter_for post.to) posts else []) post.letter =
         rw (eq-eqb q q refl) (filter_map-at (letter_for post.to) posts post post.letter on (rw (eq-eqb post.to post.to refl) refl)) in

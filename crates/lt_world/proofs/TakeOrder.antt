@@ -5,11 +5,11 @@ use Rattle.std.specs.List.{range_with_len}
 use Rattle.std.proofs.lemmas.Bool.{cases_eq, eq-eqb, ne_eqb, lt-ltb}
 use Rattle.std.proofs.lemmas.List.{length-map}
 use Rattle.lt_modes.specs.Script.{ScriptData}
-use Rattle.lt_runs.specs.Log.{Logged}
-use Rattle.lt_runs.specs.World.{World, world_after, has_mail, is_some_letter}
-use Rattle.lt_runs.specs.FixedOrder.{Turn, take_turn, senders, takes}
+use Rattle.lt_spec.specs.Log.{Logged}
+use Rattle.lt_spec.specs.World.{World, world_after, has_mail, is_some_letter}
+use Rattle.lt_spec.specs.FixedOrder.{Turn, take_turn, senders, takes}
 use Rattle.lt_world.specs.Mail.{WireData, inbox_at, wire_from, has_letters, sender_count, senders_in, takes_of, takes_from, takes_in}
-use Rattle.lt_letter.specs.OutData.{OutData}
+use Rattle.lt_desk.specs.OutData.{OutData}
 use Rattle.lt_node.specs.NodeData.{NodeData}
 use Rattle.lt_world.specs.Fields.{Holds}
 use Rattle.lt_world.proofs.Senders.{range_more, senders_counted}

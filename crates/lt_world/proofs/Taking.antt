@@ -1,5 +1,5 @@
 -- An enabled take, from what its parts do.
-use Rattle.std.proofs.Common.{◌≡◌, ℕ, ◌+◌, ◌<◌, ◌^◌, List, [], ◌∷◌, ◌++◌, length, drop, refl, sym, ap, subst, ◌∙◌, inl, inr}
+use Rattle.std.proofs.Common.{arith, ◌≡◌, ℕ, ◌+◌, ◌<◌, ◌^◌, List, [], ◌∷◌, ◌++◌, length, drop, refl, sym, ap, subst, ◌∙◌, inl, inr}
 use Rattle.std.specs.Prelude.{IsTrue, All, slice_set}
 use Rattle.std.proofs.lemmas.Bool.{cases_eq, eq-eqb, ne_eqb}
 use Rattle.lt_modes.specs.declared.stamp.Stamp.{Stamp}
@@ -7,20 +7,21 @@ use Rattle.lt_modes.specs.declared.moves.Step.TheVariants.{Take}
 use Rattle.lt_modes.specs.Script.{ScriptData}
 use Rattle.lt_modes.specs.State.{Letter}
 use Rattle.lt_modes.specs.Made.{Post}
-use Rattle.lt_runs.specs.Log.{Logged}
-use Rattle.lt_runs.specs.NodeMove.{NodeState, NodeMade, node_take, take_stamp}
-use Rattle.lt_runs.specs.World.{World, world_after, is_enabled, node_move, take_front, front_stamp, move_stamp, opened, put_mail}
-use Rattle.lt_order.specs.OrderLaws.{HasLetter}
-use Rattle.lt_order.proofs.Order.{takes_where}
-use Rattle.lt_letter.specs.OutData.{OutData}
+use Rattle.lt_spec.specs.Log.{Logged}
+use Rattle.lt_spec.specs.NodeMove.{NodeState, NodeMade, node_take, take_stamp}
+use Rattle.lt_spec.specs.World.{World, world_after, is_enabled, node_move, take_front, front_stamp, move_stamp, opened, put_mail}
+use Rattle.lt_law_enabled.specs.OrderLaws.{HasLetter}
+use Rattle.lt_law_enabled.proofs.Order.{takes_where}
+use Rattle.lt_desk.specs.OutData.{OutData}
 use Rattle.lt_node.specs.NodeData.{NodeData, NodeDoes, state_of}
-use Rattle.lt_world.specs.Mail.{WireData, wire_between, mail_in, put_wire, SameLetters, AreDelivered}
+use Rattle.lt_world.specs.Mail.{WireData, inbox_at, wire_between, mail_in, put_wire, SameLetters, AreDelivered}
 use Rattle.lt_world.specs.Fields.{IsNodeOf, IsWorld, Holds, OnlyMemory, node_at}
 use Rattle.lt_world.specs.Moving.{CanTake}
 use Rattle.lt_world.proofs.Bridge.{Did, did, same_node, world_same, world_put}
 use Rattle.lt_world.proofs.Premises.{can_take}
 use Rattle.lt_world.proofs.Moves.{posts_sent, entry_is, holds_moved}
-use Rattle.lt_world.proofs.Runs.{longer, posts_inside}
+use Rattle.lt_world.specs.Network.{run_with}
+use Rattle.lt_world.proofs.Runs.{stamp_node, posts_inside}
 
 -- a take that is enabled, whose letter is in hand
 pub record InHand (script : ScriptData) (q p : ℕ) (letter : Letter) (nodes : List NodeData) (boxes boxes' : List (List WireData)) (had : OutData) (run : List Logged) : Type 0 where
@@ -126,12 +127,23 @@ stamp_is script q p letter nodes nodes' boxes boxes1 boxes' had had' run n out s
     ∙ (stamp_there script q (w.node q) letter (node_at nodes' q) (mover script q p letter nodes nodes' boxes boxes1 boxes' had had' run b)
     ∙ ap (front_stamp q (w.node q)) (sym (mail_is script q p letter nodes boxes boxes1 had run b.hand)))
 
+-- each node has a list of the letters of the one that took this
+pub senders : (script : ScriptData) (q p : ℕ) (letter : Letter) (nodes nodes' : List NodeData) (boxes boxes1 boxes' : List (List WireData)) (had had' : OutData) (run : List Logged)
+    (n : NodeData) (out : OutData) (stamp : Stamp)
+    → Begun script q p letter nodes nodes' boxes boxes1 boxes' had had' run → Took letter (node_at nodes' q) n had' out stamp
+    → (k : ℕ) → k < length boxes' → stamp.node < length (inbox_at boxes' k)
+senders script q p letter nodes nodes' boxes boxes1 boxes' had had' run n out stamp b t k below =
+    let world = begun_world script q p letter nodes nodes' boxes boxes1 boxes' had had' run b in
+    let taker : stamp.node ≡ q =
+    ap (λ (s : Stamp). s.node) (stamp_is script q p letter nodes nodes' boxes boxes1 boxes' had had' run n out stamp b t) ∙ stamp_node (world_after script run) q (Take p) in
+    omega (arith, taker, (has_letter script q p run b.hand.enabled).receiver, world.senders k (omega (arith, below, world.receivers)))
+
 -- the entry of the run
 pub run_then : (script : ScriptData) (q p : ℕ) (letter : Letter) (nodes nodes' : List NodeData) (boxes boxes1 boxes' : List (List WireData)) (had had' : OutData) (run : List Logged)
     (n : NodeData) (out : OutData) (stamp : Stamp) (run' run'' : List Logged)
     → Begun script q p letter nodes nodes' boxes boxes1 boxes' had had' run → Took letter (node_at nodes' q) n had' out stamp → run' ≡ run
     → run'' ≡ run' ++ record { made = record { stamp = stamp; step = Take p }; events = out.events } ∷ []
-    → run'' ≡ longer script run q (Take p)
+    → run'' ≡ run_with script run q (Take p)
 run_then script q p letter nodes nodes' boxes boxes1 boxes' had had' run n out stamp run' run'' b t same entries =
     entries ∙ (ap (λ (r : List Logged). r ++ record { made = record { stamp = stamp; step = Take p }; events = out.events } ∷ []) same
     ∙ entry_is script (world_after script run) q (Take p) stamp had' out run (stamp_is script q p letter nodes nodes' boxes boxes1 boxes' had had' run n out stamp b t)

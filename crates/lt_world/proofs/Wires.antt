@@ -2,7 +2,7 @@
 use Rattle.std.proofs.Common.{◌≡◌, ◌≢◌, ℕ, ◌<◌, List, [], length, inl, inr, sym, ap, subst, ◌∙◌, length-set, get_or-set_same, get_or-set_other}
 use Rattle.std.specs.Prelude.{slice_set}
 use Rattle.std.proofs.lemmas.Bool.{cases_eq, eq-eqb, ne_eqb}
-use Rattle.lt_runs.specs.World.{put_mail}
+use Rattle.lt_spec.specs.World.{put_mail}
 use Rattle.lt_world.specs.Mail.{WireData, no_wire, wire_from, inbox_at, wire_between, mail_in, put_wire}
 
 at_receiver : (inboxes : List (List WireData)) (p q : ℕ) (wire : WireData) → q < length inboxes

@@ -2,8 +2,8 @@
 use Rattle.std.specs.Prelude.{◌≡◌, ℕ, Option, ◌&&◌, if◌then◌else◌}
 use Rattle.lt_modes.specs.Script.{ScriptData}
 use Rattle.lt_lists.specs.Below.{earlier as earlier_of}
-use Rattle.lt_runs.specs.World.{World, is_runnable, made_by}
-use Rattle.lt_runs.specs.FixedOrder.{Turn, acts_before, comes_after}
+use Rattle.lt_spec.specs.World.{World, is_runnable, made_by}
+use Rattle.lt_spec.specs.FixedOrder.{Turn, acts_before, comes_after}
 use Rattle.lt_world.specs.declared.choice.Choice.{Choice}
 use Rattle.lt_world.specs.declared.choice.ActTurn.{ActTurn}
 use Rattle.lt_world.specs.Fields.{WorldData, world_of, IsRunnable}

@@ -1,16 +1,16 @@
 -- What the fields of a world hold, for the moves that were made.
-use Rattle.std.specs.Prelude.{◌≡◌, ◌<◌, ◌≤◌, ◌&&◌, ◌||◌, ◌==◌, nat_lt, Bool, ℕ, List, [], length, count_by, slice_index_or, slice_set, IsTrue, Option}
-use Rattle.lt_modes.specs.declared.moves.Step.TheVariants.{Act, Take}
+use Rattle.std.specs.Prelude.{◌≡◌, ◌<◌, ◌≤◌, ℕ, List, [], length, slice_index_or, slice_set, IsTrue}
 use Rattle.lt_modes.specs.Script.{ScriptData}
-use Rattle.lt_lists.specs.Below.{any_below, first_below, sum_below}
+use Rattle.lt_lists.specs.Below.{sum_below}
 use Rattle.lt_script.specs.Script.{IsScript}
-use Rattle.lt_runs.specs.Log.{Logged}
-use Rattle.lt_runs.specs.NodeMove.{NodeState}
-use Rattle.lt_runs.specs.World.{World, world_after, is_enabled, is_runnable, is_of_node, IsRun}
-use Rattle.lt_letter.specs.OutData.{OutData}
+use Rattle.lt_spec.specs.Log.{Logged}
+use Rattle.lt_spec.specs.NodeMove.{NodeState}
+use Rattle.lt_spec.specs.World.{World, world_after, made_by, is_runnable, IsRun}
+use Rattle.lt_desk.specs.OutData.{OutData}
 use Rattle.lt_node.specs.NodeData.{NodeData, SameNode, state_of}
 use Rattle.lt_merge.specs.Run.{RunData}
 use Rattle.lt_limits.specs.declared.moves.TheConstants.{MAX_MOVES}
+use Rattle.lt_limits.specs.Cut.{moves_of}
 use Rattle.lt_world.specs.Mail.{WireData, inbox_at, mail_in, HasRoomFrom}
 
 -- what contracts see of a world: its script, how many moves a node may make, and the run so far
@@ -28,26 +28,8 @@ abbrev pub IsRunnable : WorldData → ℕ → Type 0
 IsRunnable w client =
     (client < length w.script.clients) × IsTrue (is_runnable w.script (world_of w) client)
 
--- how many moves of the run are of node q
-abbrev pub moves_of : ℕ → List Logged → ℕ
-moves_of q run = count_by (is_of_node q) run
-
--- node q can make a move
-abbrev pub can_move : ScriptData → World → ℕ → Bool
-can_move script w q =
-    any_below script.nodes (λ p. is_enabled script w q (Take p))
-    || any_below (length script.clients) (λ client. is_enabled script w q (Act client))
-
--- node q has made as many moves as it may, and could make another
-abbrev pub is_full : ScriptData → ℕ → List Logged → ℕ → Bool
-is_full script limit run q = moves_of q run == limit && can_move script (world_after script run) q
-
--- the least such node
-abbrev pub full_node : ScriptData → ℕ → List Logged → Option ℕ
-full_node script limit run = first_below script.nodes (is_full script limit run) nat_lt
-
 abbrev pub no_script : ScriptData
-no_script = record { nodes = 0; sets = []; clients = []; commands = [] }
+no_script = record { version = 1; nodes = 0; sets = []; clients = []; commands = [] }
 
 abbrev pub no_node : NodeData
 no_node = record { script = no_script; me = 0; clock = 0; made = []; cores = [] }
@@ -67,7 +49,7 @@ pub record OnlyMemory (q : ℕ) (old new : List NodeData) : Type 0 where
   pub node : SameNode (node_at old q) (node_at new q)
 
 -- there is room for what the node sends out, for which out has room
-pub record RoomToSend (q : ℕ) (inboxes : List (List WireData)) (run : RunData) (out : OutData) : Type 0 where
+pub record InboxRoom (q : ℕ) (inboxes : List (List WireData)) (run : RunData) (out : OutData) : Type 0 where
   pub letters : HasRoomFrom q out.post_room inboxes
   pub move : 1 ≤ run.spare
   pub lines : out.event_room ≤ run.room
@@ -100,7 +82,13 @@ pub record AreCounted (script : ScriptData) (limit : ℕ) (moves : List ℕ) (ru
 abbrev pub AreAtMost : ScriptData → ℕ → List Logged → Type 0
 AreAtMost script most run = (q : ℕ) → q < script.nodes → moves_of q run ≤ most
 
-pub record Stands (script : ScriptData) (limit most : ℕ) (nodes : List NodeData) (inboxes : List (List WireData)) (moves : List ℕ) (out : OutData) (run : List Logged) : Type 0 where
+-- how many commands each client has made
+pub record AreMade (script : ScriptData) (made : List ℕ) (w : World) : Type 0 where
+  pub count : length made ≡ length script.clients
+  pub made_are : (c : ℕ) → c < length script.clients → slice_index_or made c 0 ≡ made_by script w c
+
+pub record Stands (script : ScriptData) (limit most : ℕ) (nodes : List NodeData) (inboxes : List (List WireData)) (moves made : List ℕ) (out : OutData) (run : List Logged) : Type 0 where
   pub holds : Holds script nodes inboxes out run
   pub counted : AreCounted script limit moves run
   pub at_most : AreAtMost script most run
+  pub acts : AreMade script made (world_after script run)

@@ -1,5 +1,5 @@
 pub mod Choice
 pub mod Mail
-pub mod Recording
 pub mod Fields
 pub mod Moving
+pub mod Network

@@ -3,8 +3,8 @@ use Rattle.std.specs.Prelude.{◌≡◌, ◌<◌, ◌≤◌, ◌+◌, ℕ, Bool,
 use Rattle.std.specs.List.{range_with_len, filter_map}
 use Rattle.lt_modes.specs.State.{Letter}
 use Rattle.lt_modes.specs.Made.{Post}
-use Rattle.lt_runs.specs.World.{is_some_letter, letter_for}
-use Rattle.lt_runs.specs.FixedOrder.{Turn, take_turn}
+use Rattle.lt_spec.specs.World.{is_some_letter, letter_for}
+use Rattle.lt_spec.specs.FixedOrder.{Turn, take_turn}
 
 -- the letters from one sender, the oldest first, and for how many there is room
 pub record WireData : Type 0 where

@@ -1,11 +1,11 @@
 -- When a node can make a move.
 use Rattle.std.specs.Prelude.{◌≡◌, ◌<◌, ◌+◌, ◌^◌, ◌&&◌, not, ℕ, length, IsTrue}
 use Rattle.lt_modes.specs.State.{Letter}
-use Rattle.lt_modes.specs.Fits.{fits}
+use Rattle.lt_modes.specs.Fits.{fits, numbers_of}
 use Rattle.lt_limits.specs.Limits.{node_within, leaves_asks}
-use Rattle.lt_runs.specs.Families.{home}
-use Rattle.lt_runs.specs.NodeMove.{node_waits, has_command}
-use Rattle.lt_node.specs.NodeData.{NodeData, state_of, numbers_of}
+use Rattle.lt_spec.specs.Families.{home}
+use Rattle.lt_spec.specs.NodeMove.{node_waits, has_command}
+use Rattle.lt_node.specs.NodeData.{NodeData, state_of}
 
 -- what the node keeps leaves room for a move
 abbrev pub IsWithin : NodeData → Type 0

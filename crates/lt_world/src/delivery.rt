@@ -1,10 +1,10 @@
-ghost use Rattle.std.specs.Prelude.{◌≡◌, ◌<◌, ◌≤◌, ◌+◌, ℕ, [], ◌∷◌, All, length, OnOk};
+ghost use Rattle.std.specs.Prelude.{◌≡◌, ◌<◌, ℕ, [], ◌∷◌, All, length, OnOk};
 ghost use Rattle.lt_modes.specs.Made as rules;
-ghost use Rattle.lt_letter.specs.Seen.{letter_seen};
+ghost use Rattle.lt_desk.specs.LetterSeen.{letter_seen};
 ghost use Rattle.lt_world.specs.Mail.{SameLetters, HasRoomFrom, AreDelivered, inbox_at, wire_between, mail_in, put_wire, longer};
 
 use crate::inbox::Inbox;
-use lt_letter::{Letter, Out, Post};
+use lt_desk::{Letter, Out, Post};
 use std::alloc::AllocError;
 
 /// Makes room for so many further letters from this sender to each node.

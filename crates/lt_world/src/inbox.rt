@@ -1,9 +1,9 @@
 ghost use Rattle.std.specs.Prelude.{◌≡◌, ◌<◌, ◌+◌, ◌≤◌, ◌^◌, ℕ, [], ◌∷◌, ◌++◌, length, slice_get, slice_set, IfOk, OnOk};
-ghost use Rattle.lt_letter.specs.Seen.{letter_seen};
+ghost use Rattle.lt_desk.specs.LetterSeen.{letter_seen};
 ghost use Rattle.lt_world.specs.Mail.{has_letters, wire_from, letters_from, sender_count, senders_in};
 
 use crate::wire::Wire;
-use lt_letter::Letter;
+use lt_desk::Letter;
 use std::alloc::{AllocError, Global};
 use std::marker::Model;
 

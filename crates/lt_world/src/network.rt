@@ -1,21 +1,22 @@
-ghost use Rattle.std.specs.Prelude.{◌≡◌, ◌<◌, ◌≤◌, ◌+◌, ◌^◌, ℕ, [], ◌∷◌, ◌++◌, All, length, slice_set, IsTrue, IfOk, OnOk, OnErr};
+ghost use Rattle.std.specs.Prelude.{◌≡◌, ◌<◌, ◌+◌, ◌^◌, ℕ, [], ◌∷◌, ◌++◌, All, length, slice_set, IsTrue, IfOk, OnOk, OnErr};
 ghost use Rattle.lt_modes.specs.Made as rules;
 ghost use Rattle.lt_modes.specs.declared.moves.Step.TheVariants.{Act, Take};
-ghost use Rattle.lt_runs.specs.World.{start, world_after, is_enabled, logged};
-ghost use Rattle.lt_letter.specs.Seen.{letter_seen};
-ghost use Rattle.lt_runs.specs.NodeMove.{node_act, node_take, act_stamp, take_stamp};
+ghost use Rattle.lt_spec.specs.World.{start, is_enabled};
+ghost use Rattle.lt_desk.specs.LetterSeen.{letter_seen};
+ghost use Rattle.lt_spec.specs.NodeMove.{node_act, node_take, act_stamp, take_stamp};
 ghost use Rattle.lt_node.specs.NodeData.{NodeDoes, state_of};
 ghost use Rattle.lt_node.specs.Room.{RoomToAct, RoomToTake};
 ghost use Rattle.lt_world.specs.Mail.{SameLetters, AreDelivered, inbox_at, mail_in};
 ghost use Rattle.lt_script.specs.Script.{IsScript};
 ghost use Rattle.lt_world.specs.Moving.{IsWithin, CanAct, CanTake};
-ghost use Rattle.lt_world.specs.Fields.{Holds, IsNodeOf, OnlyMemory, RoomToSend, node_at};
+ghost use Rattle.lt_world.specs.Network.{IsAfterRun, world_in, run_with};
+ghost use Rattle.lt_world.specs.Fields.{IsNodeOf, OnlyMemory, InboxRoom, node_at};
 
 use crate::choice::Choice;
 use crate::delivery::{deliver, pop_front, put_front, reserve_from};
 use crate::inbox::Inbox;
 use crate::recording::note_events;
-use lt_letter::{Letter, Out};
+use lt_desk::{Letter, Out};
 use lt_merge::Run;
 use lt_modes::{Move, Stamp, Step};
 use lt_node::Node;
@@ -35,7 +36,7 @@ pub(crate) struct Network<'a> {
 impl<'a> Network<'a> {
     /// The nodes of the script at its start.
     pub(crate) fn new(alloc: Global, script: &'a Script) -> Result<Network<'a>, AllocError>
-        ensures holds { IfOk result (λ n. Holds script.now n.nodes.items n.inboxes.items n.out n.run.entries) }
+        ensures holds { IfOk result (IsAfterRun script.now) }
         ensures start { IfOk result (λ n. n.run.entries ≡ []) }
     {
         let nodes = nodes_of(alloc, script)?;
@@ -50,11 +51,11 @@ impl<'a> Network<'a> {
 
     /// Makes the move.
     pub(crate) fn make(&mut self, script: &Script, choice: Choice) -> Result<(), AllocError>
-        requires holds { Holds script.now self.old.nodes.items self.old.inboxes.items self.old.out self.old.run.entries }
-        requires enabled { IsTrue (is_enabled script.now (world_after script.now self.old.run.entries) choice.node choice.step) }
+        requires holds { IsAfterRun script.now self.old }
+        requires enabled { IsTrue (is_enabled script.now (world_in script.now self.old) choice.node choice.step) }
         requires few { length self.old.run.entries + 1 < 2 ^ 32 }
-        ensures holds { Holds script.now self.new.nodes.items self.new.inboxes.items self.new.out self.new.run.entries }
-        ensures ok { OnOk result (self.new.run.entries ≡ self.old.run.entries ++ logged script.now (world_after script.now self.old.run.entries) choice.node choice.step ∷ []) }
+        ensures holds { IsAfterRun script.now self.new }
+        ensures ok { OnOk result (self.new.run.entries ≡ run_with script.now self.old.run.entries choice.node choice.step) }
         ensures err { OnErr result (self.new.run.entries ≡ self.old.run.entries) }
     {
         match choice.step {
@@ -65,17 +66,17 @@ impl<'a> Network<'a> {
 
     // Makes the next command of a client of this node.
     fn act(&mut self, script: &Script, node: u8, client: u16) -> Result<(), AllocError>
-        requires holds { Holds script.now self.old.nodes.items self.old.inboxes.items self.old.out self.old.run.entries }
-        requires enabled { IsTrue (is_enabled script.now (world_after script.now self.old.run.entries) node (Act client)) }
+        requires holds { IsAfterRun script.now self.old }
+        requires enabled { IsTrue (is_enabled script.now (world_in script.now self.old) node (Act client)) }
         requires few { length self.old.run.entries + 1 < 2 ^ 32 }
-        ensures holds { Holds script.now self.new.nodes.items self.new.inboxes.items self.new.out self.new.run.entries }
-        ensures ok { OnOk result (self.new.run.entries ≡ self.old.run.entries ++ logged script.now (world_after script.now self.old.run.entries) node (Act client) ∷ []) }
+        ensures holds { IsAfterRun script.now self.new }
+        ensures ok { OnOk result (self.new.run.entries ≡ run_with script.now self.old.run.entries node (Act client)) }
         ensures err { OnErr result (self.new.run.entries ≡ self.old.run.entries) }
     {
         self.reserve(node)?;
         let stamp = act_at(&mut self.nodes, node, client, &mut self.out);
         let step = Step::Act(client);
-        settle(
+        record_move(
             &mut self.inboxes,
             &mut self.run,
             Move { stamp, step },
@@ -86,11 +87,11 @@ impl<'a> Network<'a> {
 
     // Takes the front letter from the sender to this node.
     fn take(&mut self, script: &Script, node: u8, sender: u8) -> Result<(), AllocError>
-        requires holds { Holds script.now self.old.nodes.items self.old.inboxes.items self.old.out self.old.run.entries }
-        requires enabled { IsTrue (is_enabled script.now (world_after script.now self.old.run.entries) node (Take sender)) }
+        requires holds { IsAfterRun script.now self.old }
+        requires enabled { IsTrue (is_enabled script.now (world_in script.now self.old) node (Take sender)) }
         requires few { length self.old.run.entries + 1 < 2 ^ 32 }
-        ensures holds { Holds script.now self.new.nodes.items self.new.inboxes.items self.new.out self.new.run.entries }
-        ensures ok { OnOk result (self.new.run.entries ≡ self.old.run.entries ++ logged script.now (world_after script.now self.old.run.entries) node (Take sender) ∷ []) }
+        ensures holds { IsAfterRun script.now self.new }
+        ensures ok { OnOk result (self.new.run.entries ≡ run_with script.now self.old.run.entries node (Take sender)) }
         ensures err { OnErr result (self.new.run.entries ≡ self.old.run.entries) }
     {
         let mut letter = pop_front(&mut self.inboxes, sender, node);
@@ -100,7 +101,7 @@ impl<'a> Network<'a> {
         }
         let stamp = take_at(&mut self.nodes, node, letter, &mut self.out);
         let step = Step::Take(sender);
-        settle(
+        record_move(
             &mut self.inboxes,
             &mut self.run,
             Move { stamp, step },
@@ -119,7 +120,7 @@ impl<'a> Network<'a> {
         ensures entries { self.new.run.entries ≡ self.old.run.entries }
         ensures out { (self.new.out.posts ≡ self.old.out.posts) × (self.new.out.events ≡ self.old.out.events) }
         ensures room { OnOk result (RoomToAct (node_at self.new.nodes.items node) self.new.out) }
-        ensures send { OnOk result (RoomToSend node self.new.inboxes.items self.new.run self.new.out) }
+        ensures send { OnOk result (InboxRoom node self.new.inboxes.items self.new.run self.new.out) }
     {
         self.nodes[usize::from(node)].reserve(&mut self.out)?;
         reserve_all(&mut self.inboxes, &mut self.run, node, &self.out)
@@ -136,7 +137,7 @@ impl<'a> Network<'a> {
         ensures out { (self.new.out.posts ≡ self.old.out.posts) × (self.new.out.events ≡ self.old.out.events) }
         ensures letter { letter_seen letter.new ≡ letter_seen letter.old }
         ensures room { OnOk result (RoomToTake (node_at self.new.nodes.items node) letter.new self.new.out) }
-        ensures send { OnOk result (RoomToSend node self.new.inboxes.items self.new.run self.new.out) }
+        ensures send { OnOk result (InboxRoom node self.new.inboxes.items self.new.run self.new.out) }
     {
         self.nodes[usize::from(node)].reserve_for(letter, &mut self.out)?;
         reserve_all(&mut self.inboxes, &mut self.run, node, &self.out)
@@ -209,7 +210,7 @@ fn reserve_all(
     requires { (q : ℕ) → q < length inboxes.old.items → sender < length (inbox_at inboxes.old.items q) }
     ensures letters { SameLetters inboxes.old.items inboxes.new.items }
     ensures entries { run.new.entries ≡ run.old.entries }
-    ensures send { OnOk result (RoomToSend sender inboxes.new.items run.new out.now) }
+    ensures send { OnOk result (InboxRoom sender inboxes.new.items run.new out.now) }
 {
     reserve_from(inboxes, sender, out.post_room())?;
     let lines = u32::try_from(out.event_room()).map_err(|_| AllocError)?;
@@ -217,10 +218,10 @@ fn reserve_all(
 }
 
 // Notes the move that its node made, and sends on what it sent out.
-fn settle(inboxes: &mut Vec<Inbox>, run: &mut Run, made: Move, out: &mut Out)
+fn record_move(inboxes: &mut Vec<Inbox>, run: &mut Run, made: Move, out: &mut Out)
     requires senders { (q : ℕ) → q < length inboxes.old.items → made.stamp.node < length (inbox_at inboxes.old.items q) }
     requires targets { All (λ (post : rules.Post). post.to < length inboxes.old.items) out.old.posts }
-    requires room { RoomToSend made.stamp.node inboxes.old.items run.old out.old }
+    requires room { InboxRoom made.stamp.node inboxes.old.items run.old out.old }
     requires few { length run.old.entries + 1 < 2 ^ 32 }
     ensures delivered { AreDelivered made.stamp.node out.old.posts inboxes.old.items inboxes.new.items }
     ensures entries { run.new.entries ≡ run.old.entries ++ record { made = made; events = out.old.events } ∷ [] }

@@ -1,7 +1,7 @@
 ghost use Rattle.std.specs.Prelude.{◌≡◌, ◌≤◌, ◌<◌, [], length};
-ghost use Rattle.lt_world.specs.Recording.{with_events};
+ghost use Rattle.lt_merge.specs.Run.{with_events};
 
-use lt_letter::Out;
+use lt_desk::Out;
 use lt_merge::Run;
 
 /// Notes the event lines of the last move.

@@ -1,8 +1,8 @@
 ghost use Rattle.std.specs.Prelude.{◌≡◌, ◌<◌, ◌+◌, ◌≤◌, [], ◌∷◌, ◌++◌, length, OnOk, MatchOption, IfSome};
-ghost use Rattle.lt_letter.specs.Seen.{letter_seen};
+ghost use Rattle.lt_desk.specs.LetterSeen.{letter_seen};
 ghost use Rattle.lt_world.specs.Mail.{has_letters};
 
-use lt_letter::Letter;
+use lt_desk::Letter;
 use std::alloc::{AllocError, Global};
 use std::collections::VecDeque;
 use std::marker::Model;
@@ -16,7 +16,7 @@ pub(crate) struct Wire {
 impl Model for Wire {
     ghost use Rattle.std.specs.Prelude.{map};
     ghost use Rattle.std.specs.VecDeque.{deque_capacity};
-    ghost use Rattle.lt_letter.specs.Seen.{letter_seen};
+    ghost use Rattle.lt_desk.specs.LetterSeen.{letter_seen};
     ghost use Rattle.lt_world.specs.Mail.{WireData};
 
     ghost Value = { WireData };

@@ -1,12 +1,16 @@
 mod full;
 mod order;
 
-ghost use Rattle.std.specs.Prelude.{◌≡◌, ◌≤◌, ◌<◌, ◌↔◌, ℕ, [], ◌∷◌, ◌++◌, length, IsTrue, IsFalse, IsNone, IfOk, IfSome, OnSome, OnOk, OnErr, option_map, slice_index_or};
+ghost use Rattle.std.specs.Prelude.{◌≡◌, ◌≢◌, ◌≤◌, ◌<◌, ◌↔◌, ℕ, [], ◌∷◌, ◌++◌, length, IsTrue, IsFalse, IsNone, IfOk, IfSome, OnSome, OnOk, OnErr, option_map, slice_index_or};
 ghost use Rattle.lt_limits.specs.declared.moves.TheConstants.{MAX_MOVES};
-ghost use Rattle.lt_runs.specs.World.{is_runnable, is_enabled, is_at_rest, anyone_waits, is_waiting, has_mail, logged, IsRun};
-ghost use Rattle.lt_runs.specs.FixedOrder.{pick, count_turns};
+ghost use Rattle.lt_lists.specs.Below.{any_below};
+ghost use Rattle.lt_modes.specs.declared.moves.Step.TheVariants.{Act};
+ghost use Rattle.lt_spec.specs.World.{made_by, is_runnable, is_enabled, is_at_rest, anyone_waits, is_waiting, has_mail, logged, IsRun};
+ghost use Rattle.lt_spec.specs.FixedOrder.{pick, count_turns};
 ghost use Rattle.lt_world.specs.Choice.{choice_of};
-ghost use Rattle.lt_world.specs.Fields.{moves_of, world_of};
+ghost use Rattle.lt_limits.specs.Cut.{moves_of};
+ghost use Rattle.lt_world.specs.Fields.{AreMade, world_of};
+ghost use Rattle.lt_world.specs.Network.{IsAfterRun, world_in};
 
 use crate::choice::Choice;
 use crate::network::Network;
@@ -25,6 +29,8 @@ pub struct World<'a> {
     network: Network<'a>,
     // How many moves each node has made.
     moves: Vec<u32>,
+    // How many commands each client has made.
+    made: Vec<u32>,
     // No node has made more.
     most: u32,
 }
@@ -36,7 +42,7 @@ impl<'a> Model for World<'a> {
 
     ghost view = { λ w. record { script = w.script.now; limit = w.limit; run = w.network.run.entries } };
 
-    ghost invariant = { λ w. Stands w.script.now w.limit w.most w.network.nodes.items w.network.inboxes.items w.moves.items w.network.out w.network.run.entries };
+    ghost invariant = { λ w. Stands w.script.now w.limit w.most w.network.nodes.items w.network.inboxes.items w.moves.items w.made.items w.network.out w.network.run.entries };
 }
 
 impl<'a> World<'a> {
@@ -47,11 +53,13 @@ impl<'a> World<'a> {
     {
         let network = Network::new(alloc, script)?;
         let moves = no_moves(alloc, script.nodes())?;
+        let made = none_made(alloc, script)?;
         Ok(World {
             script,
             limit,
             network,
             moves,
+            made,
             most: 0,
         })
     }
@@ -71,7 +79,7 @@ impl<'a> World<'a> {
     pub fn at_rest(&self) -> bool
         ensures { result ≡ is_at_rest self.now.script (world_of self.now) }
     {
-        self.count() == 0
+        self.count_takes() == 0 && !self.anyone_acts()
     }
 
     /// The number of enabled moves.
@@ -87,6 +95,18 @@ impl<'a> World<'a> {
     {
         for client in 0..self.script.clients() {
             if self.is_waiting(client) {
+                return true;
+            }
+        }
+        false
+    }
+
+    // Whether some client can act.
+    fn anyone_acts(&self) -> bool
+        ensures { result ≡ any_below (length self.now.script.clients) (is_runnable self.now.script (world_of self.now)) }
+    {
+        for client in 0..self.script.clients() {
+            if self.is_runnable(client) {
                 return true;
             }
         }
@@ -112,10 +132,12 @@ impl<'a> World<'a> {
         ensures ok { OnOk result (self.new ≡ record self.old { run = self.old.run ++ logged self.old.script (world_of self.old) choice.node choice.step ∷ [] }) }
         ensures err { OnErr result (self.new ≡ self.old) }
     {
-        self.network.make(self.script, choice)?;
+        let script = self.script;
+        self.network.make(script, choice)?;
         let made = &mut self.moves[usize::from(choice.node)];
         *made += 1;
         self.most = self.most.max(*made);
+        note_made(&mut self.made, script, &self.network, choice);
         Ok(())
     }
 
@@ -174,4 +196,40 @@ fn no_moves(alloc: Global, nodes: u8) -> Result<Vec<u32>, AllocError>
         moves.push(0)?;
     }
     Ok(moves)
+}
+
+// No command of any client.
+fn none_made(alloc: Global, script: &Script) -> Result<Vec<u32>, AllocError>
+    ensures count { IfOk result (λ made. length made.items ≡ length script.now.clients) }
+    ensures none { IfOk result (λ made. (c : ℕ) → slice_index_or made.items c 0 ≡ 0) }
+{
+    let mut made = Vec::new(alloc);
+    for _ in 0..script.clients() {
+        made.push(0)?;
+    }
+    Ok(made)
+}
+
+// Notes how many commands the client of a move has made.
+fn note_made(made: &mut Vec<u32>, script: &Script, network: &Network<'_>, choice: Choice)
+    requires holds { IsAfterRun script.now network.now }
+    requires count { length made.old.items ≡ length script.now.clients }
+    requires client { (client : ℕ) → choice.step ≡ Act client → client < length script.now.clients }
+    requires others { (c : ℕ) → c < length script.now.clients → choice.step ≢ Act c
+        → slice_index_or made.old.items c 0 ≡ made_by script.now (world_in script.now network.now) c }
+    ensures { AreMade script.now made.new.items (world_in script.now network.now) }
+{
+    if let Step::Act(client) = choice.step {
+        made[usize::from(client)] = made_of(script, network, client);
+    }
+}
+
+// How many commands the client has made.
+fn made_of(script: &Script, network: &Network<'_>, client: u16) -> u32
+    requires holds { IsAfterRun script.now network.now }
+    requires client { client < length script.now.clients }
+    ensures { result ≡ made_by script.now (world_in script.now network.now) client }
+{
+    let home = usize::from(script.home(client));
+    network.nodes[home].made(client)
 }

@@ -1,12 +1,15 @@
-ghost use Rattle.std.specs.Prelude.{◌≡◌, ◌<◌, ℕ, length, IsTrue, IsNone};
+ghost use Rattle.std.specs.Prelude.{◌≡◌, ◌<◌, ℕ, None, length, IsTrue, IsNone};
 ghost use Rattle.lt_modes.specs.declared.moves.Step.{Step};
 ghost use Rattle.lt_modes.specs.declared.moves.Step.TheVariants.{Act, Take};
 ghost use Rattle.lt_lists.specs.Below.{any_below};
-ghost use Rattle.lt_runs.specs.World.{is_enabled};
-ghost use Rattle.lt_world.specs.Fields.{world_of, moves_of, can_move, is_full, full_node};
+ghost use Rattle.lt_spec.specs.World.{is_enabled, is_at_rest};
+ghost use Rattle.lt_limits.specs.Cut.{moves_of, can_move, is_full, full_node};
+ghost use Rattle.lt_limits.specs.Endings.{EndsBy};
+ghost use Rattle.lt_world.specs.Fields.{world_of};
 
 use super::World;
 use crate::choice::Choice;
+use lt_limits::Ending;
 use lt_modes::Step;
 
 // Nodes that have made as many moves as they may.
@@ -25,6 +28,21 @@ impl<'a> World<'a> {
             }
         }
         None
+    }
+
+    /// How a run ends that goes on until some node is so or no move is enabled.
+    pub fn ending(&self) -> Ending
+        requires { full_node self.now.script self.now.limit self.now.run ≡ None → IsTrue (is_at_rest self.now.script (world_of self.now)) }
+        ensures { EndsBy self.now.limit result self.now.script self.now.run }
+    {
+        if let Some(node) = self.full() {
+            return Ending::Cut { node };
+        }
+        if self.anyone_waits() {
+            Ending::Stuck
+        } else {
+            Ending::Done
+        }
     }
 
     fn is_full(&self, node: u8) -> bool

@@ -1,6 +1,6 @@
 ghost use Rattle.std.specs.Prelude.{◌≡◌, ◌<◌, ◌^◌, length, IfSome, None, slice_get, option_map};
-ghost use Rattle.lt_runs.specs.World.{made_by};
-ghost use Rattle.lt_runs.specs.FixedOrder.{pick, takes, count_acts, next_act, act_after, act_turn, acts_before, comes_after};
+ghost use Rattle.lt_spec.specs.World.{made_by};
+ghost use Rattle.lt_spec.specs.FixedOrder.{pick, takes, count_acts, next_act, act_after, act_turn, acts_before, comes_after};
 ghost use Rattle.lt_world.specs.Fields.{IsRunnable, world_of};
 ghost use Rattle.lt_world.specs.Choice.{choice_of, client_of, first_with, IsTurn};
 
@@ -150,7 +150,6 @@ impl<'a> World<'a> {
         requires { client < length self.now.script.clients }
         ensures { result ≡ made_by self.now.script (world_of self.now) client }
     {
-        let home = usize::from(self.script.home(client));
-        self.network.nodes[home].made(client)
+        self.made[usize::from(client)]
     }
 }

@@ -1,5 +1,5 @@
 use Rattle.std.proofs.Common.{◌≡◌, drop}
-use Rattle.lt_checking.specs.Feeding.{fed_piece}
+use Rattle.lt_law_checking.specs.Feeding.{fed_piece}
 use Rattle.lt_checker.proofs.checker.feed_all.Given as goal
 
 -- what the bytes that are left make of what is kept is what all bytes make

@@ -1,15 +1,15 @@
-use Rattle.std.proofs.Common.{◌≡◌, ◌-◌, ◌++◌, ℕ, nat_lt, true, List, Some, length, get_or, map, sym, ap, subst, ◌∙◌, arith, rules}
+use Rattle.std.proofs.Common.{◌≡◌, ◌-◌, ◌++◌, ℕ, nat_lt, true, List, Some, length, get_or, sym, ap, subst, ◌∙◌, arith, rules}
 use Rattle.std.proofs.lemmas.Bool.{ltb-true}
-use Rattle.lt_runs.specs.Log.{Logged}
-use Rattle.lt_runs.specs.World.{is_enabled}
+use Rattle.lt_spec.specs.Log.{Logged}
+use Rattle.lt_spec.specs.World.{is_enabled}
 use Rattle.lt_limits.specs.declared.moves.TheConstants.{MAX_MOVES}
 use Rattle.lt_merge.specs.Run.{made_at, events_at}
 use Rattle.lt_journal.specs.declared.line.Line.{Line}
-use Rattle.lt_journal.specs.declared.line.Line.TheVariants.{Event as EventLine}
+use Rattle.lt_journal.specs.RunLines.{event_lines}
 use Rattle.lt_world.specs.Fields.{world_of}
-use Rattle.lt_checking.specs.Checking.{Place, by_move, closing_at_rest}
+use Rattle.lt_law_checking.specs.Checking.{Place, by_move, closing_at_rest}
 use Rattle.lt_checker.specs.Place.{IsPlace}
-use Rattle.lt_checker.proofs.Moving.{inside, stepped, last_place, next_is_run, next_few, next_clock, wrong_clock, right_move, next_place, next_is_place}
+use Rattle.lt_checker.proofs.Moving.{inside, stepped, last_place, next_clock, wrong_clock, right_move, next_place, next_is_place}
 use Rattle.lt_checker.proofs.following.next_move.Goals as goal
 
 pub step-requires-clause-room : goal.step-requires-clause-room
@@ -43,32 +43,6 @@ returns-then-made-clock-clause-led c =
     let clock = next_clock script world counts node step next k c.made.result s last (ap (λ (r : List Logged). made_at r k) (sym c.run-2.ensures) ∙ c.made.ensures) in
     ap (by_move script world.run) c.in-Move.is ∙ wrong_clock script world.run c.in-Move.clock node step (λ e. c.if-made-clock.true (sym (e ∙ clock)))
 
-pub push_closing-requires-clause-is_run : goal.push_closing-requires-clause-is_run
-push_closing-requires-clause-is_run c =
-    let world = c.args.world.now in
-    let script = c.args.script.now in
-    let counts = c.args.counts.now in
-    let node = c.in-Move.node in
-    let step = c.in-Move.step in
-    let next = c.step.new.self in
-    let enabled : is_enabled world.script (world_of world) node step ≡ true = search rules in
-    let may : nat_lt (get_or counts node 0) MAX_MOVES ≡ true = search rules in
-    let s = stepped script world counts node step next c.requires.place enabled may c.in_ok-step.ensures.ok in
-    next_is_run script world counts node step next s
-
-pub push_closing-requires-clause-few : goal.push_closing-requires-clause-few
-push_closing-requires-clause-few c =
-    let world = c.args.world.now in
-    let script = c.args.script.now in
-    let counts = c.args.counts.now in
-    let node = c.in-Move.node in
-    let step = c.in-Move.step in
-    let next = c.step.new.self in
-    let enabled : is_enabled world.script (world_of world) node step ≡ true = search rules in
-    let may : nat_lt (get_or counts node 0) MAX_MOVES ≡ true = search rules in
-    let s = stepped script world counts node step next c.requires.place enabled may c.in_ok-step.ensures.ok in
-    next_few script world counts node step next s
-
 pub returns-clause-led : goal.returns-clause-led
 returns-clause-led c =
     let world = c.args.world.now in
@@ -84,7 +58,7 @@ returns-clause-led c =
     let last = last_place script world counts node step next c.len-last.result s (c.len-last.ensures ∙ ap (λ (r : List Logged). length r) c.run.ensures) in
     let clock = next_clock script world counts node step next k c.made.result s last (ap (λ (r : List Logged). made_at r k) (sym c.run-2.ensures) ∙ c.made.ensures) in
     let right : c.in-Move.clock ≡ c.made.result.stamp.clock = search rules in
-    let due = c.in_ok-push_closing.ensures ∙ ap (λ (t : List Line). t ++ closing_at_rest script next.run) (c.in_ok-push_events.ensures ∙ ap (λ (t : List Line). t ++ map EventLine c.events.result.now) c.requires.none_due) in
+    let due = c.in_ok-push_closing.ensures ∙ ap (λ (t : List Line). t ++ closing_at_rest script next.run) (c.in_ok-push_events.ensures ∙ ap (λ (t : List Line). t ++ event_lines script.version c.events.result.now) c.requires.none_due) in
     let at = next_place script world counts node step next k c.events.result.now c.push_closing.new.due.items s last
     (ap (λ (r : List Logged). events_at r k) (sym c.run-3.ensures) ∙ c.events.ensures) due in
     ap (by_move script world.run) c.in-Move.is ∙ (right_move script world counts node step next c.in-Move.clock s (right ∙ sym clock) ∙ ap (λ (p : Place). Some p) at)

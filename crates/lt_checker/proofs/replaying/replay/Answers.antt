@@ -1,14 +1,14 @@
 use Rattle.std.proofs.Common.{rules, List, ℕ, Result, ap, subst, ◌∙◌}
-use Rattle.lt_runs.specs.Log.{Logged}
+use Rattle.lt_spec.specs.Log.{Logged}
 use Rattle.lt_script.specs.Script.{IsScript}
-use Rattle.lt_checking.specs.Said.{checked_said}
-use Rattle.lt_checking.proofs.Heard.{said}
-use Rattle.lt_checker.specs.Checker.{Answers}
+use Rattle.lt_law_checking.specs.Said.{checked_said}
+use Rattle.lt_law_checking.proofs.Heard.{said}
+use Rattle.lt_checker.specs.Checker.{IsAnswer}
 use Rattle.lt_checker.proofs.replaying.replay.Goals as goal
 
 pub returns-clause-read : goal.returns-clause-read
 returns-clause-read c = λ all read.
     let script = c.args.script.now in
-    let told : Answers (checked_said script c.args.journal.now) c.finish.result = search rules in
+    let told : IsAnswer (checked_said script c.args.journal.now) c.finish.result = search rules in
     let is_script : IsScript script = search rules in
-    subst (λ (t : Result (List Logged) ℕ). Answers t c.finish.result) (ap (checked_said script) read ∙ said script all is_script) told
+    subst (λ (t : Result (List Logged) ℕ). IsAnswer t c.finish.result) (ap (checked_said script) read ∙ said script all is_script) told

@@ -1,6 +1,6 @@
 use Rattle.std.proofs.Common.{rules, ◌≡◌, ◌∙◌, ◌<◌, length, false, true}
 use Rattle.lt_modes.specs.Queue.{no_ask}
-use Rattle.lt_letter.specs.declared.parked.Parked.TheVariants.{Ask}
+use Rattle.lt_desk.specs.declared.parked.Parked.TheVariants.{Ask}
 use Rattle.lt_core.proofs.FitsLemmas.{apart_refused, apart_passed}
 use Rattle.lt_core.proofs.fits.asks_apart.Goals as goal
 

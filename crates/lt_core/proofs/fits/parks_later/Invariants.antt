@@ -1,7 +1,7 @@
 use Rattle.std.proofs.Common.{◌≡◌, drop, map}
 use Rattle.std.specs.Prelude.{filter_map}
 use Rattle.lt_modes.specs.Fits.{has_client, ask_if}
-use Rattle.lt_letter.specs.Seen.{parked_seen}
+use Rattle.lt_desk.specs.LetterSeen.{parked_seen}
 use Rattle.lt_core.proofs.fits.parks_later.Given as goal
 
 abbrev pub invariant-loop-k : goal.invariant-loop-k

@@ -3,7 +3,7 @@ use Rattle.std.specs.Prelude.{filter_map}
 use Rattle.std.specs.VecDeque.{deque_capacity}
 use Rattle.lt_modes.specs.Fits.{ask_if}
 use Rattle.lt_modes.specs.Routing.{dealt}
-use Rattle.lt_letter.specs.Seen.{parked_seen}
+use Rattle.lt_desk.specs.LetterSeen.{parked_seen}
 use Rattle.lt_core.proofs.taking.deal_all.Given as goal
 
 abbrev pub invariant-loop-item : goal.invariant-loop-item

@@ -1,21 +1,35 @@
-use Rattle.std.proofs.Common.{◌≡◌, ◌∙◌, ap, subst, arith, ◌++◌, ◌%◌}
+use Rattle.std.proofs.Common.{◌≡◌, ◌∙◌, ap, sym, subst, arith, ◌++◌, ◌%◌, map, length}
+use Rattle.std.proofs.lemmas.List.Elements.{All-from_recursion}
 use Rattle.lt_modes.specs.Script.{ScriptData}
-use Rattle.lt_gen.specs.Groups.{requests_of}
+use Rattle.lt_modes.specs.declared.command.Command.{Command}
+use Rattle.lt_script.specs.Script.{HasModesOf}
+use Rattle.lt_gen.specs.Groups.{group_commands, requests_of}
 use Rattle.lt_gen.specs.Generator.{requests_in}
 use Rattle.lt_gen.specs.Making.{Making}
+use Rattle.lt_gen.proofs.GroupLemmas.{group_modes}
 use Rattle.lt_gen.proofs.Turns.{next_turn, all_made, still_counted, fewer_turns}
 use Rattle.lt_gen.proofs.making.add_commands.Goals as goal
+
+pub add_turn-requires-clause-modes : goal.add_turn-requires-clause-modes
+add_turn-requires-clause-modes c =
+    rw (c.deref.ensures.value, c.in_ok-made.ensures)
+    (All-from_recursion (HasModesOf c.loop-left.script.version) (group_commands c.drawn-group.result) (group_modes c.loop-left.script.version c.drawn-group.result c.drawn-group.ensures.five))
 
 pub loop-left-preserved : goal.loop-left-preserved
 loop-left-preserved c =
     let client = c.loop-left.turn % c.from.result in
-    let added : c.add_to.new.script ≡ record c.loop-left.script { commands = c.loop-left.script.commands ++ requests_of client c.drawn-group.result } = c.in_ok-add_to.ensures in
+    let group = c.drawn-group.result in
+    let added : c.add_turn.new.script ≡ record c.loop-left.script { commands = c.loop-left.script.commands ++ requests_of client group } =
+    c.in_ok-add_turn.ensures
+    ∙ ap (λ commands. record c.loop-left.script { commands = c.loop-left.script.commands ++ map (λ (command : Command). (client, command)) commands }) (c.deref.ensures.value ∙ c.in_ok-made.ensures)
+    in
+    let size : c.len.result ≡ length (group_commands group) = c.len.ensures ∙ sym c.deref.ensures.len ∙ ap length (c.deref.ensures.value ∙ c.in_ok-made.ensures) in
     let few = c.drawn-group.ensures.few c.loop-left-test.true in
     record {
-      others = rw added (ap (λ (s : ScriptData). record s { commands = c.loop-left.script.commands ++ requests_of client c.drawn-group.result }) c.loop-left.invariant.others);
-      count = rw (added, c.len-left.ensures) (still_counted client c.loop-left.left c.args.commands c.drawn-group.result c.loop-left.script.commands c.loop-left.invariant.count few);
-      turns = rw c.len-left.ensures (fewer_turns c.loop-left.turn c.loop-left.left c.args.commands c.drawn-group.result c.loop-left.invariant.turns few);
-      parts = rw (added, c.len-left.ensures, c.from.ensures) (next_turn c.args.clients c.loop-left.left c.loop-left.turn c.loop-left.draws (c.drawn-group.result, c.drawn-group.new.draws) c.loop-left.script.commands _ c.drawn-group.ensures.value c.loop-left-test.true c.loop-left.invariant.parts);
+      others = rw added (ap (λ (s : ScriptData). record s { commands = c.loop-left.script.commands ++ requests_of client group }) c.loop-left.invariant.others);
+      count = rw (added, size) (still_counted client c.loop-left.left c.args.commands group c.loop-left.script.commands c.loop-left.invariant.count few);
+      turns = rw size (fewer_turns c.loop-left.turn c.loop-left.left c.args.commands group c.loop-left.invariant.turns few);
+      parts = rw (added, size, c.from.ensures) (next_turn c.args.clients c.loop-left.left c.loop-left.turn c.loop-left.draws (group, c.drawn-group.new.draws) c.loop-left.script.commands _ c.drawn-group.ensures.value c.loop-left-test.true c.loop-left.invariant.parts);
     }
 
 pub returns : goal.returns

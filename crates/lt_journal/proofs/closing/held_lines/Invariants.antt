@@ -1,10 +1,10 @@
 use Rattle.std.proofs.Common.{◌≡◌, ◌++◌, List}
-use Rattle.lt_runs.specs.Holdings.{Holding}
+use Rattle.lt_modes.specs.declared.event.Event.{Event}
+use Rattle.lt_spec.specs.Holdings.{holdings}
 use Rattle.lt_journal.specs.RunLines.{lines_below, held_by}
-use Rattle.lt_journal.specs.Text.{lines_text}
-use Rattle.lt_journal.specs.LockTable.{Counts}
+use Rattle.lt_tally.specs.LockTable.{IsTallied}
 use Rattle.lt_journal.proofs.closing.held_lines.Given as goal
 
 abbrev pub invariant-loop-client : goal.invariant-loop-client
 invariant-loop-client l =
-    (held : List Holding) → Counts l.script l.table held → l.text ≡ l.fn.text ++ lines_text l.script (lines_below l.client (held_by l.script held))
+    (events : List Event) → IsTallied l.script l.tally events → l.lines.items ≡ l.fn.lines.items ++ lines_below l.client (held_by l.script (holdings l.script events))

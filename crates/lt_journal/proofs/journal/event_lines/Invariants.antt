@@ -1,7 +1,7 @@
-use Rattle.std.proofs.Common.{◌≡◌, ◌++◌, take, map}
-use Rattle.lt_journal.specs.declared.line.Line.TheVariants.{Event as EventLine}
+use Rattle.std.proofs.Common.{◌≡◌, ◌++◌, take}
+use Rattle.lt_journal.specs.RunLines.{event_lines}
 use Rattle.lt_journal.specs.Text.{lines_text}
 use Rattle.lt_journal.proofs.journal.event_lines.Given as goal
 
 abbrev pub invariant-loop-event : goal.invariant-loop-event
-invariant-loop-event l = l.text ≡ l.fn.text ++ lines_text l.script (map EventLine (take l.event-index l.events))
+invariant-loop-event l = l.text ≡ l.fn.text ++ lines_text l.script (event_lines l.script.version (take l.event-index l.events))

@@ -1,8 +1,9 @@
-use Rattle.std.proofs.Common.{◌∙◌, ◌++◌, ap, List, ℕ, map}
+use Rattle.std.proofs.Common.{◌∙◌, ◌++◌, ap, List, ℕ}
 use Rattle.std.proofs.lemmas.List.{append_assoc}
-use Rattle.lt_journal.specs.declared.line.Line.TheVariants.{Move as MoveLine, Event as EventLine}
+use Rattle.lt_journal.specs.declared.line.Line.TheVariants.{Move as MoveLine}
+use Rattle.lt_journal.specs.RunLines.{event_lines}
 use Rattle.lt_journal.specs.Text.{line_text, lines_text}
-use Rattle.lt_journal.proofs.Steps.{text_more, moves_text-more}
+use Rattle.lt_journal.proofs.Steps.{list_more, moves_text-more}
 use Rattle.lt_journal.proofs.journal.move_lines.Goals as goal
 
 pub loop-k-preserved : goal.loop-k-preserved
@@ -10,8 +11,8 @@ loop-k-preserved c =
     let script = c.args.script.now in
     let made = c.made.result in
     let first = line_text script (MoveLine made.stamp.clock made.stamp.node made.step) in
-    let later = lines_text script (map EventLine c.events.result.now) in
-    text_more _ _ _ _ _ _
+    let later = lines_text script (event_lines script.version c.events.result.now) in
+    list_more _ _ _ _ _ _
     (c.in_ok-event_lines.ensures
     ∙ (ap (λ (t : List ℕ). t ++ later) c.in_ok-move_line.ensures ∙ append_assoc c.loop-k.text first later))
     c.loop-k.invariant

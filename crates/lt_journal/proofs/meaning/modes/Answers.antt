@@ -2,7 +2,7 @@ use Rattle.std.proofs.Common.{◌≡◌, ◌+◌, List, ◌∷◌, drop, get_or,
 use Rattle.lt_modes.specs.declared.mode.Mode.{Mode}
 use Rattle.lt_modes.specs.declared.mode.Mode.TheVariants.{IntentionRead}
 use Rattle.lt_journal.specs.Grammar.{with_words, words_left}
-use Rattle.lt_journal.specs.declared.closing.TheConstants.{MODES}
+use Rattle.lt_modes.specs.declared.mode.TheConstants.{MODES}
 use Rattle.lt_journal.proofs.meaning.modes.Goals as goal
 
 pub loop-mode-preserved : goal.loop-mode-preserved

@@ -2,7 +2,7 @@ use Rattle.std.proofs.Common.{◌≡◌, ◌+◌, ◌∷◌, suc, false, refl, L
 use Rattle.std.specs.List.{position_from}
 use Rattle.std.proofs.lemmas.Iterator.Adapters.{position_from-zero}
 use Rattle.lt_text.specs.Text.{lines}
-use Rattle.lt_journal.specs.Split.{is_journal_line, after_line, after_lines}
+use Rattle.lt_journal.specs.Split.{is_journal_line, after_first_line, after_lines}
 use Rattle.lt_journal.proofs.Lines.{first_line}
 use Rattle.lt_journal.proofs.splitting.split.Goals as goal
 
@@ -34,7 +34,7 @@ loop-line-preserved c =
     let one : suc n ≡ n + 1 = omega arith in
     let other : is_journal_line c.in-Some.line.now ≡ false = sym c.is_journal_line.ensures ∙ c.if-is_journal_line.false in
     record {
-      passed = after ∙ (ap after_line c.loop-line.invariant.passed ∙ ap (λ (k : ℕ). after_lines k c.args.bytes.now) one);
+      passed = after ∙ (ap after_first_line c.loop-line.invariant.passed ∙ ap (λ (k : ℕ). after_lines k c.args.bytes.now) one);
       none = c.loop-line.invariant.none ∙ (ap (λ (ls : List (List ℕ)). position_from is_journal_line n ls) lines_are ∙ rw other);
       count = omega (arith, c.loop-line.invariant.count, ap (λ (ls : List (List ℕ)). length ls) lines_are);
       few = omega (arith, first.shorter, c.loop-line.invariant.few, ap (λ (bytes : List ℕ). length bytes) after);

@@ -1,6 +1,6 @@
 use Rattle.std.proofs.Common.{◌<◌, ◌^◌, ◌/◌, [], ap, sym, subst, arith, length, List, ◌∙◌}
 use Rattle.std.proofs.lemmas.Result.{IfOk-weaker}
-use Rattle.lt_runs.specs.Log.{Logged}
+use Rattle.lt_spec.specs.Log.{Logged}
 use Rattle.lt_merge.specs.Run.{RunData}
 use Rattle.lt_merge.specs.Merging.{all_entries, AreLogs, Merges, both_merged}
 use Rattle.lt_merge.proofs.MergedHalves.{are_halves, halves_merged, one_left, one_merged}

@@ -1,6 +1,6 @@
 use Rattle.std.proofs.Common.{◌+◌, ◌++◌, ap, sym, arith, length, take, drop, List, ◌∙◌}
 use Rattle.std.proofs.lemmas.List.{length-append}
-use Rattle.lt_runs.specs.Log.{Logged}
+use Rattle.lt_spec.specs.Log.{Logged}
 use Rattle.lt_merge.specs.Merging.{both_merged}
 use Rattle.lt_merge.proofs.Copying.{copy_first, copy_second, first_inside, second_left, length_copied}
 use Rattle.lt_merge.proofs.logs.merge_two.Goals as goal

@@ -2,7 +2,7 @@ use Rattle.std.proofs.Common.{◌≡◌, ◌∙◌, ◌++◌, ap, ℕ, arith, ge
 use Rattle.std.specs.List.{flat_map}
 use Rattle.lt_modes.specs.declared.mode.Mode.TheVariants.{IntentionRead}
 use Rattle.lt_nest_lines.specs.Written.{held_line, held_in_mode}
-use Rattle.lt_nest_lines.specs.declared.closing.TheConstants.{MODES}
+use Rattle.lt_modes.specs.declared.mode.TheConstants.{MODES}
 use Rattle.lt_nest_lines.proofs.Pieces.{piece_more, flat_map-more}
 use Rattle.lt_nest_lines.proofs.closing.push_held_in_set.Goals as goal
 
@@ -18,6 +18,6 @@ loop-mode-preserved c =
 
 pub returns : goal.returns
 returns c =
-    let all : c.loop-mode.mode-index ≡ 5 = omega arith in
+    let all : c.loop-mode.mode-index ≡ 6 = omega arith in
     c.loop-mode.invariant
     ∙ ap (λ (n : ℕ). c.args.out.now.items ++ flat_map (held_in_mode c.args.input.now c.args.play.now c.args.transaction c.args.set) (take n MODES)) all

@@ -1,5 +1,5 @@
 use Rattle.std.proofs.Common.{◌≡◌, ◌<◌, ◌==◌, ℕ, [], length, slice_index_or, if◌then◌else◌}
-use Rattle.lt_runs.specs.Families.{commands_of, home}
+use Rattle.lt_spec.specs.Families.{commands_of, home}
 use Rattle.lt_node.specs.Clients.{no_progress}
 use Rattle.lt_node.proofs.client.clients_of.Given as goal
 

@@ -6,5 +6,5 @@ use Rattle.lt_node.proofs.room.most_sent.Given as goal
 abbrev pub invariant-loop-set : goal.invariant-loop-set
 invariant-loop-set l = record {
   left : l.sent + sum_by most_sent (drop l.set l.cores) ≡ sum_by most_sent l.cores;
-  few : l.sent ≤ l.set * 131;
+  few : l.sent ≤ l.set * 323;
 }

@@ -1,5 +1,5 @@
 use Rattle.std.proofs.Common.{◌≡◌, ◌∙◌, ◌<◌, ℕ, List, ap, arith, length, map}
-use Rattle.lt_core.specs.CoreData.{CoreData, waiting}
+use Rattle.lt_core.specs.CoreData.{CoreData, waiting_here}
 use Rattle.lt_node.specs.Room.{kept_of}
 use Rattle.lt_node.proofs.KeptLemmas.{kept_one, kept_set, kept_length, memory_more, few_kept}
 use Rattle.lt_node.proofs.room.reserve_each.Goals as goal
@@ -12,7 +12,7 @@ reserve-requires c =
     let within : c.loop-set.set < length c.loop-set.cores.items =
     inside c.len-set-end.result c.loop-set.set c.loop-set.cores.items c.args.cores.now.items (c.len-set-end.ensures ∙ c.args.cores.now.ok.0) c.loop-set.invariant.kept c.loop-set-test.true in
     let few = few_kept c.loop-set.cores.items c.args.cores.now.items c.loop-set.invariant.kept c.requires c.loop-set.set c.index_mut.result.now within in
-    record { few = omega (arith, few, ap (λ (core : CoreData). waiting core.state) c.index_mut.ensures.value) }
+    record { few = omega (arith, few, ap (λ (core : CoreData). waiting_here core.state) c.index_mut.ensures.value) }
 
 pub returns-in_err-reserve-clause-kept : goal.returns-in_err-reserve-clause-kept
 returns-in_err-reserve-clause-kept c =

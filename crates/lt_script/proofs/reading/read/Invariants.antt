@@ -6,7 +6,7 @@ use Rattle.lt_script.proofs.reading.read.Given as goal
 -- the lines that are left make of the script so far what all lines make of none
 abbrev pub invariant-loop-line : goal.invariant-loop-line
 invariant-loop-line l = record {
-  same : read_from (lines l.rest) l.number l.script ≡ read_of l.bytes;
+  same : read_from l.body.version (lines l.rest) l.number l.script ≡ read_of l.bytes;
   count : l.number + length l.rest ≤ length l.bytes + 1;
 }
 

@@ -1,8 +1,8 @@
 use Rattle.std.proofs.Common.{◌≡◌, ◌∙◌, ◌++◌, ap, subst, []}
 use Rattle.lt_modes.specs.Script.{ScriptData}
 use Rattle.lt_text.specs.Text.{lines}
-use Rattle.lt_checking.specs.Checking.{checked}
-use Rattle.lt_checker.specs.Checker.{Answers, CheckerData}
+use Rattle.lt_law_checking.specs.Checking.{checked}
+use Rattle.lt_checker.specs.Checker.{IsAnswer, CheckerData}
 use Rattle.lt_serve.proofs.checking.checked_journal.Goals as goal
 
 pub returns-clause-told : goal.returns-clause-told
@@ -12,7 +12,7 @@ returns-clause-told g c =
     let script : c.feed_rest.new.checker.script ≡ c.args.script.now =
     fed.1.script ∙ (ap (λ (d : CheckerData). d.script) c.in_ok-feed.ensures.ok ∙ ap (λ (d : CheckerData). d.script) c.in_ok-checker.ensures.checker) in (
       fed.0,
-      subst (λ (s : ScriptData). Answers (checked s (lines (first ++ fed.0))) c.end.result) script
+      subst (λ (s : ScriptData). IsAnswer (checked s (lines (first ++ fed.0))) c.end.result) script
           (c.end.ensures.answers (first ++ fed.0) (fed.1.stands first (c.in_ok-feed.ensures.stands [] c.in_ok-checker.ensures.stands))),
       fed.2,
     )

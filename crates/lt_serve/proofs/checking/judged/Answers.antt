@@ -3,9 +3,9 @@ use Rattle.lt_text.specs.Text.{lines}
 use Rattle.lt_script.specs.Script.{IsScript}
 use Rattle.lt_script.specs.Reading.{read_of}
 use Rattle.lt_journal.specs.declared.splitting.Parts.{Parts}
-use Rattle.lt_journal.specs.Split.{parts_of}
-use Rattle.lt_checking.specs.Checking.{checked}
-use Rattle.lt_checker.specs.Checker.{Answers}
+use Rattle.lt_journal.specs.Split.{input_parts}
+use Rattle.lt_law_checking.specs.Checking.{checked}
+use Rattle.lt_checker.specs.Checker.{IsAnswer}
 use Rattle.lt_serve.specs.declared.limits.TheConstants.{MAX_JOURNAL}
 use Rattle.lt_serve.proofs.BadLines.{journal_few, line_within, lines_few}
 use Rattle.lt_serve.proofs.TwoParts.{same_parts}
@@ -18,14 +18,14 @@ returns-clause-answer g c =
     let heard = c.in_ok-told.ensures.told in
     let rest = heard.0 in
     let same = same_parts bytes rest c.args.room _ _ c.requires.cut heard.2 in
-    let parts : c.split-parts.result ≡ parts_of bytes = c.split-parts.ensures in
-    let read : read_of (take (parts_of bytes).script bytes) ≡ Ok script = search rules in
+    let parts : c.split-parts.result ≡ input_parts bytes = c.split-parts.ensures in
+    let read : read_of (take (input_parts bytes).script bytes) ≡ Ok script = search rules in
     let is_script : IsScript script = search rules in
-    let journal : c.split_at.result.1.now ≡ drop (parts_of bytes).journal bytes =
+    let journal : c.split_at.result.1.now ≡ drop (input_parts bytes).journal bytes =
     c.split_at.ensures.back ∙ ap (λ (p : Parts). drop p.journal bytes) parts in (
       rest,
       c.answered.ensures script (bytes ++ rest) is_script (ap read_of same.script ∙ read) (ap (λ (p : Parts). p.lines) (parts ∙ sym same.parts))
-          (subst (λ (b : List ℕ). Answers (checked script (lines b)) c.in_ok-told.told)
+          (subst (λ (b : List ℕ). IsAnswer (checked script (lines b)) c.in_ok-told.told)
           (ap (λ (b : List ℕ). b ++ rest) journal ∙ sym same.journal) heard.1),
       heard.2,
     )

@@ -1,6 +1,6 @@
 use Rattle.std.proofs.Common.{◌≡◌, take}
 use Rattle.std.specs.Prelude.{fold}
-use Rattle.lt_runs.specs.Holdings.{after_line}
+use Rattle.lt_spec.specs.Holdings.{after_line}
 use Rattle.lt_summary.proofs.locks.apply_all.Given as goal
 
 abbrev pub invariant-loop-event : goal.invariant-loop-event

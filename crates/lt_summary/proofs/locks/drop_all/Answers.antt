@@ -1,6 +1,6 @@
 use Rattle.std.proofs.Common.{not, rules}
 use Rattle.std.proofs.lemmas.Fn.{filter_same}
-use Rattle.lt_runs.specs.Holdings.{Holding, is_dropped}
+use Rattle.lt_spec.specs.Holdings.{Holding, is_dropped}
 use Rattle.lt_summary.proofs.locks.drop_all.Goals as goal
 
 pub returns : goal.returns

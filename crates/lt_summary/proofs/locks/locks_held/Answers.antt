@@ -1,6 +1,6 @@
 use Rattle.std.proofs.Common.{◌∙◌, ap, List, []}
 use Rattle.std.specs.Prelude.{fold}
-use Rattle.lt_runs.specs.Holdings.{Holding, after_line}
+use Rattle.lt_spec.specs.Holdings.{Holding, after_line}
 use Rattle.lt_summary.proofs.Lines.{fold_lines-more}
 use Rattle.lt_summary.proofs.locks.locks_held.Goals as goal
 

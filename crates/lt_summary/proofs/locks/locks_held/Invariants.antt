@@ -1,5 +1,5 @@
 use Rattle.std.proofs.Common.{◌≡◌, take}
-use Rattle.lt_runs.specs.Holdings.{holdings, lines_of}
+use Rattle.lt_spec.specs.Holdings.{holdings, lines_of}
 use Rattle.lt_summary.proofs.locks.locks_held.Given as goal
 
 abbrev pub invariant-loop-k : goal.invariant-loop-k

@@ -1,7 +1,7 @@
 use Rattle.std.proofs.Common.{◌≡◌, ◌<◌, ◌∙◌, ℕ, List, [], ◌∷◌, length, arith, sym, ap, subst}
 use Rattle.lt_modes.specs.Made.{Post}
-use Rattle.lt_letter.specs.OutData.{OutData}
-use Rattle.lt_letter.specs.Seen.{post_seen}
+use Rattle.lt_desk.specs.OutData.{OutData}
+use Rattle.lt_desk.specs.LetterSeen.{post_seen}
 use Rattle.lt_world.specs.Mail.{WireData}
 use Rattle.lt_world.proofs.Delivered.{LeftToDeliver, delivered_one}
 use Rattle.lt_world.proofs.delivery.deliver.Goals as goal

@@ -1,5 +1,5 @@
 use Rattle.std.proofs.Common.{◌≡◌, ◌<◌, ℕ, length}
-use Rattle.lt_runs.specs.World.{start}
+use Rattle.lt_spec.specs.World.{start}
 use Rattle.lt_world.specs.Fields.{IsNodeOf, node_at}
 use Rattle.lt_world.proofs.network.nodes_of.Given as goal
 

@@ -1,14 +1,14 @@
 use Rattle.std.proofs.Common.{rules, List, ℕ, Result, subst}
-use Rattle.lt_runs.specs.Log.{Logged}
+use Rattle.lt_spec.specs.Log.{Logged}
 use Rattle.lt_script.specs.Script.{IsScript}
-use Rattle.lt_checking.specs.Feeding.{new_feed, fed_piece, ended}
-use Rattle.lt_checking.proofs.Feeds.{fed_all}
-use Rattle.lt_checker.specs.Checker.{Answers}
+use Rattle.lt_law_checking.specs.Feeding.{new_feed, fed_piece, ended}
+use Rattle.lt_law_checking.proofs.Feeds.{fed_all}
+use Rattle.lt_checker.specs.Checker.{IsAnswer}
 use Rattle.lt_checker.proofs.checker.Checker.end.Goals as goal
 
 pub returns-clause-answers : goal.returns-clause-answers
 returns-clause-answers c = λ bytes stands.
     let script = c.args.self.script in
     let is_script : IsScript script = search rules in
-    let told : Answers (ended script (fed_piece script (new_feed script) bytes)) c.finish.result = search rules in
-    subst (λ (t : Result (List Logged) ℕ). Answers t c.finish.result) (fed_all script bytes is_script) told
+    let told : IsAnswer (ended script (fed_piece script (new_feed script) bytes)) c.finish.result = search rules in
+    subst (λ (t : Result (List Logged) ℕ). IsAnswer t c.finish.result) (fed_all script bytes is_script) told

@@ -1,10 +1,12 @@
-use Rattle.std.proofs.Common.{◌≡◌, ◌++◌, ◌∙◌, [], List, ap, arith, subst, sym}
+use Rattle.std.proofs.Common.{◌≡◌, ◌++◌, ◌∙◌, [], List, ap, ap₂, arith, subst, sym}
+use Rattle.lt_spec.specs.Log.{Logged}
 use Rattle.lt_journal.specs.declared.line.Line.{Line}
+use Rattle.lt_journal.specs.RunLines.{first_lines}
 use Rattle.lt_limits.specs.declared.moves.TheConstants.{MAX_MOVES}
 use Rattle.lt_world.specs.Fields.{WorldData}
-use Rattle.lt_checking.specs.Checking.{Place, first_place, closing_at_rest}
-use Rattle.lt_checking.specs.Journals.{HasCome}
-use Rattle.lt_checking.proofs.Places.{first_begins}
+use Rattle.lt_law_checking.specs.Checking.{Place, first_place, closing_at_rest}
+use Rattle.lt_law_checking.specs.Journals.{HasCome}
+use Rattle.lt_law_checking.proofs.Places.{first_begins}
 use Rattle.lt_checker.specs.Place.{AreCounts}
 use Rattle.lt_checker.proofs.reader.Reader.new.Goals as goal
 
@@ -15,7 +17,9 @@ invariant_of-result c =
     let due = c.push_closing.new.due.items in
     let world_is : world ≡ record { script = script; limit = MAX_MOVES; run = [] } = c.in_ok-world.ensures in
     let run_is = ap (λ (w : WorldData). w.run) world_is in
-    let due_is : due ≡ closing_at_rest script [] = c.in_ok-push_closing.ensures ∙ (ap (λ (t : List Line). t ++ closing_at_rest script world.run) c.new-due.ensures.items ∙ ap (closing_at_rest script) run_is) in
+    let first : c.push_first.new.due.items ≡ first_lines script.version = c.in_ok-push_first.ensures ∙ ap (λ (t : List Line). t ++ first_lines script.version) c.new-due.ensures.items in
+    let due_is : due ≡ first_lines script.version ++ closing_at_rest script [] =
+    c.in_ok-push_closing.ensures ∙ ap₂ (λ (t : List Line) (run : List Logged). t ++ closing_at_rest script run) first run_is in
     let at : first_place script ≡ record { run = world.run; due = due } = λ i. record { run = sym run_is i; due = sym due_is i } in (
       c.in_ok-counts.ensures.is_script,
       omega arith,

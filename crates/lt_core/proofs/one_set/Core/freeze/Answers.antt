@@ -6,8 +6,8 @@ use Rattle.lt_modes.specs.Freezing.{freeze, frozen_by, frozen_entry, number_afte
 use Rattle.lt_modes.specs.Made.{Made}
 use Rattle.lt_desk.specs.DeskData.{DeskData}
 use Rattle.lt_desk.specs.Freezes.{told_nodes, bits_from}
-use Rattle.lt_letter.specs.Seen.{parked_seen}
-use Rattle.lt_letter.specs.OutData.{FitsOut}
+use Rattle.lt_desk.specs.LetterSeen.{parked_seen}
+use Rattle.lt_desk.specs.OutData.{FitsOut}
 use Rattle.lt_core.specs.CoreData.{CoreData, Does, desk_seen, room_by}
 use Rattle.lt_core.proofs.NoticeLemmas.{freeze_fits, freeze_sent}
 use Rattle.lt_core.proofs.one_set.Core.freeze.Goals as goal

@@ -1,7 +1,7 @@
 use Rattle.std.proofs.Common.{map, ◌-◌}
 use Rattle.std.specs.VecDeque.{deque_len, deque_capacity}
 use Rattle.lt_modes.specs.State.{SetState}
-use Rattle.lt_letter.specs.Seen.{parked_seen}
+use Rattle.lt_desk.specs.LetterSeen.{parked_seen}
 use Rattle.lt_core.specs.CoreData.{desk_seen, room_by}
 use Rattle.lt_core.proofs.one_set.Core.learn.Goals as goal
 

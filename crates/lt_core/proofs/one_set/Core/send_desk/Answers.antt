@@ -5,8 +5,8 @@ use Rattle.lt_modes.specs.Made.{post_of}
 use Rattle.lt_modes.specs.Queue.{no_ask}
 use Rattle.lt_modes.specs.HandingOver.{leaving, without_desk}
 use Rattle.lt_link.specs.LinksData.{LinksData}
-use Rattle.lt_letter.specs.OutData.{OutData}
-use Rattle.lt_letter.specs.Seen.{parked_seen}
+use Rattle.lt_desk.specs.OutData.{OutData}
+use Rattle.lt_desk.specs.LetterSeen.{parked_seen}
 use Rattle.lt_core.specs.CoreData.{CoreData, desk_seen}
 use Rattle.lt_core.proofs.one_set.Core.send_desk.Goals as goal
 

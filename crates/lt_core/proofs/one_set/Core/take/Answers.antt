@@ -2,8 +2,8 @@ use Rattle.std.proofs.Common.{sym, subst, ℕ}
 use Rattle.lt_modes.specs.Made.{then_do}
 use Rattle.lt_modes.specs.Taking.{arrive}
 use Rattle.lt_modes.specs.Telling.{finish}
-use Rattle.lt_letter.specs.Seen.{letter_seen}
-use Rattle.lt_letter.specs.OutData.{FitsOut}
+use Rattle.lt_desk.specs.LetterSeen.{letter_seen}
+use Rattle.lt_desk.specs.OutData.{FitsOut}
 use Rattle.lt_core.specs.CoreData.{Does}
 use Rattle.lt_core.proofs.ServingLemmas.{does_then, fits_first, fits_after}
 use Rattle.lt_core.proofs.one_set.Core.take.Goals as goal

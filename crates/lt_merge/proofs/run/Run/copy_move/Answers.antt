@@ -1,7 +1,7 @@
 use Rattle.std.proofs.Common.{ap, sym, subst, ◌∙◌, arith, length, ◌++◌, ◌∷◌, [], List, ◌≡◌}
 use Rattle.std.specs.Prelude.{vec_len}
 use Rattle.lt_modes.specs.declared.event.Event.{Event}
-use Rattle.lt_runs.specs.Log.{Logged}
+use Rattle.lt_spec.specs.Log.{Logged}
 use Rattle.lt_merge.specs.declared.run.Mark.{Mark}
 use Rattle.lt_merge.specs.Run.{RunData}
 use Rattle.lt_merge.specs.Marks.{entries_of, IsLaid}

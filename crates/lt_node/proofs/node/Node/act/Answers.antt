@@ -2,7 +2,7 @@ use Rattle.std.proofs.Common.{◌≡◌, ◌∙◌, ◌+◌, List, ℕ, Some, ap
 use Rattle.lt_modes.specs.declared.stamp.Stamp.{Stamp}
 use Rattle.lt_modes.specs.Script.{ScriptData}
 use Rattle.lt_core.specs.CoreData.{CoreData}
-use Rattle.lt_runs.specs.NodeMove.{NodeState}
+use Rattle.lt_spec.specs.NodeMove.{NodeState}
 use Rattle.lt_node.specs.NodeData.{state_of}
 use Rattle.lt_node.specs.Answers.{answer_to, answer_if}
 use Rattle.lt_node.specs.Room.{IsReady}

@@ -3,7 +3,7 @@ use Rattle.std.proofs.lemmas.List.{length-map}
 use Rattle.lt_modes.specs.declared.command.Command.{Command}
 use Rattle.lt_script.specs.Script.{HasTargets}
 use Rattle.lt_node.specs.NodeData.{NodeData}
-use Rattle.lt_node.specs.Clients.{made_of}
+use Rattle.lt_node.specs.Clients.{progress_made}
 use Rattle.lt_node.proofs.NodeLemmas.{node_is}
 use Rattle.lt_node.proofs.AdvanceLemmas.{HasNext, next_at, next_is, next_targets, advanced_at, node_advanced, clients_advanced}
 use Rattle.lt_node.proofs.node.Node.advance.Goals as goal
@@ -25,7 +25,7 @@ invariant_of-self c =
     let count = ap (λ (n : NodeData). length n.script.clients) c.self.view_is in (
       node_advanced _ clients c.from.result c.next.new.self c.self.invariant.0 refl,
       clients_advanced c.self.inside.script.now c.self.inside.me c.self.inside.homes.items clients c.from.result c.index_mut.result.now c.next.new.self c.self.invariant.1
-          (omega (arith, c.from.ensures, c.requires.client, count, c.self.invariant.0.clients, length-map clients made_of)) c.index_mut.ensures.value c.next.ensures.made,
+          (omega (arith, c.from.ensures, c.requires.client, count, c.self.invariant.0.clients, length-map clients progress_made)) c.index_mut.ensures.value c.next.ensures.made,
     )
 
 pub returns-clause-command : goal.returns-clause-command

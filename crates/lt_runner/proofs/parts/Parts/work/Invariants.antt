@@ -1,13 +1,13 @@
 -- The loop of turns.
 use Rattle.std.proofs.Common.{◌≡◌, ◌<◌, ◌+◌, ◌-◌, ◌*◌, length}
-use Rattle.lt_runner.specs.Kept.{Kept, Grew, IsQuiet}
+use Rattle.lt_runner.specs.Kept.{RunnerInvariant, Grew, RunnerIsQuiet}
 use Rattle.lt_runner.proofs.parts.Parts.work.Given as goal
 
 abbrev pub invariant-loop-quiet : goal.invariant-loop-quiet
 invariant-loop-quiet g l = record {
-  kept : Kept l.self;
+  kept : RunnerInvariant l.self;
   grew : Grew l.initial.self l.self;
-  ended : 0 < l.quiet → IsQuiet l.self;
+  ended : 0 < l.quiet → RunnerIsQuiet l.self;
   none : l.fn.patience ≡ 0 → l.self ≡ l.initial.self;
 }
 

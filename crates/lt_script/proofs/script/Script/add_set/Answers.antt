@@ -7,7 +7,7 @@ use Rattle.lt_script.proofs.script.Script.add_set.Goals as goal
 
 pub invariant_of-self-2 : goal.invariant_of-self-2
 invariant_of-self-2 c =
-    let s : ScriptData = record { nodes = c.self.inside.nodes; sets = c.self.inside.sets.items; clients = c.self.inside.clients.items; commands = c.self.inside.commands.items } in
+    let s : ScriptData = record { version = c.self.inside.version; nodes = c.self.inside.nodes; sets = c.self.inside.sets.items; clients = c.self.inside.clients.items; commands = c.self.inside.commands.items } in
     let x : SetData = record { name = c.args.name.now; family = c.args.family } in
     let new = subst (λ (v : ScriptData). is_declared v x.name ≡ false) (sym c.self.view_is) c.requires.new in
     let room = subst (λ (v : ScriptData). length v.sets < MAX_SETS) (sym c.self.view_is) c.requires.room in

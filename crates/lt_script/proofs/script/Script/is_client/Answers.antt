@@ -7,7 +7,7 @@ use Rattle.lt_script.proofs.script.Script.is_client.Goals as goal
 
 pub returns-in-Some : goal.returns-in-Some
 returns-in-Some c = λ yes.
-    let s : ScriptData = record { nodes = c.self.inside.nodes; sets = c.self.inside.sets.items; clients = c.self.inside.clients.items; commands = c.self.inside.commands.items } in
+    let s : ScriptData = record { version = c.self.inside.version; nodes = c.self.inside.nodes; sets = c.self.inside.sets.items; clients = c.self.inside.clients.items; commands = c.self.inside.commands.items } in
     let found : ClientData = c.in-Some.found.now in
     let at = slice_get_read c.deref.result.now (length c.deref.result.now) c.from.result found refl c.in-Some.ensures.lookup.3.0 c.in-Some.ensures.lookup.1 in
     let here : slice_get c.self.inside.clients.items c.args.client ≡ Some found = rw (sym c.deref.ensures.value, sym c.from.ensures) at in

@@ -3,6 +3,7 @@ use Rattle.lt_modes.specs.State.{Tell}
 use Rattle.lt_modes.specs.Tells.{told}
 use Rattle.lt_table.specs.Seen.{spare_of}
 use Rattle.lt_table.proofs.EntryLemmas.{spare_set, entries_put}
+use Rattle.lt_table.proofs.RecountLemmas.{can_recount, recounted}
 use Rattle.lt_table.proofs.table.Table.tell.Goals as goal
 
 pub returns-then-x-len-clause-entries : goal.returns-then-x-len-clause-entries
@@ -10,11 +11,30 @@ returns-then-x-len-clause-entries c =
     let es = c.self.inside.entries.items in
     let within : c.from-x.result < length es = search rules in
     let tell : Tell = record { node = c.args.node; modes = c.args.modes; pending = c.args.pending.now; stamp = c.args.stamp } in
-    entries_put (told tell) es c.args.self.now.entries c.from-x.result c.args.node c.index_mut.result.now c.tell.new.self
-    (ap (λ t. t.entries) c.self.view_is) c.from-x.ensures within c.index_mut.ensures.value (c.tell.ensures.entry c.args.node)
+    entries_put (told tell) es c.args.self.now.entries c.from-x.result c.args.node c.index_mut-entry.result.now c.tell.new.self
+    (ap (λ t. t.entries) c.self.view_is) c.from-x.ensures within c.index_mut-entry.ensures.value (c.tell.ensures.entry c.args.node)
 
 pub returns-then-x-len-clause-spare : goal.returns-then-x-len-clause-spare
 returns-then-x-len-clause-spare c =
     let es = c.self.inside.entries.items in
-    let e = c.index_mut.result.now in
-    omega (arith, ap (λ t. t.spare) c.self.view_is, spare_set es c.from-x.result c.tell.new.self e 0 (omega (arith, c.tell.ensures.spare, ap spare_of c.index_mut.ensures.value)))
+    let e = c.index_mut-entry.result.now in
+    omega (arith, ap (λ t. t.spare) c.self.view_is, spare_set es c.from-x.result c.tell.new.self e 0 (omega (arith, c.tell.ensures.spare, ap spare_of c.index_mut-entry.ensures.value)))
+
+pub shifted-self-inside-requires : goal.shifted-self-inside-requires
+shifted-self-inside-requires c =
+    let es = c.self.inside.entries.items in
+    let e = c.index_mut-entry.result.now in
+    let within : c.from-x.result < length es = search rules in
+    can_recount es c.self.inside.counts c.from-x.result e c.tell.new.self c.record-before.result c.record-after.result
+    c.self.invariant.0 c.self.invariant.1 within c.index_mut-entry.ensures.value c.record-before.ensures c.record-after.ensures
+
+pub invariant_of-self : goal.invariant_of-self
+invariant_of-self c =
+    let es = c.self.inside.entries.items in
+    let e = c.index_mut-entry.result.now in
+    let within : c.from-x.result < length es = search rules in (
+      search rules,
+      recounted es c.self.inside.counts c.shifted-self-inside.result c.from-x.result e c.tell.new.self
+          c.record-before.result c.record-after.result c.self.invariant.1 within c.index_mut-entry.ensures.value c.record-before.ensures c.record-after.ensures
+          c.shifted-self-inside.ensures,
+    )

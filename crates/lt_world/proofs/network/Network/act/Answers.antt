@@ -21,8 +21,8 @@ act_at-stamp-requires-clause-acts c =
     } in
     can_act_then c.args.script.now c.args.node c.args.client old.nodes.items new.nodes.items old.inboxes.items new.inboxes.items old.out new.out old.run.entries begun
 
-pub settle-requires-clause-targets : goal.settle-requires-clause-targets
-settle-requires-clause-targets c =
+pub record_move-requires-clause-targets : goal.record_move-requires-clause-targets
+record_move-requires-clause-targets c =
     let old = c.args.self.now in
     let new = c.reserve.new.self in
     let made = c.act_at-stamp.new in
@@ -58,6 +58,6 @@ returns-clause-holds c =
       stamp_is = c.act_at-stamp.ensures.stamp;
       does = c.act_at-stamp.ensures.does;
     } in
-    holds_then c.args.script.now c.args.node c.args.client old.nodes.items new.nodes.items old.inboxes.items new.inboxes.items c.settle.new.inboxes.items
-    old.out new.out made.out c.settle.new.out old.run.entries new.run.entries c.settle.new.run.entries (node_at made.nodes.items c.args.node) made.nodes.items c.act_at-stamp.result
-    begun acted c.act_at-stamp.ensures.others c.settle.ensures.delivered c.reserve.ensures.entries c.settle.ensures.entries c.settle.ensures.out
+    holds_then c.args.script.now c.args.node c.args.client old.nodes.items new.nodes.items old.inboxes.items new.inboxes.items c.record_move.new.inboxes.items
+    old.out new.out made.out c.record_move.new.out old.run.entries new.run.entries c.record_move.new.run.entries (node_at made.nodes.items c.args.node) made.nodes.items c.act_at-stamp.result
+    begun acted c.act_at-stamp.ensures.others c.record_move.ensures.delivered c.reserve.ensures.entries c.record_move.ensures.entries c.record_move.ensures.out

@@ -1,6 +1,6 @@
 use Rattle.std.proofs.Common.{◌≡◌, ◌<◌, ◌∙◌, true, length, arith, sym, ap}
 use Rattle.lt_lists.proofs.Searches.{any_below_at}
-use Rattle.lt_runs.specs.World.{is_waiting}
+use Rattle.lt_spec.specs.World.{is_waiting}
 use Rattle.lt_world.specs.Fields.{WorldData, world_of}
 use Rattle.lt_world.proofs.world.World.anyone_waits.Goals as goal
 

@@ -1,6 +1,6 @@
 use Rattle.std.proofs.Common.{◌≡◌, false}
 use Rattle.lt_lists.specs.Below.{any_below}
-use Rattle.lt_runs.specs.World.{is_waiting}
+use Rattle.lt_spec.specs.World.{is_waiting}
 use Rattle.lt_world.specs.Fields.{world_of}
 use Rattle.lt_world.proofs.world.World.anyone_waits.Given as goal
 

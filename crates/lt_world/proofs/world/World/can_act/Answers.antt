@@ -1,7 +1,7 @@
 use Rattle.std.proofs.Common.{◌≡◌, ◌<◌, ◌∙◌, true, length, arith, sym, ap}
 use Rattle.lt_lists.proofs.Searches.{any_below_at}
 use Rattle.lt_modes.specs.declared.moves.Step.TheVariants.{Act}
-use Rattle.lt_runs.specs.World.{is_enabled}
+use Rattle.lt_spec.specs.World.{is_enabled}
 use Rattle.lt_world.specs.Fields.{WorldData, world_of}
 use Rattle.lt_world.proofs.world.World.can_act.Goals as goal
 

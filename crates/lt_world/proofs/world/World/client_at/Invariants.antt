@@ -1,6 +1,6 @@
 use Rattle.std.proofs.Common.{◌≡◌, ◌<◌, length, None}
 use Rattle.std.specs.Prelude.{IfSome}
-use Rattle.lt_runs.specs.FixedOrder.{act_after}
+use Rattle.lt_spec.specs.FixedOrder.{act_after}
 use Rattle.lt_world.specs.Fields.{world_of}
 use Rattle.lt_world.proofs.world.World.client_at.Given as goal
 

@@ -1,6 +1,6 @@
 use Rattle.std.proofs.Common.{◌≡◌, ◌≤◌}
 use Rattle.lt_lists.specs.Below.{count_below}
-use Rattle.lt_runs.specs.World.{is_runnable}
+use Rattle.lt_spec.specs.World.{is_runnable}
 use Rattle.lt_world.specs.Fields.{world_of}
 use Rattle.lt_world.proofs.world.World.count_acts.Given as goal
 

@@ -1,5 +1,5 @@
 use Rattle.std.proofs.Common.{◌≡◌, ◌∙◌, List, length, ap, subst}
-use Rattle.lt_runs.specs.FixedOrder.{takes}
+use Rattle.lt_spec.specs.FixedOrder.{takes}
 use Rattle.lt_world.specs.Mail.{WireData, takes_in}
 use Rattle.lt_world.specs.Fields.{WorldData, world_of}
 use Rattle.lt_world.proofs.TakeOrder.{takes_are}

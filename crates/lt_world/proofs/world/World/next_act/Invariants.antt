@@ -1,8 +1,8 @@
 use Rattle.std.proofs.Common.{◌≡◌}
 use Rattle.std.specs.Prelude.{IfSome, option_map, ◌&&◌}
 use Rattle.lt_lists.specs.Below.{first_below}
-use Rattle.lt_runs.specs.World.{is_runnable}
-use Rattle.lt_runs.specs.FixedOrder.{acts_before, comes_after}
+use Rattle.lt_spec.specs.World.{is_runnable}
+use Rattle.lt_spec.specs.FixedOrder.{acts_before, comes_after}
 use Rattle.lt_world.specs.Fields.{world_of}
 use Rattle.lt_world.specs.Choice.{client_of, IsTurn}
 use Rattle.lt_world.proofs.world.World.next_act.Given as goal

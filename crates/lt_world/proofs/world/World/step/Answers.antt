@@ -1,11 +1,13 @@
 use Rattle.std.proofs.Common.{◌≡◌, ◌+◌, ◌<◌, ◌∙◌, ℕ, List, length, arith, sym, ap, subst, slice_set, slice_index_or}
 use Rattle.std.specs.Prelude.{IsTrue}
 use Rattle.std.proofs.lemmas.List.{get_or_default}
-use Rattle.lt_runs.specs.Log.{Logged}
-use Rattle.lt_runs.specs.World.{is_enabled, logged}
-use Rattle.lt_world.specs.Fields.{WorldData, world_of, moves_of, AreCounted, AreAtMost}
+use Rattle.lt_spec.specs.Log.{Logged}
+use Rattle.lt_spec.specs.World.{is_enabled, logged, world_after}
+use Rattle.lt_limits.specs.Cut.{moves_of}
+use Rattle.lt_world.specs.Fields.{WorldData, world_of, AreCounted, AreAtMost, AreMade}
 use Rattle.lt_world.proofs.Runs.{stamp_node}
 use Rattle.lt_world.proofs.Counts.{few_moves, counted_moved, at_most_moved, moves_inside}
+use Rattle.lt_world.proofs.MadeLemmas.{others_made}
 use Rattle.lt_world.proofs.world.World.step.Goals as goal
 
 -- what the counter of this node was
@@ -38,6 +40,7 @@ invariant_of-self c =
       holds = c.make.ensures.holds;
       counted = subst (AreCounted s.script.now s.limit s.moves.items) same c.self.invariant.counted;
       at_most = subst (AreAtMost s.script.now s.most) same c.self.invariant.at_most;
+      acts = subst (λ (r : List Logged). AreMade s.script.now s.made.items (world_after s.script.now r)) same c.self.invariant.acts;
     }
 
 pub invariant_of-self-2 : goal.invariant_of-self-2
@@ -56,9 +59,15 @@ invariant_of-self-2 c =
     ap (λ (k : ℕ). slice_set s.moves.items k (c.index_mut-made.result.now + 1)) c.from.ensures ∙ ap (λ (n : ℕ). slice_set s.moves.items q (n + 1)) was in
     record {
       holds = c.make.ensures.holds;
+      acts = c.note_made.ensures;
       at_most = subst (λ (r : List Logged). AreAtMost s.script.now c.max-self-inside.result r) (sym c.in_ok-make.ensures.ok)
           (at_most_moved s.script.now s.most c.max-self-inside.result s.network.run.entries (logged s.script.now (world_of seen) q step) q c.self.invariant.at_most (stamp_node (world_of seen) q step)
           (omega (arith, was, counted.moves_are q inside, c.max-self-inside.ensures)) (omega (arith, c.max-self-inside.ensures)));
       counted = subst (λ (ms : List ℕ). AreCounted s.script.now s.limit ms c.make.new.self.run.entries) (sym moves)
           (subst (λ (r : List Logged). AreCounted s.script.now s.limit (slice_set s.moves.items q (slice_index_or s.moves.items q 0 + 1)) r) (sym c.in_ok-make.ensures.ok) moved);
     }
+
+pub note_made-requires-clause-others : goal.note_made-requires-clause-others
+note_made-requires-clause-others c =
+    let s = c.self.inside in
+    others_made s.script.now s.network.run.entries c.make.new.self.run.entries c.args.choice.node c.args.choice.step s.made.items c.self.invariant.acts c.in_ok-make.ensures.ok

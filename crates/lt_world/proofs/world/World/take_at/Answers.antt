@@ -1,6 +1,6 @@
 use Rattle.std.proofs.Common.{◌≡◌, ◌∙◌, ap, subst, List}
 use Rattle.std.specs.Prelude.{slice_get, option_map}
-use Rattle.lt_runs.specs.FixedOrder.{Turn, takes}
+use Rattle.lt_spec.specs.FixedOrder.{Turn, takes}
 use Rattle.lt_world.specs.Choice.{choice_of}
 use Rattle.lt_world.specs.Mail.{WireData, takes_in}
 use Rattle.lt_world.specs.Fields.{WorldData, world_of}

@@ -1,0 +1,39 @@
+-- For each mode a number.
+use Rattle.std.specs.Prelude.{ℕ, ◌≡◌, ◌+◌, ◌<◌, ◌≤◌, ◌^◌, Bool, List, slice_index_or, if◌then◌else◌, nat_lt}
+use Rattle.lt_modes.specs.declared.mode.Mode.{Mode}
+use Rattle.lt_modes.specs.declared.mode.Mode.TheVariants.{IntentionRead, Read, Upgrade, IntentionWrite, ReadIntentionWrite, Write}
+use Rattle.lt_modes.specs.Modes.{Modes, has, modes_by, with_mode}
+
+-- where the mode's number stands
+abbrev pub place_of_mode : Mode → ℕ
+place_of_mode IntentionRead = 0
+place_of_mode Read = 1
+place_of_mode Upgrade = 2
+place_of_mode IntentionWrite = 3
+place_of_mode ReadIntentionWrite = 4
+place_of_mode Write = 5
+
+-- the mode's number
+abbrev pub mode_count : Mode → List ℕ → ℕ
+mode_count mode counts = slice_index_or counts (place_of_mode mode) 0
+
+abbrev pub count_if : Bool → ℕ
+count_if here = if here then 1 else 0
+
+-- the numbers stay numbers where one set of the first modes gets the second ones
+pub record CanShift (counts : List ℕ) (from to : Modes) (mode : Mode) : Type 0 where
+  pub there : count_if (has mode from) ≤ mode_count mode counts
+  pub within : mode_count mode counts + count_if (has mode to) < 2 ^ 32 + count_if (has mode from)
+
+-- the mode's number once it did
+abbrev pub IsShifted : List ℕ → Modes → Modes → Mode → ℕ → Type 0
+IsShifted counts from to mode count = count + count_if (has mode from) ≡ mode_count mode counts + count_if (has mode to)
+
+-- the modes that more sets have than these two make up
+abbrev pub modes_beyond : List ℕ → Modes → Modes → Modes
+modes_beyond counts a b = modes_by (λ mode. nat_lt (count_if (has mode a) + count_if (has mode b)) (mode_count mode counts))
+
+-- the set, and the mode where more sets have it than these two make up
+abbrev pub with_beyond : List ℕ → Modes → Mode → Modes → Modes → Modes
+with_beyond counts all mode a b =
+    if nat_lt (count_if (has mode a) + count_if (has mode b)) (mode_count mode counts) then with_mode all mode else all

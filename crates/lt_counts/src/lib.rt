@@ -1,0 +1,8 @@
+//! For each mode a number: of the nodes whose record has the mode, or of the asks for it.
+#![tactic(auto)]
+
+mod counts;
+#[cfg(test)]
+mod tests;
+
+pub use counts::ModeCounts;

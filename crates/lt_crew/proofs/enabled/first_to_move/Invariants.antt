@@ -1,6 +1,0 @@
--- The loop over the nodes.
-use Rattle.lt_crew.specs.Enabled.{NoneShows}
-use Rattle.lt_crew.proofs.enabled.first_to_move.Given as goal
-
-abbrev pub invariant-loop-node : goal.invariant-loop-node
-invariant-loop-node l = NoneShows l.node l.fn.runners

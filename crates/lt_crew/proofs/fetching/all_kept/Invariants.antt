@@ -1,6 +1,0 @@
--- The loop over the runners.
-use Rattle.lt_crew.proofs.Fetches.{KeptTo}
-use Rattle.lt_crew.proofs.fetching.all_kept.Given as goal
-
-abbrev pub invariant-loop-k : goal.invariant-loop-k
-invariant-loop-k l = KeptTo l.k l.fn.runners

@@ -1,0 +1,30 @@
+-- Letters as the rules speak of them.
+use Rattle.lt_modes.specs.State as rules
+use Rattle.lt_modes.specs.Made.{Post as PlainPost}
+use Rattle.lt_desk.specs.declared.letter.Body.{Body}
+use Rattle.lt_desk.specs.declared.letter.Body.TheVariants.{Ask, Tell, Copy, Token, Freeze}
+use Rattle.lt_desk.specs.declared.parked.Tell.{Tell as CodeTell}
+use Rattle.lt_desk.specs.declared.parked.Parked.{Parked}
+use Rattle.lt_desk.specs.declared.parked.Parked.TheVariants.{Ask as WaitingAsk, Tell as WaitingTell}
+use Rattle.lt_desk.specs.declared.letter.Letter.{Letter}
+use Rattle.lt_desk.specs.declared.letter.Post.{Post}
+
+abbrev pub tell_seen : CodeTell → rules.Tell
+tell_seen t = record { node = t.node; modes = t.modes; pending = t.pending; stamp = t.stamp }
+
+abbrev pub parked_seen : Parked → rules.Parked
+parked_seen (WaitingAsk ask) = rules.ParkedAsk ask
+parked_seen (WaitingTell tell) = rules.ParkedTell (tell_seen tell)
+
+abbrev pub body_seen : Body → rules.Body
+body_seen (Ask ask by_hoped) = rules.AskBody ask by_hoped
+body_seen (Tell tell) = rules.TellBody (tell_seen tell)
+body_seen (Copy ask) = rules.CopyBody ask
+body_seen (Token desk) = rules.TokenBody desk.desk
+body_seen (Freeze news) = rules.FreezeBody news.number news.modes
+
+abbrev pub letter_seen : Letter → rules.Letter
+letter_seen l = record { stamp = l.stamp; set = l.set; link = l.link; body = body_seen l.body }
+
+abbrev pub post_seen : Post → PlainPost
+post_seen p = record { to = p.to; letter = letter_seen p.letter }

@@ -1,0 +1,109 @@
+ghost use Rattle.std.specs.Prelude.{◌≡◌, ◌+◌, ◌≤◌, ◌<◌, [], ◌∷◌, ◌++◌, length, OnOk, MatchOption};
+ghost use Rattle.lt_desk.specs.LetterSeen.{post_seen};
+
+use crate::letter::Post;
+use lt_modes::Event;
+use std::alloc::{AllocError, Global};
+use std::collections::VecDeque;
+use std::marker::Model;
+
+/// What a move sends out: letters and event lines, in order.
+#[derive(Drop)]
+pub struct Out {
+    posts: VecDeque<Post>,
+    events: VecDeque<Event>,
+}
+
+impl Model for Out {
+    ghost use Rattle.std.specs.Prelude.{map};
+    ghost use Rattle.std.specs.VecDeque.{deque_capacity};
+    ghost use Rattle.lt_desk.specs.LetterSeen.{post_seen};
+    ghost use Rattle.lt_desk.specs.OutData.{OutData};
+
+    ghost Value = { OutData };
+
+    ghost view = { λ o. record {
+      posts = map post_seen o.posts.items;
+      events = o.events.items;
+      post_room = deque_capacity o.posts;
+      event_room = deque_capacity o.events;
+    } };
+}
+
+impl Out {
+    pub fn new(alloc: Global) -> Out
+        ensures { (result.posts ≡ []) × (result.events ≡ []) }
+    {
+        Out {
+            posts: VecDeque::new(alloc),
+            events: VecDeque::new(alloc),
+        }
+    }
+
+    /// Makes room for so many further letters and event lines.
+    pub fn reserve(&mut self, letters: u32, events: u32) -> Result<(), AllocError>
+        ensures posts { self.new.posts ≡ self.old.posts }
+        ensures events { self.new.events ≡ self.old.events }
+        ensures post_room { OnOk result (length self.old.posts + letters ≤ self.new.post_room) }
+        ensures event_room { OnOk result (length self.old.events + events ≤ self.new.event_room) }
+        ensures kept { (self.old.post_room ≤ self.new.post_room) × (self.old.event_room ≤ self.new.event_room) }
+    {
+        self.posts.reserve(letters as usize)?;
+        self.events.reserve(events as usize)
+    }
+
+    /// How many letters it has room for in all.
+    pub fn post_room(&self) -> usize
+        ensures room { result ≡ self.now.post_room }
+        ensures within { length self.now.posts ≤ self.now.post_room }
+    {
+        self.posts.capacity()
+    }
+
+    /// How many event lines it has room for in all.
+    pub fn event_room(&self) -> usize
+        ensures room { result ≡ self.now.event_room }
+        ensures within { length self.now.events ≤ self.now.event_room }
+    {
+        self.events.capacity()
+    }
+
+    /// No more is here than there is room for.
+    pub fn is_within(&self)
+        ensures posts { length self.now.posts ≤ self.now.post_room }
+        ensures events { length self.now.events ≤ self.now.event_room }
+    {
+        let _ = &self.posts;
+        let _ = &self.events;
+    }
+
+    pub fn push_letter(&mut self, post: Post)
+        requires { length self.old.posts < self.old.post_room }
+        ensures { self.new ≡ record self.old { posts = self.old.posts ++ post_seen post ∷ [] } }
+    {
+        self.posts.push_back_reserved(post);
+    }
+
+    pub fn push_event(&mut self, event: Event)
+        requires { length self.old.events < self.old.event_room }
+        ensures { self.new ≡ record self.old { events = self.old.events ++ event ∷ [] } }
+    {
+        self.events.push_back_reserved(event);
+    }
+
+    /// Hands out the first letter.
+    pub fn next_letter(&mut self) -> Option<Post>
+        ensures first { MatchOption result ((self.old.posts ≡ []) × (self.new ≡ self.old)) (λ post. self.old.posts ≡ post_seen post ∷ self.new.posts) }
+        ensures rest { self.new ≡ record self.old { posts = self.new.posts } }
+    {
+        self.posts.pop_front()
+    }
+
+    /// Hands out the first event line.
+    pub fn next_event(&mut self) -> Option<Event>
+        ensures first { MatchOption result ((self.old.events ≡ []) × (self.new ≡ self.old)) (λ event. self.old.events ≡ event ∷ self.new.events) }
+        ensures rest { self.new ≡ record self.old { events = self.new.events } }
+    {
+        self.events.pop_front()
+    }
+}

@@ -1,5 +1,0 @@
-use Rattle.lt_joined.proofs.laws.law_can_move.Goals as goal
-use Rattle.lt_joined.proofs.Moving.{can_move_is_enabled, rest_is_no_move}
-
-pub returns : goal.returns
-returns c = record { enabled = can_move_is_enabled; rest = rest_is_no_move c.law_order.ensures.rest }

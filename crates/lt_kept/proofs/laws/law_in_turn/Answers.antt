@@ -1,5 +1,0 @@
-use Rattle.lt_kept.proofs.laws.law_in_turn.Goals as goal
-use Rattle.lt_kept.proofs.ServiceOrder.{lines_are_of_services, served_in_turn}
-
-pub returns : goal.returns
-returns c = record { lines = lines_are_of_services; run = served_in_turn }

@@ -1,0 +1,15 @@
+pub mod Worked
+pub mod WorkedOneNode
+pub mod WorkedNodes
+pub mod WorkedOrders
+pub mod WorkedLong
+pub mod Snapshot
+pub mod WorldHoped
+pub mod WorldTokens
+pub mod WorldBehind
+pub mod WorldBusy
+pub mod WorldDrop
+pub mod WorldOrder
+pub mod WorldCopy
+pub mod WorldExamples
+pub mod WorkedSixth

@@ -1,0 +1,155 @@
+-- The lines of a client's command tell what it waits for.
+use Rattle.std.proofs.Common.{◌≡◌, ◌≢◌, ℕ, inl, inr, List, [], ◌∷◌, ◌++◌, Option, Some, None, Bool, true, false, refl, sym, ap, subst, ◌∙◌}
+use Rattle.std.specs.Prelude.{◌⊎◌, ◌==◌, if◌then◌else◌, Contains, fold}
+use Rattle.std.proofs.lemmas.Bool.{eq-eqb, ne_eqb}
+use Rattle.std.proofs.lemmas.List.Elements.{Contains-push_cases, Contains-push, Contains-append_left}
+use Rattle.std.proofs.lemmas.List.Sums.{fold-append}
+use Rattle.lt_modes.specs.declared.mode.Mode.{Mode}
+use Rattle.lt_modes.specs.declared.stamp.Stamp.{Stamp}
+use Rattle.lt_modes.specs.declared.ask.Ask.{Ask}
+use Rattle.lt_modes.specs.declared.event.Event.{Event}
+use Rattle.lt_modes.specs.declared.event.Event.TheVariants.{Wait, Try, Unlock, NotHeld, Change}
+use Rattle.lt_modes.specs.State.{SetState, ParkedAsk}
+use Rattle.lt_modes.specs.Held.{count_of, take_lock}
+use Rattle.lt_modes.specs.Made.{Made, then_do}
+use Rattle.lt_modes.specs.Granting.{can_grant}
+use Rattle.lt_modes.specs.SetMove.{answers, given, granted, ask_of, asked, locked, tried, unlocked, change_held, changed}
+use Rattle.lt_spec.specs.Holdings.{Holding, holding, wanted_after}
+use Rattle.lt_law_ledgers.proofs.OwnSteps.{route_same}
+use Rattle.lt_law_lines.proofs.LineRules.{route_says}
+use Rattle.lt_law_lines.proofs.WaitRules.{Unsaid, Answered, Answers, then_says}
+
+-- none of the asks is the client's
+abbrev pub NoneOf : ℕ → List Ask → Type 0
+NoneOf client asks = (ask : Ask) → Contains asks ask → ask.client ≢ client
+
+-- the client waits for nothing, as it did
+pub record StaysIdle (client : ℕ) (m : Made) : Type 0 where
+  pub said : fold (wanted_after client) None m.events ≡ None
+  pub none : NoneOf client m.state.pending
+
+-- the client waits for the mode, as it is said
+pub record NowWaits (client s : ℕ) (m : Made) : Type 0 where
+  pub mode : Mode
+  pub said : fold (wanted_after client) None m.events ≡ Some (holding client s mode)
+  pub asked : (ask : Ask) × Contains m.state.pending ask × (ask.client ≡ client) × (ask.mode ≡ mode)
+  pub only : (ask : Ask) → Contains m.state.pending ask → ask.client ≡ client → ask.mode ≡ mode
+
+-- what a command of the client says of it, where it waits for nothing, and of others
+pub record ActSays (client s : ℕ) (t : SetState) (m : Made) : Type 0 where
+  pub others : (c : ℕ) → c ≢ client → Unsaid c t m ⊎ Answered c t m
+  pub own : NoneOf client t.pending → StaysIdle client m ⊎ NowWaits client s m
+
+-- and then the end of the move
+pub act_ends : (client s : ℕ) (t : SetState) (m : Made) (rule : SetState → Made) → ActSays client s t m → Answers m.state (rule m.state) → ActSays client s t (then_do m rule)
+act_ends client s t m rule first second = record {
+  others = λ c d. then_says c t m rule (first.others c d) (second c);
+  own = λ idle. by_cases (first.own idle) (second client);
+}
+  where
+    later : List Event
+    later = (rule m.state).events
+
+    more : fold (wanted_after client) None (m.events ++ later) ≡ fold (wanted_after client) (fold (wanted_after client) None m.events) later
+    more = fold-append (wanted_after client) None m.events later
+
+    by_cases : StaysIdle client m ⊎ NowWaits client s m → Unsaid client m.state (rule m.state) ⊎ Answered client m.state (rule m.state)
+        → StaysIdle client (then_do m rule) ⊎ NowWaits client s (then_do m rule)
+    by_cases (inl idle) (inl u) = inl (record {
+      said = more ∙ u.said (fold (wanted_after client) None m.events) ∙ idle.said;
+      none = λ ask there own. idle.none ask (u.older ask own there) own;
+    })
+    by_cases (inl idle) (inr a) = absurd (idle.none a.asked.0 a.asked.1 a.asked.2)
+    by_cases (inr waits) (inl u) = inr (record {
+      mode = waits.mode;
+      said = more ∙ u.said (fold (wanted_after client) None m.events) ∙ waits.said;
+      asked = (waits.asked.0, u.stays waits.asked.0 waits.asked.2 waits.asked.1, waits.asked.2, waits.asked.3);
+      only = λ ask there own. waits.only ask (u.older ask own there) own;
+    })
+    by_cases (inr waits) (inr a) = inl (record { said = more ∙ a.said (fold (wanted_after client) None m.events); none = a.none })
+
+-- lines that name no other client, and the asks as they were
+quiet_act : (client s : ℕ) (t : SetState) (m : Made) → ((c : ℕ) (lock : Option Holding) → c ≢ client → fold (wanted_after c) lock m.events ≡ lock)
+    → fold (wanted_after client) None m.events ≡ None → m.state.pending ≡ t.pending → ActSays client s t m
+quiet_act client s t m others own same = record {
+  others = λ c d. inl (record {
+    said = λ lock. others c lock d;
+    stays = λ ask mine there. subst (λ (l : List Ask). Contains l ask) (sym same) there;
+    older = λ ask mine there. subst (λ (l : List Ask). Contains l ask) same there;
+  });
+  own = λ idle. inl (record { said = own; none = λ ask there. idle ask (subst (λ (l : List Ask). Contains l ask) same there) });
+}
+
+-- a line that ends the client's waiting
+ends_waiting : (client s : ℕ) (t : SetState) (m : Made) → ((c : ℕ) (lock : Option Holding) → fold (wanted_after c) lock m.events ≡ (if client == c then None else lock))
+    → m.state.pending ≡ t.pending → ActSays client s t m
+ends_waiting client s t m says same = quiet_act client s t m
+    (λ c lock d. says c lock ∙ ap (λ (own : Bool). if own then None else lock) (ne_eqb client c (λ e. d (sym e))))
+    (says client None ∙ ap (λ (own : Bool). if own then None else None) (eq-eqb client client refl))
+    same
+
+-- the client waits, and its ask goes to the desk
+asked_says : (client s : ℕ) (stamp : Stamp) (mode : Mode) (gives_up : Option Mode) (t : SetState) → ActSays client s t (asked s stamp (ask_of stamp client mode gives_up t) t)
+asked_says client s stamp mode gives_up t = record {
+  others = λ c d. inl (record {
+    said = λ lock. said c lock ∙ ap (λ (own : Bool). if own then Some (holding client s mode) else lock) (ne_eqb client c (λ e. d (sym e)));
+    stays = λ other mine there. subst (λ (l : List Ask). Contains l other) (sym pending) (Contains-append_left t.pending (ask ∷ []) other there);
+    older = λ other mine there. elim (Contains-push_cases t.pending ask other (subst (λ (l : List Ask). Contains l other) pending there)) [
+      | inl old ↦ old
+      | inr new ↦ absurd (d (sym mine ∙ ap (λ (x : Ask). x.client) (sym new)))
+    ];
+  });
+  own = λ idle. inr (record {
+    mode = mode;
+    said = said client None ∙ ap (λ (own : Bool). if own then Some (holding client s mode) else None) (eq-eqb client client refl);
+    asked = (ask, subst (λ (l : List Ask). Contains l ask) (sym pending) (Contains-push t.pending ask), refl, refl);
+    only = λ other there mine. elim (Contains-push_cases t.pending ask other (subst (λ (l : List Ask). Contains l other) pending there)) [
+      | inl old ↦ absurd (idle other old mine)
+      | inr new ↦ ap (λ (x : Ask). x.mode) (sym new)
+    ];
+  });
+}
+  where
+    ask : Ask
+    ask = ask_of stamp client mode gives_up t
+
+    more : SetState
+    more = record t { pending = t.pending ++ ask ∷ [] }
+
+    pending : (asked s stamp ask t).state.pending ≡ t.pending ++ ask ∷ []
+    pending = (route_same s stamp false (ParkedAsk ask) more).1.pending
+
+    said : (c : ℕ) (lock : Option Holding) → fold (wanted_after c) lock (asked s stamp ask t).events ≡ (if client == c then Some (holding client s mode) else lock)
+    said c lock = ap (λ (l : List Event). fold (wanted_after c) lock (Wait client s mode ∷ l)) (route_says s stamp false (ParkedAsk ask) more).0
+
+pub locked_says : (client s : ℕ) (stamp : Stamp) (mode : Mode) (t : SetState) → ActSays client s t (locked s stamp client mode t)
+locked_says client s stamp mode t = by_test (can_grant stamp.node t client mode)
+  where
+    by_test : (can : Bool) → ActSays client s t (if can then granted s client mode t else asked s stamp (ask_of stamp client mode None t) t)
+    by_test true = ends_waiting client s t (granted s client mode t) (λ c lock. refl) refl
+    by_test false = asked_says client s stamp mode None t
+
+pub tried_says : (client s : ℕ) (stamp : Stamp) (mode : Mode) (t : SetState) → ActSays client s t (tried s stamp client mode t)
+tried_says client s stamp mode t = by_test (can_grant stamp.node t client mode)
+  where
+    by_test : (can : Bool) → ActSays client s t (if can then answers (Try client s mode true) (given client mode None t) else answers (Try client s mode false) t)
+    by_test true = quiet_act client s t (answers (Try client s mode true) (given client mode None t)) (λ c lock d. refl) refl refl
+    by_test false = quiet_act client s t (answers (Try client s mode false) t) (λ c lock d. refl) refl refl
+
+pub unlocked_says : (client s : ℕ) (mode : Mode) (t : SetState) → ActSays client s t (unlocked s client mode t)
+unlocked_says client s mode t = by_test (count_of t.held client mode == 0)
+  where
+    by_test : (none : Bool) → ActSays client s t (if none then answers (NotHeld client s mode) t else answers (Unlock client s mode) (record t { held = take_lock t.held client mode }))
+    by_test true = quiet_act client s t (answers (NotHeld client s mode) t) (λ c lock d. refl) refl refl
+    by_test false = quiet_act client s t (answers (Unlock client s mode) (record t { held = take_lock t.held client mode })) (λ c lock d. refl) refl refl
+
+pub changed_says : (client s : ℕ) (stamp : Stamp) (gives_up mode : Mode) (t : SetState) → ActSays client s t (changed s stamp client gives_up mode t)
+changed_says client s stamp gives_up mode t = by_count (count_of t.held client gives_up == 0)
+  where
+    by_test : (can : Bool) → ActSays client s t (if can then answers (Change client s gives_up mode) (given client mode (Some gives_up) t) else asked s stamp (ask_of stamp client mode (Some gives_up) t) t)
+    by_test true = ends_waiting client s t (answers (Change client s gives_up mode) (given client mode (Some gives_up) t)) (λ c lock. refl) refl
+    by_test false = asked_says client s stamp mode (Some gives_up) t
+
+    by_count : (none : Bool) → ActSays client s t (if none then answers (NotHeld client s gives_up) t else change_held s stamp client gives_up mode t)
+    by_count true = quiet_act client s t (answers (NotHeld client s gives_up) t) (λ c lock d. refl) refl refl
+    by_count false = by_test (can_grant stamp.node t client mode)

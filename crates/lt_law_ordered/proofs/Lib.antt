@@ -1,0 +1,10 @@
+pub mod Loans
+pub mod Weaker
+pub mod ActLoans
+pub mod ChangeLoans
+pub mod NodeLoans
+pub mod MayHold
+pub mod LoanMoves
+pub mod OrderedRest
+pub mod Releasing
+pub mod FirstBad

@@ -1,0 +1,4 @@
+pub mod Ordered
+pub mod Ranked
+pub mod OrderedLaws
+pub mod OrderedRows

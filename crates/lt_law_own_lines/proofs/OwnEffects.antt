@@ -1,0 +1,157 @@
+-- The effects of a move show lines of clients of the node that moves.
+use Rattle.std.proofs.Common.{◌≡◌, ℕ, ◌<◌, List, [], ◌∷◌, ◌++◌, length, map, Option, Some, None, Bool, true, false, refl, ◌∙◌}
+use Rattle.std.specs.Prelude.{◌==◌, not, if◌then◌else◌}
+use Rattle.std.specs.List.{AllByRecursion}
+use Rattle.std.proofs.lemmas.Bool.{eqb-true}
+use Rattle.std.proofs.lemmas.List.Elements.{All-filter}
+use Rattle.lt_modes.specs.declared.mode.Mode.{Mode}
+use Rattle.lt_modes.specs.declared.stamp.Stamp.{Stamp}
+use Rattle.lt_modes.specs.declared.ask.Ask.{Ask}
+use Rattle.lt_modes.specs.declared.event.Event.{Event}
+use Rattle.lt_modes.specs.declared.event.Event.TheVariants.{Freeze}
+use Rattle.lt_modes.specs.Modes.{Modes}
+use Rattle.lt_modes.specs.Held.{is_of, held_modes}
+use Rattle.lt_modes.specs.Script.{ScriptData}
+use Rattle.lt_modes.specs.State.{SetState, Desk, Body, AskBody, TellBody, CopyBody, TokenBody, FreezeBody, Letter, Parked, ParkedAsk, ParkedTell}
+use Rattle.lt_modes.specs.Made.{Made, then_do}
+use Rattle.lt_modes.specs.Queue.{no_ask}
+use Rattle.lt_modes.specs.Serving.{queue_of, answer_event, answer_by, ask_at, serve_one, serve_local, serve_copy}
+use Rattle.lt_modes.specs.Freezing.{freeze, freeze_at, frozen_by, targets}
+use Rattle.lt_modes.specs.HandingOver.{hand_over_to}
+use Rattle.lt_modes.specs.Routing.{Way, Parks, Goes, learn, sent_on, route}
+use Rattle.lt_modes.specs.Telling.{tell_of, finish}
+use Rattle.lt_modes.specs.Taking.{take_body, arrive}
+use Rattle.lt_modes.specs.SetMove.{ask_of, dropped, take, drop}
+use Rattle.lt_spec.specs.Families.{home}
+use Rattle.lt_lists.proofs.AllLemmas.{all_append}
+use Rattle.lt_model.specs.Homes.{IsRowAtHome, IsAskAtHome, IsBodyAtHome, IsStateAtHome}
+use Rattle.lt_model.proofs.Effects.{route_ways}
+use Rattle.lt_model.proofs.RuleEffects.{Between, EndRules, ActRules, finish_rule, take_rule}
+use Rattle.lt_model.proofs.HomesEffects.{home_ends, home_acts, arrives_home}
+use Rattle.lt_law_own_lines.specs.OwnLines.{IsOwnLine}
+
+abbrev pub AreOwnLines : ScriptData → ℕ → List Event → Type 0
+AreOwnLines script q lines = AllByRecursion (IsOwnLine script q) lines
+
+-- what is at home stays so, and the lines are of clients of node q
+abbrev pub own_lines : ScriptData → ℕ → Between
+own_lines script q t m = IsStateAtHome script q t → IsStateAtHome script q m.state × AreOwnLines script q m.events
+
+joined_own : (script : ScriptData) (q : ℕ) (t : SetState) (m : Made) (rule : SetState → Made) → own_lines script q t m
+    → own_lines script q m.state (rule m.state) → own_lines script q t (then_do m rule)
+joined_own script q t m rule first second h =
+    let one = first h in
+    let two = second one.0 in
+    (two.0, all_append (IsOwnLine script q) m.events (rule m.state).events one.1 two.1)
+
+-- the answer to an ask of a client of the node
+answer_own : (script : ScriptData) (q set : ℕ) (ask : Ask) → home script ask.client ≡ q → IsOwnLine script q (answer_event set ask)
+answer_own script q set ask own = by_choice ask.gives_up
+  where
+    by_choice : (gives_up : Option Mode) → IsOwnLine script q (answer_by set ask gives_up)
+    by_choice None = own
+    by_choice (Some mode) = own
+
+-- asks and tells go their way without a line
+route_own : (script : ScriptData) (q set : ℕ) (stamp : Stamp) (marked : Bool) (item : Parked) (t : SetState)
+    → AreOwnLines script q (route set stamp marked item t).events
+route_own script q set stamp marked item t =
+    route_ways (λ m. AreOwnLines script q m.events) set stamp marked item t (λ desk e. tt) (λ away w e. goes w)
+  where
+    goes : (w : Way) → AreOwnLines script q (sent_on set stamp item t w).events
+    goes Parks = tt
+    goes (Goes to mark) = tt
+
+serves_own : (script : ScriptData) (set : ℕ) (stamp : Stamp) (t : SetState) (k : ℕ) → k < length (queue_of t) → IsStateAtHome script stamp.node t
+    → AreOwnLines script stamp.node (serve_one set stamp k t).events
+serves_own script set stamp t k within h = by_test ((ask_at t k).node == stamp.node) refl
+  where
+    own : IsAskAtHome script (ask_at t k)
+    own = h.queue k no_ask within
+
+    by_test : (here : Bool) → ((ask_at t k).node == stamp.node) ≡ here
+        → AreOwnLines script stamp.node (if here then serve_local set k t else serve_copy set stamp k (ask_at t k) t).events
+    by_test true e = (answer_own script stamp.node set (ask_at t k) (own.home ∙ eqb-true (ask_at t k).node stamp.node e), tt)
+    by_test false e = (tt, tt)
+
+freezes_own : (script : ScriptData) (q set : ℕ) (stamp : Stamp) (t : SetState) → AreOwnLines script q (freeze set stamp t).events
+freezes_own script q set stamp t = by_desk t.desk
+  where
+    told_own : (number : ℕ) (modes : Modes) (told : List ℕ) → AreOwnLines script q (map (λ x. Freeze set x number modes) told)
+    told_own number modes [] = tt
+    told_own number modes (x ∷ rest) = (tt, told_own number modes rest)
+
+    by_desk : (desk : Option Desk) → AreOwnLines script q (freeze_at set stamp t desk).events
+    by_desk None = tt
+    by_desk (Some desk) = told_own _ _ (targets stamp.node (frozen_by desk.queue) desk)
+
+leaves_own : (script : ScriptData) (q set : ℕ) (stamp : Stamp) (t : SetState) (v : ℕ) → AreOwnLines script q (hand_over_to set stamp t v t.desk).events
+leaves_own script q set stamp t v = by_desk t.desk
+  where
+    by_desk : (desk : Option Desk) → AreOwnLines script q (hand_over_to set stamp t v desk).events
+    by_desk None = tt
+    by_desk (Some desk) = (tt, tt)
+
+own_ends : (script : ScriptData) (set : ℕ) (stamp : Stamp) → set < length script.sets → stamp.node < script.nodes
+    → EndRules set stamp (own_lines script stamp.node)
+own_ends script set stamp in_sets in_nodes =
+    let homes = home_ends script 0 set stamp in_sets in_nodes in
+    record {
+      silent = λ t h. (h, tt);
+      joined = joined_own script stamp.node;
+      serves = λ t k within h. ((homes.serves t k within h).state, serves_own script set stamp t k within h);
+      freezes = λ t h. ((homes.freezes t h).state, freezes_own script stamp.node set stamp t);
+      leaves = λ t v h. ((homes.leaves t v h).state, leaves_own script stamp.node set stamp t v);
+      tells = λ t h. ((homes.tells t h).state, route_own script stamp.node set stamp false (ParkedTell (tell_of stamp t)) (record t { charge = held_modes t.held }));
+    }
+
+pub own_acts : (script : ScriptData) (set : ℕ) (stamp : Stamp) (client : ℕ) → set < length script.sets → client < length script.clients
+    → home script client ≡ stamp.node → stamp.node < script.nodes → ActRules set stamp client (own_lines script stamp.node)
+own_acts script set stamp client in_sets known own in_nodes =
+    let homes = home_acts script 0 set stamp client in_sets known own in_nodes in
+    record {
+      tries_not = λ mode t h. ((homes.tries_not mode t h).state, (own, tt));
+      holds_not = λ mode t h. ((homes.holds_not mode t h).state, (own, tt));
+      grants = λ mode t h. ((homes.grants mode t h).state, (own, tt));
+      tries = λ mode t h. ((homes.tries mode t h).state, (own, tt));
+      changes = λ gives_up mode t h. ((homes.changes gives_up mode t h).state, (own, tt));
+      releases = λ mode t h. ((homes.releases mode t h).state, (own, tt));
+      asks = λ mode gives_up t h.
+          let ask = ask_of stamp client mode gives_up t in
+          ((homes.asks mode gives_up t h).state, (own, route_own script stamp.node set stamp false (ParkedAsk ask) (record t { pending = t.pending ++ ask ∷ [] })));
+      ended = λ t m a. joined_own script stamp.node t m (finish set stamp) a
+          (finish_rule set stamp (own_lines script stamp.node) (own_ends script set stamp in_sets in_nodes) m.state);
+    }
+
+pub finish_own : (script : ScriptData) (set : ℕ) (stamp : Stamp) → set < length script.sets → stamp.node < script.nodes → (t : SetState)
+    → own_lines script stamp.node t (finish set stamp t)
+finish_own script set stamp in_sets in_nodes t = finish_rule set stamp (own_lines script stamp.node) (own_ends script set stamp in_sets in_nodes) t
+
+arrives_own : (script : ScriptData) (stamp : Stamp) (letter : Letter) → letter.set < length script.sets
+    → IsBodyAtHome script stamp.node letter.body → (t : SetState) → own_lines script stamp.node t (arrive stamp letter t)
+arrives_own script stamp letter in_sets own t h =
+    ((arrives_home script 0 stamp letter in_sets own t h).state, by_body letter.body own (learn letter.link t))
+  where
+    by_body : (body : Body) → IsBodyAtHome script stamp.node body → (u : SetState) → AreOwnLines script stamp.node (take_body letter.set stamp body u).events
+    by_body (AskBody ask marked) at u = route_own script stamp.node letter.set stamp marked (ParkedAsk ask) u
+    by_body (TellBody tell) at u = route_own script stamp.node letter.set stamp false (ParkedTell tell) u
+    by_body (CopyBody ask) at u = (answer_own script stamp.node letter.set ask (at.0.home ∙ at.1), tt)
+    by_body (TokenBody desk) at u = tt
+    by_body (FreezeBody number modes) at u = tt
+
+pub take_own : (script : ScriptData) (stamp : Stamp) (letter : Letter) → letter.set < length script.sets
+    → IsBodyAtHome script stamp.node letter.body → stamp.node < script.nodes → (t : SetState) → own_lines script stamp.node t (take stamp letter t)
+take_own script stamp letter in_sets own in_nodes t =
+    take_rule stamp letter (own_lines script stamp.node) (own_lines script stamp.node)
+    (λ u m. joined_own script stamp.node u m (finish letter.set stamp)) (own_ends script letter.set stamp in_sets in_nodes) t
+    (arrives_own script stamp letter in_sets own t)
+
+pub drop_own : (script : ScriptData) (set : ℕ) (stamp : Stamp) (other : ℕ) → set < length script.sets → stamp.node < script.nodes
+    → (t : SetState) → own_lines script stamp.node t (drop set stamp other t)
+drop_own script set stamp other in_sets in_nodes t h =
+    finish_own script set stamp in_sets in_nodes (dropped other t) (record {
+      rows = All-filter (λ row. not (is_of other row)) (IsRowAtHome script stamp.node) t.held h.rows;
+      pending = h.pending;
+      parked = h.parked;
+      queue = h.queue;
+    })

@@ -1,0 +1,68 @@
+-- How far clocks get in plays, and what is enabled after them.
+use Rattle.std.proofs.Common.{◌≡◌, ℕ, zero, suc, ◌*◌, ◌≤◌, List, length, Bool, true, false, refl, ap, arith, ◌∙◌, take as take_first}
+use Rattle.std.specs.Prelude.{◌&&◌, ◌==◌, not, nat_lt}
+use Rattle.std.proofs.lemmas.Bool.{eqb-true}
+use Rattle.std.proofs.lemmas.List.{take_all}
+use Rattle.std.proofs.lemmas.List.Elements.{All-contains, All-from_recursion}
+use Rattle.lt_modes.specs.Script.{ScriptData}
+use Rattle.lt_spec.specs.Log.{Logged}
+use Rattle.lt_lists.specs.Below.{sum_below}
+use Rattle.lt_spec.specs.Families.{home}
+use Rattle.lt_spec.specs.NodeMove.{has_command, node_waits}
+use Rattle.lt_spec.specs.World.{World, start, is_some_letter, is_runnable, world_after}
+use Rattle.lt_model.proofs.ClocksGrow.{clocks_in_runs}
+use Rattle.lt_law_plays.specs.Merged.{merged}
+use Rattle.lt_law_plays.specs.MergeLaws.{joined_world, EnabledIsSeen, ClocksAreCounted, ClocksAreLow, LettersAreLow}
+use Rattle.lt_law_plays.proofs.PlayLemmas.{IsSentIn, plays_send_stamped}
+use Rattle.lt_law_plays.proofs.MergedLogs.{merged_exists, merged_has_all}
+use Rattle.lt_law_plays.proofs.MergedRun.{merged_is_run, merged_ends}
+
+pub clocks_are_counted : ClocksAreCounted
+clocks_are_counted script l h x =
+    let run = merged script.nodes l.log in
+    let is_merged = merged_exists script l h in
+    let bound = (clocks_in_runs script run (merged_is_run script l run h is_merged) (length run)).1 x in
+    let whole : take_first (length run) run ≡ run = take_all (length run) run (omega arith) in
+    let clock : ((world_after script (take_first (length run) run)).node x).clock ≡ (l.last x).clock =
+    ap (λ (r : List Logged). ((world_after script r).node x).clock) whole ∙ ap (λ (w : World). (w.node x).clock) (merged_ends script l run h is_merged) in
+    omega (arith, bound, clock, merged_has_all script l run h is_merged)
+
+pub sum_within : (n : ℕ) (f : ℕ → ℕ) → ((x : ℕ) → f x ≤ 1048576) → sum_below n f ≤ n * 1048576
+sum_within zero f h = omega arith
+sum_within (suc n) f h = omega (arith, sum_within n f h, h n)
+
+pub clocks_are_low : ClocksAreLow
+clocks_are_low script l h few short x =
+    omega (arith, clocks_are_counted script l h x, sum_within script.nodes (λ y. length (l.log y)) short, few)
+
+pub letters_are_low : LettersAreLow
+letters_are_low script l h few short p q letter among =
+    let sent = plays_send_stamped script p (l.log p) ((start script).node p) (l.last p) (l.used p) (l.sent p) (h.plays p) q in
+    let here : IsSentIn p 0 (l.last p).clock letter = All-contains (IsSentIn p 0 (l.last p).clock) (l.sent p q) letter
+    (All-from_recursion (IsSentIn p 0 (l.last p).clock) (l.sent p q) sent) among in
+    omega (arith, here.2, clocks_are_low script l h few short p)
+
+pub same_runnable : (script : ScriptData) (w : World) (q client : ℕ)
+    → home script client == q && is_runnable script w client ≡ (home script client == q && (not (node_waits script (w.node q) client) && has_command script (w.node q) client))
+same_runnable script w q client = by_test (home script client == q) (λ e. eqb-true (home script client) q e)
+  where
+    by_test : (t : Bool) → (t ≡ true → home script client ≡ q)
+        → t && is_runnable script w client ≡ (t && (not (node_waits script (w.node q) client) && has_command script (w.node q) client))
+    by_test true e = ap (λ x. not (node_waits script (w.node x) client) && has_command script (w.node x) client) (e refl)
+    by_test false e = refl
+
+pub enabled_is_seen : EnabledIsSeen
+enabled_is_seen script l run h is_merged = (
+  (λ q client. ap (λ (t : Bool). nat_lt client (length script.clients) && t)
+      (same_runnable script (world_after script run) q client
+      ∙ ap (λ (w : World). home script client == q && (not (node_waits script (w.node q) client) && has_command script (w.node q) client)) ends)),
+  (λ p q letter others front. ap (λ (t : Bool). nat_lt p script.nodes && (nat_lt q script.nodes && t))
+      (ap (λ (t : Bool). not (p == q) && t) (ap is_some_letter (ap (λ (w : World). w.mail p q) ends ∙ front)) ∙ and_true (not (p == q)))),
+)
+  where
+    ends : world_after script run ≡ joined_world script l run
+    ends = merged_ends script l run h is_merged
+
+    and_true : (t : Bool) → t && true ≡ t
+    and_true true = refl
+    and_true false = refl

@@ -1,0 +1,54 @@
+ghost use Rattle.lt_law_plays.specs.PlayLaws.{OneMovePlays, PlaysJoin, PlaysGrow, PlaysRise, PlaysSendStamped, TakesNothingOfItself, TakesNothingFromBeyond};
+ghost use Rattle.lt_law_plays.specs.Parts.{JoinedArePlays};
+ghost use Rattle.lt_law_plays.specs.MergeLaws.{MergedIsRun, MergedEnds, MergedExists, MergedHasAll, MergedIsOne, HandIsFront, SentWereOnWay, OnWayWereSent, TokenStands, TokenCame, EnabledIsSeen, ClocksAreCounted, ClocksAreLow, LettersAreLow, HeadsFit, RunsArePlays};
+
+/// One move is a play; a play and one that begins where it ended are a play; in a play the node's stamps rise.
+pub fn law_plays()
+    ensures one { OneMovePlays }
+    ensures join { PlaysJoin }
+    ensures grow { PlaysGrow }
+    ensures rise { PlaysRise }
+    ensures sent { PlaysSendStamped }
+    ensures own { TakesNothingOfItself }
+    ensures beyond { TakesNothingFromBeyond }
+{}
+
+/// Plays of all nodes, in which the letters that were used are the first ones of those sent, merge to exactly one run by
+/// their stamps. After it each node is as its play left it, and the letters that were not used are on their way.
+pub fn law_merge()
+    ensures run { MergedIsRun }
+    ensures ends { MergedEnds }
+    ensures exists { MergedExists }
+    ensures all { MergedHasAll }
+    ensures one { MergedIsOne }
+{}
+
+/// In the world after that run the first letter that its receiver has not used is in front, and what a node can do is seen from
+/// its own state and letters. The letters that were ever on their way are those that were sent.
+pub fn law_letters()
+    ensures hand { HandIsFront }
+    ensures enabled { EnabledIsSeen }
+    ensures on_way { SentWereOnWay }
+    ensures sent { OnWayWereSent }
+{}
+
+/// The token history of that run is told by the letters that were sent.
+pub fn law_tokens()
+    ensures stands { TokenStands }
+    ensures came { TokenCame }
+{}
+
+/// Clocks stay below their bound where nodes make no more moves than they may, so that no letter is refused for its numbers.
+pub fn law_low_clocks()
+    ensures counted { ClocksAreCounted }
+    ensures nodes { ClocksAreLow }
+    ensures letters { LettersAreLow }
+    ensures heads { HeadsFit }
+{}
+
+/// One play for each node, where each used the first ones of the letters that each other one sent to it, are such plays;
+/// and so are the parts of the nodes in any run.
+pub fn law_parts()
+    ensures joined { JoinedArePlays }
+    ensures run { RunsArePlays }
+{}

@@ -1,0 +1,9 @@
+pub mod Finds
+pub mod RingSets
+pub mod RingWalks
+pub mod WalkEnds
+pub mod Reports
+pub mod KeptAsks
+pub mod WaitsAtRest
+pub mod Ended
+pub mod Explained

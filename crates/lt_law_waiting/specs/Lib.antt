@@ -1,0 +1,5 @@
+pub mod Reports
+pub mod RingLaws
+pub mod ReportLaws
+pub mod WaitingLaws
+pub mod ReportRows

@@ -1,0 +1,48 @@
+ghost use Rattle.lt_law_waiting.specs.RingLaws.{RingSetWaits, RingSetIsGreatest, WalkFindsRing, NoRing, WalksEnd};
+ghost use Rattle.lt_law_waiting.specs.ReportLaws.{WaitsAreTold, CyclesAreRings, RingsAreTold, NoCycleIsTold, EndsAreTold, EndsAreAll};
+ghost use Rattle.lt_law_waiting.specs.WaitingLaws.{OnlyWaitersWait, EachWaitsForSome, EndedHold, WaitersAreExplained, PairsAreReported, EndsAreReported, WaitersAreReported};
+ghost use Rattle.lt_law_waiting.specs.ReportRows.{ChangesReport, KeptReport, ParkedReport, RingBehindLeast, LongWalk, RingOfThree, RingOfFour, RingAndEnded};
+
+/// Of any graph of who waits for whom: the ring set, the ring that a walk in it finds, and where walks end if no clients wait
+/// in a ring.
+pub fn law_rings()
+    ensures waits { RingSetWaits }
+    ensures greatest { RingSetIsGreatest }
+    ensures found { WalkFindsRing }
+    ensures none { NoRing }
+    ensures ends { WalksEnd }
+{}
+
+/// What the lines of the report tell, of any graph.
+pub fn law_reports()
+    ensures pairs { WaitsAreTold }
+    ensures cycles { CyclesAreRings }
+    ensures rings { RingsAreTold }
+    ensures no_cycle { NoCycleIsTold }
+    ensures ends { EndsAreTold }
+    ensures all { EndsAreAll }
+{}
+
+/// If no move is left, each waiting client waits for some client; somebody waits if and only if clients wait in a ring or a
+/// client that has ended holds a lock against one that waits; and the report tells each of them.
+pub fn law_waiting()
+    ensures waiters { OnlyWaitersWait }
+    ensures some { EachWaitsForSome }
+    ensures ended { EndedHold }
+    ensures explained { WaitersAreExplained }
+    ensures pairs { PairsAreReported }
+    ensures ends { EndsAreReported }
+    ensures all { WaitersAreReported }
+{}
+
+/// Small runs and their reports.
+pub fn law_report_rows()
+    ensures changes { ChangesReport }
+    ensures kept { KeptReport }
+    ensures parked { ParkedReport }
+    ensures ring_behind_least { RingBehindLeast }
+    ensures long_walk { LongWalk }
+    ensures ring_of_three { RingOfThree }
+    ensures ring_of_four { RingOfFour }
+    ensures ring_and_ended { RingAndEnded }
+{}

@@ -1,3 +1,0 @@
-pub mod Seen
-pub mod Hands
-pub mod OutData

@@ -1,0 +1,10 @@
+use Rattle.std.proofs.Common.{sym, ◌∙◌}
+use Rattle.lt_law_ordered.proofs.FirstBad.{first_bad_is_exact}
+use Rattle.lt_order.proofs.Orders.{none_is, none_told}
+use Rattle.lt_order.proofs.order.ordered.Goals as goal
+
+pub returns : goal.returns
+returns c = (
+  λ told. (first_bad_is_exact c.args.script.now).0.0 (sym c.first_bad.ensures.first ∙ none_is c.first_bad.result c.is_none.result c.is_none.ensures told),
+  λ ordered. none_told c.first_bad.result c.is_none.result c.is_none.ensures (c.first_bad.ensures.first ∙ (first_bad_is_exact c.args.script.now).0.1 ordered),
+)

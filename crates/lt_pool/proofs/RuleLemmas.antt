@@ -1,0 +1,199 @@
+-- How the rule of a pool goes on where the word of a slot, its home and the view of one post change.
+use Rattle.std.proofs.Common.{◌≡◌, ◌≢◌, ◌⊎◌, ℕ, ◌+◌, ◌<◌, true, List, [], ◌∷◌, ◌++◌, length, slice_index, slice_set, Option, Some, sym, refl, ap, ◌∙◌, subst, inl, inr, ⊎_elim, length-set, arith}
+use mathlib.Core.Logic.{dite}
+use mathlib.Core.Option as math
+use native.Mathlib.Decide.{ℕ_discrete}
+use lib.ListN.{get_elem?}
+use Rattle.atomic_table.specs.Table.{State}
+use Rattle.atomic_table.proofs.Lists.{set_here, set_else}
+use Rattle.lt_pool.specs.declared.view.View.{View}
+use Rattle.lt_pool.specs.Numbers.{Has, without, AllDiffer}
+use Rattle.lt_pool.specs.Items.{ContinuesAt}
+use Rattle.lt_pool.specs.Views.{claimed_more, refused_more, claimed_less}
+use Rattle.lt_pool.specs.Rule.{NoneReadZero, IsLive, Owner, Knows, Home, Kept}
+use Rattle.lt_pool.specs.PoolLaws.{AtHome, InOneHand}
+use Rattle.lt_pool.proofs.NumberLemmas.{has_without, without_keeps, without_it, differ_without}
+use Rattle.lt_pool.proofs.ViewLemmas.{SamePost, word_here, word_else, live_set, set_live, apart_stays, first_stays, owner_stays}
+use Rattle.lt_pool.proofs.Forwarding.{Homes}
+
+none_zero_push : (refused : List (ℕ × ℕ)) (i word : ℕ) → word ≢ 0 → NoneReadZero refused
+    → NoneReadZero (refused ++ (i, word) ∷ [])
+none_zero_push [] i word ne h = (ne, tt)
+none_zero_push (x ∷ xs) i word ne h = (h.0, none_zero_push xs i word ne h.1)
+
+module _ {T : Type 0} where
+  same_post : (v : View T) (claimed : List ℕ) (refused : List (ℕ × ℕ)) → v.live ≡ true
+      → SamePost v (record v { claimed = claimed; refused = refused })
+  same_post v claimed refused live = record {
+    firsts = refl;
+    live = live;
+    number = refl;
+    out = refl;
+    splits = refl;
+    joined = refl;
+  }
+
+  -- what a post knows that doesn't have slot i, after the word of slot i changed
+  knows_else : (firsts : List T) (words : List ℕ) (i n : ℕ) (v : View T) → (Has i v.claimed → ⊥)
+      → Knows firsts words v → Knows firsts (slice_set words (i + 1) n) v
+  knows_else firsts words i n v not k = record {
+    told = k.told;
+    claims = λ j h.
+        let c = k.claims j h in
+        (c.0, word_else words i j n (λ e. not (subst (λ x. Has x v.claimed) e h)) ∙ c.1);
+    differ = k.differ;
+    refusals = k.refusals;
+  }
+
+module _ {T : Type 0} (continues : T → T → Type 0) (firsts : List T) where
+  abbrev Rule : State (Option T) (View T) → Type 0
+  Rule s = Kept continues firsts s
+
+  -- no live post has a slot whose word is 0
+  not_free : (s : State (Option T) (View T)) (j i : ℕ) (v : View T) → Rule s → IsLive s.views j v
+      → slice_index s.words (i + 1) ≡ 0 → Has i v.claimed → ⊥
+  not_free s j i v r is free has =
+      let c = (r.knows j v is).claims i has in
+      let one_more : v.number + 1 ≡ 0 = sym c.1 ∙ free in
+      absurd (omega arith)
+
+  -- no two of them have one slot
+  not_both : (s : State (Option T) (View T)) (j k i : ℕ) (v w : View T)
+      → Rule s → IsLive s.views j v → IsLive s.views k w → Has i v.claimed → Has i w.claimed → j ≡ k
+  not_both s j k i v w r vis wis hv hw =
+      let mine = ((r.knows j v vis).claims i hv).1 in
+      let theirs = ((r.knows k w wis).claims i hw).1 in
+      let same : v.number + 1 ≡ w.number + 1 = sym mine ∙ theirs in
+      r.apart j k v w vis wis (omega arith)
+
+  pub in_one_place : (s : State (Option T) (View T)) → Rule s → (i : ℕ) → i < length firsts
+      → AtHome continues firsts s i ⊎ InOneHand s i
+  in_one_place s r i li =
+      dite (ℕ_discrete (slice_index s.words (i + 1)) 0)
+      (λ free. inl record { free = free; item = r.free i li free; nobody = λ j v is. not_free s j i v r is free })
+      (λ nz. let o = r.taken i li nz in
+      let word = ((r.knows o.seat o.view o.is).claims i o.has).1 in
+      inr record { owner = o; word = word; only = λ j v is has. not_both s j o.seat i v o.view r is o.is has o.has })
+
+  -- a step of seat `id`, whose view becomes w
+  after_step : (s : State (Option T) (View T)) (id : ℕ) (v w : View T) (words : List ℕ) (homes : Homes T)
+      → Rule s → IsLive s.views id v → SamePost v w → length words ≡ length s.words → length homes ≡ length s.homes
+      → ((i : ℕ) → i < length firsts → slice_index words (i + 1) ≡ 0 → Home continues firsts homes i)
+      → ((i : ℕ) → i < length firsts → slice_index words (i + 1) ≢ 0 → Owner (slice_set s.views id w) i)
+      → Knows firsts words w → ((j : ℕ) (u : View T) → j ≢ id → IsLive s.views j u → Knows firsts words u)
+      → Rule record { words = words; homes = homes; views = slice_set s.views id w }
+  after_step s id v w words homes r is same wide rows free taken mine others = record {
+    wide = wide ∙ r.wide;
+    rows = rows ∙ r.rows;
+    free = free;
+    taken = taken;
+    knows = λ j u pj. ⊎_elim
+        (λ t. subst (Knows firsts words) t.1 mine)
+        (λ t. others j u t.0 t.1)
+        (live_set s.views id j w u pj);
+    apart = apart_stays s.views id v w is same.number r.apart;
+    first = first_stays s.views id v w is same r.first;
+  }
+
+  -- the view changes but keeps its slots, in whatever order, and what is at home in the other slots stays
+  pub view_changes : (s : State (Option T) (View T)) (id : ℕ) (v : View T)
+      (claimed : List ℕ) (refused : List (ℕ × ℕ)) (homes : Homes T) → Rule s → IsLive s.views id v
+      → ((i : ℕ) → Has i claimed → Has i v.claimed) → ((i : ℕ) → Has i v.claimed → Has i claimed)
+      → AllDiffer claimed → NoneReadZero refused
+      → length homes ≡ length s.homes → ((i : ℕ) → (Has i v.claimed → ⊥) → get_elem? homes i ≡ get_elem? s.homes i)
+      → Rule record {
+        words = s.words;
+        homes = homes;
+        views = slice_set s.views id (record v { claimed = claimed; refused = refused });
+      }
+  view_changes s id v claimed refused homes r is back forth differ refusals rows else =
+      let w = record v { claimed = claimed; refused = refused } in
+      let k = r.knows id v is in
+      after_step s id v w s.words homes r is (same_post v claimed refused is.live) refl rows
+      (λ i li free.
+      let h = r.free i li free in
+      record { item = h.item; there = else i (not_free s id i v r is free) ∙ h.there; fits = h.fits })
+      (λ i li ne. owner_stays s.views id i v w is is.live (forth i) (r.taken i li ne))
+      record { told = k.told; claims = λ i h. k.claims i (back i h); differ = differ; refusals = refusals }
+      (λ j u ne. r.knows j u)
+
+  pub refuses : (s : State (Option T) (View T)) (id i word : ℕ) (v : View T) → Rule s → IsLive s.views id v → word ≢ 0
+      → Rule record { words = s.words; homes = s.homes; views = slice_set s.views id (refused_more i word v) }
+  refuses s id i word v r is ne =
+      let k = r.knows id v is in
+      view_changes s id v v.claimed (v.refused ++ (i, word) ∷ []) s.homes r is (λ j h. h) (λ j h. h) k.differ
+      (none_zero_push v.refused i word ne k.refusals) refl (λ j not. refl)
+
+  pub goes_out : (s : State (Option T) (View T)) (id i : ℕ) (v : View T)
+      → i < length firsts → Rule s → IsLive s.views id v
+      → slice_index s.words (i + 1) ≡ 0
+      → Rule record {
+        words = slice_set s.words (i + 1) (v.number + 1);
+        homes = slice_set s.homes i math.none;
+        views = slice_set s.views id (claimed_more i v);
+      }
+  goes_out s id i v li r is free =
+      let w = claimed_more i v in
+      let n = v.number + 1 in
+      let words = slice_set s.words (i + 1) n in
+      let wide = r.wide in
+      let here : slice_index words (i + 1) ≡ n = word_here s.words i n (omega arith) in
+      let k = r.knows id v is in
+      after_step s id v w words (slice_set s.homes i math.none) r is (same_post v (i ∷ v.claimed) v.refused is.live)
+      (length-set s.words (i + 1) n) (length-set s.homes i math.none)
+      (λ j lj z. dite (ℕ_discrete j i)
+      (λ e. let nought : n ≡ 0 = sym here ∙ (ap (λ x. slice_index words (x + 1)) (sym e) ∙ z) in absurd (omega arith))
+      (λ ne. let h = r.free j lj (sym (word_else s.words i j n ne) ∙ z) in
+      record { item = h.item; there = set_else s.homes i j math.none ne ∙ h.there; fits = h.fits }))
+      (λ j lj nz. dite (ℕ_discrete j i)
+      (λ e. record { seat = id; view = w; is = set_live s.views id v w is is.live; has = inl e })
+      (λ ne.
+      let before = r.taken j lj (λ z. nz (word_else s.words i j n ne ∙ z)) in
+      owner_stays s.views id j v w is is.live (λ h. inr h) before))
+      record {
+        told = k.told;
+        claims = λ j. ⊎_elim
+            (λ (e : j ≡ i). (subst (λ x. x < length firsts) (sym e) li, ap (λ x. slice_index words (x + 1)) e ∙ here))
+            (λ h. (knows_else firsts s.words i n v (not_free s id i v r is free) k).claims j h);
+        differ = (not_free s id i v r is free, k.differ);
+        refusals = k.refusals;
+      }
+      (λ j u ne uis. knows_else firsts s.words i n u (not_free s j i u r uis free) (r.knows j u uis))
+
+  pub comes_home : (s : State (Option T) (View T)) (id i : ℕ) (v : View T) (item : T)
+      → i < length firsts → Has i v.claimed
+      → ContinuesAt continues firsts i item → Rule s → IsLive s.views id v
+      → Rule record {
+        words = slice_set s.words (i + 1) 0;
+        homes = slice_set s.homes i (math.some (Some item));
+        views = slice_set s.views id (claimed_less i v);
+      }
+  comes_home s id i v item li has fits r is =
+      let w = claimed_less i v in
+      let words = slice_set s.words (i + 1) 0 in
+      let homes = slice_set s.homes i (math.some (Some item)) in
+      let wide = r.wide in
+      let rows = r.rows in
+      let here : slice_index words (i + 1) ≡ 0 = word_here s.words i 0 (omega arith) in
+      let k = r.knows id v is in
+      after_step s id v w words homes r is (same_post v (without i v.claimed) v.refused is.live)
+      (length-set s.words (i + 1) 0) (length-set s.homes i (math.some (Some item)))
+      (λ j lj z. dite (ℕ_discrete j i)
+      (λ e. subst (Home continues firsts homes) (sym e)
+      record { item = item; there = set_here s.homes i (math.some (Some item)) (omega arith); fits = fits })
+      (λ ne. let h = r.free j lj (sym (word_else s.words i j 0 ne) ∙ z) in
+      record { item = h.item; there = set_else s.homes i j (math.some (Some item)) ne ∙ h.there; fits = h.fits }))
+      (λ j lj nz. dite (ℕ_discrete j i)
+      (λ e. absurd (nz (ap (λ x. slice_index words (x + 1)) e ∙ here)))
+      (λ ne.
+      let before = r.taken j lj (λ z. nz (word_else s.words i j 0 ne ∙ z)) in
+      owner_stays s.views id j v w is is.live (without_keeps i j v.claimed ne) before))
+      record {
+        told = k.told;
+        claims = λ j h. let c = k.claims j (has_without i j v.claimed h) in
+            let other : j ≢ i = λ e. without_it i v.claimed k.differ (subst (λ x. Has x (without i v.claimed)) e h) in
+            (c.0, word_else s.words i j 0 other ∙ c.1);
+        differ = differ_without i v.claimed k.differ;
+        refusals = k.refusals;
+      }
+      (λ j u ne uis. knows_else firsts s.words i 0 u (λ h. ne (not_both s j id i u v r uis is h has)) (r.knows j u uis))

@@ -1,0 +1,12 @@
+use Rattle.std.proofs.Common.{rules}
+use Rattle.lt_pool.proofs.PostLemmas.{joins}
+use Rattle.lt_pool.proofs.pool.Pool.join.Goals as goal
+
+pub join_seat-requires : goal.join_seat-requires
+join_seat-requires g c = (
+  search rules,
+  search rules,
+  search rules,
+  search rules,
+  joins _ _ _ _ _ _ (search rules) (search rules) (search rules) (search rules),
+)

@@ -1,0 +1,10 @@
+use Rattle.std.proofs.Common.{rules}
+use Rattle.lt_pool.proofs.StepLemmas.{releases}
+use Rattle.lt_pool.proofs.pool.Pool.release.Goals as goal
+
+pub store-requires : goal.store-requires
+store-requires g c = (
+  search rules,
+  search rules,
+  releases _ _ _ _ _ _ c.requires.item.0 (search rules) (search rules) (search rules) (search rules) (search rules),
+)

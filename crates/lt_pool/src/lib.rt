@@ -1,0 +1,19 @@
+//! Items in slots that workers claim, work on and give back, and that come back whole and in order at the end.
+#![tactic(auto)]
+
+mod calls;
+mod closing;
+mod laws;
+mod opening;
+mod pool;
+mod posts;
+mod rule;
+mod same;
+mod steps;
+#[cfg(test)]
+mod tests;
+mod view;
+
+pub use laws::law_one_place;
+pub use pool::{Pool, Post};
+pub use same::Same;

@@ -1,0 +1,9 @@
+pub mod Log
+pub mod Families
+pub mod NodeMove
+pub mod World
+pub mod Holdings
+pub mod Facts
+pub mod FixedOrder
+pub mod Rings
+pub mod Waiting

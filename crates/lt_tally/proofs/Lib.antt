@@ -1,0 +1,6 @@
+mod Cells
+pub mod Counting
+mod Dropping
+pub mod Few
+mod Steps
+mod Telling

@@ -1,0 +1,240 @@
+-- Which runners show a move: those whose node can make one.
+use Rattle.std.proofs.Common.{◌≡◌, ◌≢◌, ℕ, zero, suc, ◌<◌, ◌≤◌, inl, inr, List, [], ◌∷◌, ◌++◌, length, map, Option, Some, None, Bool, true, false, refl, sym, ap, subst, arith, ◌∙◌}
+use Rattle.std.specs.Prelude.{◌⊎◌, ◌==◌, ◌||◌, ◌&&◌, not, if◌then◌else◌, nat_lt, Contains, slice_get}
+use Rattle.std.specs.Option.{option_map}
+use Rattle.std.proofs.lemmas.Bool.{cases_eq, eq-eqb, ne_eqb, lt-ltb, ltb-true, and_from, and_parts, or_left, or_right}
+use Rattle.std.proofs.lemmas.Option.{slice_get-map}
+use Rattle.lt_desk.specs.LetterSeen.{letter_seen}
+use Rattle.lt_modes.specs.Script.{ScriptData}
+use Rattle.lt_modes.specs.State.{Letter}
+use Rattle.lt_lists.specs.Below.{any_below}
+use Rattle.lt_lists.proofs.Members.{contains_first}
+use Rattle.lt_lists.proofs.Searches.{any_below_at}
+use Rattle.lt_spec.specs.NodeMove.{NodeState}
+use Rattle.lt_spec.specs.World.{is_some_letter, has_mail}
+use Rattle.lt_limits.specs.declared.moves.TheConstants.{MAX_MOVES}
+use Rattle.lt_law_plays.specs.Plays.{can_act}
+use Rattle.lt_law_plays.specs.Parts.{Part, Joined}
+use Rattle.lt_law_merged.specs.JoinedRun.{IsJoinedRun}
+use Rattle.lt_law_merged.specs.States.{AreShort}
+use Rattle.lt_limits.specs.Cut.{can_move}
+use Rattle.lt_law_merged.proofs.Joining.{joined_merges}
+use Rattle.lt_law_merged.proofs.LeftLetters.{states_within, asks_have_place, clocks_below, letters_left_fit}
+use Rattle.lt_node.specs.NodeData.{state_of}
+use Rattle.lt_mail.specs.Words.{known_from, waiting_to}
+use Rattle.lt_runner.specs.declared.choice.Choice.TheVariants.{Nothing, Take}
+use Rattle.lt_core.specs.declared.fits.TheConstants.{LAST_CLOCK}
+use Rattle.lt_runner.specs.declared.parts.Hand.{Hand}
+use Rattle.lt_runner.specs.declared.parts.Parts.{Parts}
+use Rattle.lt_runner.specs.Choices.{least_below, or_this, may_move, may_act, may_take, act_of, act_choice, choice_by, next_choice}
+use Rattle.lt_runner.specs.Hands.{in_hand, IsFromPeer}
+use Rattle.lt_threads.specs.Together.{part_of, crew_run, crew_world, IsCrew, AreKept}
+use Rattle.lt_runner.specs.Looking.{HasFetched, is_move}
+use Rattle.lt_threads.specs.Meeting.{AreMet, AnyTwo}
+use Rattle.lt_threads.proofs.Joined.{left_for, left_is, joined, part_from}
+
+-- all that is known of runners that have met
+record CrewMet (script : ScriptData) (rs : List Parts) : Type 0 where
+  crew : IsCrew script rs
+  kept : AreKept rs
+  met : AreMet AnyTwo rs
+
+none_below : (n : ℕ) (test : ℕ → Bool) → ((k : ℕ) → k < n → test k ≡ false) → any_below n test ≡ false
+none_below zero test h = refl
+none_below (suc n) test h = rw (none_below n test (λ k below. h k (omega (arith, below))), h n (omega arith)) refl
+
+some_below : (n : ℕ) (test : ℕ → Bool) → any_below n test ≡ true → (k : ℕ) × (k < n) × (test k ≡ true)
+some_below zero test h = cc
+some_below (suc n) test h = by_test (any_below n test) (test n) refl refl h (some_below n test)
+  where
+    by_test : (earlier last : Bool) → any_below n test ≡ earlier → test n ≡ last → (earlier || last) ≡ true
+        → (any_below n test ≡ true → (k : ℕ) × (k < n) × (test k ≡ true)) → (k : ℕ) × (k < suc n) × (test k ≡ true)
+    by_test true last e f g again = let found = again e in (found.0, omega (arith, found.1), found.2)
+    by_test false true e f g again = (n, omega arith, f)
+    by_test false false e f g again = cc
+
+-- the least number that passes is there exactly where some number passes
+least_none : (n : ℕ) (test : ℕ → Bool) → any_below n test ≡ false → least_below n test ≡ None
+least_none zero test h = refl
+least_none (suc n) test h = by_test (any_below n test) (test n) refl refl h (least_none n test)
+  where
+    by_test : (earlier last : Bool) → any_below n test ≡ earlier → test n ≡ last → (earlier || last) ≡ false
+        → (any_below n test ≡ false → least_below n test ≡ None) → or_this (least_below n test) test n ≡ None
+    by_test false false e f g again = rw (again e, f) refl
+    by_test true last e f g again = cc
+    by_test false true e f g again = cc
+
+least_some : (n : ℕ) (test : ℕ → Bool) → any_below n test ≡ true → (k : ℕ) × (least_below n test ≡ Some k)
+least_some zero test h = cc
+least_some (suc n) test h = by_test (any_below n test) (test n) refl refl h (least_some n test)
+  where
+    by_test : (earlier last : Bool) → any_below n test ≡ earlier → test n ≡ last → (earlier || last) ≡ true
+        → (any_below n test ≡ true → (k : ℕ) × (least_below n test ≡ Some k)) → (k : ℕ) × (or_this (least_below n test) test n ≡ Some k)
+    by_test true last e f g again = let found = again e in (found.0, rw found.1 refl)
+    by_test false true e f g again = (n, rw (least_none n test e, f) refl)
+    by_test false false e f g again = cc
+
+runner_at : (rs : List Parts) (k : ℕ) → k < length rs → (p : Parts) × (slice_get rs k ≡ Some p)
+runner_at [] k h = absurd (omega (arith, h))
+runner_at (p ∷ rest) zero h = (p, refl)
+runner_at (p ∷ rest) (suc k) h = runner_at rest k (omega (arith, h))
+
+pub part_here : (rs : List Parts) (k : ℕ) (p : Parts) → slice_get rs k ≡ Some p → slice_get (map part_of rs) k ≡ Some (part_of p)
+part_here rs k p e = slice_get-map part_of rs k ∙ ap (option_map part_of) e
+
+-- what is known of the runner of node k
+record Seen (script : ScriptData) (rs : List Parts) (k : ℕ) (p : Parts) : Type 0 where
+  met_crew : CrewMet script rs
+  here : slice_get rs k ≡ Some p
+  plays : Joined script (map part_of rs)
+  run : IsJoinedRun script (map part_of rs) (crew_run script rs)
+  short : AreShort (map part_of rs)
+
+seen_at : (script : ScriptData) (rs : List Parts) (k : ℕ) (p : Parts) → CrewMet script rs → slice_get rs k ≡ Some p → Seen script rs k p
+seen_at script rs k p s here =
+    let plays = joined script rs s.crew s.kept s.met in
+    record { met_crew = s; here = here; plays = plays; run = joined_merges script (map part_of rs) plays; short = short }
+  where
+    short : AreShort (map part_of rs)
+    short x part e =
+        let (y, there, same) = part_from rs x part e in
+        let within : length y.log.entries ≤ MAX_MOVES = omega (arith, (s.kept x y there).bounded, (s.crew.each x y there).limit) in
+        subst (λ (a : Part). length a.log ≤ MAX_MOVES) same within
+
+-- the node has no clock at its bound, and keeps what leaves room
+may_move_is : (script : ScriptData) (rs : List Parts) (k : ℕ) (p : Parts) → Seen script rs k p → may_move script (state_of p.node) ≡ true
+may_move_is script rs k p seen =
+    let is_script = seen.met_crew.crew.is_script in
+    let part = part_here rs k p seen.here in
+    let low = clocks_below script (map part_of rs) is_script seen.plays seen.short k (part_of p) part in
+    and_from _ _ (lt-ltb p.node.clock LAST_CLOCK (omega (arith, low))) (states_within script (map part_of rs) is_script seen.plays k (part_of p) part)
+
+-- the letters on their way to node k in the world of the crew
+mail_is : (script : ScriptData) (rs : List Parts) (k : ℕ) (p : Parts) → Seen script rs k p → (a : ℕ) (x : Parts) → slice_get rs a ≡ Some x → a ≢ k
+    → (crew_world script rs).mail a k ≡ left_for a k x p
+mail_is script rs k p seen a x there apart =
+    let s = seen.met_crew in
+    seen.run.mail a k (part_of x) (part_of p) (left_for a k x p) (part_here rs a x there) (part_here rs k p seen.here)
+    (left_is a k x p (s.kept k p seen.here) (s.met a k x p tt apart there seen.here))
+
+-- with a letter in hand the node can take it
+takes_hand : (script : ScriptData) (rs : List Parts) (k : ℕ) (p : Parts) → Seen script rs k p → (hand : Hand) → p.hand ≡ Some hand
+    → (may_take script k (state_of p.node) (letter_seen hand.letter) ≡ true) × (has_mail script (crew_world script rs) hand.from k ≡ true)
+takes_hand script rs k p seen hand e =
+    let s = seen.met_crew in
+    let known = s.kept k p seen.here in
+    let in_crew = s.crew.each k p seen.here in
+    let from : (hand.from < p.node.script.nodes) × (hand.from ≢ p.node.me) = subst (IsFromPeer p.node.script.nodes p.node.me) e known.hand in
+    let below : hand.from < script.nodes = subst (λ (d : ScriptData). hand.from < d.nodes) in_crew.script_is from.0 in
+    let apart : hand.from ≢ k = λ same. from.1 (same ∙ sym in_crew.me) in
+    let (x, there) = runner_at rs hand.from (omega (arith, below, s.crew.count)) in
+    let mine : k < script.nodes = subst (λ (d : ScriptData). k < d.nodes) in_crew.script_is (subst (λ (n : ℕ). n < p.node.script.nodes) in_crew.me known.below) in
+    let in_front : in_hand hand.from p.hand ≡ letter_seen hand.letter ∷ [] =
+    ap (in_hand hand.from) e ∙ ap (λ (b : Bool). if b then letter_seen hand.letter ∷ [] else []) (eq-eqb hand.from hand.from refl) in
+    let left : left_for hand.from k x p ≡ letter_seen hand.letter ∷ (known_from p.mail hand.from ++ waiting_to x.mail k) =
+    ap (λ (letters : List Letter). letters ++ (known_from p.mail hand.from ++ waiting_to x.mail k)) in_front in
+    let comes = left_is hand.from k x p known (s.met hand.from k x p tt apart there seen.here) in
+    let first : Contains (left_for hand.from k x p) (letter_seen hand.letter) =
+    subst (λ (letters : List Letter). Contains letters (letter_seen hand.letter)) (sym left)
+    (contains_first (letter_seen hand.letter) (letter_seen hand.letter) (known_from p.mail hand.from ++ waiting_to x.mail k) refl) in
+    let fitting = letters_left_fit script (map part_of rs) s.crew.is_script seen.plays seen.short hand.from k (part_of x) (part_of p) (left_for hand.from k x p)
+    (letter_seen hand.letter) (part_here rs hand.from x there) (part_here rs k p seen.here) comes first in
+    let mail = mail_is script rs k p seen hand.from x there apart ∙ left in (
+      and_from _ _ (may_move_is script rs k p seen) fitting,
+      and_from _ _ (lt-ltb hand.from script.nodes below)
+          (and_from _ _ (lt-ltb k script.nodes mine)
+          (and_from _ _ (ap not (ne_eqb hand.from k apart)) (ap is_some_letter mail))),
+    )
+
+-- where no letter is in hand, none is on its way
+no_mail : (script : ScriptData) (rs : List Parts) (k : ℕ) (p : Parts) → Seen script rs k p → HasFetched p → p.hand ≡ None
+    → any_below script.nodes (λ a. has_mail script (crew_world script rs) a k) ≡ false
+no_mail script rs k p seen fetched empty = none_below script.nodes (λ a. has_mail script (crew_world script rs) a k) (λ a below. each a below)
+  where
+    none_on : (a : ℕ) → a < script.nodes → a ≢ k → (crew_world script rs).mail a k ≡ []
+    none_on a below apart =
+        let s = seen.met_crew in
+        let in_crew = s.crew.each k p seen.here in
+        let (x, there) = runner_at rs a (omega (arith, below, s.crew.count)) in
+        let known = fetched empty a (λ same. apart (same ∙ in_crew.me)) in
+        let waiting = (s.met a k x p tt apart there seen.here).moves empty known in
+        let hand : in_hand a p.hand ≡ [] = ap (in_hand a) empty in
+        let left : left_for a k x p ≡ [] = rw (hand, known, waiting) refl in
+        mail_is script rs k p seen a x there apart ∙ left
+
+    is_none : (a : ℕ) → (apart : Bool) → (a == k) ≡ apart → (is_some_letter ((crew_world script rs).mail a k) ≡ false) ⊎ (apart ≡ true)
+        → (nat_lt a script.nodes && (nat_lt k script.nodes && (not (a == k) && is_some_letter ((crew_world script rs).mail a k)))) ≡ false
+    is_none a apart e (inl empty) = rw empty (no_and (nat_lt a script.nodes) (nat_lt k script.nodes) (not (a == k)))
+      where
+        no_and : (b c d : Bool) → (b && (c && (d && false))) ≡ false
+        no_and true true true = refl
+        no_and true true false = refl
+        no_and true false d = refl
+        no_and false c d = refl
+    is_none a apart e (inr same) = rw (e ∙ same) (no_and (nat_lt a script.nodes) (nat_lt k script.nodes))
+      where
+        no_and : (b c : Bool) → (b && (c && false)) ≡ false
+        no_and true true = refl
+        no_and true false = refl
+        no_and false c = refl
+
+    each : (a : ℕ) → a < script.nodes → has_mail script (crew_world script rs) a k ≡ false
+    each a below = elim (cases_eq a k) [
+      | inl e ↦ is_none a (a == k) refl (inr (eq-eqb a k e))
+      | inr d ↦ is_none a (a == k) refl (inl (ap is_some_letter (none_on a below d)))
+    ]
+
+-- a runner that has met all others and fetched what came shows a move exactly where its node can make one
+pub shows_is : (script : ScriptData) (rs : List Parts) → IsCrew script rs → AreKept rs → AreMet AnyTwo rs → (k : ℕ) (p : Parts) → slice_get rs k ≡ Some p
+    → HasFetched p → is_move (next_choice p) ≡ can_move script (crew_world script rs) k
+shows_is script rs crew kept met k p here fetched =
+    let in_crew = crew.each k p here in
+    let state = state_of p.node in
+    let named : is_move (next_choice p) ≡ is_move (choice_by script k state p.hand) =
+    ap (λ (s : ScriptData). is_move (choice_by s p.node.me state p.hand)) in_crew.script_is
+    ∙ ap (λ (m : ℕ). is_move (choice_by script m state p.hand)) in_crew.me in
+    named ∙ by_hand p.hand refl
+  where
+    seen : Seen script rs k p
+    seen = seen_at script rs k p (record { crew = crew; kept = kept; met = met }) here
+
+    may : may_move script (state_of p.node) ≡ true
+    may = may_move_is script rs k p seen
+
+    node : (crew_world script rs).node k ≡ state_of p.node
+    node = seen.run.node k (part_of p) (part_here rs k p here)
+
+    acts : (found : Bool) → any_below (length script.clients) (can_act script k (state_of p.node)) ≡ found
+        → any_below (length script.clients) (can_act script k ((crew_world script rs).node k)) ≡ found
+    acts found e = ap (λ (n : NodeState). any_below (length script.clients) (can_act script k n)) node ∙ e
+
+    idle : (allowed : Bool) → is_move (if allowed then act_of None else Nothing) ≡ false
+    idle true = refl
+    idle false = refl
+
+    by_act : p.hand ≡ None → (found : Bool) → any_below (length script.clients) (can_act script k (state_of p.node)) ≡ found
+        → is_move (act_choice script k (state_of p.node)) ≡ can_move script (crew_world script rs) k
+    by_act empty true e =
+        let client = some_below (length script.clients) (can_act script k (state_of p.node)) e in
+        let places = asks_have_place script (map part_of rs) crew.is_script seen.plays k client.0 (part_of p) (part_here rs k p here) client.2 in
+        let allowed : may_act script (state_of p.node) ≡ true = and_from _ _ may places in
+        let first = least_some (length script.clients) (can_act script k (state_of p.node)) e in
+        let left : is_move (act_choice script k (state_of p.node)) ≡ true = rw (allowed, first.1) refl in
+        left ∙ sym (or_left _ _ (acts true e))
+    by_act empty false e =
+        let none = least_none (length script.clients) (can_act script k (state_of p.node)) e in
+        let left : is_move (act_choice script k (state_of p.node)) ≡ false = rw none (idle (may_act script (state_of p.node))) in
+        let right : can_move script (crew_world script rs) k ≡ false = rw (acts false e, no_mail script rs k p seen fetched empty) refl in
+        left ∙ sym right
+
+    by_hand : (o : Option Hand) → p.hand ≡ o → is_move (choice_by script k (state_of p.node) o) ≡ can_move script (crew_world script rs) k
+    by_hand None e = by_act e (any_below (length script.clients) (can_act script k (state_of p.node))) refl
+    by_hand (Some hand) e =
+        let (takes, mail) = takes_hand script rs k p seen hand e in
+        let left : is_move (choice_by script k (state_of p.node) (Some hand)) ≡ true =
+        ap (λ (b : Bool). is_move (if b then Take else act_choice script k (state_of p.node))) takes in
+        let from : hand.from < script.nodes = from_below mail in
+        left ∙ sym (or_right _ _ (any_below_at script.nodes hand.from (λ a. has_mail script (crew_world script rs) a k) from mail))
+      where
+        from_below : has_mail script (crew_world script rs) hand.from k ≡ true → hand.from < script.nodes
+        from_below m = ltb-true hand.from script.nodes (and_parts (nat_lt hand.from script.nodes) _ m).0

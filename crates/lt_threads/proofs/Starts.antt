@@ -1,0 +1,109 @@
+-- Runners at the start.
+use Rattle.std.proofs.Common.{◌≡◌, ℕ, zero, suc, ◌+◌, ◌<◌, ◌≤◌, inl, inr, List, [], ◌∷◌, ◌++◌, length, Some, None, refl, sym, ap, subst, arith, ◌∙◌, drop}
+use Rattle.std.specs.Prelude.{◌⊎◌, slice_get, slice_index_or, remove}
+use Rattle.std.proofs.lemmas.List.{length-append, length-drop}
+use Rattle.lt_modes.specs.Script.{ScriptData}
+use Rattle.lt_script.specs.Script.{IsScript}
+use Rattle.lt_lists.proofs.Members.{some_equal}
+use Rattle.lt_limits.specs.declared.moves.TheConstants.{MAX_MOVES}
+use Rattle.lt_mail.specs.declared.mail.Mail.{Mail}
+use Rattle.lt_mail.specs.Words.{out_at, in_at, IsOpenLink, Both}
+use Rattle.lt_mail.specs.Opening.{Opened, IsFresh}
+use Rattle.lt_runner.specs.declared.parts.Parts.{Parts}
+use Rattle.lt_runner.specs.Starts.{StartsWith}
+use Rattle.lt_threads.specs.Starting.{IsFirst, Starting, IsFirstCrew}
+
+-- before the first runner
+pub starting : (script : ScriptData) (capacity limit : ℕ) (mails : List Mail) → Opened script.nodes capacity mails → Starting script limit 0 mails []
+starting script capacity limit mails opened = record {
+  capacity = capacity;
+  all = mails;
+  opened = opened;
+  left_is = refl;
+  count = refl;
+  each = λ j p e. none p e;
+}
+  where
+    none : (p : Parts) {A : Type 0} → None ≡ Some p → A
+    none p e = cc
+
+pub has_mail : (script : ScriptData) (limit k : ℕ) (left : List Mail) (rs : List Parts) → Starting script limit k left rs → k < script.nodes → 0 < length left
+has_mail script limit k left rs h below =
+    omega (arith, below, h.opened.count, ap (λ (ms : List Mail). length ms) h.left_is, length-drop k h.all)
+
+first_left : (k : ℕ) (all : List Mail) (d : Mail) → k < length all → slice_get all k ≡ Some (slice_index_or (drop k all) 0 d)
+first_left zero [] d h = absurd (omega (arith, h))
+first_left zero (m ∷ ms) d h = refl
+first_left (suc k) [] d h = absurd (omega (arith, h))
+first_left (suc k) (m ∷ ms) d h = first_left k ms d (omega (arith, h))
+
+rest_left : (k : ℕ) (all : List Mail) → k < length all → remove (drop k all) 0 ≡ drop (k + 1) all
+rest_left zero [] h = absurd (omega (arith, h))
+rest_left zero (m ∷ ms) h = refl
+rest_left (suc k) [] h = absurd (omega (arith, h))
+rest_left (suc k) (m ∷ ms) h =
+    let same : suc (k + 1) ≡ suc k + 1 = omega arith in
+    rest_left k ms (omega (arith, h)) ∙ ap (λ (n : ℕ). drop n (m ∷ ms)) same
+
+pub next_fresh : (script : ScriptData) (limit k : ℕ) (left : List Mail) (rs : List Parts) (d : Mail) → Starting script limit k left rs → k < script.nodes
+    → IsFresh script.nodes k (slice_index_or left 0 d)
+next_fresh script limit k left rs d h below =
+    let here = first_left k h.all d (omega (arith, below, h.opened.count)) in
+    rw h.left_is (h.opened.fresh k (slice_index_or (drop k h.all) 0 d) here)
+
+get_push : (rs : List Parts) (p : Parts) (j : ℕ) (q : Parts) → slice_get (rs ++ p ∷ []) j ≡ Some q → (slice_get rs j ≡ Some q) ⊎ ((j ≡ length rs) × (p ≡ q))
+get_push [] p zero q e = inr (refl, some_equal p q e)
+get_push [] p (suc j) q e = cc
+get_push (x ∷ rs) p zero q e = inl e
+get_push (x ∷ rs) p (suc j) q e = later (get_push rs p j q e)
+  where
+    later : (slice_get rs j ≡ Some q) ⊎ ((j ≡ length rs) × (p ≡ q)) → (slice_get rs j ≡ Some q) ⊎ ((suc j ≡ suc (length rs)) × (p ≡ q))
+    later (inl old) = inl old
+    later (inr new) = inr (ap suc new.0, new.1)
+
+pub one_more : (script : ScriptData) (limit k : ℕ) (left : List Mail) (rs : List Parts) (d : Mail) (p : Parts) → Starting script limit k left rs → k < script.nodes
+    → StartsWith script k (slice_index_or left 0 d) limit p → Starting script limit (k + 1) (remove left 0) (rs ++ p ∷ [])
+one_more script limit k left rs d p h below starts = record {
+  capacity = h.capacity;
+  all = h.all;
+  opened = h.opened;
+  left_is = ap (λ (ms : List Mail). remove ms 0) h.left_is ∙ rest_left k h.all within;
+  count = omega (arith, length-append rs (p ∷ []), h.count);
+  each = λ j q e. by_place j q (get_push rs p j q e);
+}
+  where
+    within : k < length h.all
+    within = omega (arith, below, h.opened.count)
+
+    mail : slice_get h.all k ≡ Some p.mail
+    mail =
+        let here = first_left k h.all d within in
+        here ∙ ap Some (sym (ap (λ (ms : List Mail). slice_index_or ms 0 d) h.left_is) ∙ sym starts.mail_is)
+
+    by_place : (j : ℕ) (q : Parts) → (slice_get rs j ≡ Some q) ⊎ ((j ≡ length rs) × (p ≡ q)) → IsFirst script limit j h.all q
+    by_place j q (inl old) = h.each j q old
+    by_place j q (inr new) =
+        let at : j ≡ k = new.0 ∙ h.count in
+        subst (λ (x : Parts). IsFirst script limit j h.all x) new.1
+        (subst (λ (i : ℕ). IsFirst script limit i h.all p) (sym at)
+        (record { script_is = starts.script_is; me = starts.me; limit_is = starts.limit_is; log = starts.log; mail = mail }))
+
+pub first_crew : (script : ScriptData) (limit : ℕ) (left : List Mail) (rs : List Parts) → IsScript script → limit ≤ MAX_MOVES
+    → Starting script limit script.nodes left rs → IsFirstCrew script limit rs
+first_crew script limit left rs is_script few h = record {
+  crew = record {
+    is_script = is_script;
+    count = h.count;
+    each = λ k p e. let first = h.each k p e in record { script_is = first.script_is; me = first.me; limit = omega (arith, first.limit_is, few) };
+    links = λ a b x y ea eb apart.
+        let one = h.each a x ea in
+        let two = h.each b y eb in
+        let fresh = h.opened.fresh a x.mail one.mail in
+        let also = h.opened.fresh b y.mail two.mail in
+        let linked = h.opened.links a b x.mail y.mail one.mail two.mail in
+        subst (λ (i : ℕ). Both IsOpenLink (out_at x.mail b) (in_at y.mail i)) fresh.me
+        (subst (λ (i : ℕ). Both IsOpenLink (out_at x.mail i) (in_at y.mail x.mail.me)) also.me linked);
+  };
+  logs = λ k p e. (h.each k p e).log;
+  limits = λ k p e. (h.each k p e).limit_is;
+}

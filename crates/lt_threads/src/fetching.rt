@@ -1,0 +1,26 @@
+// What each runner does by itself.
+ghost use Rattle.std.specs.Prelude.{vec_len};
+ghost use Rattle.lt_threads.specs.Together.{AreKept};
+ghost use Rattle.lt_threads.specs.Meeting.{AreMet, AnyTwo, Fetching};
+
+use lt_runner::Runner;
+
+/// What each runner keeps.
+#[tactic(auto, using(crate::proofs::Fetches::next_kept, crate::proofs::Fetches::all_kept))]
+pub(crate) fn all_kept(runners: &[Runner<'_>])
+    ensures { AreKept runners.now }
+{
+    for k in 0..runners.len() {
+        runners[k].kept();
+    }
+}
+
+/// Each runner that has no letter in hand takes one that is known to come.
+pub(crate) fn fetch_all<'a>(runners: &mut Vec<Runner<'a>>)
+    requires { AreMet AnyTwo runners.old.items }
+    ensures { Fetching (vec_len runners.new) runners.old.items runners.new.items }
+{
+    for k in 0..runners.len() {
+        runners[k].fetch();
+    }
+}

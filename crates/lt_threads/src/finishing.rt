@@ -1,0 +1,39 @@
+// The logs of all runners.
+ghost use Rattle.std.specs.Prelude.{◌≡◌, [], IfOk, map};
+ghost use Rattle.lt_threads.specs.Together.{IsCrew};
+ghost use Rattle.lt_threads.specs.Finished.{AreCrewLogs, run_entries, log_of};
+
+use crate::fetching::all_kept;
+use crate::meeting::meet_all;
+use lt_merge::Log;
+use lt_runner::Runner;
+use lt_script::Script;
+use std::alloc::{AllocError, Global};
+
+/// The logs of all runners, in order of their nodes, as `merge` takes them. Without memory all is dropped.
+#[tactic(auto, using(crate::proofs::Logs::crew_logs))]
+pub fn finish<'a>(
+    alloc: Global,
+    script: &Script,
+    mut runners: Vec<Runner<'a>>,
+) -> Result<Vec<Log>, AllocError>
+    requires { IsCrew script.now runners.items }
+    ensures { IfOk result (λ logs. AreCrewLogs script.now runners.entry.items logs.items) }
+{
+    meet_all(&mut runners);
+    all_kept(&runners);
+    let logs = Vec::with_capacity(alloc, usize::from(script.nodes()))?;
+    take_logs(runners, logs)
+}
+
+// Adds the logs of the runners.
+fn take_logs<'a>(mut runners: Vec<Runner<'a>>, mut logs: Vec<Log>) -> Result<Vec<Log>, AllocError>
+    requires { logs.items ≡ [] }
+    ensures { IfOk result (λ all. map run_entries all.items ≡ map log_of runners.entry.items) }
+{
+    while !runners.is_empty() {
+        let runner = runners.remove(0);
+        logs.push(runner.into_log())?;
+    }
+    Ok(logs)
+}

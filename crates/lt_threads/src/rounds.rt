@@ -1,0 +1,172 @@
+ghost use Rattle.std.specs.Prelude.{◌≡◌, ◌<◌, ◌⊎◌, length};
+ghost use Rattle.lt_runner.specs.Kept.{Grew};
+ghost use Rattle.lt_threads.specs.Together.{EachIs, IsCrew};
+ghost use Rattle.lt_threads.specs.Rounds.{RoundsEnd, IsCrewCut};
+ghost use Rattle.lt_runner.specs.declared.turning.Turned.TheVariants as turns;
+ghost use Rattle.lt_threads.specs.Pushes.{OnePushed, PushedAt, Tried, CanPush, PushEnds, is_end, first_end, other_end};
+
+use crate::enabled::any_enabled;
+use lt_runner::{Gate, Runner, Turned, all_at_once};
+use lt_script::Script;
+use std::thread::Threads;
+
+/// How the rounds of runners ended.
+#[derive(Clone, Copy, Debug, PartialEq, Eq)]
+pub enum Ended {
+    /// No move is enabled.
+    Rest,
+    /// This node, the least that could make a move, has made as many as it may.
+    Cut(u8),
+    NoMemory,
+}
+
+/// Runs the nodes of a script until no move is enabled, or none that a node may make: again and again all work at once,
+/// on threads, and then, where a move is enabled, the caller makes one itself.
+pub fn run_rounds<R: Threads + Sync, G: Gate>(
+    rt: &R,
+    script: &Script,
+    runners: &mut Vec<Runner<'_>>,
+    patience: u32,
+    gate: &G,
+) -> Ended
+    requires crew { IsCrew script.now runners.old.items }
+    ensures crew { IsCrew script.now runners.new.items }
+    ensures grew { EachIs Grew runners.old.items runners.new.items }
+    ensures ends { RoundsEnd result script.now runners.new.items }
+{
+    loop {
+        if let Some(ended) = round(rt, script, runners, patience, gate) {
+            return ended;
+        }
+    }
+}
+
+// All work at once, and then a move is made where one is enabled.
+fn round<R: Threads + Sync, G: Gate>(
+    rt: &R,
+    script: &Script,
+    runners: &mut Vec<Runner<'_>>,
+    patience: u32,
+    gate: &G,
+) -> Option<Ended>
+    requires crew { IsCrew script.now runners.old.items }
+    ensures { PushEnds result script.now runners.old.items runners.new.items }
+{
+    work_at_once(rt, runners, patience, gate);
+    push_on(script, runners, gate)
+}
+
+fn work_at_once<R: Threads + Sync, G: Gate>(
+    rt: &R,
+    runners: &mut Vec<Runner<'_>>,
+    patience: u32,
+    gate: &G,
+)
+    ensures { EachIs Grew runners.old.items runners.new.items }
+{
+    all_at_once(rt, runners.as_mut_slice(), patience, gate);
+}
+
+// Makes a move where one is enabled that a node may make; else tells how the rounds end.
+fn push_on<G: Gate>(script: &Script, runners: &mut Vec<Runner<'_>>, gate: &G) -> Option<Ended>
+    requires crew { IsCrew script.now runners.old.items }
+    ensures { PushEnds result script.now runners.old.items runners.new.items }
+{
+    match any_enabled(script, runners) {
+        Some(node) => push_from(script, runners, node, gate),
+        None => Some(Ended::Rest),
+    }
+}
+
+// Makes a move of the least node that can make one, or where its log is full of the first other node that may.
+fn push_from<G: Gate>(
+    script: &Script,
+    runners: &mut Vec<Runner<'_>>,
+    node: u8,
+    gate: &G,
+) -> Option<Ended>
+    requires crew { IsCrew script.now runners.old.items }
+    requires enabled { CanPush script.now node runners.old.items }
+    ensures { PushEnds result script.now runners.old.items runners.new.items }
+{
+    let pushed = push_at(runners, usize::from(node), gate);
+    match pushed {
+        Turned::Full => push_another(script, runners, node, gate),
+        other => first_end(other),
+    }
+}
+
+// How a turn of the node that can move, and may, ends the rounds.
+fn first_end(pushed: Turned) -> Option<Ended>
+    requires { (pushed ≡ turns.Moved) ⊎ (pushed ≡ turns.NoMemory) }
+    ensures { result ≡ first_end pushed }
+{
+    match pushed {
+        Turned::Moved => None,
+        Turned::NoMemory => Some(Ended::NoMemory),
+        Turned::Quiet | Turned::Full => unreachable!(),
+    }
+}
+
+// Makes a move of the first node that can and may make one; where there is none the run is cut at this one.
+fn push_another<G: Gate>(
+    script: &Script,
+    runners: &mut Vec<Runner<'_>>,
+    node: u8,
+    gate: &G,
+) -> Option<Ended>
+    requires crew { IsCrew script.now runners.old.items }
+    requires cut { IsCrewCut node script.now runners.old.items }
+    ensures { PushEnds result script.now runners.old.items runners.new.items }
+{
+    let tried = try_each(runners, gate);
+    other_end(tried, node)
+}
+
+// How turns of all runners end the rounds, where this node can make a move and may make none.
+fn other_end(tried: Turned, node: u8) -> Option<Ended>
+    ensures { result ≡ other_end tried node }
+{
+    match tried {
+        Turned::Moved => None,
+        Turned::NoMemory => Some(Ended::NoMemory),
+        Turned::Quiet | Turned::Full => Some(Ended::Cut(node)),
+    }
+}
+
+// Lets one runner after the other make a turn, until one makes a move.
+fn try_each<G: Gate>(runners: &mut Vec<Runner<'_>>, gate: &G) -> Turned
+    ensures { Tried result runners.old.items runners.new.items }
+{
+    for place in 0..runners.len() {
+        let pushed = push_at(runners, place, gate);
+        if is_end(pushed) {
+            return pushed;
+        }
+    }
+    Turned::Quiet
+}
+
+// Whether no other runner makes a turn after this one.
+fn is_end(pushed: Turned) -> bool
+    ensures { result ≡ is_end pushed }
+{
+    matches!(pushed, Turned::Moved | Turned::NoMemory)
+}
+
+fn push_at<G: Gate>(runners: &mut Vec<Runner<'_>>, place: usize, gate: &G) -> Turned
+    requires { place < length runners.old.items }
+    ensures { PushedAt result place runners.old.items runners.new.items }
+{
+    push(&mut runners[place], gate)
+}
+
+// Lets the runner make a turn.
+#[tactic(auto, using(crate::proofs::Turns::one_pushed))]
+fn push<G: Gate>(runner: &mut Runner<'_>, gate: &G) -> Turned
+    ensures { OnePushed result runner.old runner.new }
+{
+    let turned = runner.turn(gate);
+    runner.kept();
+    turned
+}

@@ -1,0 +1,50 @@
+ghost use Rattle.std.specs.Prelude.{◌<◌, ◌≤◌, ◌+◌, IfOk, OnOk};
+ghost use Rattle.lt_limits.specs.declared.moves.TheConstants.{MAX_MOVES};
+ghost use Rattle.lt_threads.specs.Starting.{Starting, IsFirstCrew};
+
+use lt_mail::{MAX_CAPACITY, Mail, open};
+use lt_runner::Runner;
+use lt_script::Script;
+use std::alloc::{AllocError, Global};
+
+/// A runner for each node of the script, in order, with rings of so many places; each makes up to `limit` moves.
+#[tactic(auto, using(crate::proofs::Starts::starting, crate::proofs::Starts::first_crew))]
+pub fn start_crew<'a>(
+    alloc: Global,
+    script: &'a Script,
+    capacity: u32,
+    limit: u32,
+) -> Result<Vec<Runner<'a>>, AllocError>
+    requires capacity { (0 < capacity) × (capacity ≤ MAX_CAPACITY) }
+    requires limit { (0 < limit) × (limit ≤ MAX_MOVES) }
+    ensures { IfOk result (λ runners. IsFirstCrew script.now limit runners.items) }
+{
+    let nodes = script.nodes();
+    let mut mails = open(alloc, nodes, capacity)?;
+    let mut runners = Vec::new(alloc);
+    for node in 0..nodes {
+        add_runner(alloc, script, node, limit, &mut mails, &mut runners)?;
+    }
+    Ok(runners)
+}
+
+// The runner of the next node, with the first mail that is left.
+#[tactic(auto, using(crate::proofs::Starts::has_mail, crate::proofs::Starts::next_fresh, crate::proofs::Starts::one_more))]
+fn add_runner<'a>(
+    alloc: Global,
+    script: &'a Script,
+    node: u8,
+    limit: u32,
+    mails: &mut Vec<Mail>,
+    runners: &mut Vec<Runner<'a>>,
+) -> Result<(), AllocError>
+    requires node { node < script.now.nodes }
+    requires limit { (0 < limit) × (limit ≤ MAX_MOVES) }
+    requires starting { Starting script.now limit node mails.old.items runners.old.items }
+    ensures { OnOk result (Starting script.now limit (node + 1) mails.new.items runners.new.items) }
+{
+    let mail = mails.remove(0);
+    let runner = Runner::new(alloc, script, node, mail, limit)?;
+    runners.push(runner)?;
+    Ok(())
+}
