@@ -19,6 +19,7 @@ use Rattle.lt_law_merged.specs.JoinedRun.{IsJoinedRun}
 use Rattle.lt_law_merged.specs.States.{AreShort}
 use Rattle.lt_limits.specs.Cut.{can_move}
 use Rattle.lt_law_merged.proofs.Joining.{joined_merges}
+use Rattle.lt_law_merged.proofs.Moving.{can_move_is_seen}
 use Rattle.lt_law_merged.proofs.LeftLetters.{states_within, asks_have_place, clocks_below, letters_left_fit}
 use Rattle.lt_node.specs.NodeData.{state_of}
 use Rattle.lt_mail.specs.Words.{known_from, waiting_to}
@@ -208,6 +209,14 @@ shows_is script rs crew kept met k p here fetched =
         → any_below (length script.clients) (can_act script k ((crew_world script rs).node k)) ≡ found
     acts found e = ap (λ (n : NodeState). any_below (length script.clients) (can_act script k n)) node ∙ e
 
+    -- a letter is on its way to the node, or a client can act by what the node knows
+    sees : Bool
+    sees = any_below script.nodes (λ a. has_mail script (crew_world script rs) a k)
+        || any_below (length script.clients) (can_act script k ((crew_world script rs).node k))
+
+    by_seen : can_move script (crew_world script rs) k ≡ sees
+    by_seen = can_move_is_seen script (crew_world script rs) k
+
     idle : (allowed : Bool) → is_move (if allowed then act_of None else Nothing) ≡ false
     idle true = refl
     idle false = refl
@@ -220,12 +229,12 @@ shows_is script rs crew kept met k p here fetched =
         let allowed : may_act script (state_of p.node) ≡ true = and_from _ _ may places in
         let first = least_some (length script.clients) (can_act script k (state_of p.node)) e in
         let left : is_move (act_choice script k (state_of p.node)) ≡ true = rw (allowed, first.1) refl in
-        left ∙ sym (or_left _ _ (acts true e))
+        left ∙ sym (by_seen ∙ or_right _ _ (acts true e))
     by_act empty false e =
         let none = least_none (length script.clients) (can_act script k (state_of p.node)) e in
         let left : is_move (act_choice script k (state_of p.node)) ≡ false = rw none (idle (may_act script (state_of p.node))) in
-        let right : can_move script (crew_world script rs) k ≡ false = rw (acts false e, no_mail script rs k p seen fetched empty) refl in
-        left ∙ sym right
+        let right : sees ≡ false = rw (acts false e, no_mail script rs k p seen fetched empty) refl in
+        left ∙ sym (by_seen ∙ right)
 
     by_hand : (o : Option Hand) → p.hand ≡ o → is_move (choice_by script k (state_of p.node) o) ≡ can_move script (crew_world script rs) k
     by_hand None e = by_act e (any_below (length script.clients) (can_act script k (state_of p.node))) refl
@@ -234,7 +243,7 @@ shows_is script rs crew kept met k p here fetched =
         let left : is_move (choice_by script k (state_of p.node) (Some hand)) ≡ true =
         ap (λ (b : Bool). is_move (if b then Take else act_choice script k (state_of p.node))) takes in
         let from : hand.from < script.nodes = from_below mail in
-        left ∙ sym (or_right _ _ (any_below_at script.nodes hand.from (λ a. has_mail script (crew_world script rs) a k) from mail))
+        left ∙ sym (by_seen ∙ or_left _ _ (any_below_at script.nodes hand.from (λ a. has_mail script (crew_world script rs) a k) from mail))
       where
         from_below : has_mail script (crew_world script rs) hand.from k ≡ true → hand.from < script.nodes
         from_below m = ltb-true hand.from script.nodes (and_parts (nat_lt hand.from script.nodes) _ m).0
