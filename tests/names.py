@@ -16,7 +16,8 @@ SOURCES = [path for part in ('src', 'specs', 'proofs') for path in sorted((TOP /
 # The first words of what may stand in backticks with other words behind it: those of formats, and of commands.
 FIRST_WORDS = '''
     version nodes set client journal lock try unlock change drop move grant wait not_held busy copy freeze token held
-    waiting owner end cut ok act take run sim check make soak lockrun: rt rustc unfolding waits cycle no ends a'''.split()
+    waiting owner end cut ok act take run sim check make soak lockrun: rt rustc unfolding waits cycle no ends a
+    T begin commit abort not_open children t u locknest:'''.split()
 # Words that are names of nothing in the repository: of languages, of the toolchain and its libraries, of what a build
 # or a check makes, and of places in an example.
 OTHERS = '''

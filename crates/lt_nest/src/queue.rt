@@ -1,0 +1,121 @@
+ghost use Rattle.std.specs.Prelude.{◌≡◌, ◌<◌, ◌≤◌, length, filter, position, vec_len, IfSome};
+ghost use Rattle.std.specs.List.{list_any};
+ghost use Rattle.lt_nest.specs.declared.locks.Ask.{Ask as AnyAsk};
+ghost use Rattle.lt_nest.specs.Forest.{is_open};
+ghost use Rattle.lt_nest.specs.Locks.{is_against, entry_is_against, ask_is_against, is_free, is_ask_of};
+ghost use Rattle.lt_nest.specs.Serving.{first_free};
+ghost use Rattle.lt_nest.specs.Calls.{holder_is_against, asker_is_against, waits_in};
+ghost use Rattle.lt_nest.specs.Kept.{IsForest};
+
+use crate::forest::{Transaction, is_open, is_own};
+use crate::locks::{Ask, Entry};
+use lt_modes::Mode;
+
+pub(crate) fn is_free(
+    transactions: &[Transaction],
+    entries: &[Entry],
+    earlier: &[Ask],
+    x: u16,
+    mode: Mode,
+) -> bool
+    requires { IsForest transactions.now }
+    ensures { result ≡ is_free transactions.now entries.now earlier.now x mode }
+{
+    !entries_bar(transactions, entries, x, mode) && !asks_bar(transactions, earlier, x, mode)
+}
+
+// Whether an entry stands against the mode for x.
+fn entries_bar(transactions: &[Transaction], entries: &[Entry], x: u16, mode: Mode) -> bool
+    requires { IsForest transactions.now }
+    ensures { result ≡ list_any (entry_is_against transactions.now x mode) entries.now }
+{
+    entries.iter().any(|entry| is_against(transactions, x, mode, entry.owner, entry.mode))
+}
+
+// Whether an ask stands against the mode for x.
+fn asks_bar(transactions: &[Transaction], asks: &[Ask], x: u16, mode: Mode) -> bool
+    requires { IsForest transactions.now }
+    ensures { result ≡ list_any (ask_is_against transactions.now x mode) asks.now }
+{
+    asks.iter().any(|ask| is_against(transactions, x, mode, ask.owner, ask.mode))
+}
+
+fn is_against(transactions: &[Transaction], x: u16, mode: Mode, owner: u16, other: Mode) -> bool
+    requires { IsForest transactions.now }
+    ensures { result ≡ is_against transactions.now x mode owner other }
+{
+    mode.conflicts(other) && !is_own(transactions, owner, x)
+}
+
+#[tactic(auto, using(crate::proofs::FirstFree::free_here, crate::proofs::FirstFree::free_later), unfolding(crate::specs::Serving::first_free))]
+pub(crate) fn first_free(
+    transactions: &[Transaction],
+    entries: &[Entry],
+    queue: &[Ask],
+) -> Option<usize>
+    requires { IsForest transactions.now }
+    ensures place { result ≡ first_free transactions.now (record { entries = entries.now; queue = queue.now }) }
+    ensures within { IfSome result (λ k. k < length queue.now) }
+{
+    for (k, ask) in queue.iter().enumerate() {
+        if is_free(transactions, entries, &queue[..k], ask.owner, ask.mode) {
+            return Some(k);
+        }
+    }
+    None
+}
+
+/// The place of the ask of x.
+pub(crate) fn ask_place(queue: &[Ask], x: u16) -> Option<usize>
+    ensures place { result ≡ position (is_ask_of x) queue.now }
+    ensures within { IfSome result (λ k. k < length queue.now) }
+{
+    queue.iter().position(|ask| ask.owner == x)
+}
+
+pub(crate) fn keep_asks(queue: &mut Vec<Ask>, transactions: &[Transaction])
+    ensures asks { queue.new.items ≡ filter (λ (ask : AnyAsk). is_open transactions.now ask.owner) queue.old.items }
+    ensures len { vec_len queue.new ≤ vec_len queue.old }
+{
+    queue.retain(|ask| is_open(transactions, ask.owner));
+}
+
+/// Whether x waits in a set with these entries and this queue, and y is in its way: an entry or an earlier ask of y
+/// stands against the ask of x.
+pub(crate) fn waits_for(
+    transactions: &[Transaction],
+    entries: &[Entry],
+    queue: &[Ask],
+    x: u16,
+    y: u16,
+) -> bool
+    requires { IsForest transactions.now }
+    ensures { result ≡ waits_in transactions.now x y (record { entries = entries.now; queue = queue.now }) }
+{
+    match ask_place(queue, x) {
+        Some(k) => {
+            let mode = queue[k].mode;
+            holder_bars(transactions, entries, x, mode, y)
+                || asker_bars(transactions, &queue[..k], x, mode, y)
+        }
+        None => false,
+    }
+}
+
+// Whether an entry of y stands against the mode for x.
+fn holder_bars(transactions: &[Transaction], entries: &[Entry], x: u16, mode: Mode, y: u16) -> bool
+    requires { IsForest transactions.now }
+    ensures { result ≡ list_any (holder_is_against transactions.now x mode y) entries.now }
+{
+    entries.iter().any(|entry| {
+        entry.owner == y && is_against(transactions, x, mode, entry.owner, entry.mode)
+    })
+}
+
+// Whether an ask of y stands against the mode for x.
+fn asker_bars(transactions: &[Transaction], asks: &[Ask], x: u16, mode: Mode, y: u16) -> bool
+    requires { IsForest transactions.now }
+    ensures { result ≡ list_any (asker_is_against transactions.now x mode y) asks.now }
+{
+    asks.iter().any(|ask| ask.owner == y && is_against(transactions, x, mode, ask.owner, ask.mode))
+}

@@ -1,0 +1,5 @@
+pub mod ReadLines
+pub mod SetsAsked
+pub mod Pieces
+pub mod Sizes
+pub mod FollowedOrders

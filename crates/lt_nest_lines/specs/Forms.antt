@@ -1,0 +1,61 @@
+-- The forms of lines, with their words.
+use Rattle.std.specs.Prelude.{ℕ, List, [], ◌∷◌, Option, Some, None, codes, if◌then◌else◌}
+use Rattle.std.specs.Str.{bytes_eq}
+use Rattle.lt_nest_lines.specs.declared.form.Form.{Form}
+use Rattle.lt_nest_lines.specs.declared.form.Form.TheVariants.{Set, Begin, BeginIn, Lock, Try, Commit, Abort}
+
+-- a line by its form: words of sets, transactions and modes
+pub data FormData : Type 0 where
+  SetForm : List ℕ → FormData
+  BeginForm : List ℕ → FormData
+  BeginInForm : List ℕ → List ℕ → FormData
+  LockForm : List ℕ → List ℕ → List ℕ → FormData
+  TryForm : List ℕ → List ℕ → List ℕ → FormData
+  CommitForm : List ℕ → FormData
+  AbortForm : List ℕ → FormData
+
+-- `set S`
+abbrev pub set_form : List (List ℕ) → Option FormData
+set_form (s ∷ []) = Some (SetForm s)
+set_form words = None
+
+-- `T begin`, `T commit` and `T abort`
+abbrev pub short_form : List ℕ → List ℕ → Option FormData
+short_form t verb =
+    if bytes_eq verb (codes "begin") then Some (BeginForm t)
+    else if bytes_eq verb (codes "commit") then Some (CommitForm t)
+    else if bytes_eq verb (codes "abort") then Some (AbortForm t)
+    else None
+
+-- `T begin in P`
+abbrev pub begin_in_form : List ℕ → List ℕ → List ℕ → Option FormData
+begin_in_form t word p = if bytes_eq word (codes "in") then Some (BeginInForm t p) else None
+
+-- this, `T lock S M` and `T try S M`
+abbrev pub long_form : List ℕ → List ℕ → List ℕ → List ℕ → Option FormData
+long_form t verb a b =
+    if bytes_eq verb (codes "begin") then begin_in_form t a b
+    else if bytes_eq verb (codes "lock") then Some (LockForm t a b)
+    else if bytes_eq verb (codes "try") then Some (TryForm t a b)
+    else None
+
+-- a line that begins with a transaction
+abbrev pub transaction_form : List ℕ → List (List ℕ) → Option FormData
+transaction_form t (verb ∷ []) = short_form t verb
+transaction_form t (verb ∷ a ∷ b ∷ []) = long_form t verb a b
+transaction_form t words = None
+
+-- the form of a line with these words: the first word decides whether it declares a set
+abbrev pub form_of : List (List ℕ) → Option FormData
+form_of [] = None
+form_of (w ∷ ws) = if bytes_eq w (codes "set") then set_form ws else transaction_form w ws
+
+-- what the code's values stand for
+abbrev pub form_seen : Form → FormData
+form_seen (Set set) = SetForm set.now
+form_seen (Begin transaction) = BeginForm transaction.now
+form_seen (BeginIn transaction parent) = BeginInForm transaction.now parent.now
+form_seen (Lock transaction set mode) = LockForm transaction.now set.now mode.now
+form_seen (Try transaction set mode) = TryForm transaction.now set.now mode.now
+form_seen (Commit transaction) = CommitForm transaction.now
+form_seen (Abort transaction) = AbortForm transaction.now

@@ -1,0 +1,6 @@
+pub mod Forms
+pub mod Names
+pub mod Input
+pub mod Play
+pub mod Written
+pub mod Rows
