@@ -12,8 +12,6 @@ mod naming;
 mod order;
 mod play;
 mod reading;
-#[cfg(test)]
-mod tests;
 mod words;
 mod writing;
 

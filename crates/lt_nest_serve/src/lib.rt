@@ -5,8 +5,6 @@ mod answer;
 mod arguments;
 mod reading;
 mod serving;
-#[cfg(test)]
-mod tests;
 
 pub use answer::Answer;
 pub use arguments::program;
