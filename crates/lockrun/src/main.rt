@@ -10,6 +10,10 @@ fn main(rt: HostRuntime) -> ExitCode {
     let mut source = ReaderSource::new(rt.stdin());
     let mut sink = WriterSink::new(rt.stdout());
     let status = program(&rt, rt.alloc(), &words(&rt), &mut source, &mut sink, &Open).status;
-    let line = if status.has_line() { Some(&status) } else { None };
+    let line = if status.has_line() {
+        Some(&status)
+    } else {
+        None
+    };
     end_with(&rt, status.code(), line)
 }
