@@ -3,6 +3,8 @@
 #![tactic(auto)]
 
 mod graph;
+mod report;
 mod rings;
 
 pub use graph::WaitGraph;
+pub use report::report;
