@@ -1,4 +1,4 @@
 pub mod Rounds
 pub mod Walks
 pub mod Told
-pub mod Lines
+pub mod SoFar

@@ -3,8 +3,8 @@
 #![tactic(auto)]
 
 mod graph;
-mod report;
+mod lines;
 mod rings;
 
 pub use graph::WaitGraph;
-pub use report::report;
+pub use lines::report;
