@@ -43,6 +43,9 @@ for script in examples/*.script; do
   # shellcheck disable=SC2046 # a flag or none
   tools/journal-picture "$script" "$journal" $(grep -q '^waiting ' "$journal" && echo --waits) >"$room/picture" ||
     fail "$name: no picture"
+  tools/journal-summary --json "$script" "$journal" >"$room/table" || fail "$name: no summary in JSON"
+  tools/journal-trace "$script" "$journal" >"$room/trace" || fail "$name: no trace"
+  tools/journal-trace --chrome "$script" "$journal" >"$room/trace" || fail "$name: no trace for Chrome"
   tools/journal-state "$script" "$journal" >"$room/state" || fail "$name: no state at the end"
   tools/journal-state "$script" "$journal" 1 >"$room/state" || fail "$name: no state after its first move"
   if [ -f "docs/pictures/$name.svg" ] && ! cmp -s "docs/pictures/$name.svg" "$room/picture"; then
