@@ -2,13 +2,14 @@
 use Rattle.std.proofs.Common.{◌≡◌, true, false, ℕ, List, [], Option, Some, refl, sym, subst, inl, inr}
 use Rattle.lt_io.specs.FaultCounts.{CountsFaults}
 use Rattle.lt_io.specs.Source.{SourceState}
+use Rattle.lt_io.specs.Whole.{IsReadWhole}
 use Rattle.lt_spec.specs.Log.{Logged}
 use Rattle.lt_words.specs.declared.command.Command.{Command}
 use Rattle.lt_words.specs.declared.command.Command.TheVariants.{Run, SimFirst, Sim, Check, Make, Soak}
 use Rattle.lt_serve.specs.declared.serving.Served.{Served}
 use Rattle.lt_serve.specs.declared.status.Status.{Status}
 use Rattle.lt_serve.specs.declared.status.Status.TheVariants.{Done, Stuck, Usage, Refused, TooLong, ReadFault, WriteFault, NoMemory, Cut, BadJournal}
-use Rattle.lt_serve.specs.Causes.{SaysOfSource, SaysOfSink, IsReadWhole, IsEnding, IsRefusal, WritesNothing, reads, limit_of}
+use Rattle.lt_serve.specs.Causes.{SaysOfSource, SaysOfSink, IsEnding, IsRefusal, WritesNothing, reads, limit_of}
 use Rattle.lt_serve.specs.Complete.{IsComplete, IsAnswered}
 use Rattle.lt_serve.specs.Serves.{Serves}
 use Rattle.lt_serve.specs.TopCall.{JournalsBy, DidOf}

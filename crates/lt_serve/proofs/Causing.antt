@@ -3,6 +3,7 @@ use Rattle.std.proofs.Common.{◌≡◌, ℕ, Bool, true, false, List, [], ◌�
 use Rattle.std.specs.Prelude.{◌⊎◌, option_map, if◌then◌else◌, codes}
 use Rattle.std.specs.Str.{bytes_eq}
 use Rattle.lt_io.specs.Source.{SourceState}
+use Rattle.lt_io.specs.Whole.{IsReadWhole}
 use Rattle.lt_text.specs.Number.{number}
 use Rattle.lt_words.specs.declared.command.Command.{Command}
 use Rattle.lt_words.specs.declared.command.Command.TheVariants.{Sim, Make, Soak}
@@ -10,7 +11,7 @@ use Rattle.lt_serve.specs.declared.status.Status.{Status}
 use Rattle.lt_serve.specs.declared.status.Status.TheVariants.{Done, Stuck, Usage, Refused, TooLong, ReadFault, WriteFault, NoMemory, Cut, BadJournal}
 use Rattle.lt_words.specs.Words.{seed_of, make_of, command_of}
 use Rattle.lt_gen.specs.Sizes.{can_make}
-use Rattle.lt_serve.specs.Causes.{HasStatusCause, SaysOfSource, IsReadWhole, WritesNothing, IsEnding, CanBeMade, IsRefusal}
+use Rattle.lt_serve.specs.Causes.{HasStatusCause, SaysOfSource, WritesNothing, IsEnding, CanBeMade, IsRefusal}
 
 -- the writing has begun
 abbrev pub HasWritten : Status → Type 0

@@ -68,12 +68,6 @@ pub record SaysOfSource (limit : ℕ) (answer : Status) (before after : SourceSt
   -- it came to its end
   pub whole : HasRead answer → CountsFaults 1 before.ends after.ends
 
--- the source came to its end, no read failed, and it gave no more bytes than the input may have
-pub record IsReadWhole (limit : ℕ) (before after : SourceState) : Type 0 where
-  pub ended : CountsFaults 1 before.ends after.ends
-  pub few : after.given ≤ before.given + limit
-  pub without_fault : after.faults ≡ before.faults
-
 -- what the answer says of the sink's count of faults: one write failed, or none
 pub record SaysOfSink (answer : Status) (before after : ℕ) : Type 0 where
   pub write_fault : answer ≡ WriteFault → CountsFaults 1 before after

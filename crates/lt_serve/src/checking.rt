@@ -1,6 +1,7 @@
 ghost use Rattle.std.specs.Prelude.{◌≡◌, ◌*◌, ◌≤◌, ◌++◌, ℕ, List, Ok, take, drop, length, codes, IfOk, OnOk, IfErr};
 ghost use Rattle.std.specs.Fmt.{decimal};
 ghost use Rattle.std.specs.String.{string_bytes};
+ghost use Rattle.lt_io.specs.Whole.{IsReadWhole};
 ghost use Rattle.lt_text.specs.Text.{lines};
 ghost use Rattle.lt_modes.specs.Script.{ScriptData};
 ghost use Rattle.lt_script.specs.Script.{IsScript};
@@ -10,7 +11,7 @@ ghost use Rattle.lt_law_checking.specs.Checking.{checked};
 ghost use Rattle.lt_checker.specs.Checker.{IsAnswer};
 ghost use Rattle.lt_serve.specs.declared.limits.TheConstants.{MAX_JOURNAL};
 ghost use Rattle.lt_words.specs.declared.command.Command.TheVariants as command;
-ghost use Rattle.lt_serve.specs.Causes.{SaysOfSource, IsReadWhole, IsRefusal};
+ghost use Rattle.lt_serve.specs.Causes.{SaysOfSource, IsRefusal};
 ghost use Rattle.lt_serve.specs.Heads.{IsHeadCut, IsRest, FailsRest, IsRoom, IsLineOf, AnswersInput};
 ghost use Rattle.lt_serve.specs.TopCall.{Checks, ok_text};
 

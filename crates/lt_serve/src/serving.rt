@@ -1,9 +1,10 @@
 ghost use Rattle.std.specs.Prelude.{◌≡◌, ◌<◌, ◌≤◌, true, false, map, [], Some, IfOk, IfErr, OnOk};
 ghost use Rattle.std.specs.String.{string_bytes};
+ghost use Rattle.lt_io.specs.Whole.{IsReadWhole};
 ghost use Rattle.lt_limits.specs.declared.moves.TheConstants.{MAX_MOVES};
 ghost use Rattle.lt_mail.specs.declared.opening.TheConstants.{MAX_CAPACITY};
 ghost use Rattle.lt_words.specs.Words.{command_of};
-ghost use Rattle.lt_serve.specs.Causes.{SaysOfSource, IsReadWhole, IsEnding, IsRefusal, CanBeMade, reads, limit_of};
+ghost use Rattle.lt_serve.specs.Causes.{SaysOfSource, IsEnding, IsRefusal, CanBeMade, reads, limit_of};
 ghost use Rattle.lt_serve.specs.Serves.{Serves};
 ghost use Rattle.lt_serve.specs.TopCall.{JournalsBy};
 

@@ -1,4 +1,5 @@
 ghost use Rattle.std.specs.Prelude.{◌≡◌, ◌<◌, ◌≤◌, IfOk, IfErr, OnOk};
+ghost use Rattle.lt_io.specs.Whole.{IsReadWhole};
 ghost use Rattle.lt_script.specs.Script.{IsScript};
 ghost use Rattle.lt_merge.specs.Merging.{AreRising};
 ghost use Rattle.lt_journal.specs.Text.{text_of};
@@ -7,7 +8,7 @@ ghost use Rattle.lt_serve.specs.Endings.{RanTo, cut_of, status_of_end};
 ghost use Rattle.lt_mail.specs.declared.opening.TheConstants.{MAX_CAPACITY};
 ghost use Rattle.lt_serve.specs.declared.limits.TheConstants.{MAX_INPUT};
 ghost use Rattle.lt_words.specs.declared.command.Command.TheVariants as command;
-ghost use Rattle.lt_serve.specs.Causes.{SaysOfSource, IsReadWhole, IsRefusal};
+ghost use Rattle.lt_serve.specs.Causes.{SaysOfSource, IsRefusal};
 ghost use Rattle.lt_serve.specs.TopCall.{JournalsBy};
 
 use crate::made::Made;
