@@ -5,10 +5,11 @@ use Rattle.std.specs.Io.KnownBytes.{Appends}
 use Rattle.lt_io.specs.FaultCounts.{CountsFaults, RoseBy, count_after}
 use Rattle.lt_io.specs.Source.{SourceState}
 use Rattle.lt_io.specs.Sink.{AppendsPart}
+use Rattle.lt_io.specs.Whole.{IsReadWhole}
 use Rattle.lt_nest_serve.specs.declared.reading.TheConstants.{MAX_INPUT}
 use Rattle.lt_nest_serve.specs.declared.answer.Answer.{Answer}
 use Rattle.lt_nest_serve.specs.declared.answer.Answer.TheVariants.{Done, Usage, Refused, TooLong, ReadFault, WriteFault, NoMemory}
-use Rattle.lt_nest_serve.specs.Serves.{IsTextOf, IsWritten, Left, TellsSource, IsReadWhole, TellsSink, LeavesSink, IsInputFault, IsInputRefusal, IsGoodInput, ServesLines}
+use Rattle.lt_nest_serve.specs.Serves.{IsTextOf, IsWritten, TellsSource, TellsSink, LeavesSink, IsInputFault, IsInputRefusal, IsGoodInput, ServesLines}
 
 at_least : (a b : ℕ) → b ≡ a → a ≤ b
 at_least a b e = omega (arith, e)
@@ -31,7 +32,7 @@ fault_refusal left bytes TooLong is h = absurd h
 fault_refusal left bytes ReadFault is h = absurd h
 fault_refusal left bytes WriteFault is h = absurd h
 
-pub fault_reading : (bytes : List ℕ) (answer : Answer) (before after : SourceState) → IsReadWhole before after → IsInputFault bytes answer → TellsSource answer before after
+pub fault_reading : (bytes : List ℕ) (answer : Answer) (before after : SourceState) → IsReadWhole MAX_INPUT before after → IsInputFault bytes answer → TellsSource answer before after
 fault_reading bytes answer before after whole h = record {
   too_long = λ e. absurd (subst (IsInputFault bytes) e h);
   not_too_long = λ other. whole.few;
@@ -53,7 +54,7 @@ is_other : (answer other : Answer) → HasWritten answer → LeavesSink other �
 is_other answer other written nothing e = never_written answer written (subst LeavesSink (sym e) nothing)
 
 pub written_serves : {S K : Type 0} (state : S → SourceState) (held : K → Option (List ℕ)) (write_faults : K → ℕ) (words : ℕ) (answer : Answer) (text : List ℕ)
-    (before after : S) (sink sink_after : K) → words ≡ 0 → HasWritten answer → IsWritten (state before).left text → IsReadWhole (state before) (state after)
+    (before after : S) (sink sink_after : K) → words ≡ 0 → HasWritten answer → IsWritten (state before).left text → IsReadWhole MAX_INPUT (state before) (state after)
     → (answer ≡ Done → Appends (held sink) (held sink_after) text) → (answer ≡ WriteFault → AppendsPart (held sink) (held sink_after) text)
     → TellsSink answer (write_faults sink) (write_faults sink_after) → ServesLines state held write_faults words answer before after sink sink_after
 written_serves state held write_faults words answer text before after sink sink_after none written is whole all part writing = record {

@@ -12,11 +12,6 @@ use Rattle.lt_nest_serve.specs.declared.reading.TheConstants.{MAX_INPUT}
 use Rattle.lt_nest_serve.specs.declared.answer.Answer.{Answer}
 use Rattle.lt_nest_serve.specs.declared.answer.Answer.TheVariants.{Done, Usage, Refused, TooLong, ReadFault, WriteFault, NoMemory}
 
--- where the bytes that were left are told, they are these
-abbrev pub Left : Option (List ℕ) → List ℕ → Type 0
-Left None bytes = Unit {0}
-Left (Some left) bytes = left ≡ bytes
-
 -- no line of the bytes is refused, and this is what is written of them
 abbrev pub IsTextOf : List ℕ → List ℕ → Type 0
 IsTextOf bytes text = (d : InputData) × (input_of bytes ≡ Ok d) × (text ≡ report_text d)
@@ -48,12 +43,6 @@ pub record TellsSource (answer : Answer) (before after : SourceState) : Type 0 w
   pub no_read_fault : answer ≢ ReadFault → after.faults ≡ before.faults
   -- it came to its end
   pub whole : HasReadInput answer → CountsFaults 1 before.ends after.ends
-
--- the source came to its end, no read failed, and it gave no more bytes than an input may have
-pub record IsReadWhole (before after : SourceState) : Type 0 where
-  pub ended : CountsFaults 1 before.ends after.ends
-  pub few : after.given ≤ before.given + MAX_INPUT
-  pub without_fault : after.faults ≡ before.faults
 
 -- what the answer says of the sink's count of faults: one write failed, or none
 pub record TellsSink (answer : Answer) (before after : ℕ) : Type 0 where

@@ -1,5 +1,6 @@
 ghost use Rattle.std.specs.Prelude.{◌≡◌, ◌≤◌, length, IfOk, OnOk, IfErr};
-ghost use Rattle.lt_nest_serve.specs.Serves.{Left, IsTextOf, IsWritten, TellsSource, IsReadWhole, IsSourceFailure, IsInputFault, IsInputRefusal, read_answer};
+ghost use Rattle.lt_io.specs.Whole.{Left, IsReadWhole};
+ghost use Rattle.lt_nest_serve.specs.Serves.{IsTextOf, IsWritten, TellsSource, IsSourceFailure, IsInputFault, IsInputRefusal, read_answer};
 
 use crate::answer::Answer;
 use lt_io::{ReadFailure, Source, read_all};
@@ -12,7 +13,7 @@ pub const MAX_INPUT: usize = 1_048_576;
 /// Reads the source to its end, and makes the whole text of what its lines order.
 pub(crate) fn make<S: Source>(alloc: Global, source: &mut S) -> Result<Vec<u8>, Answer>
     ensures text { IfOk result (λ text. IsWritten (S.state source.old).left text.items) }
-    ensures whole { OnOk result (IsReadWhole (S.state source.old) (S.state source.new)) }
+    ensures whole { OnOk result (IsReadWhole MAX_INPUT (S.state source.old) (S.state source.new)) }
     ensures reading { IfErr result (λ answer. TellsSource answer (S.state source.old) (S.state source.new)) }
     ensures refused { IfErr result (IsInputRefusal (S.state source.old).left) }
 {
@@ -24,7 +25,7 @@ pub(crate) fn make<S: Source>(alloc: Global, source: &mut S) -> Result<Vec<u8>, 
 fn read_bytes<S: Source>(alloc: Global, source: &mut S) -> Result<Vec<u8>, Answer>
     ensures bytes { IfOk result (λ bytes. Left (S.state source.old).left bytes.items) }
     ensures few { IfOk result (λ bytes. length bytes.items ≤ MAX_INPUT) }
-    ensures whole { OnOk result (IsReadWhole (S.state source.old) (S.state source.new)) }
+    ensures whole { OnOk result (IsReadWhole MAX_INPUT (S.state source.old) (S.state source.new)) }
     ensures reading { IfErr result (λ answer. TellsSource answer (S.state source.old) (S.state source.new)) }
     ensures refused { IfErr result IsSourceFailure }
 {
