@@ -2,6 +2,7 @@ mod Answering
 mod BadLines
 mod Causing
 mod Completing
+mod Ended
 mod Feeding
 mod Journals
 mod LastLines

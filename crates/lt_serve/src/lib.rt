@@ -8,6 +8,7 @@ mod laws;
 mod limits;
 mod made;
 mod making;
+mod ordering;
 mod reading;
 mod rest;
 mod schedule;
