@@ -1,5 +1,5 @@
 ghost use Rattle.std.specs.Prelude.{◌≡◌, ◌<◌, ◌*◌, length, IfSome};
-ghost use Rattle.lt_spec.specs.Rings.{next_among, numbers_below};
+ghost use Rattle.lt_spec.specs.Rings.{next_among, numbers_below, waits_for_some};
 ghost use Rattle.lt_rings.specs.Graph.{graph_of};
 
 use std::marker::Model;
@@ -56,5 +56,13 @@ impl WaitGraph {
         ensures within { IfSome result (λ other. other < self.now.clients) }
     {
         (0..self.clients).find(|other| self.waits(client, *other))
+    }
+
+    /// Whether the client waits for some client.
+    pub fn waits_for_some(&self, client: u16) -> bool
+        requires { client < self.now.clients }
+        ensures { result ≡ waits_for_some self.now.clients (graph_of self.now) client }
+    {
+        (0..self.clients).any(|other| self.waits(client, other))
     }
 }

@@ -3,6 +3,8 @@
 #![tactic(auto)]
 
 mod graph;
+mod lines;
 mod rings;
 
 pub use graph::WaitGraph;
+pub use lines::report;

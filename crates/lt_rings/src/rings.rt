@@ -53,6 +53,7 @@ pub(crate) fn ring_of(
 ) -> Result<Vec<u16>, AllocError>
     requires { All (λ c. c < graph.now.clients) clients.now }
     ensures ring { IfOk result (λ ring. ring.items ≡ ring_of graph.now.clients (graph_of graph.now) clients.now) }
+    ensures within { IfOk result (λ ring. All (λ c. c < graph.now.clients) ring.items) }
 {
     let mut walk = Vec::new(alloc);
     let mut next = first_of(clients);
@@ -98,7 +99,8 @@ fn first_coming(walk: &[u16], client: u16) -> Option<usize>
 // The walk from this place on.
 fn part_from(alloc: Global, walk: &[u16], first: usize) -> Result<Vec<u16>, AllocError>
     requires { first ≤ length walk.now }
-    ensures { IfOk result (λ part. part.items ≡ drop first walk.now) }
+    ensures part { IfOk result (λ part. part.items ≡ drop first walk.now) }
+    ensures within { (n : ℕ) → All (λ c. c < n) walk.now → IfOk result (λ part. All (λ c. c < n) part.items) }
 {
     walk[first..].to_vec(alloc)
 }

@@ -24,7 +24,8 @@ returns-in-Some-first_coming c =
     record {
       ring = IfOk-weaker c.part_from.result _ _
           (λ part h. h ∙ ap (drop c.in-Some-first_coming.first) c.deref-in-Some-first_coming.ensures.value ∙ closes n graph c.args.clients.now walk c.in-Some.client c.in-Some-first_coming.first walks found)
-          c.part_from.ensures;
+          c.part_from.ensures.part;
+      within = c.part_from.ensures.within n (subst (λ (w : List ℕ). All (λ x. x < n) w) (sym c.deref-in-Some-first_coming.ensures.value) walks.below);
     }
 
 pub loop-next-smaller : goal.loop-next-smaller
@@ -54,4 +55,4 @@ returns c =
     let stops : c.loop-next.next ≡ None = search rules in
     let walks = subst (IsOnWalk n graph c.args.clients.now walk) stops c.loop-next.invariant in
     let none : c.new.result.items ≡ [] = search rules in
-    record { ring = none ∙ breaks n graph c.args.clients.now walk walks }
+    record { ring = none ∙ breaks n graph c.args.clients.now walk walks; within = subst (λ (w : List ℕ). All (λ x. x < n) w) (sym none) (λ k d h. absurd (omega (arith, h))) }
