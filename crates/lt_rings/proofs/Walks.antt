@@ -47,11 +47,14 @@ comes_from (d ∷ rest) c k place e = by_test (d == c) refl e (comes_from rest c
         let here : k ≡ place = cc in
         (0, omega (arith, here), record { come = ap (λ (t : Bool). t || has_come rest c) (same_back c d h); on = ap (λ (t : Bool). if t then d ∷ rest else from_coming rest c) h })
     by_test false h f again =
-        let later = again f in
-        (suc later.0, omega (arith, later.1), record {
-          come = or_right (c == d) (has_come rest c) later.2.come;
-          on = ap (λ (t : Bool). if t then d ∷ rest else from_coming rest c) h ∙ later.2.on;
-        })
+        let later = again f in (
+          suc later.0,
+          omega (arith, later.1),
+          record {
+            come = or_right (c == d) (has_come rest c) later.2.come;
+            on = ap (λ (t : Bool). if t then d ∷ rest else from_coming rest c) h ∙ later.2.on;
+          },
+        )
 
 never_from : (walk : List ℕ) (c k : ℕ) → position_from (λ d. d == c) k walk ≡ None → has_come walk c ≡ false
 never_from [] c k e = refl

@@ -23,16 +23,15 @@ pub(crate) fn ring_set(alloc: Global, graph: &WaitGraph) -> Result<Vec<u16>, All
 }
 
 // Those of these clients that wait for one of them.
-fn still_waiting(
-    alloc: Global,
-    graph: &WaitGraph,
-    clients: &[u16],
-) -> Result<Vec<u16>, AllocError>
+fn still_waiting(alloc: Global, graph: &WaitGraph, clients: &[u16]) -> Result<Vec<u16>, AllocError>
     requires { All (λ c. c < graph.now.clients) clients.now }
     ensures left { IfOk result (λ left. left.items ≡ still_waiting (graph_of graph.now) clients.now) }
     ensures within { IfOk result (λ left. All (λ c. c < graph.now.clients) left.items) }
 {
-    let waiting = clients.iter().copied().filter(|client| waits_for_one(graph, clients, *client));
+    let waiting = clients
+        .iter()
+        .copied()
+        .filter(|client| waits_for_one(graph, clients, *client));
     waiting.collect(alloc)
 }
 
@@ -83,7 +82,10 @@ fn next_among(graph: &WaitGraph, clients: &[u16], client: u16) -> Option<u16>
     ensures next { result ≡ next_among (graph_of graph.now) clients.now client }
     ensures within { IfSome result (λ other. other < graph.now.clients) }
 {
-    clients.iter().copied().find(|other| graph.waits(client, *other))
+    clients
+        .iter()
+        .copied()
+        .find(|other| graph.waits(client, *other))
 }
 
 // The place on the walk to which the client came first.

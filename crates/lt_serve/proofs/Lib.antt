@@ -2,6 +2,7 @@ mod Answering
 mod Causing
 mod Checked
 mod Completing
+mod Ended
 mod Ordered
 mod Rooms
 mod Told

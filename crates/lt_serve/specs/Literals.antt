@@ -34,7 +34,7 @@ pub record CodesAre : Type 0 where
 pub record TextsAre : Type 0 where
   pub done : status_text Done ≡ []
   pub stuck : status_text Stuck ≡ []
-  pub usage : status_text Usage ≡ codes "lockrun: usage: run | sim first | sim SEED | check | make NODES CLIENTS COMMANDS SEED | soak SEED"
+  pub usage : status_text Usage ≡ codes "lockrun: usage: run | sim first | sim SEED | check | make NODES CLIENTS COMMANDS SEED | soak SEED | order"
   pub refused : status_text fault_of_nothing ≡ codes "lockrun: line 1: S5"
   pub too_long : status_text TooLong ≡ codes "lockrun: input too long"
   pub read_fault : status_text ReadFault ≡ codes "lockrun: read fault"

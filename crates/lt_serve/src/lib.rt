@@ -7,6 +7,7 @@ mod laws;
 mod limits;
 mod made;
 mod making;
+mod ordering;
 mod reading;
 mod schedule;
 mod serving;

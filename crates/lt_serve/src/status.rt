@@ -119,4 +119,4 @@ impl fmt::Display for Status {
 }
 
 const USAGE: &str =
-    "lockrun: usage: run | sim first | sim SEED | check | make NODES CLIENTS COMMANDS SEED | soak SEED";
+    "lockrun: usage: run | sim first | sim SEED | check | make NODES CLIENTS COMMANDS SEED | soak SEED | order";

@@ -20,7 +20,7 @@ returns-in-Some-first_coming c =
     let walk = c.loop-next.walk.items in
     let walks = subst (IsOnWalk n graph c.args.clients.now walk) c.in-Some.is c.loop-next.invariant in
     let found : position (λ d. d == c.in-Some.client) walk ≡ Some c.in-Some-first_coming.first =
-        sym (c.in-Some-first_coming.ensures.place ∙ ap (position (λ d. d == c.in-Some.client)) c.deref.ensures.value) in
+    sym (c.in-Some-first_coming.ensures.place ∙ ap (position (λ d. d == c.in-Some.client)) c.deref.ensures.value) in
     record {
       ring = IfOk-weaker c.part_from.result _ _
           (λ part h. h ∙ ap (drop c.in-Some-first_coming.first) c.deref-in-Some-first_coming.ensures.value ∙ closes n graph c.args.clients.now walk c.in-Some.client c.in-Some-first_coming.first walks found)
@@ -44,7 +44,7 @@ loop-next-preserved c =
     let walks = subst (IsOnWalk n graph c.args.clients.now walk) c.in-Some.is c.loop-next.invariant in
     let pushed : c.push.new.self.items ≡ walk ++ c.in-Some.client ∷ [] = search rules in
     let never : position (λ d. d == c.in-Some.client) walk ≡ None =
-        sym (c.in_default-first_coming.ensures.place ∙ ap (position (λ d. d == c.in-Some.client)) c.deref.ensures.value) in
+    sym (c.in_default-first_coming.ensures.place ∙ ap (position (λ d. d == c.in-Some.client)) c.deref.ensures.value) in
     goes_on n graph c.args.clients.now walk c.push.new.self.items c.in-Some.client c.next_among-next.result walks never pushed c.next_among-next.ensures.next c.next_among-next.ensures.within
 
 pub returns : goal.returns

@@ -7,5 +7,5 @@ use Rattle.lt_rings.proofs.rings.ring_set.Given as goal
 abbrev pub invariant-loop-round : goal.invariant-loop-round
 invariant-loop-round l = record {
   left : l.left.items ≡ remaining (graph_of l.graph) (numbers_below l.graph.clients) l._round;
-  within : All (λ c. c < l.graph.clients) l.left.items
+  within : All (λ c. c < l.graph.clients) l.left.items;
 }

@@ -7,5 +7,5 @@ use Rattle.lt_rings.proofs.rings.walk_end.Given as goal
 abbrev pub invariant-loop-step : goal.invariant-loop-step
 invariant-loop-step l = record {
   within : l.last < l.graph.clients;
-  on : (k : ℕ) → k + l._step ≡ l.graph.clients → walk_end_from k l.graph.clients (graph_of l.graph) l.last ≡ walk_end l.graph.clients (graph_of l.graph) l.client
+  on : (k : ℕ) → k + l._step ≡ l.graph.clients → walk_end_from k l.graph.clients (graph_of l.graph) l.last ≡ walk_end l.graph.clients (graph_of l.graph) l.client;
 }

@@ -3,8 +3,7 @@ use Rattle.std.proofs.Common.{◌≡◌, ℕ, zero, suc, ◌+◌, ◌<◌, ◌�
 use Rattle.std.specs.Prelude.{not, if◌then◌else◌}
 use Rattle.std.specs.List.{find, range_with_len}
 use Rattle.std.proofs.lemmas.Bool.{cases_eq}
-use Rattle.lt_law_ordered.specs.Ordered.{is_orderly}
-use Rattle.lt_law_ordered.specs.OrderedLaws.{FirstBadIsExact}
+use Rattle.lt_order.specs.Ordered.{is_orderly, FirstBadIsExact}
 
 not_false : (b : Bool) → not b ≡ false → b ≡ true
 not_false true e = refl

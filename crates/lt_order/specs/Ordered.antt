@@ -1,5 +1,5 @@
 -- Scripts whose clients ask for sets in order.
-use Rattle.std.specs.Prelude.{Bool, true, false, ◌&&◌, ◌==◌, not, nat_lt, ℕ, Option, List, [], ◌∷◌, take, length, fold, IsTrue, ◌<◌}
+use Rattle.std.specs.Prelude.{◌≡◌, ◌↔◌, Bool, true, false, ◌&&◌, ◌==◌, not, nat_lt, ℕ, Option, Some, None, List, [], ◌∷◌, take, length, fold, IsTrue, IsFalse, ◌<◌}
 use Rattle.std.specs.List.{list_all, find, range_with_len}
 use Rattle.lt_modes.specs.declared.command.Command.{Command}
 use Rattle.lt_modes.specs.declared.command.Command.TheVariants.{Lock, Try, Unlock, Change, DropAll}
@@ -60,3 +60,10 @@ IsOrdered script = (client : ℕ) → client < length script.clients → IsTrue 
 -- the least client that doesn't
 abbrev pub first_bad : ScriptData → Option ℕ
 first_bad script = find (λ client. not (is_orderly script client)) (range_with_len 0 (length script.clients))
+
+-- a script is ordered exactly where no client is named; the client that is named doesn't ask in order, and all before it do
+abbrev pub FirstBadIsExact : Type 0
+FirstBadIsExact = (script : ScriptData) → ((first_bad script ≡ None) ↔ IsOrdered script)
+    × ((client : ℕ) → first_bad script ≡ Some client
+    → (client < length script.clients) × IsFalse (is_orderly script client)
+    × ((earlier : ℕ) → earlier < client → IsTrue (is_orderly script earlier)))
