@@ -7,9 +7,10 @@ use Rattle.std.proofs.lemmas.List.Concat.{flat_map-append}
 use Rattle.std.proofs.lemmas.List.Elements.{filter-append}
 use Rattle.lt_modes.specs.Script.{ScriptData, client_name}
 use Rattle.lt_text.specs.Text.{spaced, text, after_space, each_after_space}
-use Rattle.lt_spec.specs.Rings.{Graph, numbers_below, walk_end, waits_for_some}
-use Rattle.lt_rings.specs.Reports.{ReportLine, WaitsLine, CycleLine, EndsLine, waits_lines, ends_lines}
-use Rattle.lt_rings.specs.Report.{report_words, report_text, waits_line, waits_lines_of, ends_line}
+use Rattle.lt_spec.specs.Rings.{Graph, numbers_below, ring_set, walk_end, waits_for_some}
+use Rattle.lt_law_waiting.specs.Reports.{ReportLine, WaitsLine, CycleLine, EndsLine, waits_lines, ends_lines, last_lines, report}
+use Rattle.lt_rings.proofs.Told.{report_same}
+use Rattle.lt_rings.specs.Report.{report_words, waits_text, waits_line, waits_lines_of, ends_line}
 
 range_push : (a n : ℕ) → range_with_len a (n + 1) ≡ range_with_len a n ++ (a + n) ∷ []
 range_push a zero =
@@ -31,19 +32,19 @@ text_append [] ys = refl
 text_append (x ∷ rest) ys =
     ap (λ (t : List ℕ). x ++ 10 ∷ t) (text_append rest ys) ∙ sym (append_assoc x (10 ∷ text rest) (text ys))
 
-pub report_append : (script : ScriptData) (xs ys : List ReportLine) → report_text script (xs ++ ys) ≡ report_text script xs ++ report_text script ys
+pub report_append : (script : ScriptData) (xs ys : List ReportLine) → waits_text script (xs ++ ys) ≡ waits_text script xs ++ waits_text script ys
 report_append script xs ys =
     ap text (map-append (λ line. spaced (report_words script line)) xs ys)
     ∙ text_append (map (λ line. spaced (report_words script line)) xs) (map (λ line. spaced (report_words script line)) ys)
 
 -- what was written, and one piece more
-pub piece_more : (script : ScriptData) (now before old : List ℕ) (done piece all : List ReportLine) → now ≡ before ++ report_text script piece
-    → before ≡ old ++ report_text script done → all ≡ done ++ piece → now ≡ old ++ report_text script all
+pub piece_more : (script : ScriptData) (now before old : List ℕ) (done piece all : List ReportLine) → now ≡ before ++ waits_text script piece
+    → before ≡ old ++ waits_text script done → all ≡ done ++ piece → now ≡ old ++ waits_text script all
 piece_more script now before old done piece all wrote so_far whole =
     wrote
-    ∙ ap (λ (t : List ℕ). t ++ report_text script piece) so_far
-    ∙ append_assoc old (report_text script done) (report_text script piece)
-    ∙ ap (λ (t : List ℕ). old ++ t) (sym (report_append script done piece) ∙ sym (ap (report_text script) whole))
+    ∙ ap (λ (t : List ℕ). t ++ waits_text script piece) so_far
+    ∙ append_assoc old (waits_text script done) (waits_text script piece)
+    ∙ ap (λ (t : List ℕ). old ++ t) (sym (report_append script done piece) ∙ sym (ap (waits_text script) whole))
 
 if_mapped : {Y : Type 0} (t : Bool) (f : ℕ → Y) (x : ℕ) → map f (if t then x ∷ [] else []) ≡ (if t then f x ∷ [] else [])
 if_mapped true f x = refl
@@ -86,3 +87,14 @@ names_push script ring k c h e =
     ∙ ap each_after_space (map-append (client_name script) (take k ring) (c ∷ []))
     ∙ flat_map-append after_space (map (client_name script) (take k ring)) (client_name script c ∷ [])
     ∙ ap (λ (l : List ℕ). each_after_space (map (client_name script) (take k ring)) ++ l) (append-nil (after_space (client_name script c)))
+
+-- all that was written, of a graph that tells this one
+pub all_written : (script : ScriptData) (n m : ℕ) (graph told : Graph) (start between now : List ℕ) → n ≡ m → start ≡ []
+    → between ≡ start ++ waits_text script (waits_lines n graph) → now ≡ between ++ waits_text script (last_lines n graph (ring_set n graph))
+    → ((c d : ℕ) → c < n → d < n → graph c d ≡ told c d) → now ≡ waits_text script (report m told)
+all_written script n m graph told start between now same none first last agree =
+    last
+    ∙ ap (λ (t : List ℕ). t ++ waits_text script (last_lines n graph (ring_set n graph))) (first ∙ ap (λ (t : List ℕ). t ++ waits_text script (waits_lines n graph)) none)
+    ∙ sym (report_append script (waits_lines n graph) (last_lines n graph (ring_set n graph)))
+    ∙ ap (waits_text script) (report_same n graph told agree)
+    ∙ ap (λ (k : ℕ). waits_text script (report k told)) same

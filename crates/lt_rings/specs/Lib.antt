@@ -1,3 +1,2 @@
 pub mod Graph
-pub mod Reports
 pub mod Report

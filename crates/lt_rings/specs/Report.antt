@@ -3,7 +3,7 @@ use Rattle.std.specs.Prelude.{ℕ, List, [], ◌∷◌, if◌then◌else◌, map
 use Rattle.lt_modes.specs.Script.{ScriptData, client_name}
 use Rattle.lt_text.specs.Text.{spaced, text}
 use Rattle.lt_spec.specs.Rings.{Graph, numbers_below, walk_end, waits_for_some}
-use Rattle.lt_rings.specs.Reports.{ReportLine, WaitsLine, CycleLine, NoCycleLine, EndsLine}
+use Rattle.lt_law_waiting.specs.Reports.{ReportLine, WaitsLine, CycleLine, NoCycleLine, EndsLine}
 
 -- the words of a line of the report
 abbrev pub report_words : ScriptData → ReportLine → List (List ℕ)
@@ -13,8 +13,8 @@ report_words script NoCycleLine = codes "no" ∷ codes "cycle" ∷ []
 report_words script (EndsLine client last) = codes "ends" ∷ client_name script client ∷ client_name script last ∷ []
 
 -- the text of these lines
-abbrev pub report_text : ScriptData → List ReportLine → List ℕ
-report_text script lines = text (map (λ line. spaced (report_words script line)) lines)
+abbrev pub waits_text : ScriptData → List ReportLine → List ℕ
+waits_text script lines = text (map (λ line. spaced (report_words script line)) lines)
 
 -- the line of two clients, if the first waits for the second
 abbrev pub waits_line : Graph → ℕ → ℕ → List ReportLine

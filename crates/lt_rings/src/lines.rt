@@ -2,9 +2,9 @@ ghost use Rattle.std.specs.Prelude.{◌≡◌, ◌<◌, ◌≤◌, ◌++◌, ◌
 ghost use Rattle.lt_text.specs.Text.{after_space, spaced, text};
 ghost use Rattle.lt_modes.specs.Script.{ScriptData, client_name};
 ghost use Rattle.lt_spec.specs.Rings.{Graph, ring_set};
-ghost use Rattle.lt_rings.specs.Reports.{CycleLine, NoCycleLine, waits_lines, ends_lines, last_lines, report};
+ghost use Rattle.lt_law_waiting.specs.Reports.{CycleLine, NoCycleLine, waits_lines, ends_lines, last_lines, report};
 ghost use Rattle.lt_rings.specs.Graph.{graph_of, Tells};
-ghost use Rattle.lt_rings.specs.Report.{report_text, waits_line, waits_lines_of, ends_line};
+ghost use Rattle.lt_rings.specs.Report.{waits_text, waits_line, waits_lines_of, ends_line};
 
 use crate::graph::WaitGraph;
 use crate::rings::{ring_of, ring_set, walk_end};
@@ -19,7 +19,7 @@ use std::alloc::{AllocError, Global};
 pub fn report(alloc: Global, script: &Script, graph: &WaitGraph) -> Result<Vec<u8>, AllocError>
     requires { graph.now.clients ≡ length script.now.clients }
     ensures { IfOk result (λ text. (told : Graph) → Tells graph.now told
-        → text.items ≡ report_text script.now (report (length script.now.clients) told)) }
+        → text.items ≡ waits_text script.now (report (length script.now.clients) told)) }
 {
     let mut out = Vec::new(alloc);
     push_waits(&mut out, script, graph)?;
@@ -30,7 +30,7 @@ pub fn report(alloc: Global, script: &Script, graph: &WaitGraph) -> Result<Vec<u
 // Writes the lines `waits`, by client.
 fn push_waits(out: &mut Vec<u8>, script: &Script, graph: &WaitGraph) -> Result<(), AllocError>
     requires { graph.now.clients ≤ length script.now.clients }
-    ensures { OnOk result (out.new.items ≡ out.old.items ++ report_text script.now (waits_lines graph.now.clients (graph_of graph.now))) }
+    ensures { OnOk result (out.new.items ≡ out.old.items ++ waits_text script.now (waits_lines graph.now.clients (graph_of graph.now))) }
 {
     for client in 0..graph.clients() {
         push_waits_of(out, script, graph, client)?;
@@ -47,7 +47,7 @@ fn push_waits_of(
 ) -> Result<(), AllocError>
     requires clients { graph.now.clients ≤ length script.now.clients }
     requires client { client < graph.now.clients }
-    ensures { OnOk result (out.new.items ≡ out.old.items ++ report_text script.now (waits_lines_of graph.now.clients (graph_of graph.now) client)) }
+    ensures { OnOk result (out.new.items ≡ out.old.items ++ waits_text script.now (waits_lines_of graph.now.clients (graph_of graph.now) client)) }
 {
     for other in 0..graph.clients() {
         push_waits_line(out, script, graph, client, other)?;
@@ -66,7 +66,7 @@ fn push_waits_line(
     requires clients { graph.now.clients ≤ length script.now.clients }
     requires client { client < graph.now.clients }
     requires other { other < graph.now.clients }
-    ensures { OnOk result (out.new.items ≡ out.old.items ++ report_text script.now (waits_line (graph_of graph.now) client other)) }
+    ensures { OnOk result (out.new.items ≡ out.old.items ++ waits_text script.now (waits_line (graph_of graph.now) client other)) }
 {
     if !graph.waits(client, other) {
         return Ok(());
@@ -83,7 +83,7 @@ fn push_last(
 ) -> Result<(), AllocError>
     requires { graph.now.clients ≤ length script.now.clients }
     ensures { OnOk result (out.new.items
-        ≡ out.old.items ++ report_text script.now (last_lines graph.now.clients (graph_of graph.now) (ring_set graph.now.clients (graph_of graph.now)))) }
+        ≡ out.old.items ++ waits_text script.now (last_lines graph.now.clients (graph_of graph.now) (ring_set graph.now.clients (graph_of graph.now)))) }
 {
     let members = ring_set(alloc, graph)?;
     if members.is_empty() {
@@ -97,7 +97,7 @@ fn push_last(
 // Writes the line of clients that wait in a ring.
 fn push_cycle(out: &mut Vec<u8>, script: &Script, ring: &[u16]) -> Result<(), AllocError>
     requires { All (λ c. c < length script.now.clients) ring.now }
-    ensures { OnOk result (out.new.items ≡ out.old.items ++ report_text script.now (CycleLine ring.now ∷ [])) }
+    ensures { OnOk result (out.new.items ≡ out.old.items ++ waits_text script.now (CycleLine ring.now ∷ [])) }
 {
     out.extend_from_slice(b"cycle")?;
     for client in ring {
@@ -108,7 +108,7 @@ fn push_cycle(out: &mut Vec<u8>, script: &Script, ring: &[u16]) -> Result<(), Al
 
 // Writes the line that no clients wait in a ring.
 fn push_no_cycle(out: &mut Vec<u8>) -> Result<(), AllocError>
-    ensures { (script : ScriptData) → OnOk result (out.new.items ≡ out.old.items ++ report_text script (NoCycleLine ∷ [])) }
+    ensures { (script : ScriptData) → OnOk result (out.new.items ≡ out.old.items ++ waits_text script (NoCycleLine ∷ [])) }
 {
     out.extend_from_slice(b"no cycle\n")
 }
@@ -116,7 +116,7 @@ fn push_no_cycle(out: &mut Vec<u8>) -> Result<(), AllocError>
 // Writes the lines `ends` of the clients that wait, in order.
 fn push_ends(out: &mut Vec<u8>, script: &Script, graph: &WaitGraph) -> Result<(), AllocError>
     requires { graph.now.clients ≤ length script.now.clients }
-    ensures { OnOk result (out.new.items ≡ out.old.items ++ report_text script.now (ends_lines graph.now.clients (graph_of graph.now))) }
+    ensures { OnOk result (out.new.items ≡ out.old.items ++ waits_text script.now (ends_lines graph.now.clients (graph_of graph.now))) }
 {
     for client in 0..graph.clients() {
         push_ends_line(out, script, graph, client)?;
@@ -133,7 +133,7 @@ fn push_ends_line(
 ) -> Result<(), AllocError>
     requires clients { graph.now.clients ≤ length script.now.clients }
     requires client { client < graph.now.clients }
-    ensures { OnOk result (out.new.items ≡ out.old.items ++ report_text script.now (ends_line graph.now.clients (graph_of graph.now) client)) }
+    ensures { OnOk result (out.new.items ≡ out.old.items ++ waits_text script.now (ends_line graph.now.clients (graph_of graph.now) client)) }
 {
     if !graph.waits_for_some(client) {
         return Ok(());

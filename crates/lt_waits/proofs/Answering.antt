@@ -13,7 +13,7 @@ use Rattle.lt_checker.specs.Input.{FailsInput}
 use Rattle.lt_waits.specs.declared.answer.Answer.{Answer}
 use Rattle.lt_waits.specs.declared.answer.Answer.TheVariants.{Done, Usage, Refused, TooLong, ReadFault, WriteFault, NoMemory, BadJournal}
 use Rattle.lt_waits.specs.Answers.{answer_of_input}
-use Rattle.lt_waits.specs.Serves.{IsReportOf, SaysNothing, CountsWriting, IsGoodInput, ServesReport}
+use Rattle.lt_waits.specs.Serves.{IsReportOf, RefusesInput, CountsWriting, IsGoodJournal, ServesReport}
 
 at_least : (a b : ℕ) → b ≡ a → a ≤ b
 at_least a b e = omega (arith, e)
@@ -99,7 +99,7 @@ written_serves state held write_faults words answer text before after sink sink_
 }
 
 -- where nothing goes wrong, an input says something
-good_says : (reason : InputError) (before after : SourceState) → FailsInput reason before after → IsGoodInput before after → answer_of_input reason ≢ NoMemory → answer_of_input reason ≡ Done
+good_says : (reason : InputError) (before after : SourceState) → FailsInput reason before after → IsGoodJournal before after → answer_of_input reason ≢ NoMemory → answer_of_input reason ≡ Done
 good_says error.ReadFault before after fails good memory = absurd (good.no_read_fault (rose 1 before.faults after.faults fails.0))
 good_says error.TooLong before after fails good memory = absurd (good.not_too_long (rose (MAX_JOURNAL + 1) before.given after.given fails.0))
 good_says error.NoMemory before after fails good memory = absurd (memory refl)
@@ -108,7 +108,7 @@ good_says (error.BadJournal line) before after fails good memory = absurd (good.
 
 -- the input is no script and journal
 pub nothing_serves : {S K : Type 0} (state : S → SourceState) (held : K → Option (List ℕ)) (write_faults : K → ℕ) (words : ℕ) (answer : Answer)
-    (before after : S) (sink : K) → words ≡ 0 → SaysNothing answer (state before) (state after) → ServesReport state held write_faults words answer before after sink sink
+    (before after : S) (sink : K) → words ≡ 0 → RefusesInput answer (state before) (state after) → ServesReport state held write_faults words answer before after sink sink
 nothing_serves state held write_faults words answer before after sink none says =
     let never : HasBegun answer → ⊥ = λ begun. not_begun says.error (subst HasBegun says.is begun) in
     let other : answer ≡ Usage → ⊥ = λ e. not_usage says.error (sym says.is ∙ e) in

@@ -11,7 +11,7 @@ use Rattle.lt_spec.specs.World.{world_after}
 use Rattle.lt_script.specs.declared.fault.ScriptFault.{ScriptFault}
 use Rattle.lt_law_checking.specs.Journals.{IsFinished}
 use Rattle.lt_law_waiting.specs.Reports.{waits_report}
-use Rattle.lt_rings.specs.Report.{report_text}
+use Rattle.lt_rings.specs.Report.{waits_text}
 use Rattle.lt_checker.specs.declared.limits.TheConstants.{MAX_JOURNAL}
 use Rattle.lt_checker.specs.declared.error.InputError.{InputError}
 use Rattle.lt_checker.specs.Input.{DenotesBefore, HasFaultBefore, IsJournalOf, IsBad, FailsInput}
@@ -26,10 +26,10 @@ pub record IsReportOf (left : Option (List ℕ)) (text : List ℕ) : Type 0 wher
   pub denoted : DenotesBefore left script
   pub accepted : IsJournalOf left script run
   pub finished : IsFinished script run
-  pub told : text ≡ report_text script (waits_report script (world_after script run))
+  pub told : text ≡ waits_text script (waits_report script (world_after script run))
 
 -- the input is no script and journal for this reason, which is the answer
-pub record SaysNothing (answer : Answer) (before after : SourceState) : Type 0 where
+pub record RefusesInput (answer : Answer) (before after : SourceState) : Type 0 where
   pub error : InputError
   pub is : answer ≡ answer_of_input error
   pub fails : FailsInput error before after
@@ -40,7 +40,7 @@ pub record CountsWriting (answer : Answer) (before after : ℕ) : Type 0 where
   pub no_write_fault : answer ≢ WriteFault → after ≡ before
 
 -- no read failed, the source gave no more than an input may have, the script has no fault, and the journal no bad line
-pub record IsGoodInput (before after : SourceState) : Type 0 where
+pub record IsGoodJournal (before after : SourceState) : Type 0 where
   pub no_read_fault : Rose before.faults after.faults → ⊥
   pub not_too_long : RoseBy (MAX_JOURNAL + 1) before.given after.given → ⊥
   pub no_fault : (fault : ScriptFault) → HasFaultBefore before.left fault → ⊥
@@ -62,4 +62,4 @@ pub record ServesReport {S K : Type 0} (state : S → SourceState) (held : K →
   -- what it says of the sink
   pub writing : CountsWriting answer (write_faults sink_before) (write_faults sink_after)
   -- what it is where nothing goes wrong
-  pub complete : words ≡ 0 → IsGoodInput (state source_before) (state source_after) → (Rose (write_faults sink_before) (write_faults sink_after) → ⊥) → answer ≢ NoMemory → answer ≡ Done
+  pub complete : words ≡ 0 → IsGoodJournal (state source_before) (state source_after) → (Rose (write_faults sink_before) (write_faults sink_after) → ⊥) → answer ≢ NoMemory → answer ≡ Done

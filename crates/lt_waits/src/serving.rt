@@ -3,7 +3,7 @@ ghost use Rattle.std.specs.Io.KnownBytes.{Appends};
 ghost use Rattle.lt_io.specs.Sink.{AppendsPart};
 ghost use Rattle.lt_io.specs.Whole.{IsReadWhole};
 ghost use Rattle.lt_checker.specs.declared.limits.TheConstants.{MAX_JOURNAL};
-ghost use Rattle.lt_waits.specs.Serves.{IsReportOf, SaysNothing, CountsWriting, ServesReport};
+ghost use Rattle.lt_waits.specs.Serves.{IsReportOf, RefusesInput, CountsWriting, ServesReport};
 
 use crate::answer::Answer;
 use crate::reporting::report;
@@ -35,7 +35,7 @@ pub fn serve<S: Source, K: Sink>(
 fn make<S: Source>(alloc: Global, source: &mut S) -> Result<Vec<u8>, Answer>
     ensures text { IfOk result (λ text. IsReportOf (S.state source.old).left text.items) }
     ensures whole { OnOk result (IsReadWhole MAX_JOURNAL (S.state source.old) (S.state source.new)) }
-    ensures refused { IfErr result (λ answer. SaysNothing answer (S.state source.old) (S.state source.new)) }
+    ensures refused { IfErr result (λ answer. RefusesInput answer (S.state source.old) (S.state source.new)) }
 {
     let ended = check_input(alloc, source)?;
     match report(alloc, &ended.script, &ended.world) {
