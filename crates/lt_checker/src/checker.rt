@@ -18,32 +18,34 @@ use std::marker::Model;
 /// It keeps the world, the lines that must come next, the number of good lines, and at most 201 bytes of a line
 /// that isn't whole: no good line is so long.
 #[derive(Drop)]
-pub struct Checker<'a> {
-    script: &'a Script,
+pub struct Checker {
+    script: Script,
     // What the whole lines have told; none once memory was refused.
-    reader: Option<Reader<'a>>,
+    reader: Option<Reader>,
     rest: ArrayVec<u8, 201>,
 }
 
-impl<'a> Model for Checker<'a> {
+impl Model for Checker {
     ghost use Rattle.lt_checker.specs.Checker.{CheckerData, IsOfScript, feed_of};
 
     ghost Value = { CheckerData };
 
-    ghost view = { λ c. record { script = c.script.now; feed = feed_of c.reader c.rest.items } };
+    ghost view = { λ c. record { script = c.script; feed = feed_of c.reader c.rest.items } };
 
-    ghost invariant = { λ c. IsOfScript c.script.now c.reader };
+    ghost invariant = { λ c. IsOfScript c.script c.reader };
 }
 
-impl<'a> Checker<'a> {
+impl Checker {
     /// A checker that has no bytes yet.
-    pub fn new(alloc: Global, script: &'a Script) -> Result<Checker<'a>, AllocError>
+    pub fn new(alloc: Global, script: &Script) -> Result<Checker, AllocError>
         ensures checker { IfOk result (λ checker. checker ≡ record { script = script.now; feed = Some (new_feed script.now) }) }
         ensures stands { IfOk result (λ checker. StandsFor checker []) }
     {
+        let reader = Reader::new(alloc, script)?;
+        let script = script.copy(alloc)?;
         Ok(Checker {
             script,
-            reader: Some(Reader::new(alloc, script)?),
+            reader: Some(reader),
             rest: ArrayVec::new(),
         })
     }
@@ -82,10 +84,7 @@ impl<'a> Checker<'a> {
 }
 
 // Ends a last line that has no line end.
-fn end_last_line<'a>(
-    reader: Reader<'a>,
-    rest: &mut ArrayVec<u8, 201>,
-) -> Result<Reader<'a>, AllocError>
+fn end_last_line(reader: Reader, rest: &mut ArrayVec<u8, 201>) -> Result<Reader, AllocError>
     ensures script { IfOk result (λ after. after.script ≡ reader.entry.script) }
     ensures ended { IfOk result (λ after. after.reader
         ≡ (last_ended reader.entry.script (record { reader = reader.entry.reader; rest = rest.old.items })).reader) }
@@ -97,11 +96,11 @@ fn end_last_line<'a>(
 }
 
 // Takes the bytes one by one.
-fn feed_all<'a>(
-    mut reader: Reader<'a>,
+fn feed_all(
+    mut reader: Reader,
     rest: &mut ArrayVec<u8, 201>,
     piece: &[u8],
-) -> Result<Reader<'a>, AllocError>
+) -> Result<Reader, AllocError>
     ensures script { IfOk result (λ after. after.script ≡ reader.entry.script) }
     ensures fed { IfOk result (λ after. record { reader = after.reader; rest = rest.new.items }
         ≡ fed_piece reader.entry.script (record { reader = reader.entry.reader; rest = rest.old.items }) piece.now) }
@@ -117,7 +116,7 @@ fn feed_all<'a>(
 }
 
 // The line is whole.
-fn end_line<'a>(reader: Reader<'a>, rest: &mut ArrayVec<u8, 201>) -> Result<Reader<'a>, AllocError>
+fn end_line(reader: Reader, rest: &mut ArrayVec<u8, 201>) -> Result<Reader, AllocError>
     ensures script { IfOk result (λ after. after.script ≡ reader.entry.script) }
     ensures read { IfOk result (λ after. after.reader ≡ read_on reader.entry.script reader.entry.reader (without_return rest.old.items)) }
     ensures empty { rest.new.items ≡ [] }

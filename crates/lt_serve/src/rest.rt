@@ -22,7 +22,7 @@ pub(crate) fn skip_rest<S: Source>(source: &mut S, room: Option<usize>) -> Resul
 pub(crate) fn feed_rest<S: Source>(
     source: &mut S,
     room: Option<usize>,
-    checker: &mut Checker<'_>,
+    checker: &mut Checker,
 ) -> Result<(), ReadFailure>
     ensures rest { OnOk result ((rest : List ℕ) × IsFed rest checker.old checker.new × IsRest room rest (S.state source.old) (S.state source.new)) }
     ensures err { IfErr result (λ why. FailsRest room why (S.state source.old) (S.state source.new)) }
@@ -37,7 +37,7 @@ pub(crate) fn feed_rest<S: Source>(
 fn feed_all<S: Source>(
     source: &mut S,
     limit: usize,
-    checker: &mut Checker<'_>,
+    checker: &mut Checker,
 ) -> Result<(), ReadFailure>
     ensures rest { OnOk result ((rest : List ℕ) × IsFed rest checker.old checker.new × (length rest ≤ limit) × ReadsOut rest (S.state source.old) (S.state source.new)) }
     ensures err { IfErr result (λ why. FailsBy why limit (S.state source.old) (S.state source.new)) }
