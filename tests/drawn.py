@@ -22,13 +22,15 @@ def words_of():
     parser.add_argument('--count', type=int, default=300, help='how many scripts')
     parser.add_argument('--seed', type=int, default=1, help='the number of the first one')
     parser.add_argument('--version', type=int, choices=(1, 2), default=1, help='the version of the scripts')
+    parser.add_argument('--kind', choices=('any', 'ordered', 'nearly'), default='any',
+                        help='scripts of any kind, ordered ones, or such as are ordered but for one command')
     parser.add_argument('--keep', default='drawn.script', help='the file for the first script whose answers differ')
     return parser.parse_args()
 
 
-def script_of(seed, version):
+def script_of(seed, version, kind):
     """The bytes of a script; each tenth one has a fault."""
-    text = draw_script(seed, version)
+    text = draw_script(seed, version, kind)
     return (with_fault(text, seed) if seed % 10 == 0 else text).encode('latin-1')
 
 
@@ -44,7 +46,7 @@ def main():
     statuses, moves, lines, wrong = Counter(), 0, 0, []
 
     def both(seed):
-        data = script_of(seed, args.version)
+        data = script_of(seed, args.version, args.kind)
         return seed, data, answer(args.program, args.words, data), answer(args.reference, args.words, data)
 
     with ThreadPoolExecutor() as pool:

@@ -3,6 +3,7 @@ ghost use Rattle.lt_text.specs.Text.{lines, without_return};
 ghost use Rattle.lt_law_checking.specs.Checking.{checked, read_on};
 ghost use Rattle.lt_law_checking.specs.Feeding.{Feed, new_feed, fed_piece, last_ended, ended};
 ghost use Rattle.lt_checker.specs.Checker.{CheckerData, StandsFor, IsAnswer, with_piece, spent};
+ghost use Rattle.lt_checker.specs.Endings.{IsWorldAnswer};
 
 use crate::error::ReplayError;
 use crate::reader::Reader;
@@ -10,6 +11,7 @@ use arrayvec::ArrayVec;
 use lt_merge::Run;
 use lt_script::Script;
 use lt_text::trim_return;
+use lt_world::World;
 use std::alloc::{AllocError, Global};
 use std::marker::Model;
 
@@ -71,6 +73,17 @@ impl Checker {
         ensures ended { (feed : Feed) → self.entry.feed ≡ Some feed → IsAnswer (ended self.entry.script feed) result }
         ensures refused { IsNone self.entry.feed → result ≡ Err ReplayError.Memory }
     {
+        Ok(self.end_world()?.into_run())
+    }
+
+    /// The world in which the run ended whose journal the bytes are, or the first bad line.
+    pub fn end_world(self) -> Result<World<'a>, ReplayError>
+        ensures answers { (bytes : List ℕ) → StandsFor self.entry bytes
+            → IsWorldAnswer self.entry.script (checked self.entry.script (lines bytes)) result }
+        ensures ended { (feed : Feed) → self.entry.feed ≡ Some feed
+            → IsWorldAnswer self.entry.script (ended self.entry.script feed) result }
+        ensures refused { IsNone self.entry.feed → result ≡ Err ReplayError.Memory }
+    {
         let Checker {
             reader,
             mut rest,
@@ -79,7 +92,7 @@ impl Checker {
         let Some(reader) = reader else {
             return Err(ReplayError::Memory);
         };
-        end_last_line(reader, &mut rest)?.finish()
+        end_last_line(reader, &mut rest)?.finish_world()
     }
 }
 

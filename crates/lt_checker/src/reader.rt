@@ -2,6 +2,7 @@ ghost use Rattle.std.specs.Prelude.{◌≡◌, IfOk};
 ghost use Rattle.lt_script.specs.Script.{IsScript};
 ghost use Rattle.lt_law_checking.specs.Checking.{first_reader, read_on, verdict};
 ghost use Rattle.lt_checker.specs.Checker.{IsAnswer};
+ghost use Rattle.lt_checker.specs.Endings.{IsWorldAnswer};
 
 use crate::counts::Counts;
 use crate::due::{push_closing, push_first};
@@ -117,11 +118,19 @@ impl Reader {
         ensures answers { IsAnswer (verdict self.entry.script self.entry.reader) result }
         ensures is_script { IsScript self.entry.script }
     {
+        Ok(self.finish_world()?.into_run())
+    }
+
+    /// The world in which the run ended, where all its lines are there.
+    pub(crate) fn finish_world(self) -> Result<World<'a>, ReplayError>
+        ensures answers { IsWorldAnswer self.entry.script (verdict self.entry.script self.entry.reader) result }
+        ensures is_script { IsScript self.entry.script }
+    {
         if self.bad || !self.due.is_empty() || !self.world.at_rest() {
             return Err(ReplayError::Bad {
                 line: self.good + 1,
             });
         }
-        Ok(self.world.into_run())
+        Ok(self.world)
     }
 }

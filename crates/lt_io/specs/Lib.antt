@@ -4,3 +4,4 @@ pub mod Memory
 pub mod FaultCounts
 pub mod Texts
 pub mod Reading
+pub mod Whole

@@ -1,13 +1,8 @@
 -- What was read of an input, and why it is refused.
-use Rattle.std.specs.Prelude.{◌≡◌, ℕ, List, Option, Some, None, Err}
+use Rattle.std.specs.Prelude.{◌≡◌, ℕ, List, Err}
 use Rattle.lt_script.specs.Reading.{read_of}
 use Rattle.lt_serve.specs.declared.status.Status.{Status}
-use Rattle.lt_serve.specs.declared.status.Status.TheVariants.{Refused, TooLong, ReadFault, NoMemory, BadJournal}
-
--- if the bytes that were left are known, they are these
-abbrev pub Left : Option (List ℕ) → List ℕ → Type 0
-Left None bytes = Unit {0}
-Left (Some left) bytes = left ≡ bytes
+use Rattle.lt_serve.specs.declared.status.Status.TheVariants.{Refused, TooLong, ReadFault, NoMemory}
 
 -- the answers of reading bytes
 abbrev pub IsReadFailure : Status → Type 0
@@ -21,10 +16,3 @@ abbrev pub IsFaultOf : List ℕ → Status → Type 0
 IsFaultOf bytes (Refused fault) = read_of bytes ≡ Err fault
 IsFaultOf bytes NoMemory = Unit {0}
 IsFaultOf bytes other = ⊥
-
--- the answers to bytes that were read
-abbrev pub IsAnswerOfBytes : Status → Type 0
-IsAnswerOfBytes (Refused fault) = Unit {0}
-IsAnswerOfBytes (BadJournal line) = Unit {0}
-IsAnswerOfBytes NoMemory = Unit {0}
-IsAnswerOfBytes other = ⊥

@@ -1,15 +1,17 @@
 ghost use Rattle.std.specs.Prelude.{◌≡◌, ◌<◌, ◌≤◌, true, false, map, [], Some, IfOk, IfErr, OnOk};
 ghost use Rattle.std.specs.String.{string_bytes};
+ghost use Rattle.lt_io.specs.Whole.{IsReadWhole};
 ghost use Rattle.lt_limits.specs.declared.moves.TheConstants.{MAX_MOVES};
 ghost use Rattle.lt_mail.specs.declared.opening.TheConstants.{MAX_CAPACITY};
 ghost use Rattle.lt_words.specs.Words.{command_of};
-ghost use Rattle.lt_serve.specs.Causes.{SaysOfSource, IsReadWhole, IsEnding, IsRefusal, CanBeMade, reads, limit_of};
+ghost use Rattle.lt_serve.specs.Causes.{SaysOfSource, IsEnding, IsRefusal, CanBeMade, reads, limit_of};
 ghost use Rattle.lt_serve.specs.Serves.{Serves};
 ghost use Rattle.lt_serve.specs.TopCall.{JournalsBy};
 
 use crate::checking::checked;
 use crate::made::{Made, write_made};
 use crate::making::printed;
+use crate::ordering::order_told;
 use crate::schedule::Schedule;
 use crate::simulated::simulated;
 use crate::soaking::soaked;
@@ -144,5 +146,6 @@ fn make<R: Threads + Sync, S: Source, G: Gate>(
             Ok(made) => Ok(made),
             Err(_) => Err(Status::NoMemory),
         },
+        Command::Order => order_told(alloc, source),
     }
 }

@@ -1,4 +1,5 @@
 ghost use Rattle.std.specs.Prelude.{◌≡◌, ◌<◌, ◌≤◌, IfOk, IfErr, OnOk};
+ghost use Rattle.lt_io.specs.Whole.{IsReadWhole};
 ghost use Rattle.lt_script.specs.Script.{IsScript};
 ghost use Rattle.lt_journal.specs.Text.{text_of};
 ghost use Rattle.lt_limits.specs.declared.moves.TheConstants.{MAX_MOVES};
@@ -6,7 +7,7 @@ ghost use Rattle.lt_serve.specs.Schedules.{AreInOrder};
 ghost use Rattle.lt_serve.specs.Endings.{RanTo, StopsInTime, cut_of};
 ghost use Rattle.lt_serve.specs.declared.limits.TheConstants.{MAX_INPUT};
 ghost use Rattle.lt_words.specs.declared.command.Command.TheVariants as command;
-ghost use Rattle.lt_serve.specs.Causes.{SaysOfSource, IsReadWhole, IsRefusal};
+ghost use Rattle.lt_serve.specs.Causes.{SaysOfSource, IsRefusal};
 ghost use Rattle.lt_serve.specs.TopCall.{JournalsInOrder};
 
 use crate::made::Made;

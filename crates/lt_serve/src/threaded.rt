@@ -1,4 +1,5 @@
 ghost use Rattle.std.specs.Prelude.{◌≡◌, ◌<◌, ◌≤◌, IfOk, IfErr, OnOk};
+ghost use Rattle.lt_io.specs.Whole.{IsReadWhole};
 ghost use Rattle.lt_script.specs.Script.{IsScript};
 ghost use Rattle.lt_merge.specs.Merging.{AreRising};
 ghost use Rattle.lt_journal.specs.Text.{text_of};
@@ -7,7 +8,7 @@ ghost use Rattle.lt_serve.specs.Endings.{RanTo, cut_of, status_of_end};
 ghost use Rattle.lt_mail.specs.declared.opening.TheConstants.{MAX_CAPACITY};
 ghost use Rattle.lt_serve.specs.declared.limits.TheConstants.{MAX_INPUT};
 ghost use Rattle.lt_words.specs.declared.command.Command.TheVariants as command;
-ghost use Rattle.lt_serve.specs.Causes.{SaysOfSource, IsReadWhole, IsRefusal};
+ghost use Rattle.lt_serve.specs.Causes.{SaysOfSource, IsRefusal};
 ghost use Rattle.lt_serve.specs.TopCall.{JournalsBy};
 
 use crate::made::Made;
@@ -16,6 +17,7 @@ use crate::serving::Setup;
 use crate::status::Status;
 use lt_io::Source;
 use lt_journal::write;
+use lt_law_ordered::law_ordered;
 use lt_law_promises::law_promised;
 use lt_limits::Ending;
 use lt_merge::Run;
@@ -26,6 +28,7 @@ use std::alloc::{AllocError, Global};
 use std::thread::Threads;
 
 /// The run of a script on threads, and how it ended.
+#[tactic(auto, using(crate::proofs::Ended::ran_to))]
 pub(crate) fn run_nodes<R: Threads + Sync, G: Gate>(
     rt: &R,
     alloc: Global,
@@ -40,6 +43,7 @@ pub(crate) fn run_nodes<R: Threads + Sync, G: Gate>(
     ensures rising { IfOk result (λ made. AreRising made.1.entries) }
 {
     law_promised();
+    law_ordered();
     run_on_threads(
         rt,
         alloc,

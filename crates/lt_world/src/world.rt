@@ -1,5 +1,6 @@
 mod full;
 mod order;
+mod waiting;
 
 ghost use Rattle.std.specs.Prelude.{◌≡◌, ◌≢◌, ◌≤◌, ◌<◌, ◌↔◌, ℕ, [], ◌∷◌, ◌++◌, length, IsTrue, IsFalse, IsNone, IfOk, IfSome, OnSome, OnOk, OnErr, option_map, slice_index_or};
 ghost use Rattle.lt_limits.specs.declared.moves.TheConstants.{MAX_MOVES};

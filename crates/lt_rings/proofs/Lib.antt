@@ -1,0 +1,4 @@
+pub mod Rounds
+pub mod Walks
+pub mod Told
+pub mod SoFar
