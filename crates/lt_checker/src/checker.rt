@@ -77,7 +77,7 @@ impl Checker {
     }
 
     /// The world in which the run ended whose journal the bytes are, or the first bad line.
-    pub fn end_world(self) -> Result<World<'a>, ReplayError>
+    pub fn end_world(self) -> Result<World, ReplayError>
         ensures answers { (bytes : List ℕ) → StandsFor self.entry bytes
             → IsWorldAnswer self.entry.script (checked self.entry.script (lines bytes)) result }
         ensures ended { (feed : Feed) → self.entry.feed ≡ Some feed

@@ -122,7 +122,7 @@ impl Reader {
     }
 
     /// The world in which the run ended, where all its lines are there.
-    pub(crate) fn finish_world(self) -> Result<World<'a>, ReplayError>
+    pub(crate) fn finish_world(self) -> Result<World, ReplayError>
         ensures answers { IsWorldAnswer self.entry.script (verdict self.entry.script self.entry.reader) result }
         ensures is_script { IsScript self.entry.script }
     {
