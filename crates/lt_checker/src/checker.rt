@@ -97,10 +97,7 @@ impl Checker {
 }
 
 // Ends a last line that has no line end.
-fn end_last_line(
-    reader: Reader,
-    rest: &mut ArrayVec<u8, 201>,
-) -> Result<Reader, AllocError>
+fn end_last_line(reader: Reader, rest: &mut ArrayVec<u8, 201>) -> Result<Reader, AllocError>
     ensures script { IfOk result (λ after. after.script ≡ reader.entry.script) }
     ensures ended { IfOk result (λ after. after.reader
         ≡ (last_ended reader.entry.script (record { reader = reader.entry.reader; rest = rest.old.items })).reader) }

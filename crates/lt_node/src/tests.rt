@@ -29,7 +29,7 @@ fn script(alloc: Global) -> Result<Script, AllocError> {
 
 // The client's next command, where it can make one.
 fn act(
-    node: &mut Node<'_>,
+    node: &mut Node,
     script: &Script,
     client: u16,
     out: &mut Out,
@@ -48,7 +48,7 @@ fn act(
 }
 
 // Takes the letter, where it fits.
-fn take(node: &mut Node<'_>, mut letter: Letter, out: &mut Out) -> Result<bool, AllocError>
+fn take(node: &mut Node, mut letter: Letter, out: &mut Out) -> Result<bool, AllocError>
     ensures { node.new.script ≡ node.old.script }
 {
     if !node.fits(&letter) || !node.is_within() {
@@ -148,7 +148,7 @@ fn writers(alloc: Global) -> Result<Script, AllocError> {
 }
 
 // Takes the letter that was sent last, where it is for the node and fits.
-fn take_sent(node: &mut Node<'_>, out: &mut Out) -> Result<bool, AllocError>
+fn take_sent(node: &mut Node, out: &mut Out) -> Result<bool, AllocError>
     ensures { node.new.script ≡ node.old.script }
 {
     match out.next_letter() {

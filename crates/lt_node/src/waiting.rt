@@ -10,7 +10,7 @@ use lt_core::Core;
 use lt_modes::{Ask, Mode};
 
 // What the clients hold and wait for here, and behind whose asks.
-impl Node<'_> {
+impl Node {
     /// How many locks of the mode the client holds in the set.
     pub fn count(&self, set: u8, client: u16, mode: Mode) -> u32
         requires { set < length self.now.script.sets }

@@ -65,7 +65,7 @@ fn writers(alloc: Global) -> Result<Script, AllocError> {
 }
 
 // The pairs of four clients of which the first waits for the second.
-fn waiting_pairs(alloc: Global, world: &World<'_>) -> Result<Vec<(u16, u16)>, AllocError>
+fn waiting_pairs(alloc: Global, world: &World) -> Result<Vec<(u16, u16)>, AllocError>
     requires { length world.now.script.clients ≡ 4 }
 {
     let mut pairs = Vec::new(alloc);

@@ -11,7 +11,7 @@ use super::World;
 use lt_modes::{Ask, MODES, Mode};
 
 // Who waits for whom.
-impl World<'_> {
+impl World {
     /// Whether the client waits for the other one.
     pub fn waits_for(&self, client: u16, other: u16) -> bool
         requires client { client < length self.now.script.clients }
