@@ -1,4 +1,5 @@
+pub mod Marks
 pub mod Rounds
-pub mod Walks
-pub mod Told
 pub mod SoFar
+pub mod Told
+pub mod Walks

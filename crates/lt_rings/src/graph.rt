@@ -1,6 +1,6 @@
 ghost use Rattle.std.specs.Prelude.{◌≡◌, ◌<◌, ◌*◌, length, IfSome};
-ghost use Rattle.lt_spec.specs.Rings.{next_among, numbers_below, waits_for_some};
-ghost use Rattle.lt_rings.specs.Graph.{graph_of};
+ghost use Rattle.lt_spec.specs.Rings.{Graph, next_among, numbers_below, waits_for_some};
+ghost use Rattle.lt_rings.specs.Graph.{graph_of, marks, Tells};
 
 use std::marker::Model;
 
@@ -28,7 +28,8 @@ impl WaitGraph {
     /// first client come first, each client's in order.
     pub fn new(clients: u16, pairs: Vec<bool>) -> WaitGraph
         requires { length pairs.items ≡ clients * clients }
-        ensures { result ≡ record { clients = clients; pairs = pairs.items } }
+        ensures graph { result ≡ record { clients = clients; pairs = pairs.items } }
+        ensures told { (graph : Graph) → pairs.items ≡ marks clients graph clients → Tells result graph }
     {
         WaitGraph { clients, pairs }
     }
