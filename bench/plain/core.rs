@@ -1,14 +1,14 @@
 //! One lock set at one node.
-use crate::desk::{Ask, Desk, Parked, Stamp, Tell, barred, bars, conflicts, covers, is_taking};
+use crate::desk::{Ask, Desk, Parked, Records, Stamp, Tell, barred, bars, covers, is_taking};
+use crate::held::Held;
 use crate::letter::{Body, Event, Letter, Out};
 use crate::script::Mode;
-use std::collections::BTreeMap;
 
 #[derive(Default)]
 pub struct Core {
     pub me: u8,
     pub set: u8,
-    pub held: BTreeMap<(u16, Mode), u32>,
+    pub held: Held,
     charge: u8,
     frozen: u8,
     number: u64,
@@ -19,22 +19,18 @@ pub struct Core {
     pub desk: Option<Desk>,
 }
 
+// What the desk does next, with the place of the ask.
+enum Pick {
+    Nothing,
+    Local(usize),
+    Copy(usize),
+    HandOver(usize),
+}
+
 impl Core {
     pub fn new(nodes: u8, me: u8, set: u8) -> Core {
         let desk = (me == 0).then(|| Desk::new(nodes));
         Core { me, set, desk, ..Core::default() }
-    }
-
-    fn modes(&self) -> u8 {
-        self.held.keys().fold(0, |modes, row| modes | 1 << row.1)
-    }
-
-    fn modes_of(&self, client: u16) -> u8 {
-        self.held.range((client, 0)..=(client, 4)).fold(0, |modes, (row, _)| modes | 1 << row.1)
-    }
-
-    fn others_bar(&self, client: u16, mode: Mode) -> bool {
-        self.held.keys().any(|row| row.0 != client && conflicts(mode, row.1))
     }
 
     fn own_owed(&self, desk: &Desk) -> u8 {
@@ -43,49 +39,31 @@ impl Core {
         owed.filter(|copy| waits(copy.0)).fold(0, |modes, copy| modes | 1 << copy.1)
     }
 
-    fn records(&self, desk: &Desk) -> [u8; 16] {
-        let mut records = [0; 16];
-        for (record, entry) in records.iter_mut().zip(&desk.entries) {
-            *record = entry.record();
-        }
-        records[usize::from(self.me)] = self.modes() | self.own_owed(desk);
-        records
+    fn records(&self, desk: &Desk) -> Records {
+        Records::new(&desk.entries, self.me, self.held.modes() | self.own_owed(desk))
     }
 
     pub fn can_grant(&self, client: u16, mode: Mode) -> bool {
-        let own = self.modes_of(client);
+        let own = self.held.modes_of(client);
         if covers(own, mode) {
             return true;
         }
-        if self.others_bar(client, mode) {
+        if self.held.others_bar(client, mode) {
             return false;
         }
         let Some(desk) = &self.desk else {
             return covers(self.charge, mode) && self.frozen >> mode & 1 == 0;
         };
-        let mut others = desk.entries.iter().enumerate().filter(|(x, _)| *x != usize::from(self.me));
-        !others.any(|(_, entry)| barred(entry.record(), mode))
-            && !barred(self.own_owed(desk), mode)
-            && !desk.queue[..desk.place(own != 0)].iter().any(|ask| conflicts(mode, ask.mode))
+        let before = &desk.queue[..desk.place(own != 0)];
+        !barred(self.records(desk).others(self.me) | self.own_owed(desk), mode)
+            && !barred(before.iter().fold(0, |modes, ask| modes | 1 << ask.mode), mode)
     }
 
     pub fn give(&mut self, client: u16, mode: Mode, gives_up: Option<Mode>) {
         if let Some(gives_up) = gives_up {
-            self.take(client, gives_up);
+            self.held.take(client, gives_up);
         }
-        *self.held.entry((client, mode)).or_insert(0) += 1;
-    }
-
-    /// One lock goes, where the client holds one.
-    pub fn take(&mut self, client: u16, mode: Mode) -> bool {
-        let Some(count) = self.held.get_mut(&(client, mode)) else {
-            return false;
-        };
-        *count -= 1;
-        if *count == 0 {
-            self.held.remove(&(client, mode));
-        }
-        true
+        self.held.add(client, mode);
     }
 
     fn send(&self, to: u8, body: Body, stamp: Stamp, out: &mut Out) {
@@ -93,7 +71,7 @@ impl Core {
     }
 
     pub fn wait(&mut self, client: u16, mode: Mode, gives_up: Option<Mode>, stamp: Stamp, out: &mut Out) {
-        let holder = self.modes_of(client) != 0;
+        let holder = self.held.modes_of(client) != 0;
         let ask = Ask { client, node: self.me, mode, gives_up, holder, stamp };
         self.pending.push(ask);
         out.events.push(Event::Wait(client, self.set, mode));
@@ -164,71 +142,67 @@ impl Core {
         }
     }
 
-    // The place of the ask that is served next, and whether it is of this node.
-    fn next_service(&self) -> Option<(usize, bool)> {
-        let desk = self.desk.as_ref().filter(|desk| !desk.queue.is_empty())?;
+    // What the desk does next.
+    fn pick(&self) -> Pick {
+        let Some(desk) = self.desk.as_ref().filter(|desk| !desk.queue.is_empty()) else {
+            return Pick::Nothing;
+        };
         let records = self.records(desk);
-        let mut before = 0;
+        let (mut before, mut next) = (0, Pick::Nothing);
         for (k, ask) in desk.queue.iter().enumerate() {
-            let others = others(&records, ask.node);
-            if !barred(before, ask.mode) && !barred(others, ask.mode) {
-                if ask.node != self.me {
-                    if covers(others, ask.mode) && !barred(records[usize::from(ask.node)], ask.mode) {
-                        return Some((k, false));
+            if !barred(before | records.others(ask.node), ask.mode) {
+                if ask.node == self.me {
+                    if !self.held.others_bar(ask.client, ask.mode) && !barred(self.own_owed(desk), ask.mode) {
+                        return Pick::Local(k);
                     }
-                } else if !self.others_bar(ask.client, ask.mode) && !barred(self.own_owed(desk), ask.mode) {
-                    return Some((k, true));
+                } else {
+                    let is_clear = !barred(records.of(ask.node), ask.mode);
+                    if is_clear && covers(records.others(ask.node), ask.mode) {
+                        return Pick::Copy(k);
+                    }
+                    if (is_clear || k == 0) && matches!(next, Pick::Nothing) {
+                        next = Pick::HandOver(k);
+                    }
                 }
             }
             before |= 1 << ask.mode;
         }
-        None
-    }
-
-    // The place of the ask to whose node the desk goes.
-    fn next_move(&self) -> Option<usize> {
-        let desk = self.desk.as_ref().filter(|desk| !desk.queue.is_empty())?;
-        let records = self.records(desk);
-        let mut before = 0;
-        for (k, ask) in desk.queue.iter().enumerate() {
-            if ask.node != self.me
-                && !barred(before, ask.mode)
-                && !barred(others(&records, ask.node), ask.mode)
-                && (k == 0 || !barred(records[usize::from(ask.node)], ask.mode))
-            {
-                return Some(k);
-            }
-            before |= 1 << ask.mode;
-        }
-        None
+        next
     }
 
     /// The end of a move.
     pub fn finish(&mut self, stamp: Stamp, out: &mut Out) {
         if self.desk.is_some() {
-            self.serve(stamp, out);
-            let next = self.next_move();
+            let next = self.serve(stamp, out);
             self.freeze(stamp, out);
             if let Some((k, desk)) = next.and_then(|k| Some((k, self.desk.take()?))) {
                 self.hand_over(k, desk, stamp, out);
             }
-        } else if bars(self.modes()) != bars(self.charge) {
-            self.charge = self.modes();
+        } else if bars(self.held.modes()) != bars(self.charge) {
+            self.charge = self.held.modes();
             let pending = self.pending.iter().map(|ask| ask.stamp).collect();
             let tell = Tell { node: self.me, modes: self.charge, pending, stamp };
             self.route(Parked::Tell(tell), false, stamp, out);
         }
     }
 
-    fn serve(&mut self, stamp: Stamp, out: &mut Out) {
-        while let (Some((k, is_own)), Some(desk)) = (self.next_service(), &mut self.desk) {
-            let ask = desk.queue.remove(k);
-            if is_own {
-                self.answer(ask, out);
-            } else {
-                desk.entries[usize::from(ask.node)].owed.push((ask.stamp, ask.mode));
-                self.send(ask.node, Body::Copy(ask), stamp, out);
-                out.events.push(Event::Copy(self.set, ask.node, ask.client, ask.mode));
+    // Services until there is none; the place of the ask to whose node the desk goes then.
+    fn serve(&mut self, stamp: Stamp, out: &mut Out) -> Option<usize> {
+        loop {
+            match self.pick() {
+                Pick::Nothing => return None,
+                Pick::HandOver(k) => return Some(k),
+                Pick::Local(k) => {
+                    let ask = self.desk.as_mut()?.queue.remove(k);
+                    self.answer(ask, out);
+                }
+                Pick::Copy(k) => {
+                    let desk = self.desk.as_mut()?;
+                    let ask = desk.queue.remove(k);
+                    desk.entries[usize::from(ask.node)].owed.push((ask.stamp, ask.mode));
+                    self.send(ask.node, Body::Copy(ask), stamp, out);
+                    out.events.push(Event::Copy(self.set, ask.node, ask.client, ask.mode));
+                }
             }
         }
     }
@@ -236,19 +210,21 @@ impl Core {
     fn freeze(&mut self, stamp: Stamp, out: &mut Out) {
         let Some(desk) = &mut self.desk else { return };
         let (me, modes) = (usize::from(self.me), desk.frozen());
-        let entries = desk.entries.iter_mut().enumerate();
-        let is_told = |x: usize, entry: &crate::desk::Entry| x != me && entry.frozen != modes && entry.record() != 0;
-        let mut targets = Vec::new();
-        for (x, entry) in entries.filter(|(x, entry)| *x == me || is_told(*x, entry)) {
-            entry.frozen = modes;
-            if x != me {
-                targets.push(x as u8);
+        let mut targets = 0_u16;
+        for (x, entry) in desk.entries.iter_mut().enumerate().filter(|(_, entry)| entry.frozen != modes) {
+            if x == me {
+                entry.frozen = modes;
+            } else if entry.record() != 0 {
+                entry.frozen = modes;
+                targets |= 1 << x;
             }
         }
-        desk.number += u64::from(!targets.is_empty());
+        desk.number += u64::from(targets != 0);
         self.frozen = modes;
         self.number = desk.number;
-        for to in targets {
+        while targets != 0 {
+            let to = targets.trailing_zeros() as u8;
+            targets &= targets - 1;
             self.send(to, Body::Freeze(self.number, modes), stamp, out);
             out.events.push(Event::Freeze(self.set, to, self.number, modes));
         }
@@ -256,7 +232,7 @@ impl Core {
 
     fn hand_over(&mut self, k: usize, mut desk: Desk, stamp: Stamp, out: &mut Out) {
         let to = desk.queue[k].node;
-        self.charge = self.modes();
+        self.charge = self.held.modes();
         let pending = &self.pending;
         let entry = &mut desk.entries[usize::from(self.me)];
         entry.reported = self.charge;
@@ -268,9 +244,4 @@ impl Core {
         out.events.push(Event::Token(self.set, to, desk.epoch));
         self.send(to, Body::Token(desk), stamp, out);
     }
-}
-
-fn others(records: &[u8; 16], node: u8) -> u8 {
-    let all = records.iter().enumerate();
-    all.filter(|(x, _)| *x != usize::from(node)).fold(0, |modes, (_, record)| modes | record)
 }

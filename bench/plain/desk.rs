@@ -6,8 +6,21 @@ pub type Stamp = (u64, u8);
 // The modes that conflict with each mode, as bits.
 const BARS: [u8; 5] = [16, 24, 28, 22, 31];
 
+// The same for each set of modes.
+const BARS_OF: [u8; 32] = {
+    let (mut all, mut modes) = ([0; 32], 0);
+    while modes < 160 {
+        let (set, mode) = (modes / 5, modes % 5);
+        if set >> mode & 1 == 1 {
+            all[set] |= BARS[mode];
+        }
+        modes += 1;
+    }
+    all
+};
+
 pub fn bars(modes: u8) -> u8 {
-    (0..5).filter(|mode| modes >> mode & 1 == 1).fold(0, |all, mode| all | BARS[mode])
+    BARS_OF[usize::from(modes & 31)]
 }
 
 pub fn conflicts(a: Mode, b: Mode) -> bool {
@@ -61,6 +74,36 @@ pub struct Entry {
 impl Entry {
     pub fn record(&self) -> u8 {
         self.owed.iter().fold(self.reported, |modes, copy| modes | 1 << copy.1)
+    }
+}
+
+/// What counts of each node, and of all nodes but one.
+pub struct Records {
+    records: [u8; 16],
+    // The modes that at least one node has, and those that at least two have.
+    once: u8,
+    twice: u8,
+}
+
+impl Records {
+    /// Of the entries, but for node `me`, of which `own` counts.
+    pub fn new(entries: &[Entry], me: u8, own: u8) -> Records {
+        let mut all = Records { records: [0; 16], once: 0, twice: 0 };
+        for (x, entry) in entries.iter().enumerate() {
+            let record = if x == usize::from(me) { own } else { entry.record() };
+            all.records[x] = record;
+            all.twice |= all.once & record;
+            all.once |= record;
+        }
+        all
+    }
+
+    pub fn of(&self, node: u8) -> u8 {
+        self.records[usize::from(node)]
+    }
+
+    pub fn others(&self, node: u8) -> u8 {
+        self.twice | self.once & !self.of(node)
     }
 }
 

@@ -1,10 +1,13 @@
 //! A plain Rust program of the same rules, to measure `sim first` against: it proves nothing and checks little. It reads a
 //! script without faults from standard input and writes the journal of its first run to standard output.
+mod acts;
 mod core;
 mod desk;
+mod held;
 mod journal;
 mod letter;
 mod script;
+mod text;
 mod world;
 
 use std::io::{Read, Write, stdin, stdout};

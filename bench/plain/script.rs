@@ -1,5 +1,6 @@
 //! Scripts, and how they are read.
 use std::collections::HashMap;
+use std::hash::{BuildHasherDefault, Hasher};
 
 pub type Mode = u8;
 
@@ -7,6 +8,7 @@ pub const WORDS: [&str; 5] = ["intention_read", "read", "upgrade", "intention_wr
 
 const MAX_COMMANDS: usize = 4096;
 const MAX_LINE: usize = 200;
+const MAX_WORDS: usize = 5;
 
 #[derive(Clone, Copy)]
 pub enum Command {
@@ -41,17 +43,70 @@ enum Name {
     Client(u16),
 }
 
+// The hash of a name, by eight bytes at a time.
+#[derive(Default)]
+struct NameHasher(u64);
+
+impl Hasher for NameHasher {
+    fn write(&mut self, bytes: &[u8]) {
+        for chunk in bytes.chunks(8) {
+            let word = chunk.iter().fold(0, |word, byte| word << 8 | u64::from(*byte));
+            self.write_u64(word);
+        }
+    }
+
+    fn write_u64(&mut self, word: u64) {
+        self.0 = (self.0.rotate_left(5) ^ word).wrapping_mul(0x9e37_79b9_7f4a_7c15);
+    }
+
+    fn write_u8(&mut self, byte: u8) {
+        self.write_u64(byte.into());
+    }
+
+    fn finish(&self) -> u64 {
+        self.0 ^ self.0 >> 32
+    }
+}
+
+type Names<'a> = HashMap<&'a str, Name, BuildHasherDefault<NameHasher>>;
+
+// The words of a line.
+struct Words<'a> {
+    words: [&'a str; MAX_WORDS],
+    count: usize,
+}
+
+// The words of a line; `None` where a byte has no place in a script, or there are too many words.
+fn words(line: &str) -> Option<Words<'_>> {
+    let mut found = Words { words: [""; MAX_WORDS], count: 0 };
+    let (bytes, mut first) = (line.as_bytes(), 0);
+    for (k, byte) in bytes.iter().chain([&b' ']).enumerate() {
+        match byte {
+            b' ' | b'\t' => {
+                if first < k && (found.count == 0 || !found.words[0].starts_with('#')) {
+                    *found.words.get_mut(found.count)? = &line[first..k];
+                    found.count += 1;
+                }
+                first = k + 1;
+            }
+            b'!'..=b'~' => {}
+            _ => return None,
+        }
+    }
+    Some(found)
+}
+
 /// Reads a script; `None` where a line has a fault.
 pub fn read(text: &str) -> Option<Script> {
     let mut script = Script::default();
-    let mut names = HashMap::new();
+    let mut names = Names::default();
     let mut count = 0;
     for line in text.lines() {
-        if line.len() > MAX_LINE || !line.bytes().all(|byte| byte == b'\t' || (b' '..=b'~').contains(&byte)) {
+        if line.len() > MAX_LINE {
             return None;
         }
-        let words: Vec<&str> = line.split([' ', '\t']).filter(|word| !word.is_empty()).collect();
-        match words[..] {
+        let Words { words, count: found } = words(line)?;
+        match words[..found] {
             [] => {}
             [first, ..] if first.starts_with('#') => {}
             ["nodes", nodes] => script.nodes = nodes.parse().ok()?,
@@ -81,7 +136,7 @@ pub fn read(text: &str) -> Option<Script> {
     (count <= MAX_COMMANDS).then_some(script)
 }
 
-fn command_of(names: &HashMap<&str, Name>, verb: &str, rest: &[&str]) -> Option<Command> {
+fn command_of(names: &Names<'_>, verb: &str, rest: &[&str]) -> Option<Command> {
     Some(match (verb, rest) {
         ("lock", [set, mode]) => Command::Lock(set_of(names, set)?, mode_of(mode)?),
         ("try", [set, mode]) => Command::Try(set_of(names, set)?, mode_of(mode)?),
@@ -96,14 +151,14 @@ fn mode_of(word: &str) -> Option<Mode> {
     WORDS.iter().position(|&other| other == word).map(|mode| mode as Mode)
 }
 
-fn set_of(names: &HashMap<&str, Name>, name: &str) -> Option<u8> {
+fn set_of(names: &Names<'_>, name: &str) -> Option<u8> {
     match names.get(name) {
         Some(Name::Set(set)) => Some(*set),
         _ => None,
     }
 }
 
-fn client_of(names: &HashMap<&str, Name>, name: &str) -> Option<u16> {
+fn client_of(names: &Names<'_>, name: &str) -> Option<u16> {
     match names.get(name) {
         Some(Name::Client(client)) => Some(*client),
         _ => None,

@@ -1,4 +1,5 @@
 //! All nodes on one thread, and the letters between them.
+use crate::acts::Acts;
 use crate::core::Core;
 use crate::letter::{Event, Letter, Out};
 use crate::script::{Command, Script};
@@ -26,7 +27,9 @@ struct Node {
 pub struct World<'a> {
     script: &'a Script,
     nodes: Vec<Node>,
-    made: Vec<usize>,
+    acts: Acts,
+    // Which clients wait.
+    waiting: Vec<bool>,
     // By sender and receiver; and for each receiver the senders of letters, as bits.
     letters: Vec<Vec<VecDeque<Letter>>>,
     senders: Vec<u16>,
@@ -43,7 +46,8 @@ impl World<'_> {
         World {
             script,
             nodes: (0..script.nodes).map(|me| Node { clock: 0, cores: cores(me) }).collect(),
-            made: vec![0; script.clients.len()],
+            acts: Acts::new(script.commands.iter().map(Vec::len).collect()),
+            waiting: vec![false; script.clients.len()],
             letters: (0..count).map(|_| (0..count).map(|_| VecDeque::new()).collect()).collect(),
             senders: vec![0; count],
             out: Out::default(),
@@ -52,22 +56,13 @@ impl World<'_> {
         }
     }
 
-    fn waits(&self, node: u8, client: u16) -> bool {
-        let cores = &self.nodes[usize::from(node)].cores;
-        cores.iter().any(|core| core.pending.iter().any(|ask| ask.client == client))
-    }
-
     /// The first enabled move.
-    pub fn pick(&self) -> Option<(u8, Step)> {
+    pub fn pick(&mut self) -> Option<(u8, Step)> {
         if let Some(node) = self.senders.iter().position(|senders| *senders != 0) {
             return Some((node as u8, Step::Take(self.senders[node].trailing_zeros() as u8)));
         }
-        let clients = 0..self.script.clients.len();
-        let home = |client: usize| self.script.clients[client].1;
-        let has_command = |client: &usize| self.made[*client] < self.script.commands[*client].len();
-        let runnable = |client: &usize| has_command(client) && !self.waits(home(*client), *client as u16);
-        let client = clients.filter(runnable).min_by_key(|client| self.made[*client])?;
-        Some((home(client), Step::Act(client as u16)))
+        let client = self.acts.next()?;
+        Some((self.script.clients[usize::from(client)].1, Step::Act(client)))
     }
 
     pub fn step(&mut self, node: u8, step: Step) {
@@ -79,7 +74,20 @@ impl World<'_> {
             self.letters[usize::from(node)][usize::from(to)].push_back(letter);
             self.senders[usize::from(to)] |= 1 << node;
         }
-        self.events.append(&mut self.out.events);
+        for event in self.out.events.drain(..) {
+            match event {
+                Event::Wait(client, ..) => {
+                    self.acts.sleep(client);
+                    self.waiting[usize::from(client)] = true;
+                }
+                Event::Grant(client, ..) | Event::Change(client, ..) if self.waiting[usize::from(client)] => {
+                    self.acts.wake(client);
+                    self.waiting[usize::from(client)] = false;
+                }
+                _ => {}
+            }
+            self.events.push(event);
+        }
         let clock = self.nodes[usize::from(node)].clock;
         self.moves.push(Move { clock, node, step, events: self.events.len() });
     }
@@ -98,8 +106,8 @@ impl World<'_> {
     }
 
     fn act(&mut self, node: u8, client: u16) {
-        let command = self.script.commands[usize::from(client)][self.made[usize::from(client)]];
-        self.made[usize::from(client)] += 1;
+        let place = self.acts.make(client);
+        let command = self.script.commands[usize::from(client)][place];
         self.nodes[usize::from(node)].clock += 1;
         let stamp = (self.nodes[usize::from(node)].clock, node);
         let set = match command {
@@ -122,9 +130,9 @@ impl World<'_> {
                 }
                 out.events.push(Event::Try(client, set, mode, got));
             }
-            Command::Unlock(_, mode) if core.take(client, mode) => out.events.push(Event::Unlock(client, set, mode)),
+            Command::Unlock(_, mode) if core.held.take(client, mode) => out.events.push(Event::Unlock(client, set, mode)),
             Command::Unlock(_, mode) => out.events.push(Event::NotHeld(client, set, mode)),
-            Command::Change(_, from, _) if !core.held.contains_key(&(client, from)) => {
+            Command::Change(_, from, _) if !core.held.has(client, from) => {
                 out.events.push(Event::NotHeld(client, set, from));
             }
             Command::Change(_, from, to) if core.can_grant(client, to) => {
@@ -138,13 +146,12 @@ impl World<'_> {
     }
 
     fn drop_all(&mut self, client: u16, other: u16, set: u8, stamp: (u64, u8)) {
-        let is_busy = self.waits(stamp.1, other);
+        let is_busy = self.waiting[usize::from(other)];
         let cores = &mut self.nodes[usize::from(stamp.1)].cores;
         let family = self.script.family(set);
         let mut count = 0;
         for &k in family.iter().filter(|_| !is_busy) {
-            count += cores[k].held.iter().filter(|(row, _)| row.0 == other).map(|(_, count)| count).sum::<u32>();
-            cores[k].held.retain(|row, _| row.0 != other);
+            count += cores[k].held.drop_all(other);
         }
         self.out.events.push(match is_busy {
             true => Event::Busy(client, other, set),
