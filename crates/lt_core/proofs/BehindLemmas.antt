@@ -1,5 +1,5 @@
 -- Which ask a client has, and which asks stand before others, from a place on.
-use Rattle.std.proofs.Common.{◌≡◌, ◌∙◌, ◌==◌, ◌+◌, ◌<◌, ◌||◌, ◌&&◌, ℕ, suc, Bool, List, [], ◌∷◌, length, drop, refl, ap}
+use Rattle.std.proofs.Common.{◌≡◌, ◌∙◌, ◌==◌, ◌+◌, ◌<◌, ◌||◌, ◌&&◌, ℕ, Bool, List, [], ◌∷◌, length, drop, refl, ap}
 use Rattle.std.specs.Prelude.{filter_map, slice_index_or, is_some, if◌then◌else◌, Some, true, false}
 use Rattle.std.specs.List.{list_any, find}
 use Rattle.std.proofs.lemmas.List.{drop_more}

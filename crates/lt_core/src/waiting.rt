@@ -21,10 +21,16 @@ impl Core {
     }
 
     /// The client's unanswered ask, if it has one here.
-    #[tactic(auto, using(crate::proofs::BehindLemmas::find_some))]
     pub fn ask_of(&self, client: u16) -> Option<Ask>
         ensures ask { result ≡ pending_ask self.now.state client }
         ensures some { is_some result ≡ waits self.now.state client }
+    {
+        self.first_ask(client)
+    }
+
+    // The first of the client's unanswered asks here.
+    fn first_ask(&self, client: u16) -> Option<Ask>
+        ensures { result ≡ pending_ask self.now.state client }
     {
         self.pending
             .asks()
@@ -48,7 +54,7 @@ impl Core {
     pub fn parked_behind(&self, other: u16, client: u16) -> bool
         ensures { result ≡ parked_behind self.now.state other client }
     {
-        for k in 0..self.parked.len() {
+        for k in 0..self.parked_len() {
             if self.is_behind(k, other, client) {
                 return true;
             }

@@ -8,13 +8,12 @@ use Rattle.lt_modes.specs.declared.mode.Mode.{Mode}
 use Rattle.lt_modes.specs.Script.{ScriptData}
 use Rattle.lt_spec.specs.Families.{is_related}
 use Rattle.lt_spec.specs.Holdings.{Holding, is_dropped, times_held}
-use Rattle.lt_counts.specs.Counts.{place_of_mode}
-use Rattle.lt_tally.specs.LockTable.{cell_of, HasCell, Counts}
+use Rattle.lt_tally.specs.LockTable.{mode_place, cell_of, HasCell, Counts}
 use Rattle.lt_tally.proofs.Counting.{count_of-kept}
 
 -- the place of a lock's cell among those of its client
 abbrev pub place_in : Holding → ℕ
-place_in lock = lock.set * 6 + place_of_mode lock.mode
+place_in lock = lock.set * 6 + mode_place lock.mode
 
 -- of the client's cells, those before this one are cleared where their set is of the family, and no others are
 pub record Cleared (script : ScriptData) (client lock_set cell : ℕ) (old now : List ℕ) : Type 0 where
@@ -23,7 +22,7 @@ pub record Cleared (script : ScriptData) (client lock_set cell : ℕ) (old now :
   pub unrelated : (lock : Holding) → lock.set < length script.sets → is_related script lock.set lock_set ≡ false → get_or now (cell_of lock) 0 ≡ get_or old (cell_of lock) 0
   pub others : (lock : Holding) → lock.set < length script.sets → lock.client ≢ client → get_or now (cell_of lock) 0 ≡ get_or old (cell_of lock) 0
 
-place_of-few : (mode : Mode) → place_of_mode mode < 6
+place_of-few : (mode : Mode) → mode_place mode < 6
 place_of-few mode = grind arith
 
 get_or-cleared : (cells : List ℕ) (place : ℕ) → get_or (set cells place 0) place 0 ≡ 0

@@ -1,14 +1,24 @@
 -- The table of the locks held: how many of each mode each client holds in each set.
 use Rattle.std.specs.Prelude.{◌≡◌, ◌<◌, ◌+◌, ◌*◌, List, ℕ, Option, None, length, slice_index, slice_index_or}
+use Rattle.lt_modes.specs.declared.mode.Mode.{Mode}
+use Rattle.lt_modes.specs.declared.mode.Mode.TheVariants.{IntentionRead, Read, Upgrade, IntentionWrite, ReadIntentionWrite, Write}
 use Rattle.lt_modes.specs.Script.{ScriptData}
 use Rattle.lt_modes.specs.declared.event.Event.{Event}
 use Rattle.lt_modes.specs.declared.parts.Link.{Link}
-use Rattle.lt_counts.specs.Counts.{place_of_mode}
 use Rattle.lt_spec.specs.Holdings.{Holding, holdings, times_held, wanted, owner_of}
+
+-- the place of a mode among all modes
+abbrev pub mode_place : Mode → ℕ
+mode_place IntentionRead = 0
+mode_place Read = 1
+mode_place Upgrade = 2
+mode_place IntentionWrite = 3
+mode_place ReadIntentionWrite = 4
+mode_place Write = 5
 
 -- the place of a lock's cell: a client has six cells for each of eight sets
 abbrev pub cell_of : Holding → ℕ
-cell_of lock = lock.client * 48 + (lock.set * 6 + place_of_mode lock.mode)
+cell_of lock = lock.client * 48 + (lock.set * 6 + mode_place lock.mode)
 
 -- the script has the lock's client and its set
 abbrev pub HasCell : ScriptData → Holding → Type 0

@@ -189,11 +189,17 @@ fn tells_faults(rt: HostRuntime) -> Result<(), Fail> {
     let alloc = rt.alloc();
     let mut source = source_of(alloc, KEPT, &[0])?;
     let mut sink = sink_of(alloc, 1_000, &[])?;
-    assert_eq!(rt; serve(alloc, &[], &mut source, &mut sink), Answer::ReadFault);
+    assert_eq!(rt;
+        serve(alloc, &[], &mut source, &mut sink),
+        Answer::ReadFault
+    );
     assert!(rt; sink.bytes.is_empty());
     let mut source = source_of(alloc, KEPT, &[])?;
     let mut sink = sink_of(alloc, 5, &[1])?;
-    assert_eq!(rt; serve(alloc, &[], &mut source, &mut sink), Answer::WriteFault);
+    assert_eq!(rt;
+        serve(alloc, &[], &mut source, &mut sink),
+        Answer::WriteFault
+    );
     assert_eq!(rt; sink.bytes.as_slice(), b"waits");
     let words = [String::from_str(alloc, "x")?];
     let mut source = source_of(alloc, KEPT, &[])?;
