@@ -1,0 +1,5 @@
+mod ReplyRules
+mod ReplyActs
+mod ReplyMoves
+mod ReplySteps
+mod ReplyRuns
