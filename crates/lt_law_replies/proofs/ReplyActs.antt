@@ -22,7 +22,7 @@ use Rattle.lt_law_lines.proofs.WaitActs.{NoneOf}
 use Rattle.lt_law_own_lines.specs.OwnLines.{replies_of}
 use Rattle.lt_law_own_lines.proofs.OwnRuns.{replies_append}
 use Rattle.lt_law_replies.specs.Answers.{IsAnswer}
-use Rattle.lt_law_replies.proofs.ReplyRules.{NoReply, OneReply, Replies, AllReplies, then_replies, no_reply}
+use Rattle.lt_law_replies.proofs.ReplyRules.{Replies, AllReplies, then_replies, no_reply}
 
 -- the command has its reply, and no ask of the client is left
 pub record Answered (client : ℕ) (command : Command) (m : Made) : Type 0 where

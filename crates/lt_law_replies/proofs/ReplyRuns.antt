@@ -1,7 +1,7 @@
 -- The replies to each client of a run answer its commands in turn.
-use Rattle.std.proofs.Common.{◌≡◌, ◌≢◌, ℕ, zero, suc, ◌+◌, ◌-◌, ◌<◌, inl, inr, List, [], ◌++◌, length, Bool, true, false, refl, sym, ap, subst, arith, take, ◌∙◌}
+use Rattle.std.proofs.Common.{◌≡◌, ◌≢◌, ℕ, zero, suc, ◌+◌, ◌<◌, inl, inr, List, [], ◌++◌, length, Bool, true, false, refl, sym, ap, subst, arith, take, ◌∙◌}
 use Rattle.std.specs.Prelude.{◌⊎◌, ◌||◌, ◌==◌, Contains, IsTrue, slice_index_or}
-use Rattle.std.proofs.lemmas.Bool.{cases_eq, eq-eqb, eqb-true, false≢true}
+use Rattle.std.proofs.lemmas.Bool.{cases_eq, eq-eqb, eqb-true}
 use Rattle.std.proofs.lemmas.List.{append-nil}
 use Rattle.std.proofs.lemmas.List.Elements.{Contains-get_or}
 use Rattle.std.proofs.lemmas.List.Folds.{list_any_none}
@@ -114,8 +114,13 @@ counted script n client replies h = by_rest h.rest
     by_rest : IsDone (length script.sets) n.set client (n.made client) replies
         ⊎ IsOpen (length script.sets) n.set client (commands_of script client) (n.made client) replies
         → length replies + one_if (node_waits script n client) ≡ n.made client
-    by_rest (inl done) = omega (arith, done.all, ap one_if (none_waits script n client done.free))
-    by_rest (inr waits) = omega (arith, waits.all_but_one, ap one_if (some_waits script n client waits.at waits.ask waits.inside waits.there waits.own))
+    by_rest (inl done) =
+        let none : one_if (node_waits script n client) ≡ 0 = ap one_if (none_waits script n client done.free) in
+        omega (arith, done.all, none)
+    by_rest (inr open_ask) =
+        let one : one_if (node_waits script n client) ≡ 1 =
+        ap one_if (some_waits script n client open_ask.at open_ask.ask open_ask.inside open_ask.there open_ask.own) in
+        omega (arith, open_ask.all_but_one, one)
 
 pub one_reply_each : OneReplyEach
 one_reply_each script run whole is_run k client =

@@ -1,5 +1,5 @@
 -- That the replies to a client answer its commands, one each and in order, as laws.
-use Rattle.std.specs.Prelude.{◌≡◌, ◌×◌, ◌<◌, ◌+◌, ℕ, List, length, take, Contains}
+use Rattle.std.specs.Prelude.{◌≡◌, ◌<◌, ◌+◌, ℕ, List, length, take, Contains}
 use Rattle.lt_modes.specs.declared.ask.Ask.{Ask}
 use Rattle.lt_modes.specs.Script.{ScriptData}
 use Rattle.lt_modes.specs.Serving.{answer_event}

@@ -1,7 +1,7 @@
 -- Lines that answer commands, and the replies in worked runs, as literals.
-use Rattle.std.specs.Prelude.{◌≡◌, ◌×◌, true, false, ℕ, List, [], ◌∷◌}
-use Rattle.lt_modes.specs.declared.mode.Mode.TheVariants.{IntentionRead, Read, Upgrade, IntentionWrite, Write}
-use Rattle.lt_modes.specs.declared.command.Command.TheVariants.{Lock, Try, Unlock, Change, DropAll}
+use Rattle.std.specs.Prelude.{◌≡◌, true, false, ℕ, List, [], ◌∷◌}
+use Rattle.lt_modes.specs.declared.mode.Mode.TheVariants.{Read, Upgrade, IntentionWrite, Write}
+use Rattle.lt_modes.specs.declared.command.Command.TheVariants.{Change}
 use Rattle.lt_modes.specs.declared.event.Event.{Event}
 use Rattle.lt_modes.specs.declared.event.Event.TheVariants.{Grant, Wait, Try as Tried, Unlock as Unlocked, NotHeld, Change as Changed, DropAll as Dropped, Busy}
 use Rattle.lt_spec.specs.Holdings.{lines_of}
@@ -21,9 +21,9 @@ AnswersToOne =
     × (IsAnswer 3 (Change 1 Read Write) (Wait 3 1 Write) → ⊥)
 
 -- after the run these are the replies to the client, and so many of its commands are unanswered
-pub record Replied (row : Worked) (client : ℕ) (replies : List Event) (unanswered : ℕ) : Type 0 where
-  pub replies : replies_of client (lines_of row.run) ≡ replies
-  pub unanswered : unanswered_commands row.script row.run client ≡ unanswered
+pub record Replied (row : Worked) (client : ℕ) (replies : List Event) (open_count : ℕ) : Type 0 where
+  pub lines : replies_of client (lines_of row.run) ≡ replies
+  pub unanswered : unanswered_commands row.script row.run client ≡ open_count
 
 -- Commands of a client that holds nothing.
 abbrev pub NothingHeld : Type 0
