@@ -21,14 +21,14 @@ use Rattle.lt_law_lines.proofs.LineRules.{route_says}
 use Rattle.lt_law_lines.proofs.WaitActs.{NoneOf}
 use Rattle.lt_law_own_lines.specs.OwnLines.{replies_of}
 use Rattle.lt_law_own_lines.proofs.OwnRuns.{replies_append}
-use Rattle.lt_law_replies.specs.Answers.{IsAnswer}
+use Rattle.lt_law_replies.specs.Answers.{AnswersCommand}
 use Rattle.lt_law_replies.proofs.ReplyRules.{Replies, AllReplies, then_replies, no_reply}
 
 -- the command has its reply, and no ask of the client is left
 pub record Answered (client : ℕ) (command : Command) (m : Made) : Type 0 where
   pub line : Event
   pub said : replies_of client m.events ≡ line ∷ []
-  pub answers : IsAnswer client command line
+  pub answers : AnswersCommand client command line
   pub none : NoneOf client m.state.pending
 
 -- there is no reply, but an ask of the client, and what answers such an ask answers the command
@@ -37,7 +37,7 @@ pub record Asks (client s : ℕ) (command : Command) (m : Made) : Type 0 where
   pub ask : Ask
   pub there : Contains m.state.pending ask
   pub own : ask.client ≡ client
-  pub only : (other : Ask) → Contains m.state.pending other → other.client ≡ client → IsAnswer client command (answer_event s other)
+  pub only : (other : Ask) → Contains m.state.pending other → other.client ≡ client → AnswersCommand client command (answer_event s other)
 
 -- the replies that the client's command makes: others', and its own where it waited for nothing
 pub record ActReplies (client s : ℕ) (command : Command) (t : SetState) (m : Made) : Type 0 where
@@ -80,7 +80,7 @@ act_ends client s command t m rule first second = record {
 
 -- one line, a reply to the client, and the asks as they were
 answers_at_once : (client s : ℕ) (command : Command) (line : Event) (t : SetState) (m : Made)
-    → ((c : ℕ) → replies_of c m.events ≡ (if client == c then line ∷ [] else [])) → IsAnswer client command line
+    → ((c : ℕ) → replies_of c m.events ≡ (if client == c then line ∷ [] else [])) → AnswersCommand client command line
     → m.state.pending ≡ t.pending → ActReplies client s command t m
 answers_at_once client s command line t m says answers same = record {
   others = λ c d. no_reply c s t m (says c ∙ ap (λ (own : Bool). if own then line ∷ [] else []) (ne_eqb client c (λ e. d (sym e)))) same;
@@ -94,7 +94,7 @@ answers_at_once client s command line t m says answers same = record {
 
 -- the client waits, and its ask goes to the desk
 asks_first : (client s : ℕ) (command : Command) (stamp : Stamp) (mode : Mode) (gives_up : Option Mode) (t : SetState)
-    → IsAnswer client command (answer_event s (ask_of stamp client mode gives_up t))
+    → AnswersCommand client command (answer_event s (ask_of stamp client mode gives_up t))
     → ActReplies client s command t (asked s stamp (ask_of stamp client mode gives_up t) t)
 asks_first client s command stamp mode gives_up t answers = record {
   others = λ c d. inl (record {
@@ -112,7 +112,7 @@ asks_first client s command stamp mode gives_up t answers = record {
     own = refl;
     only = λ other there mine. elim (Contains-push_cases t.pending ask other (subst (λ (l : List Ask). Contains l other) pending there)) [
       | inl old ↦ absurd (idle other old mine)
-      | inr new ↦ subst (λ (x : Ask). IsAnswer client command (answer_event s x)) new answers
+      | inr new ↦ subst (λ (x : Ask). AnswersCommand client command (answer_event s x)) new answers
     ];
   });
 }

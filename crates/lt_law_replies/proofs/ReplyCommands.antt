@@ -31,7 +31,7 @@ use Rattle.lt_law_invariant.proofs.ClientCommands.{one_for, idle, no_ask_of, cli
 use Rattle.lt_law_invariant.proofs.ClientMoves.{SoundClients, at_first, idle_in}
 use Rattle.lt_law_lines.proofs.WaitMoves.{IsFree}
 use Rattle.lt_law_own_lines.specs.OwnLines.{replies_of}
-use Rattle.lt_law_replies.specs.Answers.{IsAnswer}
+use Rattle.lt_law_replies.specs.Answers.{AnswersCommand}
 use Rattle.lt_law_replies.proofs.ReplyRules.{AllReplies, stands_so, then_all, no_lines, finish_replies}
 use Rattle.lt_law_replies.proofs.ReplyActs.{ActReplies, act_ends, locked_replies, tried_replies, unlocked_replies, changed_replies}
 use Rattle.lt_law_replies.proofs.ReplyMoves.{InTurn, Follows, put_follows, act_follows, all_answered, one_more, each_follows}
@@ -46,7 +46,7 @@ pub record ActTurns (script : ScriptData) (n : NodeState) (client : ℕ) (comman
 -- an answer that stands before what the sets made
 first_answer : (script : ScriptData) (n : NodeState) (client : ℕ) (command : Command) (line : Event) (made : NodeMade)
     → ((c : ℕ) (rest : List Event) → replies_of c (line ∷ rest) ≡ (if client == c then line ∷ replies_of c rest else replies_of c rest))
-    → IsAnswer client command line → IsFree (length script.sets) n.set client
+    → AnswersCommand client command line → IsFree (length script.sets) n.set client
     → ((c : ℕ) → Follows (length script.sets) n.set made.node.set c made.events) → ActTurns script n client command (answered_first line made)
 first_answer script n client command line made says answers free follows = record {
   others = λ c d commands count replies before.

@@ -18,7 +18,7 @@ use Rattle.lt_model.proofs.NodeEffects.{IsOnce}
 use Rattle.lt_law_lines.proofs.WaitMoves.{IsFree}
 use Rattle.lt_law_own_lines.specs.OwnLines.{replies_of}
 use Rattle.lt_law_own_lines.proofs.OwnRuns.{replies_append}
-use Rattle.lt_law_replies.specs.Answers.{IsAnswer, AnswersAt, AnswersInTurn}
+use Rattle.lt_law_replies.specs.Answers.{AnswersCommand, AnswersAt, AnswersInTurn}
 use Rattle.lt_law_replies.proofs.ReplyRules.{NoReply, OneReply, Replies, AllReplies}
 use Rattle.lt_law_replies.proofs.ReplyActs.{Answered, Asks, ActReplies}
 
@@ -195,7 +195,7 @@ act_follows count sets s m client command inside free act commands made replies 
             own = a.own;
             all_but_one = omega (arith, all);
             only = λ x below other there own. put_cases sets s m.state x other there
-                (λ e now. (e, (command, at, subst (λ (k : ℕ). IsAnswer client command (answer_event k other)) (sym e) (a.only other now own))))
+                (λ e now. (e, (command, at, subst (λ (k : ℕ). AnswersCommand client command (answer_event k other)) (sym e) (a.only other now own))))
                 (λ d now. absurd (free x below other now own));
           });
         })

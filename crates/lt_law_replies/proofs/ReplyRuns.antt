@@ -1,5 +1,5 @@
 -- The replies to each client of a run answer its commands in turn.
-use Rattle.std.proofs.Common.{◌≡◌, ◌≢◌, ℕ, zero, suc, ◌+◌, ◌<◌, inl, inr, List, [], ◌++◌, length, Bool, true, false, refl, sym, ap, subst, arith, take, ◌∙◌}
+use Rattle.std.proofs.Common.{◌≡◌, ◌≢◌, ℕ, zero, suc, ◌+◌, ◌<◌, inl, inr, List, [], ◌++◌, length, Bool, true, false, refl, sym, ap, subst, arith, take, take_all, ◌∙◌}
 use Rattle.std.specs.Prelude.{◌⊎◌, ◌||◌, ◌==◌, Contains, IsTrue, slice_index_or}
 use Rattle.std.proofs.lemmas.Bool.{cases_eq, eq-eqb, eqb-true}
 use Rattle.std.proofs.lemmas.List.{append-nil}
@@ -26,9 +26,9 @@ use Rattle.lt_law_lines.proofs.AlongRuns.{along_runs}
 use Rattle.lt_law_lines.proofs.WaitMoves.{IsFree}
 use Rattle.lt_law_own_lines.specs.OwnLines.{replies_of}
 use Rattle.lt_law_own_lines.proofs.OwnMoves.{own_lines_of_moves}
-use Rattle.lt_law_own_lines.proofs.OwnRuns.{replies_append, no_replies}
-use Rattle.lt_law_replies.specs.Answers.{AnswersAt}
-use Rattle.lt_law_replies.specs.ReplyLaws.{RepliesInTurn, OneReplyEach, UnansweredWait, AsksAnswerNext}
+use Rattle.lt_law_own_lines.proofs.OwnRuns.{replies_append, no_replies, replies_of_log}
+use Rattle.lt_law_replies.specs.Answers.{AnswersAt, AnswersInTurn}
+use Rattle.lt_law_replies.specs.ReplyLaws.{RepliesInTurn, LogInTurn, OneReplyEach, UnansweredWait, AsksAnswerNext}
 use Rattle.lt_law_replies.proofs.ReplyMoves.{IsDone, IsOpen, InTurn}
 use Rattle.lt_law_replies.proofs.ReplySteps.{move_stays}
 
@@ -79,6 +79,12 @@ in_turn script run whole is_run k =
 
 pub replies_in_turn : RepliesInTurn
 replies_in_turn script run whole is_run k client = (in_turn script run whole is_run k client).turn
+
+pub log_in_turn : LogInTurn
+log_in_turn script run log whole is_run client own =
+    subst (AnswersInTurn client (commands_of script client)) (replies_of_log script run log whole is_run client own)
+    (subst (λ (entries : List Logged). AnswersInTurn client (commands_of script client) (replies_of client (lines_of entries)))
+    (take_all (length run) run (omega arith)) (replies_in_turn script run whole is_run (length run) client))
 
 -- who has no ask doesn't wait
 none_waits : (script : ScriptData) (n : NodeState) (client : ℕ) → IsFree (length script.sets) n.set client → node_waits script n client ≡ false

@@ -11,19 +11,19 @@ use Rattle.lt_spec.specs.World.{world_after, made_by}
 use Rattle.lt_law_own_lines.specs.OwnLines.{replies_of}
 
 -- the line is one with which this command of the client is answered
-abbrev pub IsAnswer : ℕ → Command → Event → Type 0
-IsAnswer client (Lock s mode) line = line ≡ Grant client s mode
-IsAnswer client (Try s mode) line = (got : Bool) × (line ≡ Tried client s mode got)
-IsAnswer client (Unlock s mode) line = (line ≡ Unlocked client s mode) ⊎ (line ≡ NotHeld client s mode)
-IsAnswer client (Change s gives_up mode) line =
+abbrev pub AnswersCommand : ℕ → Command → Event → Type 0
+AnswersCommand client (Lock s mode) line = line ≡ Grant client s mode
+AnswersCommand client (Try s mode) line = (got : Bool) × (line ≡ Tried client s mode got)
+AnswersCommand client (Unlock s mode) line = (line ≡ Unlocked client s mode) ⊎ (line ≡ NotHeld client s mode)
+AnswersCommand client (Change s gives_up mode) line =
     (line ≡ Changed client s gives_up mode) ⊎ (line ≡ NotHeld client s gives_up)
-IsAnswer client (DropAll other s) line =
+AnswersCommand client (DropAll other s) line =
     ((count : ℕ) × (line ≡ Dropped client other s count)) ⊎ (line ≡ Busy client other s)
 
 -- the client's commands have one at place k, which the line answers
 abbrev pub AnswersAt : ℕ → List Command → ℕ → Event → Type 0
 AnswersAt client commands k line =
-    (command : Command) × (slice_get commands k ≡ Some command) × IsAnswer client command line
+    (command : Command) × (slice_get commands k ≡ Some command) × AnswersCommand client command line
 
 -- the line at place k of the replies answers the command at place k, for each k
 abbrev pub AnswersInTurn : ℕ → List Command → List Event → Type 0

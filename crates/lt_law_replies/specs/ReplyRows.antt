@@ -10,15 +10,15 @@ use Rattle.lt_law_examples.specs.WorkedOneNode.{never_held, drop_in_family}
 use Rattle.lt_law_examples.specs.WorkedNodes.{try_at_home, change_after_reader}
 use Rattle.lt_law_examples.specs.WorldBusy.{busy_in_another_set}
 use Rattle.lt_law_own_lines.specs.OwnLines.{replies_of}
-use Rattle.lt_law_replies.specs.Answers.{IsAnswer, unanswered_commands}
+use Rattle.lt_law_replies.specs.Answers.{AnswersCommand, unanswered_commands}
 
 -- a `change` is answered by its own line or by `not_held` of the mode that it gives up; a `wait` answers nothing
 abbrev pub AnswersToOne : Type 0
 AnswersToOne =
-    IsAnswer 3 (Change 1 Read Write) (Changed 3 1 Read Write)
-    × IsAnswer 3 (Change 1 Read Write) (NotHeld 3 1 Read)
-    × (IsAnswer 3 (Change 1 Read Write) (NotHeld 3 1 Write) → ⊥)
-    × (IsAnswer 3 (Change 1 Read Write) (Wait 3 1 Write) → ⊥)
+    AnswersCommand 3 (Change 1 Read Write) (Changed 3 1 Read Write)
+    × AnswersCommand 3 (Change 1 Read Write) (NotHeld 3 1 Read)
+    × (AnswersCommand 3 (Change 1 Read Write) (NotHeld 3 1 Write) → ⊥)
+    × (AnswersCommand 3 (Change 1 Read Write) (Wait 3 1 Write) → ⊥)
 
 -- after the run these are the replies to the client, and so many of its commands are unanswered
 pub record Replied (row : Worked) (client : ℕ) (replies : List Event) (open_count : ℕ) : Type 0 where
@@ -38,7 +38,9 @@ DropsReplied =
 -- A client that tries gets each answer at once; another one waits, and has one reply less than it made commands.
 abbrev pub TriesReplied : Type 0
 TriesReplied =
-    Replied try_at_home 0 (Tried 0 0 Read false ∷ Tried 0 0 Read true ∷ Unlocked 0 0 Read ∷ Tried 0 0 Read false ∷ []) 0
+    Replied try_at_home 0
+    (Tried 0 0 Read false ∷ Tried 0 0 Read true ∷ Unlocked 0 0 Read ∷ Tried 0 0 Read false ∷ [])
+    0
     × Replied try_at_home 3 (Tried 3 0 Write false ∷ []) 1
 
 -- A change is answered when it is made.
@@ -48,4 +50,6 @@ ChangeReplied = Replied change_after_reader 0 (Grant 0 0 Upgrade ∷ Changed 0 0
 -- A client of many commands, the last of which waits.
 abbrev pub LastUnanswered : Type 0
 LastUnanswered = Replied busy_in_another_set 4
-    (Grant 4 0 Upgrade ∷ Dropped 4 4 1 0 ∷ Unlocked 4 0 Upgrade ∷ Grant 4 0 IntentionWrite ∷ Unlocked 4 0 IntentionWrite ∷ []) 1
+    (Grant 4 0 Upgrade ∷ Dropped 4 4 1 0 ∷ Unlocked 4 0 Upgrade ∷
+    Grant 4 0 IntentionWrite ∷ Unlocked 4 0 IntentionWrite ∷ [])
+    1

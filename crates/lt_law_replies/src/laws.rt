@@ -1,10 +1,11 @@
-ghost use Rattle.lt_law_replies.specs.ReplyLaws.{RepliesInTurn, OneReplyEach, UnansweredWait, AsksAnswerNext};
+ghost use Rattle.lt_law_replies.specs.ReplyLaws.{RepliesInTurn, LogInTurn, OneReplyEach, UnansweredWait, AsksAnswerNext};
 ghost use Rattle.lt_law_replies.specs.ReplyRows.{AnswersToOne, NothingHeld, DropsReplied, TriesReplied, ChangeReplied, LastUnanswered};
 
-/// Each reply to a client answers the command at the same place among its commands, and each command that the client has
-/// made has its reply, but for the last one of a client that waits.
+/// Each reply to a client answers the command at the same place among its commands, and each command that the client
+/// has made has its reply, but for the last one of a client that waits.
 pub fn law_replies()
     ensures turn { RepliesInTurn }
+    ensures log { LogInTurn }
     ensures each { OneReplyEach }
     ensures unanswered { UnansweredWait }
     ensures next { AsksAnswerNext }
