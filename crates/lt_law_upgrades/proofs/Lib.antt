@@ -1,0 +1,17 @@
+mod TakingModes
+mod DeskStays
+mod Balance
+mod DeskEffects
+mod DeskGrants
+mod DeskRoutes
+mod DeskAsks
+mod DeskArrives
+mod CommandDesks
+mod ActBalance
+mod MayRise
+mod RiseActs
+mod RiseTakes
+mod RiseWithin
+mod RisingReady
+mod RisingRuns
+mod RisingRest
