@@ -8,10 +8,10 @@ mod DeskAsks
 mod DeskArrives
 mod CommandDesks
 mod ActBalance
-mod MayRise
-mod RiseActs
-mod RiseTakes
-mod RiseWithin
-mod RisingReady
-mod RisingRuns
-mod RisingRest
+mod MayUpgrade
+mod UpgradeActs
+mod UpgradeTakes
+mod UpgradeWithin
+mod UpgradeReady
+mod UpgradeRuns
+mod UpgradeRest

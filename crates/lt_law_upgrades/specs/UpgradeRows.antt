@@ -1,4 +1,4 @@
--- Small scripts, and whether each client of them keeps rising by the numbers of the sets.
+-- Small scripts, and whether each client of them upgrades in order, by the numbers of the sets.
 use Rattle.std.specs.Prelude.{◌≡◌, Bool, true, false, List, [], ◌∷◌, length, map, codes}
 use Rattle.std.specs.List.{range_with_len}
 use Rattle.lt_modes.specs.declared.mode.Mode.TheVariants.{Read, Upgrade, IntentionWrite, ReadIntentionWrite, Write}
@@ -6,11 +6,11 @@ use Rattle.lt_modes.specs.declared.command.Command.TheVariants.{Lock, Try, Unloc
 use Rattle.lt_modes.specs.Script.{ScriptData}
 use Rattle.lt_spec.specs.Families.{commands_of}
 use Rattle.lt_law_examples.specs.Worked.{declared_set, declared_client}
-use Rattle.lt_law_upgrades.specs.Upgrading.{is_rising_from}
+use Rattle.lt_law_upgrades.specs.Upgrading.{is_upgrading_from}
 
--- of each client, whether it keeps rising by the numbers of the sets
-abbrev pub rising_clients : ScriptData → List Bool
-rising_clients script = map (λ client. is_rising_from script (λ s. s) client [] (commands_of script client)) (range_with_len 0 (length script.clients))
+-- of each client, whether it upgrades in order, by the numbers of the sets
+abbrev pub upgrading_clients : ScriptData → List Bool
+upgrading_clients script = map (λ client. is_upgrading_from script (λ s. s) client [] (commands_of script client)) (range_with_len 0 (length script.clients))
 
 -- Two clients upgrade a set in turn, and one reads it.
 abbrev pub upgrade_in_turn : ScriptData
@@ -32,7 +32,7 @@ upgrade_in_turn = record {
 }
 
 abbrev pub UpgradeInTurnRow : Type 0
-UpgradeInTurnRow = rising_clients upgrade_in_turn ≡ true ∷ true ∷ true ∷ []
+UpgradeInTurnRow = upgrading_clients upgrade_in_turn ≡ true ∷ true ∷ true ∷ []
 
 -- A change to `upgrade` comes too late: the client holds `read` by then, which excludes nobody who reads.
 abbrev pub read_to_upgrade : ScriptData
@@ -54,7 +54,7 @@ read_to_upgrade = record {
 }
 
 abbrev pub ReadToUpgradeRow : Type 0
-ReadToUpgradeRow = rising_clients read_to_upgrade ≡ false ∷ false ∷ true ∷ []
+ReadToUpgradeRow = upgrading_clients read_to_upgrade ≡ false ∷ false ∷ true ∷ []
 
 -- A lock of an earlier set is changed while one of a later set is held, as it may be to a mode that it covers.
 abbrev pub changed_while_later : ScriptData
@@ -78,7 +78,7 @@ changed_while_later = record {
 }
 
 abbrev pub ChangedWhileLaterRow : Type 0
-ChangedWhileLaterRow = rising_clients changed_while_later ≡ false ∷ true ∷ []
+ChangedWhileLaterRow = upgrading_clients changed_while_later ≡ false ∷ true ∷ []
 
 -- A set is tried while a lock of it is held.
 abbrev pub tried_again : ScriptData
@@ -95,7 +95,7 @@ tried_again = record {
 }
 
 abbrev pub TriedAgainRow : Type 0
-TriedAgainRow = rising_clients tried_again ≡ false ∷ []
+TriedAgainRow = upgrading_clients tried_again ≡ false ∷ []
 
 -- A lock that is tried, changed twice and dropped.
 abbrev pub changed_twice : ScriptData
@@ -114,4 +114,4 @@ changed_twice = record {
 }
 
 abbrev pub ChangedTwiceRow : Type 0
-ChangedTwiceRow = rising_clients changed_twice ≡ true ∷ []
+ChangedTwiceRow = upgrading_clients changed_twice ≡ true ∷ []

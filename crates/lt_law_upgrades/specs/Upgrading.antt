@@ -23,19 +23,19 @@ changes_in_order rank s gives_up mode others =
 
 -- a client that may hold these locks asks for a set only while it may hold none of it, so it holds one lock of a set at most;
 -- it waits only for a set with a greater rank than theirs, or to change a lock of the set with the greatest rank
-abbrev pub keeps_rising : (ℕ → ℕ) → ℕ → List Holding → Command → Bool
-keeps_rising rank client locks (Lock s mode) = are_ranked_below rank s locks
-keeps_rising rank client locks (Try s mode) = not (has_of_set s locks)
-keeps_rising rank client locks (Change s gives_up mode) = changes_in_order rank s gives_up mode (without_one locks (holding client s gives_up))
-keeps_rising rank client locks other = true
+abbrev pub upgrades_in_order : (ℕ → ℕ) → ℕ → List Holding → Command → Bool
+upgrades_in_order rank client locks (Lock s mode) = are_ranked_below rank s locks
+upgrades_in_order rank client locks (Try s mode) = not (has_of_set s locks)
+upgrades_in_order rank client locks (Change s gives_up mode) = changes_in_order rank s gives_up mode (without_one locks (holding client s gives_up))
+upgrades_in_order rank client locks other = true
 
--- from these locks on each command keeps rising, and after the last one none may be held
-abbrev pub is_rising_from : ScriptData → (ℕ → ℕ) → ℕ → List Holding → List Command → Bool
-is_rising_from script rank client locks [] = holds_none locks
-is_rising_from script rank client locks (command ∷ rest) =
-    keeps_rising rank client locks command && is_rising_from script rank client (may_hold_after script client locks command) rest
+-- from these locks on each command upgrades in order, and after the last one none may be held
+abbrev pub is_upgrading_from : ScriptData → (ℕ → ℕ) → ℕ → List Holding → List Command → Bool
+is_upgrading_from script rank client locks [] = holds_none locks
+is_upgrading_from script rank client locks (command ∷ rest) =
+    upgrades_in_order rank client locks command && is_upgrading_from script rank client (may_hold_after script client locks command) rest
 
--- each client asks for sets of rising ranks, changes what excludes itself, and releases all that it may hold
-abbrev pub IsRising : ScriptData → (ℕ → ℕ) → Type 0
-IsRising script rank = (client : ℕ) → client < length script.clients
-    → IsTrue (is_rising_from script rank client [] (commands_of script client))
+-- each client asks for sets in the order of their ranks, changes what excludes itself, and releases all that it may hold
+abbrev pub IsUpgrading : ScriptData → (ℕ → ℕ) → Type 0
+IsUpgrading script rank = (client : ℕ) → client < length script.clients
+    → IsTrue (is_upgrading_from script rank client [] (commands_of script client))

@@ -1,14 +1,15 @@
-ghost use Rattle.lt_law_upgrades.specs.UpgradeLaws.{RisingFinish, RisingRelease, HolderHasDesk, ChangeIsNext, OrderedIsRising};
+ghost use Rattle.lt_law_upgrades.specs.UpgradeLaws.{UpgradingFinish, UpgradingRelease, HolderHasDesk, ChangeIsNext, OrderedIsUpgrading};
 ghost use Rattle.lt_law_upgrades.specs.UpgradeRows.{UpgradeInTurnRow, ReadToUpgradeRow, ChangedWhileLaterRow, TriedAgainRow, ChangedTwiceRow};
 
-/// A run of a script whose clients ask for sets of rising ranks, and change locks that exclude themselves, has no waiting
-/// client at rest, and nothing is held then. Meanwhile the desk stays where such a lock is held, and a change is served next.
+/// A run of a script whose clients ask for sets in the order of their ranks, and change locks that exclude themselves, has no
+/// waiting client at rest, and nothing is held then. Meanwhile the desk stays where such a lock is held, and a change is
+/// served next. An ordered script is one of these.
 pub fn law_upgrades()
-    ensures finish { RisingFinish }
-    ensures release { RisingRelease }
+    ensures finish { UpgradingFinish }
+    ensures release { UpgradingRelease }
     ensures desk { HolderHasDesk }
     ensures next { ChangeIsNext }
-    ensures ordered { OrderedIsRising }
+    ensures ordered { OrderedIsUpgrading }
 {}
 
 /// Small scripts, and whether each of their clients asks and changes in order.

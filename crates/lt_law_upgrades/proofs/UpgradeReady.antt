@@ -1,4 +1,4 @@
--- What is so in a run of a rising script as a client makes its next command.
+-- What is so in a run of an upgrading script as a client makes its next command.
 use Rattle.std.proofs.Common.{◌≡◌, ◌≢◌, ℕ, zero, suc, ◌<◌, ◌≤◌, inl, inr, length, Option, Some, None, Bool, true, false, refl, sym, ap, subst, arith, ◌∙◌}
 use Rattle.std.specs.Prelude.{◌⊎◌, ◌==◌, IsTrue, Contains}
 use Rattle.std.proofs.lemmas.Bool.{cases_eq, and_parts, or_cases, false≢true}
@@ -37,16 +37,16 @@ use Rattle.lt_law_lines.proofs.KeptLines.{row_of}
 use Rattle.lt_law_waiting.proofs.WaitsAtRest.{row_counts, queue_waits}
 use Rattle.lt_order.specs.Ordered.{may_hold}
 use Rattle.lt_law_ordered.proofs.MayHold.{ranked_lock}
-use Rattle.lt_law_upgrades.specs.Upgrading.{keeps_rising, IsRising}
+use Rattle.lt_law_upgrades.specs.Upgrading.{upgrades_in_order, IsUpgrading}
 use Rattle.lt_law_upgrades.proofs.TakingModes.{taking_clash, read_is_gentle, write_is_gentle, read_write}
 use Rattle.lt_law_upgrades.proofs.Balance.{gives, is_giving, given_up}
 use Rattle.lt_law_upgrades.proofs.ActBalance.{idle_gives}
 use Rattle.lt_law_upgrades.proofs.DeskStays.{KeepsDesk}
-use Rattle.lt_law_upgrades.proofs.MayRise.{rises_at, one_of_set, two_of_set}
-use Rattle.lt_law_upgrades.proofs.RiseWithin.{IsWithin}
+use Rattle.lt_law_upgrades.proofs.MayUpgrade.{upgrades_at, one_of_set, two_of_set}
+use Rattle.lt_law_upgrades.proofs.UpgradeWithin.{IsWithin}
 use Rattle.lt_law_upgrades.proofs.DeskGrants.{Begins}
 use Rattle.lt_law_upgrades.proofs.DeskAsks.{not_holder}
-use Rattle.lt_law_upgrades.proofs.RiseActs.{Ready}
+use Rattle.lt_law_upgrades.proofs.UpgradeActs.{Ready}
 
 -- each client holds no more than it may, and at each node the desk of each set is where it must be
 pub record IsSteadfast (script : ScriptData) (w : World) : Type 0 where
@@ -54,9 +54,9 @@ pub record IsSteadfast (script : ScriptData) (w : World) : Type 0 where
   pub keeps : (s x : ℕ) → s < length script.sets → x < script.nodes → KeepsDesk script.nodes (state_at w s x)
 
 -- nobody holds `read` and `intention_write` of one set
-none_has_both : (script : ScriptData) (w : World) (rank : ℕ → ℕ) (s q : ℕ) → WorldInvariant script w → Homes script w → IsRising script rank → IsSteadfast script w → s < length script.sets → q < script.nodes
+none_has_both : (script : ScriptData) (w : World) (rank : ℕ → ℕ) (s q : ℕ) → WorldInvariant script w → Homes script w → IsUpgrading script rank → IsSteadfast script w → s < length script.sets → q < script.nodes
     → IsTrue (has Read (held_modes (state_at w s q).held)) → IsTrue (has IntentionWrite (held_modes (state_at w s q).held)) → ⊥
-none_has_both script w rank s q kept homes rising h under below reads writes = by_clients (cases_eq a.0.client b.0.client)
+none_has_both script w rank s q kept homes upgrading h under below reads writes = by_clients (cases_eq a.0.client b.0.client)
   where
     t : SetState
     t = state_at w s q
@@ -105,7 +105,7 @@ none_has_both script w rank s q kept homes rising h under below reads writes = b
       may Read read_is_gentle (counts a.0 Read a.1 refl a.2),
       may IntentionWrite write_is_gentle (counts b.0 IntentionWrite b.1 (sym same) b.2),
       two_of_set s (holding c s Read) (holding c s IntentionWrite) (may_hold script c ((w.node q).made c)) differ refl refl,
-      one_of_set script rank c ((w.node q).made c) s (rising c (at_home a.0 a.1).client),
+      one_of_set script rank c ((w.node q).made c) s (upgrading c (at_home a.0 a.1).client),
     )
     by_clients (inr d) =
         let found = desk_somewhere script w s (kept.sets s under).paths in
@@ -113,20 +113,20 @@ none_has_both script w rank s q kept homes rising h under below reads writes = b
         false≢true (sym (account.clear.clients a.0 b.0 a.1 b.1 d) ∙ (λ i. conflicts (a.2 i) (b.2 i)) ∙ read_write)
 
 -- a set of a node as a move begins
-begins_so : (script : ScriptData) (w : World) (rank : ℕ → ℕ) (s q : ℕ) → WorldInvariant script w → Homes script w → IsRising script rank → IsSteadfast script w → s < length script.sets → q < script.nodes
+begins_so : (script : ScriptData) (w : World) (rank : ℕ → ℕ) (s q : ℕ) → WorldInvariant script w → Homes script w → IsUpgrading script rank → IsSteadfast script w → s < length script.sets → q < script.nodes
     → Begins script.nodes (state_at w s q)
-begins_so script w rank s q kept homes rising h under below = record {
+begins_so script w rank s q kept homes upgrading h under below = record {
   keeps = h.keeps s q under below;
   charge = λ away. subst (SoundDesk (numbers_of script) false false (w.node q).clock (state_at w s q)) away ((kept.sets s under).states q below).desk;
-  apart = none_has_both script w rank s q kept homes rising h under below;
+  apart = none_has_both script w rank s q kept homes upgrading h under below;
 }
 
 -- what is so as a client makes its next command
-pub ready_so : (script : ScriptData) (w : World) (rank : ℕ → ℕ) (q client : ℕ) (command : Command) → IsWhole script → WorldInvariant script w → Homes script w → IsRising script rank → IsSteadfast script w
+pub ready_so : (script : ScriptData) (w : World) (rank : ℕ → ℕ) (q client : ℕ) (command : Command) → IsWhole script → WorldInvariant script w → Homes script w → IsUpgrading script rank → IsSteadfast script w
     → client < length script.clients → home script client ≡ q → q < script.nodes → node_waits script (w.node q) client ≡ false → next_command script (w.node q) client ≡ Some command
     → Ready script (w.node q) client command
-ready_so script w rank q client command whole kept homes rising h known own below waits_not next = record {
-  begins = λ s under. begins_so script w rank s q kept homes rising h under below;
+ready_so script w rank q client command whole kept homes upgrading h known own below waits_not next = record {
+  begins = λ s under. begins_so script w rank s q kept homes upgrading h under below;
   locks = λ s mode under is. not_holder (n.set s) client
       (λ row there. (All-contains (IsRowAtHome script q) (n.set s).held row (homes.states q s).rows there).count)
       (λ m. holds_none s mode m under is);
@@ -143,8 +143,8 @@ ready_so script w rank q client command whole kept homes rising h known own belo
     within : IsWithin script n client
     within = subst (λ (x : ℕ). IsWithin script (w.node x) client) own (h.within client known)
 
-    rises : keeps_rising rank client (may_hold script client (n.made client)) command ≡ true
-    rises = rises_at script rank client (n.made client) command (rising client known) next
+    in_order : upgrades_in_order rank client (may_hold script client (n.made client)) command ≡ true
+    in_order = upgrades_at script rank client (n.made client) command (upgrading client known) next
 
     holds_none : (s : ℕ) (mode m : Mode) → s < length script.sets → command ≡ Lock s mode → total (n.set s).held client m ≡ 0
     holds_none s mode m under is = by_count (times_held (may_hold script client (n.made client)) (holding client s m)) refl
@@ -153,7 +153,7 @@ ready_so script w rank q client command whole kept homes rising h known own belo
         by_count zero e = omega (arith, e, within.counts s m under, idle_gives client (n.set s) (idle_in script n client waits_not s under) m)
         by_count (suc k) e =
             let low = ranked_lock rank s (may_hold script client (n.made client)) (holding client s m)
-            (subst (λ (x : Command). keeps_rising rank client (may_hold script client (n.made client)) x ≡ true) is rises) (omega (arith, e)) in
+            (subst (λ (x : Command). upgrades_in_order rank client (may_hold script client (n.made client)) x ≡ true) is in_order) (omega (arith, e)) in
             absurd (omega (arith, low))
 
     held_mode : (s : ℕ) (g : Mode) → 1 ≤ total (n.set s).held client g → IsTrue (has g (held_modes (n.set s).held))
@@ -163,7 +163,7 @@ ready_so script w rank q client command whole kept homes rising h known own belo
 
     takes : (s : ℕ) (g mode : Mode) → command ≡ Change s g mode → covers (one g) mode ≡ false → IsTrue (excludes_itself g)
     takes s g mode is higher =
-        let order = subst (λ (x : Command). keeps_rising rank client (may_hold script client (n.made client)) x ≡ true) is rises in
+        let order = subst (λ (x : Command). upgrades_in_order rank client (may_hold script client (n.made client)) x ≡ true) is in_order in
         elim (or_cases (covers (one g) mode) _ (and_parts _ _ order).1) [
           | inl covered ↦ absurd (false≢true (sym higher ∙ covered))
           | inr taking ↦ (and_parts (excludes_itself g) _ taking).0

@@ -1,4 +1,4 @@
--- What a client of a rising script may hold, command by command.
+-- What a client of an upgrading script may hold, command by command.
 use Rattle.std.proofs.Common.{◌≡◌, ◌≢◌, ℕ, zero, suc, ◌+◌, ◌≤◌, List, [], ◌∷◌, ◌++◌, length, Option, Some, None, Bool, true, false, refl, sym, ap, subst, arith, take, ◌∙◌}
 use Rattle.std.specs.Prelude.{◌==◌, ◌||◌, not, nat_lt, if◌then◌else◌, IsTrue, fold, filter, position, slice_get, count_by}
 use Rattle.std.proofs.lemmas.Bool.{and_parts, and_from, eq-eqb, eqb-true, ltb-true, false≢true}
@@ -15,39 +15,39 @@ use Rattle.lt_spec.specs.Holdings.{Holding, holding, same_holding, without_holdi
 use Rattle.lt_law_lines.proofs.LineCounts.{same_holding-true}
 use Rattle.lt_order.specs.Ordered.{may_hold_after, may_hold, keeps_order, is_orderly_from}
 use Rattle.lt_law_ordered.specs.Ranked.{are_ranked_below}
-use Rattle.lt_law_upgrades.specs.Upgrading.{has_of_set, keeps_rising, is_rising_from}
-use Rattle.lt_law_upgrades.specs.UpgradeLaws.{OrderedIsRising}
+use Rattle.lt_law_upgrades.specs.Upgrading.{has_of_set, upgrades_in_order, is_upgrading_from}
+use Rattle.lt_law_upgrades.specs.UpgradeLaws.{OrderedIsUpgrading}
 
--- each command of a client keeps rising
-rises_from : (script : ScriptData) (rank : ℕ → ℕ) (client : ℕ) (locks : List Holding) (commands : List Command) (k : ℕ) (command : Command)
-    → is_rising_from script rank client locks commands ≡ true → slice_get commands k ≡ Some command
-    → keeps_rising rank client (fold (may_hold_after script client) locks (take k commands)) command ≡ true
-rises_from script rank client locks [] k command h e = cc
-rises_from script rank client locks (first ∷ rest) zero command h e =
-    subst (λ (c : Command). keeps_rising rank client locks c ≡ true) (some_one first command e) (and_parts (keeps_rising rank client locks first) _ h).0
+-- each command of a client upgrades in order
+upgrades_from : (script : ScriptData) (rank : ℕ → ℕ) (client : ℕ) (locks : List Holding) (commands : List Command) (k : ℕ) (command : Command)
+    → is_upgrading_from script rank client locks commands ≡ true → slice_get commands k ≡ Some command
+    → upgrades_in_order rank client (fold (may_hold_after script client) locks (take k commands)) command ≡ true
+upgrades_from script rank client locks [] k command h e = cc
+upgrades_from script rank client locks (first ∷ rest) zero command h e =
+    subst (λ (c : Command). upgrades_in_order rank client locks c ≡ true) (some_one first command e) (and_parts (upgrades_in_order rank client locks first) _ h).0
   where
     some_one : (a b : Command) → Some a ≡ Some b → a ≡ b
     some_one a b e = cc
-rises_from script rank client locks (first ∷ rest) (suc k) command h e =
-    rises_from script rank client (may_hold_after script client locks first) rest k command (and_parts (keeps_rising rank client locks first) _ h).1 e
+upgrades_from script rank client locks (first ∷ rest) (suc k) command h e =
+    upgrades_from script rank client (may_hold_after script client locks first) rest k command (and_parts (upgrades_in_order rank client locks first) _ h).1 e
 
-pub rises_at : (script : ScriptData) (rank : ℕ → ℕ) (client k : ℕ) (command : Command) → IsTrue (is_rising_from script rank client [] (commands_of script client))
-    → slice_get (commands_of script client) k ≡ Some command → keeps_rising rank client (may_hold script client k) command ≡ true
-rises_at script rank client k command h e = rises_from script rank client [] (commands_of script client) k command h e
+pub upgrades_at : (script : ScriptData) (rank : ℕ → ℕ) (client k : ℕ) (command : Command) → IsTrue (is_upgrading_from script rank client [] (commands_of script client))
+    → slice_get (commands_of script client) k ≡ Some command → upgrades_in_order rank client (may_hold script client k) command ≡ true
+upgrades_at script rank client k command h e = upgrades_from script rank client [] (commands_of script client) k command h e
 
 -- after the last command it may hold nothing
 none_from : (script : ScriptData) (rank : ℕ → ℕ) (client : ℕ) (locks : List Holding) (commands : List Command) (k : ℕ)
-    → is_rising_from script rank client locks commands ≡ true → length commands ≤ k → fold (may_hold_after script client) locks (take k commands) ≡ []
+    → is_upgrading_from script rank client locks commands ≡ true → length commands ≤ k → fold (may_hold_after script client) locks (take k commands) ≡ []
 none_from script rank client [] [] zero h all = refl
 none_from script rank client [] [] (suc k) h all = refl
 none_from script rank client (lock ∷ rest) [] k h all = cc
 none_from script rank client locks (first ∷ rest) zero h all = absurd (omega (arith, all))
 none_from script rank client locks (first ∷ rest) (suc k) h all =
-    none_from script rank client (may_hold_after script client locks first) rest k (and_parts (keeps_rising rank client locks first) _ h).1 (omega (arith, all))
+    none_from script rank client (may_hold_after script client locks first) rest k (and_parts (upgrades_in_order rank client locks first) _ h).1 (omega (arith, all))
 
-pub rising_none : (script : ScriptData) (rank : ℕ → ℕ) (client k : ℕ) → IsTrue (is_rising_from script rank client [] (commands_of script client))
+pub upgrading_none : (script : ScriptData) (rank : ℕ → ℕ) (client k : ℕ) → IsTrue (is_upgrading_from script rank client [] (commands_of script client))
     → length (commands_of script client) ≤ k → may_hold script client k ≡ []
-rising_none script rank client k h all = none_from script rank client [] (commands_of script client) k h all
+upgrading_none script rank client k h all = none_from script rank client [] (commands_of script client) k h all
 
 -- how many of the locks are of the set
 abbrev is_in_set : ℕ → Holding → Bool
@@ -108,7 +108,7 @@ not_true true e = cc
 not_true false e = refl
 
 -- a command keeps that each set has one lock at most
-one_stays : (script : ScriptData) (rank : ℕ → ℕ) (client : ℕ) (locks : List Holding) (command : Command) → keeps_rising rank client locks command ≡ true
+one_stays : (script : ScriptData) (rank : ℕ → ℕ) (client : ℕ) (locks : List Holding) (command : Command) → upgrades_in_order rank client locks command ≡ true
     → ((s : ℕ) → count_in_set s locks ≤ 1) → (s : ℕ) → count_in_set s (may_hold_after script client locks command) ≤ 1
 one_stays script rank client locks (Lock set mode) h few s = one_pushed s set client mode locks (few s) (none_of_set set locks (below_of_set rank set locks h))
 one_stays script rank client locks (Try set mode) h few s = one_pushed s set client mode locks (few s) (none_of_set set locks (not_true _ h))
@@ -119,15 +119,15 @@ one_stays script rank client locks (Change set gives_up mode) h few s =
     (none_of_set set others (not_true _ (and_parts (not (has_of_set set others)) _ h).0))
 one_stays script rank client locks (DropAll other set) h few s = omega (arith, few s, fewer_filtered s (λ lock. not (is_dropped script other set lock)) locks)
 
-one_from : (script : ScriptData) (rank : ℕ → ℕ) (client : ℕ) (locks : List Holding) (commands : List Command) (k : ℕ) → is_rising_from script rank client locks commands ≡ true
+one_from : (script : ScriptData) (rank : ℕ → ℕ) (client : ℕ) (locks : List Holding) (commands : List Command) (k : ℕ) → is_upgrading_from script rank client locks commands ≡ true
     → ((s : ℕ) → count_in_set s locks ≤ 1) → (s : ℕ) → count_in_set s (fold (may_hold_after script client) locks (take k commands)) ≤ 1
 one_from script rank client locks commands zero h few s = few s
 one_from script rank client locks [] (suc k) h few s = few s
 one_from script rank client locks (first ∷ rest) (suc k) h few s =
-    let parts = and_parts (keeps_rising rank client locks first) _ h in
+    let parts = and_parts (upgrades_in_order rank client locks first) _ h in
     one_from script rank client (may_hold_after script client locks first) rest k parts.1 (one_stays script rank client locks first parts.0 few) s
 
-pub one_of_set : (script : ScriptData) (rank : ℕ → ℕ) (client k s : ℕ) → IsTrue (is_rising_from script rank client [] (commands_of script client)) → count_in_set s (may_hold script client k) ≤ 1
+pub one_of_set : (script : ScriptData) (rank : ℕ → ℕ) (client k s : ℕ) → IsTrue (is_upgrading_from script rank client [] (commands_of script client)) → count_in_set s (may_hold script client k) ≤ 1
 one_of_set script rank client k s h = one_from script rank client [] (commands_of script client) k h (λ t. omega arith) s
 
 -- two different locks of a set count twice
@@ -150,20 +150,20 @@ two_of_set s a b (lock ∷ rest) d ha hb = omega (
     here false true false e f g = absurd (false≢true (sym g ∙ eq-eqb lock.set s (sym (ap (λ (x : Holding). x.set) (same_holding-true b lock f)) ∙ hb)))
     here false false z e f g = omega arith
 
--- an ordered script is rising by the numbers of its sets
+-- an ordered script is upgrading, by the numbers of its sets
 ordered_from : (script : ScriptData) (client : ℕ) (locks : List Holding) (commands : List Command) → is_orderly_from script client locks commands ≡ true
-    → is_rising_from script (λ s. s) client locks commands ≡ true
+    → is_upgrading_from script (λ s. s) client locks commands ≡ true
 ordered_from script client locks [] h = h
 ordered_from script client locks (command ∷ rest) h =
     let parts = and_parts (keeps_order client locks command) _ h in
     and_from _ _ (by_command command parts.0) (ordered_from script client (may_hold_after script client locks command) rest parts.1)
   where
-    by_command : (c : Command) → keeps_order client locks c ≡ true → keeps_rising (λ s. s) client locks c ≡ true
+    by_command : (c : Command) → keeps_order client locks c ≡ true → upgrades_in_order (λ s. s) client locks c ≡ true
     by_command (Lock s mode) g = g
     by_command (Try s mode) g = ap not (below_of_set (λ k. k) s locks g)
     by_command (Unlock s mode) g = refl
     by_command (Change s gives_up mode) g = absurd (false≢true g)
     by_command (DropAll other s) g = refl
 
-pub ordered_is_rising : OrderedIsRising
-ordered_is_rising script h client known = ordered_from script client [] (commands_of script client) (h client known)
+pub ordered_is_upgrading : OrderedIsUpgrading
+ordered_is_upgrading script h client known = ordered_from script client [] (commands_of script client) (h client known)

@@ -1,4 +1,4 @@
--- A client of a rising script holds and asks for no more than it may, and waits for a set above all that it holds, or to
+-- A client of an upgrading script holds and asks for no more than it may, and waits for a set above all that it holds, or to
 -- change a lock.
 use Rattle.std.proofs.Common.{◌≡◌, ◌≢◌, ℕ, zero, suc, ◌+◌, ◌-◌, ◌<◌, ◌≤◌, inl, inr, List, [], length, Option, Some, None, Bool, true, false, refl, sym, ap, arith, ◌∙◌}
 use Rattle.std.specs.Prelude.{◌⊎◌, ◌==◌, not, if◌then◌else◌, IsTrue, Contains, slice_get}
@@ -20,11 +20,11 @@ use Rattle.lt_order.specs.Ordered.{best_answer, may_hold}
 use Rattle.lt_law_ordered.specs.Ranked.{are_ranked_below}
 use Rattle.lt_law_ordered.proofs.Loans.{is_for, asks_for}
 use Rattle.lt_law_ordered.proofs.MayHold.{may_hold_more, may_count, ranked_lock}
-use Rattle.lt_law_upgrades.specs.Upgrading.{has_of_set, is_rising_from}
+use Rattle.lt_law_upgrades.specs.Upgrading.{has_of_set, is_upgrading_from}
 use Rattle.lt_law_upgrades.proofs.Balance.{gives, is_giving, given_up}
 use Rattle.lt_law_upgrades.proofs.ActBalance.{command_by, command_of, ActBalance}
 use Rattle.lt_law_upgrades.proofs.DeskStays.{KeepsDesk}
-use Rattle.lt_law_upgrades.proofs.MayRise.{rises_at}
+use Rattle.lt_law_upgrades.proofs.MayUpgrade.{upgrades_at}
 
 -- at its node the client holds and asks for no more than it may hold after the commands that it has made, and what its ask
 -- gives up; the ask is that of the last of them
@@ -116,9 +116,9 @@ last_twice commands k j a b e f g = some_one a b (sym f ∙ ap (slice_get comman
 abbrev pub WaitsAbove : (rank : ℕ → ℕ) (t s : ℕ) (ask : Ask) → Type 0
 WaitsAbove rank t s ask = (rank t < rank s) ⊎ ((t ≡ s) × (g : Mode) × (ask.gives_up ≡ Some g))
 
-pub waits_above : (script : ScriptData) (rank : ℕ → ℕ) (n : NodeState) (c s t : ℕ) (ask : Ask) (other : Mode) → IsTrue (is_rising_from script rank c [] (commands_of script c)) → IsWithin script n c
+pub waits_above : (script : ScriptData) (rank : ℕ → ℕ) (n : NodeState) (c s t : ℕ) (ask : Ask) (other : Mode) → IsTrue (is_upgrading_from script rank c [] (commands_of script c)) → IsWithin script n c
     → KeepsDesk script.nodes (n.set s) → s < length script.sets → t < length script.sets → Contains (n.set s).pending ask → ask.client ≡ c → 1 ≤ total (n.set t).held c other → WaitsAbove rank t s ask
-waits_above script rank n c s t ask other rises within keeps in_sets also there own holds = by_choice ask.gives_up refl
+waits_above script rank n c s t ask other in_order within keeps in_sets also there own holds = by_choice ask.gives_up refl
   where
     key : Holding
     key = holding c t other
@@ -159,7 +159,7 @@ waits_above script rank n c s t ask other rises within keeps in_sets also there 
             absurd (by_gives a.0 a.1 (sym (eqb-true c a.0.client parts.0)) a.0.gives_up refl parts.1)
 
     by_choice : (o : Option Mode) → ask.gives_up ≡ o → WaitsAbove rank t s ask
-    by_choice None e = inl (ranked_lock rank s locks key (rises_at script rank c last.0 (Lock s ask.mode) rises (last.2 ∙ ap Some is_lock)) (by_same (same_holding key (holding c s ask.mode)) refl))
+    by_choice None e = inl (ranked_lock rank s locks key (upgrades_at script rank c last.0 (Lock s ask.mode) in_order (last.2 ∙ ap Some is_lock)) (by_same (same_holding key (holding c s ask.mode)) refl))
       where
         is_lock : command_of s ask ≡ Lock s ask.mode
         is_lock = ap (command_by s ask.mode) e
@@ -219,9 +219,9 @@ waits_above script rank n c s t ask other rises within keeps in_sets also there 
 
         below : t ≢ s → are_ranked_below rank s (without_one locks (holding c s g)) ≡ true
         below d =
-            let order = rises_at script rank c last.0 (Change s g ask.mode) rises (last.2 ∙ ap Some is_change) in
+            let order = upgrades_at script rank c last.0 (Change s g ask.mode) in_order (last.2 ∙ ap Some is_change) in
             let change = (and_parts (not (has_of_set s (without_one locks (holding c s g)))) _ order).1 in
             elim (or_cases (covers (one g) ask.mode) _ change) [
               | inl covered ↦ absurd (false≢true (sym (keeps.next ask g there e).higher ∙ covered))
-              | inr rising ↦ (and_parts (excludes_itself g) _ rising).1
+              | inr below_it ↦ (and_parts (excludes_itself g) _ below_it).1
             ]

@@ -1,4 +1,4 @@
--- At rest nobody waits in a rising script.
+-- At rest nobody waits in an upgrading script.
 use Rattle.std.proofs.Common.{◌≡◌, ℕ, zero, suc, ◌+◌, ◌<◌, ◌≤◌, inl, inr, List, [], ◌∷◌, length, Option, Some, None, Bool, true, false, refl, sym, ap, subst, arith, take, ◌∙◌}
 use Rattle.std.specs.Prelude.{◌==◌, Contains, IsTrue}
 use Rattle.std.proofs.lemmas.Bool.{eqb-true}
@@ -34,22 +34,22 @@ use Rattle.lt_law_lines.proofs.LineCounts.{same_holding-itself}
 use Rattle.lt_law_waiting.proofs.Finds.{any_below_which}
 use Rattle.lt_law_waiting.proofs.WaitsAtRest.{row_counts}
 use Rattle.lt_law_ordered.proofs.OrderedRest.{made_all}
-use Rattle.lt_law_upgrades.specs.Upgrading.{IsRising}
-use Rattle.lt_law_upgrades.specs.UpgradeLaws.{RisingFinish, RisingRelease, HolderHasDesk, ChangeIsNext}
+use Rattle.lt_law_upgrades.specs.Upgrading.{IsUpgrading}
+use Rattle.lt_law_upgrades.specs.UpgradeLaws.{UpgradingFinish, UpgradingRelease, HolderHasDesk, ChangeIsNext}
 use Rattle.lt_law_upgrades.proofs.ActBalance.{idle_gives}
-use Rattle.lt_law_upgrades.proofs.MayRise.{rising_none}
-use Rattle.lt_law_upgrades.proofs.RiseWithin.{waits_above}
-use Rattle.lt_law_upgrades.proofs.RisingReady.{IsSteadfast}
-use Rattle.lt_law_upgrades.proofs.RisingRuns.{steadfast_in_runs}
+use Rattle.lt_law_upgrades.proofs.MayUpgrade.{upgrading_none}
+use Rattle.lt_law_upgrades.proofs.UpgradeWithin.{waits_above}
+use Rattle.lt_law_upgrades.proofs.UpgradeReady.{IsSteadfast}
+use Rattle.lt_law_upgrades.proofs.UpgradeRuns.{steadfast_in_runs}
 
 -- who has made all its commands holds nothing
-ended_none : (script : ScriptData) (w : World) (rank : ℕ → ℕ) (c s : ℕ) (mode : Mode) → IsSteadfast script w → IsRising script rank → IsTrue (is_at_rest script w) → c < length script.clients → s < length script.sets
+ended_none : (script : ScriptData) (w : World) (rank : ℕ → ℕ) (c s : ℕ) (mode : Mode) → IsSteadfast script w → IsUpgrading script rank → IsTrue (is_at_rest script w) → c < length script.clients → s < length script.sets
     → is_waiting script w c ≡ false → total (state_at w s (home script c)).held c mode ≡ 0
-ended_none script w rank c s mode h rising rest known under waits_not = omega (
+ended_none script w rank c s mode h upgrading rest known under waits_not = omega (
   arith,
   (h.within c known).counts s mode under,
   idle_gives c (state_at w s (home script c)) (idle_in script (w.node (home script c)) c waits_not s under) mode,
-  ap (λ (l : List Holding). times_held l (holding c s mode)) (rising_none script rank c (made_by script w c) (rising c known) (made_all script w c rest known waits_not)),
+  ap (λ (l : List Holding). times_held l (holding c s mode)) (upgrading_none script rank c (made_by script w c) (upgrading c known) (made_all script w c rest known waits_not)),
 )
 
 -- a set in which an ask is unanswered has a first waiter
@@ -91,9 +91,9 @@ record WaitsHigher (script : ScriptData) (w : World) (rank : ℕ → ℕ) (s : �
   own : ask.client ≡ client
   higher : rank s < rank set
 
-waits_higher : (script : ScriptData) (w : World) (rank : ℕ → ℕ) → IsWhole script → WorldInvariant script w → Homes script w → IsSteadfast script w → IsRising script rank → IsTrue (is_at_rest script w)
+waits_higher : (script : ScriptData) (w : World) (rank : ℕ → ℕ) → IsWhole script → WorldInvariant script w → Homes script w → IsSteadfast script w → IsUpgrading script rank → IsTrue (is_at_rest script w)
     → (s x : ℕ) (ask : Ask) → s < length script.sets → x < script.nodes → Contains (state_at w s x).pending ask → WaitsHigher script w rank s
-waits_higher script w rank whole kept homes h rising rest s x ask in_sets below there = by_waits (is_waiting script w d) refl
+waits_higher script w rank whole kept homes h upgrading rest s x ask in_sets below there = by_waits (is_waiting script w d) refl
   where
     led : IsLedToQueue script w s ask
     led = asks_are_led script w s x ask (kept.sets s in_sets) below rest there
@@ -122,7 +122,7 @@ waits_higher script w rank whole kept homes h rising rest s x ask in_sets below 
         barred.other (sym own ∙ ap (λ (a : Ask). a.client) is_first)
 
     by_waits : (waiting : Bool) → is_waiting script w d ≡ waiting → WaitsHigher script w rank s
-    by_waits false e = absurd (omega (arith, holds, ended_none script w rank d s barred.row.mode h rising rest row.client in_sets e))
+    by_waits false e = absurd (omega (arith, holds, ended_none script w rank d s barred.row.mode h upgrading rest row.client in_sets e))
     by_waits true e =
         let found = any_below_which (length script.sets) (λ k. waits (state_at w k (home script d)) d) e in
         let other = list_any-which (λ (a : Ask). a.client == d) (state_at w found.0 (home script d)).pending found.2 in
@@ -135,7 +135,7 @@ waits_higher script w rank whole kept homes h rising rest s x ask in_sets below 
           in_sets = found.1;
           there = other.1;
           own = own;
-          higher = elim (waits_above script rank (w.node (home script d)) d found.0 s other.0 barred.row.mode (rising d row.client) (h.within d row.client)
+          higher = elim (waits_above script rank (w.node (home script d)) d found.0 s other.0 barred.row.mode (upgrading d row.client) (h.within d row.client)
               (h.keeps found.0 (home script d) found.1 (whole.homes d row.client)) found.1 in_sets other.1 own holds) [
                 | inl higher ↦ higher
                 | inr same ↦ absurd (not_same found.0 other.0 same.1 found.1 other.1 own same.0 same.2)
@@ -143,17 +143,17 @@ waits_higher script w rank whole kept homes h rising rest s x ask in_sets below 
         }
 
 -- so none waits
-none_waits : (script : ScriptData) (w : World) (rank : ℕ → ℕ) → IsWhole script → WorldInvariant script w → Homes script w → IsSteadfast script w → IsRising script rank → IsTrue (is_at_rest script w)
+none_waits : (script : ScriptData) (w : World) (rank : ℕ → ℕ) → IsWhole script → WorldInvariant script w → Homes script w → IsSteadfast script w → IsUpgrading script rank → IsTrue (is_at_rest script w)
     → (fuel s x : ℕ) (ask : Ask) → s < length script.sets → x < script.nodes → Contains (state_at w s x).pending ask → sum_below (length script.sets) rank < rank s + fuel → ⊥
-none_waits script w rank whole kept homes h rising rest zero s x ask in_sets below there high = omega (arith, high, sum_below-at (length script.sets) s rank in_sets)
-none_waits script w rank whole kept homes h rising rest (suc fuel) s x ask in_sets below there high =
-    let next = waits_higher script w rank whole kept homes h rising rest s x ask in_sets below there in
-    none_waits script w rank whole kept homes h rising rest fuel next.set (home script next.client) next.ask next.in_sets (whole.homes next.client next.known) next.there
+none_waits script w rank whole kept homes h upgrading rest zero s x ask in_sets below there high = omega (arith, high, sum_below-at (length script.sets) s rank in_sets)
+none_waits script w rank whole kept homes h upgrading rest (suc fuel) s x ask in_sets below there high =
+    let next = waits_higher script w rank whole kept homes h upgrading rest s x ask in_sets below there in
+    none_waits script w rank whole kept homes h upgrading rest fuel next.set (home script next.client) next.ask next.in_sets (whole.homes next.client next.known) next.there
     (omega (arith, high, next.higher))
 
-nobody : (script : ScriptData) (w : World) (rank : ℕ → ℕ) → IsWhole script → WorldInvariant script w → Homes script w → IsSteadfast script w → IsRising script rank → IsTrue (is_at_rest script w)
+nobody : (script : ScriptData) (w : World) (rank : ℕ → ℕ) → IsWhole script → WorldInvariant script w → Homes script w → IsSteadfast script w → IsUpgrading script rank → IsTrue (is_at_rest script w)
     → anyone_waits script w ≡ false
-nobody script w rank whole kept homes h rising rest = by_test (anyone_waits script w) refl
+nobody script w rank whole kept homes h upgrading rest = by_test (anyone_waits script w) refl
   where
     by_test : (some : Bool) → anyone_waits script w ≡ some → some ≡ false
     by_test false e = refl
@@ -161,27 +161,27 @@ nobody script w rank whole kept homes h rising rest = by_test (anyone_waits scri
         let client = any_below_which (length script.clients) (is_waiting script w) e in
         let set = any_below_which (length script.sets) (λ s. waits (state_at w s (home script client.0)) client.0) client.2 in
         let ask = list_any-which (λ (a : Ask). a.client == client.0) (state_at w set.0 (home script client.0)).pending set.2 in
-        absurd (none_waits script w rank whole kept homes h rising rest (suc (sum_below (length script.sets) rank)) set.0 (home script client.0) ask.0 set.1 (whole.homes client.0 client.1) ask.1 (omega arith))
+        absurd (none_waits script w rank whole kept homes h upgrading rest (suc (sum_below (length script.sets) rank)) set.0 (home script client.0) ask.0 set.1 (whole.homes client.0 client.1) ask.1 (omega arith))
 
-pub rising_finish : RisingFinish
-rising_finish script run rank whole is_run rising k rest =
+pub upgrading_finish : UpgradingFinish
+upgrading_finish script run rank whole is_run upgrading k rest =
     nobody script (world_after script (take k run)) rank whole (kept_in_runs script run whole is_run k) (homes_in_runs script run whole is_run k)
-    (steadfast_in_runs script run rank whole is_run rising k) rising rest
+    (steadfast_in_runs script run rank whole is_run upgrading k) upgrading rest
 
-pub rising_release : RisingRelease
-rising_release script run rank whole is_run rising k rest = nothing_in (holdings script (lines_of (take k run))) (λ lock there.
+pub upgrading_release : UpgradingRelease
+upgrading_release script run rank whole is_run upgrading k rest = nothing_in (holdings script (lines_of (take k run))) (λ lock there.
     let w = world_after script (take k run) in
     let named = (lines_kept_in_runs script run whole is_run k).named lock there in
     let some = counted_some (same_holding lock) (holdings script (lines_of (take k run))) lock there (same_holding-itself lock) in
-    let none = ended_none script w rank lock.client lock.set lock.mode (steadfast_in_runs script run rank whole is_run rising k) rising rest named.0 named.1
-    (any_below_none (length script.clients) (is_waiting script w) (rising_finish script run rank whole is_run rising k rest) lock.client named.0) in
+    let none = ended_none script w rank lock.client lock.set lock.mode (steadfast_in_runs script run rank whole is_run upgrading k) upgrading rest named.0 named.1
+    (any_below_none (length script.clients) (is_waiting script w) (upgrading_finish script run rank whole is_run upgrading k rest) lock.client named.0) in
     omega (arith, some, none, (held_in_runs script run whole is_run k).own lock named.1))
 
 pub holder_has_desk : HolderHasDesk
-holder_has_desk script run rank whole is_run rising k s x row under below there taking =
-    ((steadfast_in_runs script run rank whole is_run rising k).keeps s x under below).desk row.mode (held-at (state_at (world_after script (take k run)) s x).held row there) taking
+holder_has_desk script run rank whole is_run upgrading k s x row under below there taking =
+    ((steadfast_in_runs script run rank whole is_run upgrading k).keeps s x under below).desk row.mode (held-at (state_at (world_after script (take k run)) s x).held row there) taking
 
 pub change_is_next : ChangeIsNext
-change_is_next script run rank whole is_run rising k s x ask gives_up under below there e =
-    let next = ((steadfast_in_runs script run rank whole is_run rising k).keeps s x under below).next ask gives_up there e in
+change_is_next script run rank whole is_run upgrading k s x ask gives_up under below there e =
+    let next = ((steadfast_in_runs script run rank whole is_run upgrading k).keeps s x under below).next ask gives_up there e in
     (next.rest, next.queue)

@@ -1,4 +1,4 @@
--- Each move of a run of a rising script keeps the desk where a lock that excludes itself is, and what clients may hold.
+-- Each move of a run of an upgrading script keeps the desk where a lock that excludes itself is, and what clients may hold.
 use Rattle.std.proofs.Common.{◌≡◌, ℕ, zero, suc, ◌+◌, ◌<◌, inl, inr, List, [], ◌∷◌, length, Option, Some, None, Bool, true, false, refl, sym, ap, subst, arith, take, ◌∙◌}
 use Rattle.std.specs.Prelude.{◌⊎◌, ◌==◌, not, nat_lt, if◌then◌else◌, filter_map, IsTrue, Contains, slice_get}
 use Rattle.std.proofs.lemmas.Bool.{cases_eq, and_parts, eq-eqb, ltb-true, lt-ltb}
@@ -37,13 +37,13 @@ use Rattle.lt_law_invariant.proofs.ClientMoves.{idle_in}
 use Rattle.lt_law_invariant.proofs.ClientsKept.{sound_clients}
 use Rattle.lt_law_invariant.proofs.KeptMoves.{kept_stays}
 use Rattle.lt_law_lines.proofs.AlongRuns.{along_runs}
-use Rattle.lt_law_upgrades.specs.Upgrading.{IsRising}
+use Rattle.lt_law_upgrades.specs.Upgrading.{IsUpgrading}
 use Rattle.lt_law_upgrades.proofs.ActBalance.{idle_gives}
 use Rattle.lt_law_upgrades.proofs.DeskStays.{HasEntries, KeepsDesk, HasLeft}
-use Rattle.lt_law_upgrades.proofs.RiseWithin.{IsWithin, stays_in, makes_command}
-use Rattle.lt_law_upgrades.proofs.RiseActs.{Acted, act_sets}
-use Rattle.lt_law_upgrades.proofs.RiseTakes.{Taken, take_sets}
-use Rattle.lt_law_upgrades.proofs.RisingReady.{IsSteadfast, ready_so}
+use Rattle.lt_law_upgrades.proofs.UpgradeWithin.{IsWithin, stays_in, makes_command}
+use Rattle.lt_law_upgrades.proofs.UpgradeActs.{Acted, act_sets}
+use Rattle.lt_law_upgrades.proofs.UpgradeTakes.{Taken, take_sets}
+use Rattle.lt_law_upgrades.proofs.UpgradeReady.{IsSteadfast, ready_so}
 
 -- the token can't have left
 left_never : (script : ScriptData) (w : World) (q : ℕ) (step : Step) (s : ℕ) → WorldInvariant script (after script w q step) → q < script.nodes → s < length script.sets
@@ -100,9 +100,9 @@ not_none [] k h e = omega (arith, ltb-true k 0 h)
 not_none (command ∷ rest) zero h e = cc
 not_none (command ∷ rest) (suc k) h e = not_none rest k (lt-ltb k (length rest) (omega (arith, ltb-true (suc k) (suc (length rest)) h))) e
 
-act_moved : (script : ScriptData) (w : World) (rank : ℕ → ℕ) (q client : ℕ) → IsWhole script → WorldInvariant script w → Homes script w → IsRising script rank → IsSteadfast script w
+act_moved : (script : ScriptData) (w : World) (rank : ℕ → ℕ) (q client : ℕ) → IsWhole script → WorldInvariant script w → Homes script w → IsUpgrading script rank → IsSteadfast script w
     → IsTrue (is_enabled script w q (Act client)) → Moved script q (node_act script q client (w.node q))
-act_moved script w rank q client whole kept homes rising h enabled = by_command (next_command script n client) refl
+act_moved script w rank q client whole kept homes upgrading h enabled = by_command (next_command script n client) refl
   where
     n : NodeState
     n = w.node q
@@ -156,7 +156,7 @@ act_moved script w rank q client whole kept homes rising h enabled = by_command 
 
         acts : (s : ℕ) → s < length script.sets → Acted script client s q command (n.set s) (later.set s) (obey script (act_stamp q n) client (Some command) begins).posts
         acts = act_sets script w q client command (λ s under. kept_stands script w s (kept.sets s under)) below (sound_clients script w q kept below) able.0
-            (next_targets script n client command whole e) (ready_so script w rank q client command whole kept homes rising h own.known own.own below able.0 e)
+            (next_targets script n client command whole e) (ready_so script w rank q client command whole kept homes upgrading h own.known own.own below able.0 e)
 
 take_moved : (script : ScriptData) (w : World) (p q : ℕ) → WorldInvariant script w → IsSteadfast script w → IsTrue (is_enabled script w q (Take p))
     → Moved script q (take_front q (w.node q) (w.mail p q))
@@ -179,14 +179,14 @@ take_moved script w p q kept h enabled =
             → Taken script.nodes s q ((w.node q).set s) ((node_take q letter (w.node q)).node.set s) (node_take q letter (w.node q)).posts
         taken = take_sets script w p q letter rest kept e from below (λ s under. h.keeps s q under below)
 
-moved : (script : ScriptData) (w : World) (rank : ℕ → ℕ) (q : ℕ) (step : Step) → IsWhole script → WorldInvariant script w → Homes script w → IsRising script rank → IsSteadfast script w
+moved : (script : ScriptData) (w : World) (rank : ℕ → ℕ) (q : ℕ) (step : Step) → IsWhole script → WorldInvariant script w → Homes script w → IsUpgrading script rank → IsSteadfast script w
     → IsTrue (is_enabled script w q step) → Moved script q (node_move script w q step)
-moved script w rank q (Act client) whole kept homes rising h enabled = act_moved script w rank q client whole kept homes rising h enabled
-moved script w rank q (Take p) whole kept homes rising h enabled = take_moved script w p q kept h enabled
+moved script w rank q (Act client) whole kept homes upgrading h enabled = act_moved script w rank q client whole kept homes upgrading h enabled
+moved script w rank q (Take p) whole kept homes upgrading h enabled = take_moved script w p q kept h enabled
 
-steadfast_after : (script : ScriptData) (w : World) (rank : ℕ → ℕ) (q : ℕ) (step : Step) → IsWhole script → WorldInvariant script w → Homes script w → IsRising script rank → IsTrue (is_enabled script w q step)
+steadfast_after : (script : ScriptData) (w : World) (rank : ℕ → ℕ) (q : ℕ) (step : Step) → IsWhole script → WorldInvariant script w → Homes script w → IsUpgrading script rank → IsTrue (is_enabled script w q step)
     → IsSteadfast script w → IsSteadfast script (after script w q step)
-steadfast_after script w rank q step whole kept homes rising enabled h = record {
+steadfast_after script w rank q step whole kept homes upgrading enabled h = record {
   within = λ c known. elim (cases_eq (home script c) q) [
     | inl e ↦ subst (λ (n : NodeState). IsWithin script n c) (sym (ap (after script w q step).node e ∙ at_q)) (made.within c known e)
     | inr d ↦ subst (λ (n : NodeState). IsWithin script n c)
@@ -200,7 +200,7 @@ steadfast_after script w rank q step whole kept homes rising enabled h = record 
 }
   where
     made : Moved script q (node_move script w q step)
-    made = moved script w rank q step whole kept homes rising h enabled
+    made = moved script w rank q step whole kept homes upgrading h enabled
 
     at_q : (after script w q step).node q ≡ (node_move script w q step).node
     at_q = after_node script w q step q ∙ put-same w.node q (node_move script w q step).node
@@ -231,7 +231,7 @@ steadfast_first script = record {
     by_node true = length-replicate script.nodes first_entry
     by_node false = tt
 
-pub steadfast_in_runs : (script : ScriptData) (run : List Logged) (rank : ℕ → ℕ) → IsWhole script → IsRun script run → IsRising script rank → (k : ℕ) → IsSteadfast script (world_after script (take k run))
-steadfast_in_runs script run rank whole is_run rising k =
-    along_runs script (λ lines w. IsSteadfast script w) whole (λ w lines q step kept homes enabled h. steadfast_after script w rank q step whole kept homes rising enabled h)
+pub steadfast_in_runs : (script : ScriptData) (run : List Logged) (rank : ℕ → ℕ) → IsWhole script → IsRun script run → IsUpgrading script rank → (k : ℕ) → IsSteadfast script (world_after script (take k run))
+steadfast_in_runs script run rank whole is_run upgrading k =
+    along_runs script (λ lines w. IsSteadfast script w) whole (λ w lines q step kept homes enabled h. steadfast_after script w rank q step whole kept homes upgrading enabled h)
     (steadfast_first script) run is_run k
