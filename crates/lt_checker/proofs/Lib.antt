@@ -2,3 +2,8 @@ mod Keeping
 mod Moving
 mod DueLines
 mod LeftLines
+mod LastLines
+mod Feeding
+mod TwoParts
+mod BadLines
+pub mod Inputs

@@ -1,7 +1,7 @@
 ghost use Rattle.std.specs.Prelude.{◌≡◌, ◌≢◌, ◌<◌, ◌≤◌, ◌+◌, ◌^◌, length, filter, position, vec_len, vec_capacity, IfSome};
 ghost use Rattle.lt_nest.specs.declared.locks.Entry.{Entry as AnyEntry};
-ghost use Rattle.lt_nest.specs.Forest.{is_open};
-ghost use Rattle.lt_nest.specs.Locks.{is_of, is_entry_of, locks_of, locks_in, add_locks, pass_one, pass, drop_entries};
+ghost use Rattle.lt_nest.specs.Forest.{is_open_transaction};
+ghost use Rattle.lt_nest.specs.Locks.{is_held_by, is_entry_of, locks_held_by, total_locks, add_locks, pass_one, pass, drop_entries};
 
 use crate::forest::{Transaction, is_open};
 use crate::locks::Entry;
@@ -9,8 +9,8 @@ use lt_modes::Mode;
 
 #[tactic(auto, using(crate::proofs::LockSums::locks_more, crate::proofs::LockSums::locks_within))]
 pub(crate) fn count(entries: &[Entry], x: u16, mode: Mode) -> u32
-    requires { locks_in entries.now < 2 ^ 32 }
-    ensures { result ≡ locks_of entries.now x mode }
+    requires { total_locks entries.now < 2 ^ 32 }
+    ensures { result ≡ locks_held_by entries.now x mode }
 {
     let mut locks = 0;
     for entry in entries {
@@ -24,7 +24,7 @@ pub(crate) fn count(entries: &[Entry], x: u16, mode: Mode) -> u32
 /// Gives x so many locks more.
 pub(crate) fn add(entries: &mut Vec<Entry>, x: u16, mode: Mode, locks: u32)
     requires room { vec_len entries.old < vec_capacity entries.old }
-    requires count { locks_in entries.old.items + locks < 2 ^ 32 }
+    requires count { total_locks entries.old.items + locks < 2 ^ 32 }
     ensures entries { entries.new.items ≡ add_locks entries.old.items x mode locks }
     ensures capacity { vec_capacity entries.new ≡ vec_capacity entries.old }
     ensures len { vec_len entries.new ≤ vec_len entries.old + 1 }
@@ -54,7 +54,7 @@ fn place(entries: &[Entry], x: u16, mode: Mode) -> Option<usize>
 /// The entries of x are p's from now on.
 pub(crate) fn pass(entries: &mut Vec<Entry>, x: u16, p: u16)
     requires other { p ≢ x }
-    requires count { locks_in entries.old.items < 2 ^ 32 }
+    requires count { total_locks entries.old.items < 2 ^ 32 }
     ensures entries { entries.new.items ≡ pass x p entries.old.items }
     ensures capacity { vec_capacity entries.new ≡ vec_capacity entries.old }
     ensures len { vec_len entries.new ≤ vec_len entries.old }
@@ -66,7 +66,7 @@ pub(crate) fn pass(entries: &mut Vec<Entry>, x: u16, p: u16)
 
 // The place of an entry of x.
 fn first_of(entries: &[Entry], x: u16) -> Option<usize>
-    ensures place { result ≡ position (is_of x) entries.now }
+    ensures place { result ≡ position (is_held_by x) entries.now }
     ensures within { IfSome result (λ k. k < length entries.now) }
 {
     entries.iter().position(|entry| entry.owner == x)
@@ -75,7 +75,7 @@ fn first_of(entries: &[Entry], x: u16) -> Option<usize>
 // The entry at place k is p's from now on.
 fn pass_one(entries: &mut Vec<Entry>, p: u16, k: usize)
     requires place { k < length entries.old.items }
-    requires count { locks_in entries.old.items < 2 ^ 32 }
+    requires count { total_locks entries.old.items < 2 ^ 32 }
     ensures entries { entries.new.items ≡ pass_one p entries.old.items k }
     ensures capacity { vec_capacity entries.new ≡ vec_capacity entries.old }
     ensures len { vec_len entries.new ≤ vec_len entries.old }
@@ -93,7 +93,7 @@ pub(crate) fn drop_entries(entries: &mut Vec<Entry>, x: u16)
 }
 
 pub(crate) fn keep_entries(entries: &mut Vec<Entry>, transactions: &[Transaction])
-    ensures entries { entries.new.items ≡ filter (λ (entry : AnyEntry). is_open transactions.now entry.owner) entries.old.items }
+    ensures entries { entries.new.items ≡ filter (λ (entry : AnyEntry). is_open_transaction transactions.now entry.owner) entries.old.items }
     ensures capacity { vec_capacity entries.new ≡ vec_capacity entries.old }
     ensures len { vec_len entries.new ≤ vec_len entries.old }
 {

@@ -1,8 +1,8 @@
 ghost use Rattle.std.specs.Prelude.{◌≡◌, ◌<◌, ◌≤◌, length, filter, position, vec_len, IfSome};
 ghost use Rattle.std.specs.List.{list_any};
 ghost use Rattle.lt_nest.specs.declared.locks.Ask.{Ask as AnyAsk};
-ghost use Rattle.lt_nest.specs.Forest.{is_open};
-ghost use Rattle.lt_nest.specs.Locks.{is_against, entry_is_against, ask_is_against, is_free, is_ask_of};
+ghost use Rattle.lt_nest.specs.Forest.{is_open_transaction};
+ghost use Rattle.lt_nest.specs.Locks.{is_against, entry_is_against, ask_is_against, is_free_for, is_asked_by};
 ghost use Rattle.lt_nest.specs.Serving.{first_free};
 ghost use Rattle.lt_nest.specs.Calls.{holder_is_against, asker_is_against, waits_in};
 ghost use Rattle.lt_nest.specs.Kept.{IsForest};
@@ -19,7 +19,7 @@ pub(crate) fn is_free(
     mode: Mode,
 ) -> bool
     requires { IsForest transactions.now }
-    ensures { result ≡ is_free transactions.now entries.now earlier.now x mode }
+    ensures { result ≡ is_free_for transactions.now entries.now earlier.now x mode }
 {
     !entries_bar(transactions, entries, x, mode) && !asks_bar(transactions, earlier, x, mode)
 }
@@ -67,14 +67,14 @@ pub(crate) fn first_free(
 
 /// The place of the ask of x.
 pub(crate) fn ask_place(queue: &[Ask], x: u16) -> Option<usize>
-    ensures place { result ≡ position (is_ask_of x) queue.now }
+    ensures place { result ≡ position (is_asked_by x) queue.now }
     ensures within { IfSome result (λ k. k < length queue.now) }
 {
     queue.iter().position(|ask| ask.owner == x)
 }
 
 pub(crate) fn keep_asks(queue: &mut Vec<Ask>, transactions: &[Transaction])
-    ensures asks { queue.new.items ≡ filter (λ (ask : AnyAsk). is_open transactions.now ask.owner) queue.old.items }
+    ensures asks { queue.new.items ≡ filter (λ (ask : AnyAsk). is_open_transaction transactions.now ask.owner) queue.old.items }
     ensures len { vec_len queue.new ≤ vec_len queue.old }
 {
     queue.retain(|ask| is_open(transactions, ask.owner));

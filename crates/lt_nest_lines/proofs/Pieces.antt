@@ -7,7 +7,7 @@ use Rattle.std.proofs.lemmas.List.Concat.{flat_map-append}
 use Rattle.std.proofs.Common.{append-nil}
 use Rattle.lt_nest.specs.Serving.{Grant}
 use Rattle.lt_nest_lines.specs.Input.{InputData}
-use Rattle.lt_nest_lines.specs.Play.{line_of, grant_words, grants_text}
+use Rattle.lt_nest_lines.specs.Play.{line_of_words, grant_words, grants_text}
 use Rattle.lt_nest_lines.specs.Written.{each_below}
 
 -- what was written, and one piece more
@@ -28,11 +28,11 @@ flat_map-more {X} {A} f xs i d h =
 
 -- the first grant is told, and the others are left
 pub grant_told : (d : InputData) (numbers : List (Option ℕ)) (grants : List Grant) (grant : Grant) (out now before : List ℕ) (all : List ℕ) → slice_get grants 0 ≡ Some grant
-    → now ≡ out ++ line_of (grant_words d numbers grant) → out ++ grants_text d numbers grants ≡ before ++ all → now ++ grants_text d numbers (drop 1 grants) ≡ before ++ all
+    → now ≡ out ++ line_of_words (grant_words d numbers grant) → out ++ grants_text d numbers grants ≡ before ++ all → now ++ grants_text d numbers (drop 1 grants) ≡ before ++ all
 grant_told d numbers [] grant out now before all first wrote so_far = absurd (cc first)
 grant_told d numbers (g ∷ rest) grant out now before all first wrote so_far =
     let same : g ≡ grant = cc first in
     ap (λ (text : List ℕ). text ++ grants_text d numbers rest) wrote
-    ∙ append_assoc out (line_of (grant_words d numbers grant)) (grants_text d numbers rest)
-    ∙ ap (λ (one : Grant). out ++ (line_of (grant_words d numbers one) ++ grants_text d numbers rest)) (sym same)
+    ∙ append_assoc out (line_of_words (grant_words d numbers grant)) (grants_text d numbers rest)
+    ∙ ap (λ (one : Grant). out ++ (line_of_words (grant_words d numbers one) ++ grants_text d numbers rest)) (sym same)
     ∙ so_far

@@ -7,7 +7,7 @@ use Rattle.lt_modes.specs.declared.mode.Mode.{Mode}
 use Rattle.lt_nest_lines.specs.declared.limits.TheConstants.{MAX_SETS, MAX_TRANSACTIONS, MAX_LINES}
 use Rattle.lt_nest_lines.specs.declared.order.Order.{Order}
 use Rattle.lt_nest_lines.specs.declared.order.Order.TheVariants.{Lock, Try}
-use Rattle.lt_nest_lines.specs.Input.{InputData, IsInput, AsksWithin, count_of, with_set, with_order, with_transaction}
+use Rattle.lt_nest_lines.specs.Input.{InputData, IsInput, AsksWithin, line_count, with_declared_set, with_order, with_declared_transaction}
 
 -- more sets do no harm
 within_more : (n m : ℕ) → n ≤ m → (order : Order) → AsksWithin n order → AsksWithin m order
@@ -15,7 +15,7 @@ within_more n m h (Lock t set mode) within = omega (arith, h, within)
 within_more n m h (Try t set mode) within = omega (arith, h, within)
 within_more n m h other within = within
 
-pub set_added : (d : InputData) (name : List ℕ) → IsInput d → length d.sets < MAX_SETS → count_of d < MAX_LINES → IsInput (with_set d name)
+pub set_added : (d : InputData) (name : List ℕ) → IsInput d → length d.sets < MAX_SETS → line_count d < MAX_LINES → IsInput (with_declared_set d name)
 set_added d name kept few lines = record {
   few_sets = omega (arith, few, longer);
   few_transactions = kept.few_transactions;
@@ -26,7 +26,7 @@ set_added d name kept few lines = record {
     longer : length (d.sets ++ name ∷ []) ≡ length d.sets + 1
     longer = length_push d.sets name
 
-pub order_added : (d : InputData) (order : Order) → IsInput d → count_of d < MAX_LINES → AsksWithin (length d.sets) order → IsInput (with_order d order)
+pub order_added : (d : InputData) (order : Order) → IsInput d → line_count d < MAX_LINES → AsksWithin (length d.sets) order → IsInput (with_order d order)
 order_added d order kept lines within = record {
   few_sets = kept.few_sets;
   few_transactions = kept.few_transactions;
@@ -34,8 +34,8 @@ order_added d order kept lines within = record {
   within = All-push (AsksWithin (length d.sets)) d.orders order kept.within within;
 }
 
-pub transaction_added : (d : InputData) (name : List ℕ) (order : Order) → IsInput d → length d.transactions < MAX_TRANSACTIONS → count_of d < MAX_LINES
-    → AsksWithin (length d.sets) order → IsInput (with_transaction d name order)
+pub transaction_added : (d : InputData) (name : List ℕ) (order : Order) → IsInput d → length d.transactions < MAX_TRANSACTIONS → line_count d < MAX_LINES
+    → AsksWithin (length d.sets) order → IsInput (with_declared_transaction d name order)
 transaction_added d name order kept few lines within = record {
   few_sets = kept.few_sets;
   few_transactions = omega (arith, few, length_push d.transactions name);

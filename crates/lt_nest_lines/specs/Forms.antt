@@ -15,9 +15,9 @@ pub data FormData : Type 0 where
   AbortForm : List ℕ → FormData
 
 -- `set S`
-abbrev pub set_form : List (List ℕ) → Option FormData
-set_form (s ∷ []) = Some (SetForm s)
-set_form words = None
+abbrev pub set_line_form : List (List ℕ) → Option FormData
+set_line_form (s ∷ []) = Some (SetForm s)
+set_line_form words = None
 
 -- `T begin`, `T commit` and `T abort`
 abbrev pub short_form : List ℕ → List ℕ → Option FormData
@@ -46,16 +46,16 @@ transaction_form t (verb ∷ a ∷ b ∷ []) = long_form t verb a b
 transaction_form t words = None
 
 -- the form of a line with these words: the first word decides whether it declares a set
-abbrev pub form_of : List (List ℕ) → Option FormData
-form_of [] = None
-form_of (w ∷ ws) = if bytes_eq w (codes "set") then set_form ws else transaction_form w ws
+abbrev pub line_form : List (List ℕ) → Option FormData
+line_form [] = None
+line_form (w ∷ ws) = if bytes_eq w (codes "set") then set_line_form ws else transaction_form w ws
 
 -- what the code's values stand for
-abbrev pub form_seen : Form → FormData
-form_seen (Set set) = SetForm set.now
-form_seen (Begin transaction) = BeginForm transaction.now
-form_seen (BeginIn transaction parent) = BeginInForm transaction.now parent.now
-form_seen (Lock transaction set mode) = LockForm transaction.now set.now mode.now
-form_seen (Try transaction set mode) = TryForm transaction.now set.now mode.now
-form_seen (Commit transaction) = CommitForm transaction.now
-form_seen (Abort transaction) = AbortForm transaction.now
+abbrev pub form_data : Form → FormData
+form_data (Set set) = SetForm set.now
+form_data (Begin transaction) = BeginForm transaction.now
+form_data (BeginIn transaction parent) = BeginInForm transaction.now parent.now
+form_data (Lock transaction set mode) = LockForm transaction.now set.now mode.now
+form_data (Try transaction set mode) = TryForm transaction.now set.now mode.now
+form_data (Commit transaction) = CommitForm transaction.now
+form_data (Abort transaction) = AbortForm transaction.now

@@ -4,13 +4,14 @@ use Rattle.std.specs.Str.{bytes_eq}
 use Rattle.lt_modes.specs.declared.mode.Mode.{Mode}
 use Rattle.lt_modes.specs.Modes.{mode_of}
 use Rattle.lt_text.specs.Text.{lines, words}
-use Rattle.lt_nest_lines.specs.Names.{is_name}
+use Rattle.lt_script.specs.Names.{is_name}
+use Rattle.lt_script.specs.Reading.{says_nothing}
 use Rattle.lt_nest_lines.specs.declared.limits.TheConstants.{MAX_SETS, MAX_TRANSACTIONS, MAX_LINES}
 use Rattle.lt_nest_lines.specs.declared.order.Order.{Order}
 use Rattle.lt_nest_lines.specs.declared.order.Order.TheVariants.{Begin, BeginIn, Lock, Try, Commit, Abort}
 use Rattle.lt_nest_lines.specs.declared.reading.ReadError.{ReadError}
 use Rattle.lt_nest_lines.specs.declared.reading.ReadError.TheVariants as errors
-use Rattle.lt_nest_lines.specs.Forms.{FormData, SetForm, BeginForm, BeginInForm, LockForm, TryForm, CommitForm, AbortForm, form_of}
+use Rattle.lt_nest_lines.specs.Forms.{FormData, SetForm, BeginForm, BeginInForm, LockForm, TryForm, CommitForm, AbortForm, line_form}
 
 -- the sets and transactions that lines declare, in order, and what the other lines order
 pub record InputData : Type 0 where
@@ -23,8 +24,8 @@ abbrev pub no_input : InputData
 no_input = record { sets = []; transactions = []; orders = [] }
 
 -- how many lines there are
-abbrev pub count_of : InputData → ℕ
-count_of d = length d.sets + length d.orders
+abbrev pub line_count : InputData → ℕ
+line_count d = length d.sets + length d.orders
 
 -- the name is this word
 abbrev pub is_word : List ℕ → List ℕ → Bool
@@ -35,35 +36,35 @@ abbrev pub place_of : List (List ℕ) → List ℕ → Option ℕ
 place_of names word = position (is_word word) names
 
 -- a set or a transaction has this name
-abbrev pub is_declared : InputData → List ℕ → Bool
-is_declared d word = is_some (place_of d.sets word) || is_some (place_of d.transactions word)
+abbrev pub has_declared : InputData → List ℕ → Bool
+has_declared d word = is_some (place_of d.sets word) || is_some (place_of d.transactions word)
 
 -- the word may be declared: it is a name other than `begin`, and wasn't declared before
 abbrev pub is_new : InputData → List ℕ → Bool
-is_new d word = is_name word && not (bytes_eq word (codes "begin")) && not (is_declared d word)
+is_new d word = is_name word && not (bytes_eq word (codes "begin")) && not (has_declared d word)
 
 -- with a further set
-abbrev pub with_set : InputData → List ℕ → InputData
-with_set d name = record d { sets = d.sets ++ name ∷ [] }
+abbrev pub with_declared_set : InputData → List ℕ → InputData
+with_declared_set d name = record d { sets = d.sets ++ name ∷ [] }
 
 -- with a further order
 abbrev pub with_order : InputData → Order → InputData
 with_order d order = record d { orders = d.orders ++ order ∷ [] }
 
 -- with a further transaction, and the order that begins it
-abbrev pub with_transaction : InputData → List ℕ → Order → InputData
-with_transaction d name order =
+abbrev pub with_declared_transaction : InputData → List ℕ → Order → InputData
+with_declared_transaction d name order =
     record d { transactions = d.transactions ++ name ∷ []; orders = d.orders ++ order ∷ [] }
 
 -- a line that declares a set
 abbrev pub set_line : InputData → List ℕ → Option InputData
-set_line d s = if is_new d s && nat_lt (length d.sets) MAX_SETS then Some (with_set d s) else None
+set_line d s = if is_new d s && nat_lt (length d.sets) MAX_SETS then Some (with_declared_set d s) else None
 
 -- a line that declares a transaction, with the order that begins it, where that is one
 abbrev pub begin_line : InputData → List ℕ → Option Order → Option InputData
 begin_line d t None = None
 begin_line d t (Some order) =
-    if is_new d t && nat_lt (length d.transactions) MAX_TRANSACTIONS then Some (with_transaction d t order) else None
+    if is_new d t && nat_lt (length d.transactions) MAX_TRANSACTIONS then Some (with_declared_transaction d t order) else None
 
 -- any other line, with its order, where that is one
 abbrev pub order_line : InputData → Option Order → Option InputData
@@ -96,53 +97,48 @@ try_order (Some t) (Some set) (Some mode) = Some (Try t set mode)
 try_order t set mode = None
 
 -- the input after a line of this form; none where the line is refused
-abbrev pub after_form : InputData → FormData → Option InputData
-after_form d (SetForm s) = set_line d s
-after_form d (BeginForm t) = begin_line d t (Some Begin)
-after_form d (BeginInForm t p) = begin_line d t (begin_in (place_of d.transactions p))
-after_form d (LockForm t s m) = order_line d (lock_order (place_of d.transactions t) (place_of d.sets s) (mode_of m))
-after_form d (TryForm t s m) = order_line d (try_order (place_of d.transactions t) (place_of d.sets s) (mode_of m))
-after_form d (CommitForm t) = order_line d (commit_order (place_of d.transactions t))
-after_form d (AbortForm t) = order_line d (abort_order (place_of d.transactions t))
+abbrev pub input_after_form : InputData → FormData → Option InputData
+input_after_form d (SetForm s) = set_line d s
+input_after_form d (BeginForm t) = begin_line d t (Some Begin)
+input_after_form d (BeginInForm t p) = begin_line d t (begin_in (place_of d.transactions p))
+input_after_form d (LockForm t s m) = order_line d (lock_order (place_of d.transactions t) (place_of d.sets s) (mode_of m))
+input_after_form d (TryForm t s m) = order_line d (try_order (place_of d.transactions t) (place_of d.sets s) (mode_of m))
+input_after_form d (CommitForm t) = order_line d (commit_order (place_of d.transactions t))
+input_after_form d (AbortForm t) = order_line d (abort_order (place_of d.transactions t))
 
 -- a line that has no form is refused, and so is one too many
-abbrev pub after_words : InputData → Option FormData → Option InputData
-after_words d None = None
-after_words d (Some form) = if nat_lt (count_of d) MAX_LINES then after_form d form else None
-
--- a line with no word says nothing, and so does a comment, whose first word begins with `#`
-abbrev pub says_nothing : List (List ℕ) → Bool
-says_nothing [] = true
-says_nothing (word ∷ rest) = slice_index word 0 == 35
+abbrev pub input_after_words : InputData → Option FormData → Option InputData
+input_after_words d None = None
+input_after_words d (Some form) = if nat_lt (line_count d) MAX_LINES then input_after_form d form else None
 
 -- the input after a line; none where it is refused
-unfoldable pub after_line : InputData → List ℕ → Option InputData
-after_line d line = if says_nothing (words line) then Some d else after_words d (form_of (words line))
+unfoldable pub input_after_line : InputData → List ℕ → Option InputData
+input_after_line d line = if says_nothing (words line) then Some d else input_after_words d (line_form (words line))
 
 -- what the rest makes of the input after the line with this number, or that number where it is refused
-abbrev pub go_on : ℕ → (InputData → Result InputData ℕ) → Option InputData → Result InputData ℕ
-go_on k rest (Some d) = rest d
-go_on k rest None = Err k
+abbrev pub read_further : ℕ → (InputData → Result InputData ℕ) → Option InputData → Result InputData ℕ
+read_further k rest (Some d) = rest d
+read_further k rest None = Err k
 
 -- the input after these lines, the first of which has this number
-unfoldable pub read_from : List (List ℕ) → ℕ → InputData → Result InputData ℕ
-read_from [] k d = Ok d
-read_from (line ∷ rest) k d = go_on k (read_from rest (k + 1)) (after_line d line)
+unfoldable pub read_lines_from : List (List ℕ) → ℕ → InputData → Result InputData ℕ
+read_lines_from [] k d = Ok d
+read_lines_from (line ∷ rest) k d = read_further k (read_lines_from rest (k + 1)) (input_after_line d line)
 
 -- the input that the bytes denote, or the number of the first line that is refused
-abbrev pub read_of : List ℕ → Result InputData ℕ
-read_of bytes = read_from (lines bytes) 1 no_input
+abbrev pub input_of : List ℕ → Result InputData ℕ
+input_of bytes = read_lines_from (lines bytes) 1 no_input
 
 -- what reading a line gives: that it is refused, or the input after it
-abbrev pub TakesLine : Bool → InputData → Option InputData → Type 0
-TakesLine true now step = step ≡ Some now
-TakesLine false now step = step ≡ None
+abbrev pub AddsLine : Bool → InputData → Option InputData → Type 0
+AddsLine true now step = step ≡ Some now
+AddsLine false now step = step ≡ None
 
 -- what reading gives but for want of memory
-abbrev pub Reads : Result InputData ReadError → Result InputData ℕ → Type 0
-Reads (Ok d) found = found ≡ Ok d
-Reads (Err (errors.Refused line)) found = found ≡ Err line
-Reads (Err errors.Memory) found = Unit {0}
+abbrev pub ReadsInput : Result InputData ReadError → Result InputData ℕ → Type 0
+ReadsInput (Ok d) found = found ≡ Ok d
+ReadsInput (Err (errors.Refused line)) found = found ≡ Err line
+ReadsInput (Err errors.Memory) found = Unit {0}
 
 -- the order asks for a lock in one of so many sets, or for none
 abbrev pub AsksWithin : ℕ → Order → Type 0
@@ -154,5 +150,5 @@ AsksWithin sets other = Unit {0}
 pub record IsInput (d : InputData) : Type 0 where
   pub few_sets : length d.sets ≤ MAX_SETS
   pub few_transactions : length d.transactions ≤ MAX_TRANSACTIONS
-  pub few_lines : count_of d ≤ MAX_LINES
+  pub few_lines : line_count d ≤ MAX_LINES
   pub within : All (AsksWithin (length d.sets)) d.orders

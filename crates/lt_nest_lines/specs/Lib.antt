@@ -1,5 +1,4 @@
 pub mod Forms
-pub mod Names
 pub mod Input
 pub mod Play
 pub mod Written

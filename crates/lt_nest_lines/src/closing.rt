@@ -1,5 +1,5 @@
 ghost use Rattle.std.specs.Prelude.{◌≡◌, ◌<◌, ◌++◌, length, OnOk};
-ghost use Rattle.lt_nest_lines.specs.Written.{each_below, held_line, held_in_set, held_by, waiting_line, waiting_by, end_line, closing_text};
+ghost use Rattle.lt_nest_lines.specs.Written.{each_below, held_count_line, held_text_in_set, held_text_of, wish_line, waiting_text_of, last_line, closing_text};
 
 use crate::input::Input;
 use crate::play::Play;
@@ -21,7 +21,7 @@ pub(crate) fn push_closing(out: &mut Vec<u8>, input: &Input, play: &Play) -> Res
 // Writes the lines of all locks, by transaction.
 fn push_held(out: &mut Vec<u8>, input: &Input, play: &Play) -> Result<(), AllocError>
     requires { length play.now.nest.sets ≡ length input.now.sets }
-    ensures { OnOk result (out.new.items ≡ out.old.items ++ each_below (length input.now.transactions) (held_by input.now play.now)) }
+    ensures { OnOk result (out.new.items ≡ out.old.items ++ each_below (length input.now.transactions) (held_text_of input.now play.now)) }
 {
     for transaction in 0..input.transactions() {
         push_held_by(out, input, play, transaction)?;
@@ -37,7 +37,7 @@ fn push_held_by(
     transaction: u16,
 ) -> Result<(), AllocError>
     requires { length play.now.nest.sets ≡ length input.now.sets }
-    ensures { OnOk result (out.new.items ≡ out.old.items ++ held_by input.now play.now transaction) }
+    ensures { OnOk result (out.new.items ≡ out.old.items ++ held_text_of input.now play.now transaction) }
 {
     for set in 0..input.sets() {
         push_held_in_set(out, input, play, transaction, set)?;
@@ -54,7 +54,7 @@ fn push_held_in_set(
     set: u8,
 ) -> Result<(), AllocError>
     requires { set < length play.now.nest.sets }
-    ensures { OnOk result (out.new.items ≡ out.old.items ++ held_in_set input.now play.now transaction set) }
+    ensures { OnOk result (out.new.items ≡ out.old.items ++ held_text_in_set input.now play.now transaction set) }
 {
     for mode in &MODES {
         let count = play.held(transaction, set, *mode);
@@ -72,7 +72,7 @@ fn push_held_line(
     mode: Mode,
     count: u32,
 ) -> Result<(), AllocError>
-    ensures { OnOk result (out.new.items ≡ out.old.items ++ held_line input.now transaction set mode count) }
+    ensures { OnOk result (out.new.items ≡ out.old.items ++ held_count_line input.now transaction set mode count) }
 {
     if count == 0 {
         return Ok(());
@@ -87,7 +87,7 @@ fn push_held_line(
 
 // Writes the lines of the transactions that wait, in order.
 fn push_waiting(out: &mut Vec<u8>, input: &Input, play: &Play) -> Result<(), AllocError>
-    ensures { OnOk result (out.new.items ≡ out.old.items ++ each_below (length input.now.transactions) (waiting_by input.now play.now)) }
+    ensures { OnOk result (out.new.items ≡ out.old.items ++ each_below (length input.now.transactions) (waiting_text_of input.now play.now)) }
 {
     for transaction in 0..input.transactions() {
         push_waiting_line(out, input, transaction, play.waiting(transaction))?;
@@ -102,7 +102,7 @@ fn push_waiting_line(
     transaction: u16,
     wish: Option<(u8, Mode)>,
 ) -> Result<(), AllocError>
-    ensures { OnOk result (out.new.items ≡ out.old.items ++ waiting_line input.now transaction wish) }
+    ensures { OnOk result (out.new.items ≡ out.old.items ++ wish_line input.now transaction wish) }
 {
     let Some((set, mode)) = wish else {
         return Ok(());
@@ -113,7 +113,7 @@ fn push_waiting_line(
 
 // Writes the last line: `end COUNT`.
 fn push_count(out: &mut Vec<u8>, input: &Input) -> Result<(), AllocError>
-    ensures { OnOk result (out.new.items ≡ out.old.items ++ end_line input.now) }
+    ensures { OnOk result (out.new.items ≡ out.old.items ++ last_line input.now) }
 {
     push_text(out, "end ")?;
     push_number(out, input.lines())?;

@@ -1,6 +1,6 @@
 ghost use Rattle.std.specs.Prelude.{◌≡◌, option_map};
 ghost use Rattle.lt_text.specs.Text.{words};
-ghost use Rattle.lt_nest_lines.specs.Forms.{form_seen, form_of, set_form, transaction_form, short_form, long_form, begin_in_form};
+ghost use Rattle.lt_nest_lines.specs.Forms.{form_data, line_form, set_line_form, transaction_form, short_form, long_form, begin_in_form};
 
 use lt_text::{is, next_word};
 
@@ -37,7 +37,7 @@ pub enum Form<'a> {
 
 /// The form of a line; none if it has none.
 pub fn form_of<'a>(line: &'a [u8]) -> Option<Form<'a>>
-    ensures { option_map form_seen result ≡ form_of (words line.now) }
+    ensures { option_map form_data result ≡ line_form (words line.now) }
 {
     let Some((word, rest)) = next_word(line) else {
         return None;
@@ -51,7 +51,7 @@ pub fn form_of<'a>(line: &'a [u8]) -> Option<Form<'a>>
 
 // The form of a line that begins with `set`.
 fn set_form<'a>(line: &'a [u8]) -> Option<Form<'a>>
-    ensures { option_map form_seen result ≡ set_form (words line.now) }
+    ensures { option_map form_data result ≡ set_line_form (words line.now) }
 {
     let Some((set, rest)) = next_word(line) else {
         return None;
@@ -64,7 +64,7 @@ fn set_form<'a>(line: &'a [u8]) -> Option<Form<'a>>
 
 // The form of a line that begins with a transaction.
 fn transaction_form<'a>(transaction: &'a [u8], line: &'a [u8]) -> Option<Form<'a>>
-    ensures { option_map form_seen result ≡ transaction_form transaction.now (words line.now) }
+    ensures { option_map form_data result ≡ transaction_form transaction.now (words line.now) }
 {
     let Some((verb, rest)) = next_word(line) else {
         return None;
@@ -83,7 +83,7 @@ fn transaction_form<'a>(transaction: &'a [u8], line: &'a [u8]) -> Option<Form<'a
 
 // The form of a transaction and a verb.
 fn short_form<'a>(transaction: &'a [u8], verb: &[u8]) -> Option<Form<'a>>
-    ensures { option_map form_seen result ≡ short_form transaction.now verb.now }
+    ensures { option_map form_data result ≡ short_form transaction.now verb.now }
 {
     if is(verb, "begin") {
         Some(Form::Begin { transaction })
@@ -103,7 +103,7 @@ fn long_form<'a>(
     first: &'a [u8],
     second: &'a [u8],
 ) -> Option<Form<'a>>
-    ensures { option_map form_seen result ≡ long_form transaction.now verb.now first.now second.now }
+    ensures { option_map form_data result ≡ long_form transaction.now verb.now first.now second.now }
 {
     if is(verb, "begin") {
         begin_in_form(transaction, first, second)
@@ -126,7 +126,7 @@ fn long_form<'a>(
 
 // The form of a transaction that begins, a word and its parent.
 fn begin_in_form<'a>(transaction: &'a [u8], word: &[u8], parent: &'a [u8]) -> Option<Form<'a>>
-    ensures { option_map form_seen result ≡ begin_in_form transaction.now word.now parent.now }
+    ensures { option_map form_data result ≡ begin_in_form transaction.now word.now parent.now }
 {
     if is(word, "in") {
         Some(Form::BeginIn {

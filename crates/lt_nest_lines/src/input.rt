@@ -1,5 +1,5 @@
 ghost use Rattle.std.specs.Prelude.{◌≡◌, ◌<◌, ◌≤◌, length, OnOk, IfSome};
-ghost use Rattle.lt_nest_lines.specs.Input.{IsInput, AsksWithin, no_input, count_of, place_of, is_declared, is_new, with_set, with_order, with_transaction};
+ghost use Rattle.lt_nest_lines.specs.Input.{IsInput, AsksWithin, no_input, line_count, place_of, has_declared, is_new, with_declared_set, with_order, with_declared_transaction};
 ghost use Rattle.lt_nest_lines.specs.Play.{name_at};
 ghost use Rattle.lt_nest_lines.specs.declared.limits.TheConstants.{MAX_SETS, MAX_TRANSACTIONS, MAX_LINES};
 
@@ -67,8 +67,8 @@ impl Input {
 
     /// The number of lines.
     pub fn lines(&self) -> u32
-        ensures count { result ≡ count_of self.now }
-        ensures few { count_of self.now ≤ MAX_LINES }
+        ensures count { result ≡ line_count self.now }
+        ensures few { line_count self.now ≤ MAX_LINES }
     {
         (self.sets.len() + self.orders.len()) as u32
     }
@@ -116,7 +116,7 @@ impl Input {
     }
 
     fn is_declared(&self, word: &[u8]) -> bool
-        ensures { result ≡ is_declared self.now word.now }
+        ensures { result ≡ has_declared self.now word.now }
     {
         self.set(word).is_some() || self.transaction(word).is_some()
     }
@@ -124,8 +124,8 @@ impl Input {
     /// Adds a set.
     pub(crate) fn push_set(&mut self, alloc: Global, name: &[u8]) -> Result<(), AllocError>
         requires few { length self.old.sets < MAX_SETS }
-        requires lines { count_of self.old < MAX_LINES }
-        ensures { OnOk result (self.new ≡ with_set self.old name.now) }
+        requires lines { line_count self.old < MAX_LINES }
+        ensures { OnOk result (self.new ≡ with_declared_set self.old name.now) }
     {
         let name = Name::new(alloc, name)?;
         self.sets.push(name)?;
@@ -134,7 +134,7 @@ impl Input {
 
     /// Adds an order.
     pub(crate) fn push_order(&mut self, order: Order) -> Result<(), AllocError>
-        requires lines { count_of self.old < MAX_LINES }
+        requires lines { line_count self.old < MAX_LINES }
         requires within { AsksWithin (length self.old.sets) order }
         ensures { OnOk result (self.new ≡ with_order self.old order) }
     {
@@ -150,9 +150,9 @@ impl Input {
         order: Order,
     ) -> Result<(), AllocError>
         requires few { length self.old.transactions < MAX_TRANSACTIONS }
-        requires lines { count_of self.old < MAX_LINES }
+        requires lines { line_count self.old < MAX_LINES }
         requires within { AsksWithin (length self.old.sets) order }
-        ensures { OnOk result (self.new ≡ with_transaction self.old name.now order) }
+        ensures { OnOk result (self.new ≡ with_declared_transaction self.old name.now order) }
     {
         let name = Name::new(alloc, name)?;
         self.transactions.push(name)?;

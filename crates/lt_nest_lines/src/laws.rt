@@ -1,11 +1,11 @@
-ghost use Rattle.lt_nest_lines.specs.Rows.{ChildBesideParent, SiblingsWait, EmptyInput, HolderWaitsBehindOutsider, ParentHolds, UnknownSet, Repeated, BeginIsNoName};
+ghost use Rattle.lt_nest_lines.specs.Rows.{ChildBesideParentText, SiblingsWaitText, EmptyInput, HolderWaitsBehindOutsiderText, ParentHolds, UnknownSet, Repeated, BeginIsNoName};
 
 /// Worked rows.
 pub fn law_rows()
-    ensures child_beside_parent { ChildBesideParent }
-    ensures siblings_wait { SiblingsWait }
+    ensures child_beside_parent { ChildBesideParentText }
+    ensures siblings_wait { SiblingsWaitText }
     ensures empty_input { EmptyInput }
-    ensures holder_waits_behind_outsider { HolderWaitsBehindOutsider }
+    ensures holder_waits_behind_outsider { HolderWaitsBehindOutsiderText }
     ensures parent_holds { ParentHolds }
     ensures unknown_set { UnknownSet }
     ensures repeated { Repeated }

@@ -17,7 +17,7 @@ mod writing;
 
 pub use input::Input;
 pub use laws::law_rows;
-pub use limits::{MAX_LINES, MAX_NAME, MAX_SETS, MAX_TRANSACTIONS};
+pub use limits::{MAX_LINES, MAX_SETS, MAX_TRANSACTIONS};
 pub use order::Order;
 pub use reading::{ReadError, read};
 pub use writing::report;

@@ -4,8 +4,5 @@ pub const MAX_SETS: usize = 8;
 /// The most transactions that an input declares.
 pub const MAX_TRANSACTIONS: usize = 256;
 
-/// The most bytes of a name.
-pub const MAX_NAME: usize = 32;
-
 /// The most lines of an input that aren't skipped.
 pub const MAX_LINES: usize = 65_535;

@@ -1,11 +1,11 @@
-//! Which words are names. lt_script has the same test for scripts, and this crate doesn't stand on it.
+//! Which words are names: those of scripts. lt_script defines them, and keeps its own test to itself.
 
 ghost use Rattle.std.specs.Prelude.{◌≡◌, slice_index};
 ghost use Rattle.std.specs.List.{list_all};
 ghost use Rattle.std.specs.Char.{is_ascii_alphabetic};
-ghost use Rattle.lt_nest_lines.specs.Names.{is_name_byte, is_reserved, is_name};
+ghost use Rattle.lt_script.specs.Names.{is_name_byte, is_reserved, is_name};
 
-use crate::limits::MAX_NAME;
+use lt_script::MAX_NAME;
 use lt_text::is;
 
 /// Whether the word may be the name of a set or a transaction.

@@ -3,7 +3,7 @@ ghost use Rattle.lt_modes.specs.Modes.{word_of};
 ghost use Rattle.lt_nest.specs.Calls.{has_parent, most_transactions, held, waiting};
 ghost use Rattle.lt_nest.specs.Counts.{most_asked};
 ghost use Rattle.lt_nest_lines.specs.Input.{AsksWithin};
-ghost use Rattle.lt_nest_lines.specs.Play.{PlayState, first_state, number_of, begun, after_call, taken, after_order, line_of, name_at, next_name, answer_words, is_number, owner_name, grant_words, grants_text, told_text, order_text};
+ghost use Rattle.lt_nest_lines.specs.Play.{PlayState, first_play, nest_number_of, after_begin_under, after_call, with_grants_taken, after_order, line_of_words, name_at, next_name, answer_words, is_nest_number, owner_name, grant_words, grants_text, told_text, order_text};
 ghost use Rattle.lt_nest_lines.specs.declared.order.Order.TheVariants as orders;
 
 use crate::input::Input;
@@ -35,7 +35,7 @@ impl Model for Play {
 impl Play {
     /// Nothing was declared.
     pub fn new(alloc: Global, sets: u8) -> Result<Play, AllocError>
-        ensures { IfOk result (λ play. play ≡ first_state sets) }
+        ensures { IfOk result (λ play. play ≡ first_play sets) }
     {
         let nest = Nest::new(alloc, sets)?;
         Ok(Play {
@@ -46,7 +46,7 @@ impl Play {
 
     /// The number in the nest of the transaction with this number among the declared ones.
     pub fn number(&self, transaction: u16) -> u16
-        ensures { result ≡ number_of self.now transaction }
+        ensures { result ≡ nest_number_of self.now transaction }
     {
         let k = usize::from(transaction);
         if k < self.numbers.len() {
@@ -59,7 +59,7 @@ impl Play {
     /// How many locks of the mode a transaction holds in the set.
     pub fn held(&self, transaction: u16, set: u8, mode: Mode) -> u32
         requires { set < length self.now.nest.sets }
-        ensures { result ≡ held self.now.nest (number_of self.now transaction) set mode }
+        ensures { result ≡ held self.now.nest (nest_number_of self.now transaction) set mode }
     {
         let x = self.number(transaction);
         self.nest.held(x, set, mode)
@@ -67,7 +67,7 @@ impl Play {
 
     /// The set and the mode that a transaction waits for.
     pub fn waiting(&self, transaction: u16) -> Option<(u8, Mode)>
-        ensures { result ≡ waiting self.now.nest (number_of self.now transaction) }
+        ensures { result ≡ waiting self.now.nest (nest_number_of self.now transaction) }
     {
         let x = self.number(transaction);
         self.nest.waiting(x)
@@ -96,7 +96,7 @@ impl Play {
         requires asked { self.old.nest.asked < most_asked }
         requires few { length self.old.nest.transactions < most_transactions }
         ensures state { OnOk result (self.new ≡ after_call self.old order) }
-        ensures text { OnOk result (out.new.items ≡ out.old.items ++ line_of (answer_words input.now self.old order)) }
+        ensures text { OnOk result (out.new.items ≡ out.old.items ++ line_of_words (answer_words input.now self.old order)) }
     {
         match order {
             Order::Begin => self.begin_next(input, out),
@@ -119,7 +119,7 @@ impl Play {
     fn begin_next(&mut self, input: &Input, out: &mut Vec<u8>) -> Result<(), AllocError>
         requires { length self.old.nest.transactions < most_transactions }
         ensures state { OnOk result (self.new ≡ after_call self.old orders.Begin) }
-        ensures text { OnOk result (out.new.items ≡ out.old.items ++ line_of (answer_words input.now self.old orders.Begin)) }
+        ensures text { OnOk result (out.new.items ≡ out.old.items ++ line_of_words (answer_words input.now self.old orders.Begin)) }
     {
         let name = input.transaction_name(self.numbers.len());
         let begun = self.begin(None)?;
@@ -129,7 +129,7 @@ impl Play {
     fn begin_in(&mut self, input: &Input, parent: u16, out: &mut Vec<u8>) -> Result<(), AllocError>
         requires { length self.old.nest.transactions < most_transactions }
         ensures state { OnOk result (self.new ≡ after_call self.old (orders.BeginIn parent)) }
-        ensures text { OnOk result (out.new.items ≡ out.old.items ++ line_of (answer_words input.now self.old (orders.BeginIn parent))) }
+        ensures text { OnOk result (out.new.items ≡ out.old.items ++ line_of_words (answer_words input.now self.old (orders.BeginIn parent))) }
     {
         let name = input.transaction_name(self.numbers.len());
         let x = self.number(parent);
@@ -146,7 +146,7 @@ impl Play {
     fn begin(&mut self, parent: Option<u16>) -> Result<bool, AllocError>
         requires { length self.old.nest.transactions < most_transactions }
         ensures begun { IfOk result (λ yes. yes ≡ has_parent self.old.nest parent) }
-        ensures state { OnOk result (self.new ≡ begun self.old parent) }
+        ensures state { OnOk result (self.new ≡ after_begin_under self.old parent) }
     {
         match self.nest.begin(parent) {
             Ok(x) => {
@@ -173,7 +173,7 @@ impl Play {
         requires set { set < length self.old.nest.sets }
         requires asked { self.old.nest.asked < most_asked }
         ensures state { OnOk result (self.new ≡ after_call self.old (orders.Lock transaction set mode)) }
-        ensures text { OnOk result (out.new.items ≡ out.old.items ++ line_of (answer_words input.now self.old (orders.Lock transaction set mode))) }
+        ensures text { OnOk result (out.new.items ≡ out.old.items ++ line_of_words (answer_words input.now self.old (orders.Lock transaction set mode))) }
     {
         let x = self.number(transaction);
         let answer = self.nest.lock(x, set, mode)?;
@@ -192,7 +192,7 @@ impl Play {
         requires set { set < length self.old.nest.sets }
         requires asked { self.old.nest.asked < most_asked }
         ensures state { OnOk result (self.new ≡ after_call self.old (orders.Try transaction set mode)) }
-        ensures text { OnOk result (out.new.items ≡ out.old.items ++ line_of (answer_words input.now self.old (orders.Try transaction set mode))) }
+        ensures text { OnOk result (out.new.items ≡ out.old.items ++ line_of_words (answer_words input.now self.old (orders.Try transaction set mode))) }
     {
         let x = self.number(transaction);
         let answer = self.nest.try_lock(x, set, mode)?;
@@ -207,7 +207,7 @@ impl Play {
         out: &mut Vec<u8>,
     ) -> Result<(), AllocError>
         ensures state { OnOk result (self.new ≡ after_call self.old (orders.Commit transaction)) }
-        ensures text { OnOk result (out.new.items ≡ out.old.items ++ line_of (answer_words input.now self.old (orders.Commit transaction))) }
+        ensures text { OnOk result (out.new.items ≡ out.old.items ++ line_of_words (answer_words input.now self.old (orders.Commit transaction))) }
     {
         let x = self.number(transaction);
         let answer = self.nest.commit(x)?;
@@ -222,7 +222,7 @@ impl Play {
         out: &mut Vec<u8>,
     ) -> Result<(), AllocError>
         ensures state { OnOk result (self.new ≡ after_call self.old (orders.Abort transaction)) }
-        ensures text { OnOk result (out.new.items ≡ out.old.items ++ line_of (answer_words input.now self.old (orders.Abort transaction))) }
+        ensures text { OnOk result (out.new.items ≡ out.old.items ++ line_of_words (answer_words input.now self.old (orders.Abort transaction))) }
     {
         let x = self.number(transaction);
         let answer = self.nest.abort(x)?;
@@ -231,7 +231,7 @@ impl Play {
     }
 
     fn tell_grants(&mut self, input: &Input, out: &mut Vec<u8>) -> Result<(), AllocError>
-        ensures state { OnOk result (self.new ≡ taken self.old) }
+        ensures state { OnOk result (self.new ≡ with_grants_taken self.old) }
         ensures text { OnOk result (out.new.items ≡ out.old.items ++ told_text input.now self.old) }
     {
         push_grants(&mut self.nest, &self.numbers, input, out)
@@ -262,7 +262,7 @@ fn push_grant(
     set: u8,
     mode: Mode,
 ) -> Result<(), AllocError>
-    ensures { OnOk result (out.new.items ≡ out.old.items ++ line_of (grant_words input.now numbers.now (x, set, mode))) }
+    ensures { OnOk result (out.new.items ≡ out.old.items ++ line_of_words (grant_words input.now numbers.now (x, set, mode))) }
 {
     push_ask(
         out,
@@ -284,13 +284,13 @@ fn owner_name<'a>(input: &'a Input, numbers: &[Option<u16>], x: u16) -> &'a [u8]
 }
 
 fn owner(numbers: &[Option<u16>], x: u16) -> Option<usize>
-    ensures { result ≡ position (is_number x) numbers.now }
+    ensures { result ≡ position (is_nest_number x) numbers.now }
 {
     numbers.iter().position(|number| is_number(x, *number))
 }
 
 fn is_number(x: u16, number: Option<u16>) -> bool
-    ensures { result ≡ is_number x number }
+    ensures { result ≡ is_nest_number x number }
 {
     match number {
         Some(y) => y == x,

@@ -1,6 +1,7 @@
 ghost use Rattle.std.specs.Prelude.{◌≡◌, ◌<◌, ◌-◌, ◌^◌, length, IfOk};
 ghost use Rattle.lt_text.specs.Text.{words};
-ghost use Rattle.lt_nest_lines.specs.Input.{TakesLine, Reads, says_nothing, after_line, read_of};
+ghost use Rattle.lt_script.specs.Reading.{says_nothing};
+ghost use Rattle.lt_nest_lines.specs.Input.{AddsLine, ReadsInput, input_after_line, input_of};
 
 use crate::adding::add;
 use crate::form::form_of;
@@ -21,9 +22,9 @@ pub enum ReadError {
 
 impl fmt::Display for ReadError {
     ghost use Rattle.std.specs.Prelude.{Some};
-    ghost use Rattle.lt_nest_lines.specs.Written.{text_of_error};
+    ghost use Rattle.lt_nest_lines.specs.Written.{read_error_text};
 
-    ghost output = { λ error. Some (text_of_error error) };
+    ghost output = { λ error. Some (read_error_text error) };
 
     fn fmt<W: fmt::Write>(&self, f: &mut fmt::Formatter<W>) -> fmt::Result {
         match self {
@@ -41,7 +42,7 @@ impl Error for ReadError {}
 /// word begins with `#`. The first line that is refused decides.
 pub fn read(alloc: Global, bytes: &[u8]) -> Result<Input, ReadError>
     requires { length bytes.now < 2 ^ 32 - 1 }
-    ensures { Reads result (read_of bytes.now) }
+    ensures { ReadsInput result (input_of bytes.now) }
 {
     let mut input = Input::new(alloc);
     let mut rest = bytes;
@@ -60,9 +61,9 @@ pub fn read(alloc: Global, bytes: &[u8]) -> Result<Input, ReadError>
 }
 
 // Adds what the line says, and tells whether it may be said.
-#[tactic(auto, unfolding(crate::specs::Input::after_line))]
+#[tactic(auto, unfolding(crate::specs::Input::input_after_line))]
 fn read_line(alloc: Global, input: &mut Input, line: &[u8]) -> Result<bool, AllocError>
-    ensures { IfOk result (λ taken. TakesLine taken input.new (after_line input.old line.now)) }
+    ensures { IfOk result (λ taken. AddsLine taken input.new (input_after_line input.old line.now)) }
 {
     if is_skipped(line) {
         return Ok(true);

@@ -1,7 +1,7 @@
 ghost use Rattle.std.specs.Prelude.{◌≡◌, ◌++◌, ◌∷◌, [], codes, OnOk};
 ghost use Rattle.lt_text.specs.Text.{each_after_space};
 ghost use Rattle.lt_modes.specs.Modes.{word_of};
-ghost use Rattle.lt_nest_lines.specs.Play.{line_of, begin_words, lock_words, try_words, end_words};
+ghost use Rattle.lt_nest_lines.specs.Play.{line_of_words, begin_answer_words, lock_answer_words, try_answer_words, end_answer_words};
 
 use lt_modes::Mode;
 use lt_nest::{Asked, Ended};
@@ -14,7 +14,7 @@ pub(crate) fn push_begin(
     transaction: &[u8],
     parent: &[u8],
 ) -> Result<(), AllocError>
-    ensures { OnOk result (out.new.items ≡ out.old.items ++ line_of (begin_words begun transaction.now parent.now)) }
+    ensures { OnOk result (out.new.items ≡ out.old.items ++ line_of_words (begin_answer_words begun transaction.now parent.now)) }
 {
     if begun {
         push_short(out, "begin", transaction)
@@ -31,7 +31,7 @@ pub(crate) fn push_lock(
     set: &[u8],
     mode: Mode,
 ) -> Result<(), AllocError>
-    ensures { OnOk result (out.new.items ≡ out.old.items ++ line_of (lock_words answer transaction.now set.now (word_of mode))) }
+    ensures { OnOk result (out.new.items ≡ out.old.items ++ line_of_words (lock_answer_words answer transaction.now set.now (word_of mode))) }
 {
     match answer {
         Asked::Granted => push_ask(out, "grant", transaction, set, mode),
@@ -49,7 +49,7 @@ pub(crate) fn push_try(
     set: &[u8],
     mode: Mode,
 ) -> Result<(), AllocError>
-    ensures { OnOk result (out.new.items ≡ out.old.items ++ line_of (try_words answer transaction.now set.now (word_of mode))) }
+    ensures { OnOk result (out.new.items ≡ out.old.items ++ line_of_words (try_answer_words answer transaction.now set.now (word_of mode))) }
 {
     match answer {
         Asked::Granted => push_tried(out, transaction, set, mode, "true"),
@@ -66,7 +66,7 @@ pub(crate) fn push_end(
     answer: Ended,
     transaction: &[u8],
 ) -> Result<(), AllocError>
-    ensures { OnOk result (out.new.items ≡ out.old.items ++ line_of (end_words done.now answer transaction.now)) }
+    ensures { OnOk result (out.new.items ≡ out.old.items ++ line_of_words (end_answer_words done.now answer transaction.now)) }
 {
     match answer {
         Ended::Done => push_short(out, done, transaction),
@@ -82,7 +82,7 @@ pub(crate) fn push_short(
     first: &str,
     transaction: &[u8],
 ) -> Result<(), AllocError>
-    ensures { OnOk result (out.new.items ≡ out.old.items ++ line_of (first.now ∷ transaction.now ∷ [])) }
+    ensures { OnOk result (out.new.items ≡ out.old.items ++ line_of_words (first.now ∷ transaction.now ∷ [])) }
 {
     push_text(out, first)?;
     push_word(out, transaction)?;
@@ -97,7 +97,7 @@ pub(crate) fn push_ask(
     set: &[u8],
     mode: Mode,
 ) -> Result<(), AllocError>
-    ensures { OnOk result (out.new.items ≡ out.old.items ++ line_of (first.now ∷ transaction.now ∷ set.now ∷ word_of mode ∷ [])) }
+    ensures { OnOk result (out.new.items ≡ out.old.items ++ line_of_words (first.now ∷ transaction.now ∷ set.now ∷ word_of mode ∷ [])) }
 {
     push_text(out, first)?;
     push_lock_words(out, transaction, set, mode)?;
@@ -112,7 +112,7 @@ fn push_tried(
     mode: Mode,
     got: &str,
 ) -> Result<(), AllocError>
-    ensures { OnOk result (out.new.items ≡ out.old.items ++ line_of (codes "try" ∷ transaction.now ∷ set.now ∷ word_of mode ∷ got.now ∷ [])) }
+    ensures { OnOk result (out.new.items ≡ out.old.items ++ line_of_words (codes "try" ∷ transaction.now ∷ set.now ∷ word_of mode ∷ got.now ∷ [])) }
 {
     push_text(out, "try")?;
     push_lock_words(out, transaction, set, mode)?;

@@ -1,6 +1,6 @@
 ghost use Rattle.std.specs.Prelude.{◌≡◌, ◌≤◌, ◌++◌, [], All, length, IfOk, OnOk};
 ghost use Rattle.lt_nest_lines.specs.Input.{AsksWithin};
-ghost use Rattle.lt_nest_lines.specs.Written.{after_orders, orders_text, text_of};
+ghost use Rattle.lt_nest_lines.specs.Written.{after_orders, orders_text, report_text};
 ghost use Rattle.lt_nest_lines.specs.declared.limits.TheConstants.{MAX_LINES};
 
 use crate::closing::push_closing;
@@ -11,7 +11,7 @@ use std::alloc::{AllocError, Global};
 
 /// Follows the orders one after the other, and writes a line of each and of each grant, and the closing lines.
 pub fn report(alloc: Global, input: &Input) -> Result<Vec<u8>, AllocError>
-    ensures { IfOk result (λ text. text.items ≡ text_of input.now) }
+    ensures { IfOk result (λ text. text.items ≡ report_text input.now) }
 {
     let mut out = Vec::new(alloc);
     let mut play = Play::new(alloc, input.sets())?;

@@ -5,21 +5,21 @@ use Rattle.lt_nest_serve.specs.declared.answer.Answer.{Answer}
 use Rattle.lt_nest_serve.specs.declared.answer.Answer.TheVariants.{Done, Usage, Refused, TooLong, ReadFault, WriteFault, NoMemory}
 
 -- the exit status
-abbrev pub code_of : Answer → ℕ
-code_of Done = 0
-code_of Usage = 1
-code_of (Refused line) = 2
-code_of TooLong = 2
-code_of ReadFault = 4
-code_of WriteFault = 5
-code_of NoMemory = 6
+abbrev pub exit_status : Answer → ℕ
+exit_status Done = 0
+exit_status Usage = 1
+exit_status (Refused line) = 2
+exit_status TooLong = 2
+exit_status ReadFault = 4
+exit_status WriteFault = 5
+exit_status NoMemory = 6
 
 -- the line, without its line end; empty where none is written
-abbrev pub text_of : Answer → List ℕ
-text_of Done = []
-text_of Usage = codes "locknest: usage: locknest"
-text_of (Refused line) = codes "locknest: line " ++ decimal line
-text_of TooLong = codes "locknest: input too long"
-text_of ReadFault = codes "locknest: read fault"
-text_of WriteFault = codes "locknest: write fault"
-text_of NoMemory = codes "locknest: no memory"
+abbrev pub status_line : Answer → List ℕ
+status_line Done = []
+status_line Usage = codes "locknest: usage: locknest"
+status_line (Refused line) = codes "locknest: line " ++ decimal line
+status_line TooLong = codes "locknest: input too long"
+status_line ReadFault = codes "locknest: read fault"
+status_line WriteFault = codes "locknest: write fault"
+status_line NoMemory = codes "locknest: no memory"

@@ -1,5 +1,5 @@
 ghost use Rattle.std.specs.Prelude.{◌≡◌, ◌≢◌, ◌↔◌, [], IsTrue};
-ghost use Rattle.lt_nest_serve.specs.Answers.{code_of, text_of};
+ghost use Rattle.lt_nest_serve.specs.Answers.{exit_status, status_line};
 
 use std::fmt;
 
@@ -22,7 +22,7 @@ pub enum Answer {
 impl Answer {
     /// The exit status of the program.
     pub fn code(&self) -> u8
-        ensures { result ≡ code_of self.now }
+        ensures { result ≡ exit_status self.now }
     {
         match self {
             Answer::Done => 0,
@@ -36,7 +36,7 @@ impl Answer {
 
     /// Whether the program writes a line on standard error.
     pub fn is_told(&self) -> bool
-        ensures { IsTrue result ↔ (text_of self.now ≢ []) }
+        ensures { IsTrue result ↔ (status_line self.now ≢ []) }
     {
         !matches!(self, Answer::Done)
     }
@@ -45,9 +45,9 @@ impl Answer {
 /// The line that the program writes on standard error, without its line end; empty where it writes none.
 impl fmt::Display for Answer {
     ghost use Rattle.std.specs.Prelude.{Some};
-    ghost use Rattle.lt_nest_serve.specs.Answers.{text_of};
+    ghost use Rattle.lt_nest_serve.specs.Answers.{status_line};
 
-    ghost output = { λ answer. Some (text_of answer) };
+    ghost output = { λ answer. Some (status_line answer) };
 
     fn fmt<W: fmt::Write>(&self, f: &mut fmt::Formatter<W>) -> fmt::Result {
         match self {

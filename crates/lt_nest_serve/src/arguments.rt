@@ -1,6 +1,6 @@
 ghost use Rattle.std.specs.Prelude.{◌≡◌, ◌≢◌, length, IfOk, IfErr};
 ghost use Rattle.std.specs.IoError.{error_kind};
-ghost use Rattle.lt_nest_serve.specs.Serves.{Serves};
+ghost use Rattle.lt_nest_serve.specs.Serves.{ServesLines};
 
 use crate::answer::Answer;
 use crate::serving::serve;
@@ -15,7 +15,7 @@ pub fn program<S: Source, K: Sink>(
     source: &mut S,
     sink: &mut K,
 ) -> Answer
-    ensures served { IfOk words.now (λ texts. Serves S.state K.held K.faults (length texts.items) result source.old source.new sink.old sink.new) }
+    ensures served { IfOk words.now (λ texts. ServesLines S.state K.held K.faults (length texts.items) result source.old source.new sink.old sink.new) }
     ensures no_memory { IfErr words.now (λ error. error_kind error ≡ ErrorKind.OutOfMemory → result ≡ Answer.NoMemory) }
     ensures no_text { IfErr words.now (λ error. error_kind error ≢ ErrorKind.OutOfMemory → result ≡ Answer.Usage) }
     ensures unread { IfErr words.now (λ error. source.new ≡ source.old) }

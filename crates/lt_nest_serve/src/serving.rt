@@ -1,7 +1,7 @@
 ghost use Rattle.std.specs.Prelude.{◌≡◌, ◌⊎◌, ◌<◌, length};
 ghost use Rattle.lt_io.specs.Sink.{AppendsPart};
 ghost use Rattle.std.specs.Io.KnownBytes.{Appends};
-ghost use Rattle.lt_nest_serve.specs.Serves.{Serves, TellsSink};
+ghost use Rattle.lt_nest_serve.specs.Serves.{ServesLines, TellsSink};
 
 use crate::answer::Answer;
 use crate::reading::make;
@@ -16,7 +16,7 @@ pub fn serve<S: Source, K: Sink>(
     source: &mut S,
     sink: &mut K,
 ) -> Answer
-    ensures { Serves S.state K.held K.faults (length words.now) result source.old source.new sink.old sink.new }
+    ensures { ServesLines S.state K.held K.faults (length words.now) result source.old source.new sink.old sink.new }
 {
     if !words.is_empty() {
         return Answer::Usage;

@@ -29,7 +29,7 @@ fn script(alloc: Global) -> Result<Script, AllocError> {
 
 // The client's next command, where it can make one.
 fn act(
-    node: &mut Node<'_>,
+    node: &mut Node,
     script: &Script,
     client: u16,
     out: &mut Out,
@@ -48,7 +48,7 @@ fn act(
 }
 
 // Takes the letter, where it fits.
-fn take(node: &mut Node<'_>, mut letter: Letter, out: &mut Out) -> Result<bool, AllocError>
+fn take(node: &mut Node, mut letter: Letter, out: &mut Out) -> Result<bool, AllocError>
     ensures { node.new.script ≡ node.old.script }
 {
     if !node.fits(&letter) || !node.is_within() {
@@ -148,7 +148,7 @@ fn writers(alloc: Global) -> Result<Script, AllocError> {
 }
 
 // Takes the letter that was sent last, where it is for the node and fits.
-fn take_sent(node: &mut Node<'_>, out: &mut Out) -> Result<bool, AllocError>
+fn take_sent(node: &mut Node, out: &mut Out) -> Result<bool, AllocError>
     ensures { node.new.script ≡ node.old.script }
 {
     match out.next_letter() {
@@ -180,5 +180,46 @@ fn asks_park_behind_asks(rt: HostRuntime) -> Result<(), Fail> {
     assert!(rt; b.cores.first().is_some_and(|core| core.queues(1)));
     assert!(rt; c.cores.first().is_some_and(|core| core.parks(2)));
     assert!(rt; d.cores.first().is_some_and(|core| core.parks(3)));
+    assert!(rt; script.sets() == 1);
+    assert!(rt; c.parked_behind(0, 1, 2) && !c.parked_behind(0, 2, 1));
+    assert!(rt; d.parked_behind(0, 2, 3) && !b.parked_behind(0, 0, 1));
+    assert_eq!(rt; b.count(0, 0, Mode::Write), 1);
+    Ok(())
+}
+
+// Three writers on one node.
+fn lone_writers(alloc: Global) -> Result<Script, AllocError> {
+    let lock = Command::Lock {
+        set: 0,
+        mode: Mode::Write,
+    };
+    let mut script = Script::new(alloc, 1)?;
+    script.add_set("s".as_bytes(), 0)?;
+    script.add_client("a".as_bytes(), 0)?;
+    script.add_client("b".as_bytes(), 0)?;
+    script.add_client("c".as_bytes(), 0)?;
+    script.add_command(0, lock)?;
+    script.add_command(1, lock)?;
+    script.add_command(2, lock)?;
+    Ok(script)
+}
+
+#[test]
+fn asks_stand_before_asks(rt: HostRuntime) -> Result<(), Fail> {
+    let script = lone_writers(rt.alloc())?;
+    let mut out = Out::new(rt.alloc());
+    assert!(rt; script.nodes() == 1 && script.sets() == 1);
+    let mut node = Node::new(rt.alloc(), &script, 0)?;
+    for client in 0..3 {
+        let waits = act(&mut node, &script, client, &mut out)? == Some(Answer::Waits);
+        assert_eq!(rt; waits, client > 0);
+    }
+    assert!(rt; node.stands_before(0, 1, 2) && !node.stands_before(0, 2, 1));
+    assert_eq!(rt; node.ask_of(0), None);
+    for client in [1, 2] {
+        let (set, ask) = node.ask_of(client).ok_or("no ask")?;
+        assert_eq!(rt; (set, ask.client, ask.mode), (0, client, Mode::Write));
+        assert_eq!(rt; node.ask_in(0, client), Some(ask));
+    }
     Ok(())
 }

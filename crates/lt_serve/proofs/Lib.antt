@@ -1,12 +1,8 @@
 mod Answering
-mod BadLines
 mod Causing
+mod Checked
 mod Completing
 mod Ended
-mod Feeding
-mod Journals
-mod LastLines
 mod Ordered
 mod Rooms
 mod Told
-mod TwoParts

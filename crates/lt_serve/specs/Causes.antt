@@ -10,8 +10,12 @@ use Rattle.lt_order.specs.Ordered.{IsOrdered}
 use Rattle.lt_words.specs.declared.command.Command.{Command}
 use Rattle.lt_words.specs.declared.command.Command.TheVariants.{Run, SimFirst, Sim, Check, Make, Soak, Order}
 use Rattle.lt_modes.specs.Script.{ScriptData}
-use Rattle.lt_serve.specs.declared.limits.TheConstants.{MAX_INPUT, MAX_JOURNAL}
-use Rattle.lt_serve.specs.TopCall.{HasFault, HasFaultBefore, DenotesBefore, IsBadLine, greatest_script}
+use Rattle.lt_checker.specs.declared.limits.TheConstants.{MAX_JOURNAL}
+use Rattle.lt_checker.specs.declared.error.InputError.{InputError}
+use Rattle.lt_checker.specs.declared.error.InputError.TheVariants as error
+use Rattle.lt_checker.specs.Input.{HasFaultBefore, IsBad}
+use Rattle.lt_serve.specs.declared.limits.TheConstants.{MAX_INPUT}
+use Rattle.lt_serve.specs.TopCall.{HasFault, greatest_script}
 use Rattle.lt_gen.specs.Sizes.{can_make}
 use Rattle.lt_serve.specs.declared.status.Status.{Status}
 use Rattle.lt_serve.specs.declared.status.Status.TheVariants.{Done, Stuck, Usage, Refused, TooLong, ReadFault, WriteFault, NoMemory, Cut, BadJournal}
@@ -34,10 +38,6 @@ limit_of other = MAX_INPUT
 abbrev pub IsRefused : Option Command → Option (List ℕ) → ScriptFault → Type 0
 IsRefused (Some Check) left fault = HasFaultBefore left fault
 IsRefused other left fault = HasFault left fault
-
--- the input that `check` reads has this first bad line
-abbrev pub IsBad : Option (List ℕ) → ℕ → Type 0
-IsBad left line = (script : ScriptData) × DenotesBefore left script × IsBadLine left script line
 
 -- if the bytes are known, the script that they denote isn't ordered
 abbrev pub IsUnordered : Option (List ℕ) → Type 0
@@ -124,3 +124,11 @@ abbrev pub status_of : ReadFailure → Status
 status_of Memory = NoMemory
 status_of Failed = ReadFault
 status_of Long = TooLong
+
+-- why an input is no script and journal, as a status
+abbrev pub status_of_input : InputError → Status
+status_of_input error.ReadFault = ReadFault
+status_of_input error.TooLong = TooLong
+status_of_input error.NoMemory = NoMemory
+status_of_input (error.Refused fault) = Refused fault
+status_of_input (error.BadJournal line) = BadJournal line

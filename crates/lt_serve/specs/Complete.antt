@@ -5,9 +5,10 @@ use Rattle.lt_io.specs.Source.{SourceState}
 use Rattle.lt_script.specs.declared.fault.ScriptFault.{ScriptFault}
 use Rattle.lt_words.specs.declared.command.Command.{Command}
 use Rattle.lt_words.specs.declared.command.Command.TheVariants.{Check, Make, Order}
+use Rattle.lt_checker.specs.Input.{IsBad}
 use Rattle.lt_serve.specs.declared.status.Status.{Status}
 use Rattle.lt_serve.specs.declared.status.Status.TheVariants.{Done, NoMemory}
-use Rattle.lt_serve.specs.Causes.{IsRefused, IsBad, IsEnding, reads, limit_of}
+use Rattle.lt_serve.specs.Causes.{IsRefused, IsEnding, reads, limit_of}
 
 -- the source failed at no read and gave no more than the input may have, and its bytes are known: their script has no fault,
 -- and the journal that `check` reads has no bad line

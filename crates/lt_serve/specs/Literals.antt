@@ -7,7 +7,8 @@ use Rattle.lt_gen.specs.Generator.{HasSizes}
 use Rattle.lt_summary.specs.Summary.{summary_text}
 use Rattle.lt_limits.specs.declared.moves.TheConstants.{MAX_MOVES}
 use Rattle.lt_mail.specs.declared.opening.TheConstants.{MAX_CAPACITY}
-use Rattle.lt_serve.specs.declared.limits.TheConstants.{MAX_INPUT, MAX_JOURNAL}
+use Rattle.lt_checker.specs.declared.limits.TheConstants.{MAX_JOURNAL}
+use Rattle.lt_serve.specs.declared.limits.TheConstants.{MAX_INPUT}
 use Rattle.lt_serve.specs.declared.serving.TheConstants.{USUAL}
 use Rattle.lt_serve.specs.declared.status.Status.{Status}
 use Rattle.lt_serve.specs.declared.status.Status.TheVariants.{Done, Stuck, Usage, Refused, TooLong, ReadFault, WriteFault, NoMemory, Cut, BadJournal}

@@ -1,5 +1,5 @@
 -- What each answer of the top call means.
-use Rattle.std.specs.Prelude.{◌≡◌, ℕ, List, [], ◌∷◌, ◌++◌, Option, Some, None, Ok, Err, length, take, codes}
+use Rattle.std.specs.Prelude.{◌≡◌, ℕ, List, [], ◌∷◌, ◌++◌, Option, Some, None, Ok, Err, length, codes}
 use Rattle.std.specs.Fmt.{decimal}
 use Rattle.std.specs.Io.KnownBytes.{Appends}
 use Rattle.lt_io.specs.Sink.{AppendsPart}
@@ -7,13 +7,11 @@ use Rattle.lt_modes.specs.Script.{ScriptData, client_name}
 use Rattle.lt_spec.specs.Log.{Logged}
 use Rattle.lt_merge.specs.Merging.{AreRising}
 use Rattle.lt_spec.specs.FixedOrder.{first_run}
-use Rattle.lt_journal.specs.Split.{input_parts}
 use Rattle.lt_journal.specs.Text.{text_of, lines_text}
 use Rattle.lt_journal.specs.declared.line.Line.TheVariants.{Cut as CutLine}
-use Rattle.lt_text.specs.Text.{lines}
-use Rattle.lt_law_checking.specs.Input.{checked_input}
 use Rattle.lt_law_checking.specs.Journals.{IsFinished}
 use Rattle.lt_law_promises.specs.Promised.{Promised}
+use Rattle.lt_checker.specs.Input.{DenotesBefore, IsJournalOf}
 use Rattle.lt_gen.specs.Generator.{script_of}
 use Rattle.lt_order.specs.Ordered.{first_bad}
 use Rattle.lt_summary.specs.Summary.{summary_of, summary_text}
@@ -87,26 +85,6 @@ pub record Soaks (seed moves : ℕ) (ending : Status) (run : List Logged) (text 
 abbrev pub Prints : ℕ → ℕ → ℕ → ℕ → Status → List Logged → List ℕ → Type 0
 Prints nodes clients commands seed ending run text =
     (ending ≡ Done) × (run ≡ []) × (text ≡ print_of (script_of nodes clients commands seed))
-
--- if the bytes are known, their lines before the journal denote this script
-abbrev pub DenotesBefore : Option (List ℕ) → ScriptData → Type 0
-DenotesBefore None script = Unit {0}
-DenotesBefore (Some bytes) script = read_of (take (input_parts bytes).script bytes) ≡ Ok script
-
--- if the bytes are known, this is the first fault of the lines before the journal
-abbrev pub HasFaultBefore : Option (List ℕ) → ScriptFault → Type 0
-HasFaultBefore None fault = Unit {0}
-HasFaultBefore (Some bytes) fault = read_of (take (input_parts bytes).script bytes) ≡ Err fault
-
--- if the bytes are known, the journal in them is that of this run of the script
-abbrev pub IsJournalOf : Option (List ℕ) → ScriptData → List Logged → Type 0
-IsJournalOf None script run = Unit {0}
-IsJournalOf (Some bytes) script run = checked_input script (lines bytes) ≡ Ok run
-
--- if the bytes are known, this is the first line in them that is bad
-abbrev pub IsBadLine : Option (List ℕ) → ScriptData → ℕ → Type 0
-IsBadLine None script line = Unit {0}
-IsBadLine (Some bytes) script line = checked_input script (lines bytes) ≡ Err line
 
 -- `ok` and the number of moves
 abbrev pub ok_text : List Logged → List ℕ

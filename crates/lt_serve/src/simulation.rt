@@ -39,7 +39,7 @@ pub(crate) fn simulate(
     Ok((ending, world.into_run()))
 }
 
-fn make_moves(world: &mut World<'_>, mut schedule: Schedule) -> Result<(), AllocError>
+fn make_moves(world: &mut World, mut schedule: Schedule) -> Result<(), AllocError>
     requires kept { IsScript world.old.script }
     requires start { world.old.run ≡ [] }
     requires limit { 0 < world.old.limit }

@@ -1,6 +1,7 @@
 ghost use Rattle.std.specs.Prelude.{◌≡◌, ◌≢◌, ◌↔◌, [], IsTrue};
 ghost use Rattle.lt_serve.specs.Status.{code_of, status_text};
 
+use lt_checker::InputError;
 use lt_limits::Ending;
 use lt_script::ScriptFault;
 use std::fmt;
@@ -75,6 +76,22 @@ impl From<Ending> for Status {
             Ending::Done => Status::Done,
             Ending::Stuck => Status::Stuck,
             Ending::Cut { node } => Status::Cut { node },
+        }
+    }
+}
+
+impl From<InputError> for Status {
+    ghost use Rattle.lt_serve.specs.Causes.{status_of_input};
+
+    ghost from_gives = { λ error status. status ≡ status_of_input error };
+
+    fn from(error: InputError) -> Status {
+        match error {
+            InputError::ReadFault => Status::ReadFault,
+            InputError::TooLong => Status::TooLong,
+            InputError::NoMemory => Status::NoMemory,
+            InputError::Refused(fault) => Status::Refused(fault),
+            InputError::BadJournal { line } => Status::BadJournal { line },
         }
     }
 }

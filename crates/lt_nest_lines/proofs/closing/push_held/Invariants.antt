@@ -1,6 +1,6 @@
 use Rattle.std.proofs.Common.{◌≡◌, ◌++◌}
-use Rattle.lt_nest_lines.specs.Written.{each_below, held_by}
+use Rattle.lt_nest_lines.specs.Written.{each_below, held_text_of}
 use Rattle.lt_nest_lines.proofs.closing.push_held.Given as goal
 
 abbrev pub invariant-loop-transaction : goal.invariant-loop-transaction
-invariant-loop-transaction l = l.out.items ≡ l.fn.out.items ++ each_below l.transaction (held_by l.input l.play)
+invariant-loop-transaction l = l.out.items ≡ l.fn.out.items ++ each_below l.transaction (held_text_of l.input l.play)

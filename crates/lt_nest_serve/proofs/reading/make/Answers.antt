@@ -1,6 +1,6 @@
 use Rattle.std.proofs.Common.{sym, subst, List, ℕ}
 use Rattle.std.proofs.lemmas.Result.{IfOk-weaker, IfErr-weaker}
-use Rattle.lt_nest_serve.specs.Serves.{Left}
+use Rattle.lt_io.specs.Whole.{Left}
 use Rattle.lt_nest_serve.proofs.Answering.{text_written, fault_refusal, fault_reading}
 use Rattle.lt_nest_serve.proofs.reading.make.Goals as goal
 
