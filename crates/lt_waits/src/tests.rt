@@ -200,7 +200,7 @@ fn tells_faults(rt: HostRuntime) -> Result<(), Fail> {
         serve(alloc, &[], &mut source, &mut sink),
         Answer::WriteFault
     );
-    assert_eq!(rt; sink.bytes.as_slice(), b"waits");
+    assert_eq!(rt; sink.bytes.as_slice(), "waits".as_bytes());
     let words = [String::from_str(alloc, "x")?];
     let mut source = source_of(alloc, KEPT, &[])?;
     assert_eq!(rt; serve(alloc, &words, &mut source, &mut sink), Answer::Usage);
