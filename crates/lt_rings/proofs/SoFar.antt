@@ -1,5 +1,5 @@
 -- What is written of the clients so far, and of one client more.
-use Rattle.std.proofs.Common.{◌≡◌, ℕ, zero, suc, ◌+◌, ◌<◌, List, [], ◌∷◌, ◌++◌, Bool, true, false, refl, sym, ap, ap₂, subst, arith, ◌∙◌, append_assoc, append-nil, length, take, get_or}
+use Rattle.std.proofs.Common.{◌≡◌, ℕ, zero, suc, ◌+◌, ◌<◌, List, [], ◌∷◌, ◌++◌, Bool, true, false, refl, sym, ap, arith, ◌∙◌, append_assoc, append-nil, length, take, get_or}
 use Rattle.std.specs.Prelude.{if◌then◌else◌, map, filter}
 use Rattle.std.specs.List.{flat_map, range_with_len}
 use Rattle.std.proofs.lemmas.List.{map-append, take_more}
