@@ -1,6 +1,6 @@
 #!/bin/sh
-# Tests of the wrapper `lockrun`, with a program and a toolchain that are stand-ins: each tells what it was given. A
-# terminal is made by `script` (util-linux). Prints what failed, and the number of tests.
+# Tests of the wrappers `lockrun` and `locknest`, with programs and a toolchain that are stand-ins: each tells what it was
+# given. A terminal is made by `script` (util-linux). Prints what failed, and the number of tests.
 here=$(CDPATH='' cd -- "$(dirname -- "$0")/.." && pwd) || exit 1
 room=$(mktemp -d) || exit 1
 trap 'rm -rf "$room"' EXIT
@@ -9,8 +9,8 @@ tests=0 failed=0
 
 # A copy of the wrapper with a program that was built, and a second one with none.
 make_top() {
-  mkdir -p "$1/tools" "$1/crates/lockrun/src" && cp "$here/lockrun" "$1/" &&
-    cp "$here/tools/sources" "$here/tools/explain" "$here/tools/explain.awk" "$1/tools/" &&
+  mkdir -p "$1/tools" "$1/crates/lockrun/src" && cp "$here/lockrun" "$here/locknest" "$1/" &&
+    cp "$here/tools/wrapper" "$here/tools/sources" "$here/tools/explain" "$here/tools/explain.awk" "$1/tools/" &&
     printf 'lockrun:\n' >"$1/crates.txt" && : >"$1/crates/lockrun/src/main.rt"
 }
 
@@ -207,6 +207,36 @@ status 125' "$(on_terminal "TMPDIR='$room/none' '$top/lockrun' run; echo status 
 status 125' "$(on_terminal "echo '# no answer' | PATH='$with_rt' '$room/bare/lockrun' run; echo status \$?" | tail -n 2)"
 }
 if [ "$(on_terminal 'test -t 2 && echo yes')" = yes ]; then on_a_terminal; else echo "tests/wrapper.sh: no terminal can be made here"; fi
+
+# The other wrappers: locknest takes no words, and reads whatever it is given.
+nest=$room/nest
+make_top "$nest" && mkdir -p "$nest/crates/locknest/out" "$nest/crates/locknest/src" && : >"$nest/crates/locknest/src/main.rt"
+expect 'locknest, unproved' 'locknest: not proved: no program is built from these sources (./build proves and builds it)
+locknest: read fault
+status 4' "$(PATH=$with_rt && said "$nest/locknest" </)"
+printf '%s\n' '#!/bin/sh
+input=$(cat) || { echo "locknest: read fault" >&2; exit 4; }
+case $input in "refuse "*) echo "locknest: line 2" >&2; exit 2 ;; esac
+echo "<$input>"' >"$nest/crates/locknest/out/locknest" && chmod +x "$nest/crates/locknest/out/locknest"
+printf 'crates.txt\ncrates/locknest/src\ncrates/locknest/src/main.rt\n' >"$nest/crates/locknest/out/sources"
+expect 'locknest' '<set s>
+status 0' "$(echo 'set s' | said "$nest/locknest")"
+expect 'locknest with a word' 'locknest: usage: locknest
+status 1' "$(said "$nest/locknest" run </dev/null)"
+expect 'locknest --version' "locknest $(sed -n 's/^version=//p' "$here/locknest")
+status 0" "$(said "$nest/locknest" --version)"
+expect 'locknest --help names the limits' 1 "$("$nest/locknest" --help | grep -c '8 sets, 256 transactions and 65,535 lines')"
+expect 'locknest called by a link' '<x>
+status 0' "$(ln -s "$nest/locknest" "$room/nested" && echo x | said "$room/nested")"
+expect 'locknest, refused' 'locknest: line 2
+status 2' "$(printf 'refuse this\nt\001 begin\n' | said "$nest/locknest")"
+nest_on_a_terminal() {
+  printf 'refuse this\nt\001 begin\n' >"$room/refused"
+  expect 'locknest, refused, on a terminal' 'locknest: line 2
+  t? begin
+status 2' "$(on_terminal "'$nest/locknest' <'$room/refused'; echo status \$?")"
+}
+if [ "$(on_terminal 'test -t 2 && echo yes')" = yes ]; then nest_on_a_terminal; fi
 
 # Each fault: the script, the line, the fault, the place of the caret, and how many carets there are.
 fault() {

@@ -7,7 +7,7 @@ use Rattle.lt_script.specs.Reading as reading
 use Rattle.lt_text.specs.Text as text
 use Rattle.lt_order.specs.Ordered.{IsOrdered, first_bad}
 use Rattle.lt_serve.specs.declared.status.Status.TheVariants.{Done, Stuck}
-use Rattle.lt_serve.specs.TopCall.{order_text}
+use Rattle.lt_serve.specs.TopCall.{order_answer}
 use Rattle.lt_answers.specs.Examples.{one_lock, one_lock_script}
 use Rattle.lt_answers.specs.OrderAnswers.{OrderSays, lock_given_up, given_up_script}
 use Rattle.lt_answers.proofs.Results.{same_script}
@@ -23,7 +23,7 @@ given_up_ordered (suc client) inside = absurd (omega (arith, inside))
 
 -- the line that is written of a script
 abbrev line_of : ScriptData → List ℕ
-line_of script = order_text script (first_bad script)
+line_of script = order_answer script (first_bad script)
 
 kept_line : line_of one_lock_script ≡ codes "not ordered a\n"
 kept_line = refl

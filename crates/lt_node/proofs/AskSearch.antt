@@ -1,5 +1,5 @@
 -- Which ask of a client a node finds, set by set.
-use Rattle.std.proofs.Common.{◌≡◌, ◌∙◌, ◌≤◌, ℕ, zero, suc, ◌||◌, Bool, Option, Some, None, inl, inr, refl, ap, ap₂, arith}
+use Rattle.std.proofs.Common.{◌≡◌, ◌==◌, ◌∙◌, ◌≤◌, ℕ, zero, suc, ◌||◌, Bool, Option, Some, None, inl, inr, refl, sym, ap, ap₂, arith}
 use Rattle.std.specs.Prelude.{is_some}
 use Rattle.std.specs.Option.{option_or}
 use Rattle.std.proofs.lemmas.Bool.{cases_eq}

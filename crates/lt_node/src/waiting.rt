@@ -32,6 +32,13 @@ impl Node {
         ensures ask { result ≡ first_ask self.now.script (state_of self.now) client }
         ensures some { is_some result ≡ node_waits self.now.script (state_of self.now) client }
     {
+        self.search_ask(client)
+    }
+
+    // The client's unanswered ask in the first set that has one.
+    fn search_ask(&self, client: u16) -> Option<(u8, Ask)>
+        ensures { result ≡ first_ask self.now.script (state_of self.now) client }
+    {
         for set in 0..self.script.sets() {
             if let Some(ask) = self.ask_in(set, client) {
                 return Some((set, ask));

@@ -59,6 +59,9 @@ unordered moves (Some bytes) run text j =
     same : (a b : ScriptData) → Ok a ≡ Ok b → a ≡ b
     same a b e = cc
 
+not_done : Stuck ≡ Done → ⊥
+not_done e = cc
+
 by_stuck : (moves : ℕ) (command : Command) (left : Option (List ℕ)) (run : List Logged) (text : List ℕ) → JournalsBy moves command Stuck left run text
     → MayGetStuck (Some command) left
 by_stuck moves SimFirst left run text does = unordered moves left run text does.journals
@@ -66,17 +69,8 @@ by_stuck moves (Sim seed) left run text does = unordered moves left run text doe
 by_stuck moves Run left run text does = unordered moves left run text does.journals
 by_stuck moves (Soak seed) left run text does = λ ordered. does.ran.ordered ordered refl
 by_stuck moves (Make nodes clients commands seed) left run text does = not_done does.0
-  where
-    not_done : Stuck ≡ Done → ⊥
-    not_done e = cc
 by_stuck moves Check left run text does = not_done does.done
-  where
-    not_done : Stuck ≡ Done → ⊥
-    not_done e = cc
 by_stuck moves Order left run text does = not_done does.done
-  where
-    not_done : Stuck ≡ Done → ⊥
-    not_done e = cc
 
 pub stuck_cause : (moves : ℕ) (command : Command) (status : Status) (left : Option (List ℕ)) (run : List Logged) (old new : Option (List ℕ))
     → DidOf moves command status left run old new → status ≡ Stuck → MayGetStuck (Some command) left

@@ -101,9 +101,9 @@ pub record Checks (ending : Status) (left : Option (List ℕ)) (run : List Logge
   pub counted : text ≡ ok_text run
 
 -- `ordered`, or `not ordered` and this client
-abbrev pub order_text : ScriptData → Option ℕ → List ℕ
-order_text script None = codes "ordered\n"
-order_text script (Some client) = codes "not ordered " ++ client_name script client ++ codes "\n"
+abbrev pub order_answer : ScriptData → Option ℕ → List ℕ
+order_answer script None = codes "ordered\n"
+order_answer script (Some client) = codes "not ordered " ++ client_name script client ++ codes "\n"
 
 -- the script that the bytes denote, of which it is written whether it is ordered, or which client is the first that isn't in
 -- order; and no run
@@ -112,7 +112,7 @@ pub record TellsOrder (ending : Status) (left : Option (List ℕ)) (run : List L
   pub no_run : run ≡ []
   pub script : ScriptData
   pub denoted : Denotes left script
-  pub told : text ≡ order_text script (first_bad script)
+  pub told : text ≡ order_answer script (first_bad script)
 
 -- what a command did that ended so: its run, and the text that is to be written
 abbrev pub JournalsBy : ℕ → Command → Status → Option (List ℕ) → List Logged → List ℕ → Type 0

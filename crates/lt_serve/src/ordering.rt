@@ -4,7 +4,7 @@ ghost use Rattle.lt_order.specs.Ordered.{first_bad};
 ghost use Rattle.lt_words.specs.declared.command.Command.TheVariants as command;
 ghost use Rattle.lt_serve.specs.declared.limits.TheConstants.{MAX_INPUT};
 ghost use Rattle.lt_serve.specs.Causes.{SaysOfSource, IsRefusal};
-ghost use Rattle.lt_serve.specs.TopCall.{TellsOrder, order_text};
+ghost use Rattle.lt_serve.specs.TopCall.{TellsOrder, order_answer};
 
 use crate::made::Made;
 use crate::reading::read_script;
@@ -23,7 +23,7 @@ pub(crate) fn order_told<S: Source>(alloc: Global, source: &mut S) -> Result<Mad
     ensures refused { IfErr result (IsRefusal command.Order (S.state source.old).left) }
 {
     let script = read_script(alloc, source)?;
-    match order_text(alloc, &script) {
+    match order_answer(alloc, &script) {
         Ok(text) => Ok(Made {
             ending: Status::Done,
             run: Run::new(alloc),
@@ -34,8 +34,8 @@ pub(crate) fn order_told<S: Source>(alloc: Global, source: &mut S) -> Result<Mad
 }
 
 // The line that tells whether the script is ordered.
-fn order_text(alloc: Global, script: &Script) -> Result<Vec<u8>, AllocError>
-    ensures { IfOk result (λ text. text.items ≡ order_text script.now (first_bad script.now)) }
+fn order_answer(alloc: Global, script: &Script) -> Result<Vec<u8>, AllocError>
+    ensures { IfOk result (λ text. text.items ≡ order_answer script.now (first_bad script.now)) }
 {
     let Some(client) = first_bad(script) else {
         return Vec::from_slice(alloc, b"ordered\n");
