@@ -82,7 +82,8 @@ fn waiting_pairs(alloc: Global, world: &World) -> Result<Vec<(u16, u16)>, AllocE
 fn tells_who_waits_for_whom(rt: HostRuntime) -> Result<(), Fail> {
     let script = writers(rt.alloc())?;
     let mut world = World::new(rt.alloc(), &script, 20)?;
-    for _ in 0..11 {
+    for moves in 0..11 {
+        assert_eq!(rt; world.run().len(), moves);
         let choice = world.pick(0).ok_or("at rest")?;
         assert!(rt; world.full().is_none());
         world.step(choice)?;
