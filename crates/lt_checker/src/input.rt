@@ -6,6 +6,7 @@ ghost use Rattle.lt_script.specs.Reading.{read_of};
 ghost use Rattle.lt_journal.specs.Split.{input_parts};
 ghost use Rattle.lt_law_checking.specs.Checking.{checked};
 ghost use Rattle.lt_checker.specs.declared.limits.TheConstants.{MAX_JOURNAL};
+ghost use Rattle.lt_checker.specs.Checker.{StandsFor};
 ghost use Rattle.lt_checker.specs.Endings.{IsWorldAnswer};
 ghost use Rattle.lt_checker.specs.Heads.{IsHeadCut, IsRest, FailsRest, IsRoom, IsLineOf, AnswersInput};
 ghost use Rattle.lt_checker.specs.Input.{IsEndedRun, FailsInput};
@@ -19,7 +20,7 @@ use lt_journal::split;
 use lt_law_checking::law_input;
 use lt_script::{ReadError, Script, read};
 use lt_world::World;
-use std::alloc::Global;
+use std::alloc::{AllocError, Global};
 
 /// A script, and the world in which a run of it ended at rest.
 #[derive(Drop)]
@@ -80,10 +81,19 @@ fn checked_journal<S: Source>(
     ensures told { IfOk result (λ told. (rest : List ℕ) × IsWorldAnswer script.now (checked script.now (lines (first.now ++ rest))) told × IsRest room rest (S.state source.old) (S.state source.new)) }
     ensures err { IfErr result (λ why. FailsRest room why (S.state source.old) (S.state source.new)) }
 {
-    let mut checker = Checker::new(alloc, script)?;
-    checker.feed(first)?;
+    let mut checker = begun(alloc, script, first)?;
     feed_rest(source, room, &mut checker)?;
     Ok(checker.end_world())
+}
+
+// A checker of a journal that begins with these bytes.
+fn begun(alloc: Global, script: &Script, first: &[u8]) -> Result<Checker, AllocError>
+    ensures script { IfOk result (λ checker. checker.script ≡ script.now) }
+    ensures stands { IfOk result (λ checker. StandsFor checker first.now) }
+{
+    let mut checker = Checker::new(alloc, script)?;
+    checker.feed(first)?;
+    Ok(checker)
 }
 
 // The answer to an input with so many lines before its journal, of which a checker said this.
