@@ -7,3 +7,4 @@ mod Feeding
 mod TwoParts
 mod BadLines
 pub mod Inputs
+mod WorldAnswers

@@ -69,20 +69,20 @@ impl Checker {
 
     /// The run whose journal the bytes are, or the first bad line.
     pub fn end(self) -> Result<Run, ReplayError>
-        ensures answers { (bytes : List ℕ) → StandsFor self.entry bytes → IsAnswer (checked self.entry.script (lines bytes)) result }
-        ensures ended { (feed : Feed) → self.entry.feed ≡ Some feed → IsAnswer (ended self.entry.script feed) result }
-        ensures refused { IsNone self.entry.feed → result ≡ Err ReplayError.Memory }
+        ensures answers { (bytes : List ℕ) → StandsFor self bytes → IsAnswer (checked self.script (lines bytes)) result }
+        ensures ended { (feed : Feed) → self.feed ≡ Some feed → IsAnswer (ended self.script feed) result }
+        ensures refused { IsNone self.feed → result ≡ Err ReplayError.Memory }
     {
         Ok(self.end_world()?.into_run())
     }
 
     /// The world in which the run ended whose journal the bytes are, or the first bad line.
     pub fn end_world(self) -> Result<World, ReplayError>
-        ensures answers { (bytes : List ℕ) → StandsFor self.entry bytes
-            → IsWorldAnswer self.entry.script (checked self.entry.script (lines bytes)) result }
-        ensures ended { (feed : Feed) → self.entry.feed ≡ Some feed
-            → IsWorldAnswer self.entry.script (ended self.entry.script feed) result }
-        ensures refused { IsNone self.entry.feed → result ≡ Err ReplayError.Memory }
+        ensures answers { (bytes : List ℕ) → StandsFor self bytes
+            → IsWorldAnswer self.script (checked self.script (lines bytes)) result }
+        ensures ended { (feed : Feed) → self.feed ≡ Some feed
+            → IsWorldAnswer self.script (ended self.script feed) result }
+        ensures refused { IsNone self.feed → result ≡ Err ReplayError.Memory }
     {
         let Checker {
             reader,
@@ -98,9 +98,9 @@ impl Checker {
 
 // Ends a last line that has no line end.
 fn end_last_line(reader: Reader, rest: &mut ArrayVec<u8, 201>) -> Result<Reader, AllocError>
-    ensures script { IfOk result (λ after. after.script ≡ reader.entry.script) }
+    ensures script { IfOk result (λ after. after.script ≡ reader.script) }
     ensures ended { IfOk result (λ after. after.reader
-        ≡ (last_ended reader.entry.script (record { reader = reader.entry.reader; rest = rest.old.items })).reader) }
+        ≡ (last_ended reader.script (record { reader = reader.reader; rest = rest.old.items })).reader) }
 {
     if rest.is_empty() {
         return Ok(reader);
@@ -114,9 +114,9 @@ fn feed_all(
     rest: &mut ArrayVec<u8, 201>,
     piece: &[u8],
 ) -> Result<Reader, AllocError>
-    ensures script { IfOk result (λ after. after.script ≡ reader.entry.script) }
+    ensures script { IfOk result (λ after. after.script ≡ reader.script) }
     ensures fed { IfOk result (λ after. record { reader = after.reader; rest = rest.new.items }
-        ≡ fed_piece reader.entry.script (record { reader = reader.entry.reader; rest = rest.old.items }) piece.now) }
+        ≡ fed_piece reader.script (record { reader = reader.reader; rest = rest.old.items }) piece.now) }
 {
     for byte in piece {
         if *byte == b'\n' {
@@ -130,8 +130,8 @@ fn feed_all(
 
 // The line is whole.
 fn end_line(reader: Reader, rest: &mut ArrayVec<u8, 201>) -> Result<Reader, AllocError>
-    ensures script { IfOk result (λ after. after.script ≡ reader.entry.script) }
-    ensures read { IfOk result (λ after. after.reader ≡ read_on reader.entry.script reader.entry.reader (without_return rest.old.items)) }
+    ensures script { IfOk result (λ after. after.script ≡ reader.script) }
+    ensures read { IfOk result (λ after. after.reader ≡ read_on reader.script reader.reader (without_return rest.old.items)) }
     ensures empty { rest.new.items ≡ [] }
 {
     let reader = reader.take(trim_return(rest));

@@ -28,8 +28,8 @@ pub struct EndedRun {
     pub world: World,
 }
 
-/// Reads a script and a journal, and checks the journal as it comes: the script, and the world in which the run ended that
-/// the journal tells.
+/// Reads a script and a journal, and checks the journal as it comes: the script, and the world in which the run ended
+/// that the journal tells.
 pub fn check_input<S: Source>(alloc: Global, source: &mut S) -> Result<EndedRun, InputError>
     ensures told { IfOk result (λ ended. IsEndedRun (S.state source.old).left ended.script ended.world) }
     ensures kept { IfOk result (λ ended. IsScript ended.script) }

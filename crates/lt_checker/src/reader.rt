@@ -73,8 +73,8 @@ impl Reader {
 
     /// Takes one line. It also fails where the count of lines would pass the largest number.
     pub(crate) fn take(self, line: &[u8]) -> Result<Reader, AllocError>
-        ensures script { IfOk result (λ reader. reader.script ≡ self.entry.script) }
-        ensures reader { IfOk result (λ reader. reader.reader ≡ read_on self.entry.script self.entry.reader line.now) }
+        ensures script { IfOk result (λ reader. reader.script ≡ self.script) }
+        ensures reader { IfOk result (λ reader. reader.reader ≡ read_on self.script self.reader line.now) }
     {
         if self.bad {
             return Ok(self);
@@ -115,16 +115,16 @@ impl Reader {
 
     /// The run, where all its lines are there.
     pub(crate) fn finish(self) -> Result<Run, ReplayError>
-        ensures answers { IsAnswer (verdict self.entry.script self.entry.reader) result }
-        ensures is_script { IsScript self.entry.script }
+        ensures answers { IsAnswer (verdict self.script self.reader) result }
+        ensures is_script { IsScript self.script }
     {
         Ok(self.finish_world()?.into_run())
     }
 
     /// The world in which the run ended, where all its lines are there.
     pub(crate) fn finish_world(self) -> Result<World, ReplayError>
-        ensures answers { IsWorldAnswer self.entry.script (verdict self.entry.script self.entry.reader) result }
-        ensures is_script { IsScript self.entry.script }
+        ensures answers { IsWorldAnswer self.script (verdict self.script self.reader) result }
+        ensures is_script { IsScript self.script }
     {
         if self.bad || !self.due.is_empty() || !self.world.at_rest() {
             return Err(ReplayError::Bad {

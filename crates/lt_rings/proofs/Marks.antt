@@ -1,5 +1,5 @@
 -- Where the marks of a graph stand.
-use Rattle.std.proofs.Common.{◌≡◌, ℕ, zero, suc, ◌+◌, ◌-◌, ◌*◌, ◌<◌, ◌≤◌, inl, inr, List, ◌∷◌, [], ◌++◌, Bool, false, length, get_or, map, refl, sym, ap, subst, arith, ◌∙◌, append-nil, length-append}
+use Rattle.std.proofs.Common.{◌≡◌, ℕ, zero, suc, ◌+◌, ◌-◌, ◌*◌, ◌<◌, ◌≤◌, inl, inr, List, ◌∷◌, [], ◌++◌, Bool, false, length, get_or, map, sym, ap, arith, ◌∙◌, append-nil, length-append}
 use Rattle.std.specs.List.{flat_map}
 use Rattle.std.proofs.Math.Nat.{suc-mul}
 use Rattle.std.proofs.lemmas.Bool.{cases_lt}
@@ -7,7 +7,7 @@ use Rattle.std.proofs.lemmas.List.{get_or_append_left, get_or-append_right}
 use Rattle.std.proofs.lemmas.List.Concat.{flat_map-append}
 use Rattle.std.proofs.lemmas.List.FromFn.{length-map-range_with_len, get_or-map-range_with_len}
 use Rattle.lt_spec.specs.Rings.{Graph, numbers_below}
-use Rattle.lt_rings.specs.Graph.{GraphData, Tells, marks}
+use Rattle.lt_rings.specs.Graph.{Tells, marks}
 use Rattle.lt_rings.proofs.SoFar.{numbers_push}
 
 -- the marks of one client more

@@ -1,6 +1,6 @@
 -- Rounds that take clients away come to an end where one takes none away.
 use Rattle.std.proofs.Common.{◌≡◌, ℕ, zero, suc, ◌+◌, ◌≤◌, inl, inr, List, [], ◌∷◌, length, Bool, true, false, refl, sym, ap, arith, ◌∙◌}
-use Rattle.std.specs.Prelude.{◌⊎◌, ◌<◌, if◌then◌else◌, filter, All}
+use Rattle.std.specs.Prelude.{◌<◌, if◌then◌else◌, filter, All}
 use Rattle.std.proofs.lemmas.List.FromFn.{length-range_with_len, get_or-range_with_len}
 use Rattle.std.specs.List.{list_any}
 use Rattle.std.proofs.lemmas.Bool.{cases_eq}

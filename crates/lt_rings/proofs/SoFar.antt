@@ -1,5 +1,5 @@
 -- What is written of the clients so far, and of one client more.
-use Rattle.std.proofs.Common.{◌≡◌, ℕ, zero, suc, ◌+◌, ◌<◌, List, [], ◌∷◌, ◌++◌, Bool, true, false, refl, sym, ap, ap₂, subst, arith, ◌∙◌, append_assoc, append-nil, length, take, get_or}
+use Rattle.std.proofs.Common.{◌≡◌, ℕ, zero, suc, ◌+◌, ◌<◌, List, [], ◌∷◌, ◌++◌, Bool, true, false, refl, sym, ap, arith, ◌∙◌, append_assoc, append-nil, length, take, get_or}
 use Rattle.std.specs.Prelude.{if◌then◌else◌, map, filter}
 use Rattle.std.specs.List.{flat_map, range_with_len}
 use Rattle.std.proofs.lemmas.List.{map-append, take_more}
@@ -8,7 +8,7 @@ use Rattle.std.proofs.lemmas.List.Elements.{filter-append}
 use Rattle.lt_modes.specs.Script.{ScriptData, client_name}
 use Rattle.lt_text.specs.Text.{spaced, text, after_space, each_after_space}
 use Rattle.lt_spec.specs.Rings.{Graph, numbers_below, ring_set, walk_end, waits_for_some}
-use Rattle.lt_law_waiting.specs.Reports.{ReportLine, WaitsLine, CycleLine, EndsLine, waits_lines, ends_lines, last_lines, report}
+use Rattle.lt_law_waiting.specs.Reports.{ReportLine, WaitsLine, NoCycleLine, EndsLine, waits_lines, ends_lines, last_lines, report}
 use Rattle.lt_rings.proofs.Told.{report_same}
 use Rattle.lt_rings.specs.Report.{report_words, waits_text, waits_line, waits_lines_of, ends_line}
 
@@ -98,3 +98,11 @@ all_written script n m graph told start between now same none first last agree =
     ∙ sym (report_append script (waits_lines n graph) (last_lines n graph (ring_set n graph)))
     ∙ ap (waits_text script) (report_same n graph told agree)
     ∙ ap (λ (k : ℕ). waits_text script (report k told)) same
+
+-- no clients wait in a ring, so that this and the ends were written
+pub no_ring_written : (script : ScriptData) (n : ℕ) (graph : Graph) (members old between now : List ℕ) → members ≡ ring_set n graph → members ≡ []
+    → between ≡ old ++ waits_text script (NoCycleLine ∷ []) → now ≡ between ++ waits_text script (ends_lines n graph)
+    → now ≡ old ++ waits_text script (last_lines n graph (ring_set n graph))
+no_ring_written script n graph members old between now is none first last =
+    piece_more script now between old (NoCycleLine ∷ []) (ends_lines n graph) (NoCycleLine ∷ ends_lines n graph) last first refl
+    ∙ ap (λ (set : List ℕ). old ++ waits_text script (last_lines n graph set)) (sym none ∙ is)

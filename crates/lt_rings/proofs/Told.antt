@@ -1,14 +1,14 @@
 -- Graphs that agree on each two of n clients have one report.
-use Rattle.std.proofs.Common.{◌≡◌, ℕ, zero, suc, ◌+◌, ◌<◌, ◌≤◌, List, [], ◌∷◌, ◌++◌, Option, Some, None, Bool, true, false, refl, sym, ap, ap₂, subst, arith, ◌∙◌}
-use Rattle.std.specs.Prelude.{if◌then◌else◌, map, filter, IfSome}
+use Rattle.std.proofs.Common.{◌≡◌, ℕ, zero, suc, ◌+◌, ◌<◌, ◌≤◌, List, [], ◌∷◌, ◌++◌, Option, Some, None, Bool, true, false, refl, ap, ap₂, arith, ◌∙◌}
+use Rattle.std.specs.Prelude.{◌||◌, if◌then◌else◌, map, filter, IfSome}
 use Rattle.std.specs.List.{AllByRecursion, list_any, find, flat_map, range_with_len}
-use Rattle.lt_spec.specs.Rings.{Graph, numbers_below, still_waiting, remaining, ring_set, next_among, has_come, from_coming, ring_from, ring_of, walk_on, walk_end_from, walk_end, waits_for_some}
+use Rattle.lt_spec.specs.Rings.{Graph, numbers_below, still_waiting, remaining, ring_set, next_among, has_come, from_coming, ring_from, walk_on, walk_end_from, walk_end, waits_for_some}
 use Rattle.lt_law_waiting.specs.Reports.{ReportLine, WaitsLine, CycleLine, NoCycleLine, EndsLine, waits_lines, ends_lines, last_lines, report}
 
 -- tests and functions that agree on a list
 any_same : (p q : ℕ → Bool) (xs : List ℕ) → AllByRecursion (λ x. p x ≡ q x) xs → list_any p xs ≡ list_any q xs
 any_same p q [] same = refl
-any_same p q (x ∷ rest) same = ap₂ (λ (a b : Bool). if a then true else b) same.0 (any_same p q rest same.1)
+any_same p q (x ∷ rest) same = ap₂ ◌||◌ same.0 (any_same p q rest same.1)
 
 filter_agree : (p q : ℕ → Bool) (xs : List ℕ) → AllByRecursion (λ x. p x ≡ q x) xs → filter p xs ≡ filter q xs
 filter_agree p q [] same = refl
@@ -33,40 +33,41 @@ all_by P Q f (x ∷ rest) all = (f x all.0, all_by P Q f rest all.1)
 
 all_filter : (P : ℕ → Type 0) (test : ℕ → Bool) (xs : List ℕ) → AllByRecursion P xs → AllByRecursion P (filter test xs)
 all_filter P test [] all = tt
-all_filter P test (x ∷ rest) all = by_test (test x)
+all_filter P test (x ∷ rest) all = by_test (test x) (all_filter P test rest all.1)
   where
-    by_test : (t : Bool) → AllByRecursion P (if t then x ∷ filter test rest else filter test rest)
-    by_test true = (all.0, all_filter P test rest all.1)
-    by_test false = all_filter P test rest all.1
+    by_test : (t : Bool) → AllByRecursion P (filter test rest) → AllByRecursion P (if t then x ∷ filter test rest else filter test rest)
+    by_test true later = (all.0, later)
+    by_test false later = later
 
 find_among : (P : ℕ → Type 0) (test : ℕ → Bool) (xs : List ℕ) → AllByRecursion P xs → IfSome (find test xs) P
 find_among P test [] all = tt
-find_among P test (x ∷ rest) all = by_test (test x)
+find_among P test (x ∷ rest) all = by_test (test x) (find_among P test rest all.1)
   where
-    by_test : (t : Bool) → IfSome (if t then Some x else find test rest) P
-    by_test true = all.0
-    by_test false = find_among P test rest all.1
+    by_test : (t : Bool) → IfSome (find test rest) P → IfSome (if t then Some x else find test rest) P
+    by_test true later = all.0
+    by_test false later = later
 
 range_below : (n a k : ℕ) → a + k ≤ n → AllByRecursion (λ x. x < n) (range_with_len a k)
 range_below n a zero h = tt
 range_below n a (suc k) h = (omega (arith, h), range_below n (a + 1) k (omega (arith, h)))
 
-module _ (n : ℕ) (a b : Graph) (same : (c d : ℕ) → c < n → d < n → a c d ≡ b c d) where
-  AreClients : List ℕ → Type 0
-  AreClients xs = AllByRecursion (λ x. x < n) xs
+-- these are clients of the n
+abbrev pub AreClients : ℕ → List ℕ → Type 0
+AreClients n xs = AllByRecursion (λ x. x < n) xs
 
-  all_clients : AreClients (numbers_below n)
+module _ (n : ℕ) (a b : Graph) (same : (c d : ℕ) → c < n → d < n → a c d ≡ b c d) where
+  all_clients : AreClients n (numbers_below n)
   all_clients = range_below n 0 n (omega arith)
 
-  rows : (c : ℕ) → c < n → (xs : List ℕ) → AreClients xs → AllByRecursion (λ d. a c d ≡ b c d) xs
+  rows : (c : ℕ) → c < n → (xs : List ℕ) → AreClients n xs → AllByRecursion (λ d. a c d ≡ b c d) xs
   rows c h xs all = all_by (λ d. d < n) (λ d. a c d ≡ b c d) (λ d k. same c d h k) xs all
 
-  still_same : (xs : List ℕ) → AreClients xs → still_waiting a xs ≡ still_waiting b xs
+  still_same : (xs : List ℕ) → AreClients n xs → still_waiting a xs ≡ still_waiting b xs
   still_same xs all =
       filter_agree (λ c. list_any (a c) xs) (λ c. list_any (b c) xs) xs
       (all_by (λ c. c < n) (λ c. list_any (a c) xs ≡ list_any (b c) xs) (λ c h. any_same (a c) (b c) xs (rows c h xs all)) xs all)
 
-  remain_clients : (k : ℕ) → AreClients (remaining a (numbers_below n) k)
+  remain_clients : (k : ℕ) → AreClients n (remaining a (numbers_below n) k)
   remain_clients zero = all_clients
   remain_clients (suc k) = all_filter (λ x. x < n) (λ c. list_any (a c) (remaining a (numbers_below n) k)) (remaining a (numbers_below n) k) (remain_clients k)
 
@@ -74,10 +75,10 @@ module _ (n : ℕ) (a b : Graph) (same : (c d : ℕ) → c < n → d < n → a c
   remain_same zero = refl
   remain_same (suc k) = still_same (remaining a (numbers_below n) k) (remain_clients k) ∙ ap (still_waiting b) (remain_same k)
 
-  next_same : (xs : List ℕ) (c : ℕ) → AreClients xs → c < n → next_among a xs c ≡ next_among b xs c
+  next_same : (xs : List ℕ) (c : ℕ) → AreClients n xs → c < n → next_among a xs c ≡ next_among b xs c
   next_same xs c all h = find_same (a c) (b c) xs (rows c h xs all)
 
-  walk_same : (fuel : ℕ) (xs walk : List ℕ) (o : Option ℕ) → AreClients xs → IfSome o (λ c. c < n) → ring_from fuel a xs walk o ≡ ring_from fuel b xs walk o
+  walk_same : (fuel : ℕ) (xs walk : List ℕ) (o : Option ℕ) → AreClients n xs → IfSome o (λ c. c < n) → ring_from fuel a xs walk o ≡ ring_from fuel b xs walk o
   walk_same zero xs walk None all h = refl
   walk_same (suc fuel) xs walk None all h = refl
   walk_same zero xs walk (Some c) all h = refl
@@ -89,12 +90,12 @@ module _ (n : ℕ) (a b : Graph) (same : (c d : ℕ) → c < n → d < n → a c
   end_same : (fuel c : ℕ) → c < n → walk_end_from fuel n a c ≡ walk_end_from fuel n b c
   end_same zero c h = refl
   end_same (suc fuel) c h =
-      by_next (next_among a (numbers_below n) c) (find_among (λ d. d < n) (a c) (numbers_below n) all_clients)
+      by_next (λ d k. end_same fuel d k) (next_among a (numbers_below n) c) (find_among (λ d. d < n) (a c) (numbers_below n) all_clients)
       ∙ ap (walk_on (walk_end_from fuel n b) c) (next_same (numbers_below n) c all_clients h)
     where
-      by_next : (o : Option ℕ) → IfSome o (λ d. d < n) → walk_on (walk_end_from fuel n a) c o ≡ walk_on (walk_end_from fuel n b) c o
-      by_next None k = refl
-      by_next (Some d) k = end_same fuel d k
+      by_next : ((d : ℕ) → d < n → walk_end_from fuel n a d ≡ walk_end_from fuel n b d) → (o : Option ℕ) → IfSome o (λ d. d < n) → walk_on (walk_end_from fuel n a) c o ≡ walk_on (walk_end_from fuel n b) c o
+      by_next later None k = refl
+      by_next later (Some d) k = later d k
 
   waits_same : waits_lines n a ≡ waits_lines n b
   waits_same =
@@ -111,7 +112,7 @@ module _ (n : ℕ) (a b : Graph) (same : (c d : ℕ) → c < n → d < n → a c
       (filter_agree (waits_for_some n a) (waits_for_some n b) (numbers_below n)
       (all_by (λ c. c < n) (λ c. waits_for_some n a c ≡ waits_for_some n b c) (λ c h. any_same (a c) (b c) (numbers_below n) (rows c h (numbers_below n) all_clients)) (numbers_below n) all_clients))
 
-  last_same : (members : List ℕ) → AreClients members → last_lines n a members ≡ last_lines n b members
+  last_same : (members : List ℕ) → AreClients n members → last_lines n a members ≡ last_lines n b members
   last_same [] all = ap (λ (l : List ReportLine). NoCycleLine ∷ l) ends_same
   last_same (c ∷ rest) all = ap (λ (l : List ℕ). CycleLine l ∷ []) (walk_same (n + 1) (c ∷ rest) [] (Some c) all all.0)
 

@@ -24,8 +24,8 @@ impl Model for WaitGraph {
 }
 
 impl WaitGraph {
-    /// The graph of so many clients with a mark for each pair, whether the first one waits for the second: the pairs of the
-    /// first client come first, each client's in order.
+    /// The graph of so many clients with a mark for each pair, whether the first one waits for the second: the pairs of
+    /// the first client come first, each client's in order.
     pub fn new(clients: u16, pairs: Vec<bool>) -> WaitGraph
         requires { length pairs.items ≡ clients * clients }
         ensures graph { result ≡ record { clients = clients; pairs = pairs.items } }

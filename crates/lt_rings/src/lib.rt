@@ -1,5 +1,5 @@
-//! Who waits for whom, as a graph of clients: the clients that wait in a ring, where a walk from client to client ends, and
-//! the report that tells both.
+//! Who waits for whom, as a graph of clients: the clients that wait in a ring, where a walk from client to client ends,
+//! and the report that tells both.
 #![tactic(auto)]
 
 mod graph;

@@ -15,7 +15,8 @@ use std::alloc::{AllocError, Global};
 ///
 /// First comes a line `waits CLIENT OTHER` for each pair, by client and then by the other one. Then comes a line `cycle`
 /// with clients that wait in a ring, if some do. Else comes a line `no cycle`, and a line `ends CLIENT LAST` for each
-/// client that waits: a walk from it that goes each time to the least client for which the one before waits ends there.
+/// client that waits: a walk from it that goes each time to the least client for which the one before waits ends
+/// there.
 pub fn report(alloc: Global, script: &Script, graph: &WaitGraph) -> Result<Vec<u8>, AllocError>
     requires { graph.now.clients ≡ length script.now.clients }
     ensures { IfOk result (λ text. (told : Graph) → Tells graph.now told

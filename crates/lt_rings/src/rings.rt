@@ -44,8 +44,8 @@ fn waits_for_one(graph: &WaitGraph, clients: &[u16], client: u16) -> bool
     clients.iter().any(|other| graph.waits(client, *other))
 }
 
-/// The ring in which the walk from the first of these clients ends, where each goes on to the least of them for which it
-/// waits; empty where the walk comes to one that waits for none of them.
+/// The ring in which the walk from the first of these clients ends, where each goes on to the least of them for which
+/// it waits; empty where the walk comes to one that waits for none of them.
 pub(crate) fn ring_of(
     alloc: Global,
     graph: &WaitGraph,
@@ -105,8 +105,8 @@ fn part_from(alloc: Global, walk: &[u16], first: usize) -> Result<Vec<u16>, Allo
     walk[first..].to_vec(alloc)
 }
 
-/// The client at which the walk from this one ends, where each goes on to the least client for which it waits. A walk that
-/// comes into a ring ends after as many steps as there are clients.
+/// The client at which the walk from this one ends, where each goes on to the least client for which it waits. A walk
+/// that comes into a ring ends after as many steps as there are clients.
 pub(crate) fn walk_end(graph: &WaitGraph, client: u16) -> u16
     requires { client < graph.now.clients }
     ensures end { result ≡ walk_end graph.now.clients (graph_of graph.now) client }

@@ -54,7 +54,7 @@ impl Runner {
 
     /// The moves that its node has made.
     pub fn into_log(self) -> Log
-        ensures { result.entries ≡ self.entry.log.entries }
+        ensures { result.entries ≡ self.log.entries }
     {
         self.parts.log
     }

@@ -17,6 +17,7 @@ use std::alloc::{AllocError, Global};
 use std::fmt::Write;
 
 /// Reads a script and a journal, and says whether the journal is that of a run of the script.
+#[tactic(auto, using(crate::proofs::Checked::fails_says, crate::proofs::Checked::fails_refused, crate::proofs::Checked::memory_says))]
 pub(crate) fn checked<S: Source>(alloc: Global, source: &mut S) -> Result<Made, Status>
     ensures does { IfOk result (λ made. Checks made.ending (S.state source.old).left made.run.entries made.text.items) }
     ensures whole { OnOk result (IsReadWhole MAX_JOURNAL (S.state source.old) (S.state source.new)) }

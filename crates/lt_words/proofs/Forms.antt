@@ -74,7 +74,8 @@ by_form : (P : List (List ℕ) → Type 0) → P (codes "run" ∷ []) → P (cod
     → (words : List (List ℕ)) → is_form words ≡ true → P words
 by_form P run check order sim soak make [] form = absurd (cc)
 by_form P run check order sim soak make (verb ∷ []) form =
-    let is = λ word (h : bytes_eq verb word ≡ true) (p : P (word ∷ [])). subst (λ v. P (v ∷ [])) (sym (same_word verb word h)) p in
+    let is : (word : List ℕ) → bytes_eq verb word ≡ true → P (word ∷ []) → P (verb ∷ []) =
+    λ word h p. subst (λ v. P (v ∷ [])) (sym (same_word verb word h)) p in
     let has = (and_parts (has_verb (verb ∷ [])) (is_plain verb && true) form).0 in
     elim (cases_Bool (bytes_eq verb (codes "run"))) [
       | inl h ↦ is (codes "run") h run

@@ -151,10 +151,11 @@ impl World {
 
     /// The moves made, without the world.
     pub fn into_run(self) -> Run
-        ensures run { result.entries ≡ self.entry.run }
-        ensures is_run { IsRun self.entry.script self.entry.run }
+        ensures run { result.entries ≡ self.run }
+        ensures is_run { IsRun self.script self.run }
     {
-        self.network.run
+        let network = self.network;
+        network.run
     }
 
     // Whether the client doesn't wait and has a command left.

@@ -6,6 +6,7 @@ ghost use Rattle.lt_spec.specs.Facts.{state_at};
 ghost use Rattle.lt_spec.specs.Families.{home};
 ghost use Rattle.lt_spec.specs.Waiting.{holds_against, waits_behind, is_kept_by, kept_if, waits_for};
 ghost use Rattle.lt_world.specs.Fields.{world_of};
+ghost use Rattle.lt_world.specs.Against.{is_against};
 
 use super::World;
 use lt_modes::{Ask, MODES, Mode};
@@ -66,7 +67,21 @@ impl World {
         requires client { client < length self.now.script.clients }
         ensures { result ≡ holds_against self.now.script (world_of self.now) set mode client }
     {
-        MODES.iter().any(|own| mode.conflicts(*own) && self.held(set, client, *own) > 0)
+        for &own in &MODES {
+            if self.is_against(set, mode, client, own) {
+                return true;
+            }
+        }
+        false
+    }
+
+    // Whether the client holds a lock of the set in its own mode, and the mode conflicts with that.
+    fn is_against(&self, set: u8, mode: Mode, client: u16, own: Mode) -> bool
+        requires set { set < length self.now.script.sets }
+        requires client { client < length self.now.script.clients }
+        ensures { result ≡ is_against self.now set mode client own }
+    {
+        mode.conflicts(own) && self.held(set, client, own) > 0
     }
 
     // How many locks of the mode the client holds in the set.

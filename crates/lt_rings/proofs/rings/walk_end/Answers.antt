@@ -1,5 +1,4 @@
-use Rattle.std.proofs.Common.{◌≡◌, ℕ, suc, ◌+◌, ◌-◌, ap, sym, arith, ◌∙◌}
-use Rattle.lt_spec.specs.Rings.{walk_end_from}
+use Rattle.std.proofs.Common.{suc, ◌-◌, sym, arith, ◌∙◌}
 use Rattle.lt_rings.specs.Graph.{graph_of}
 use Rattle.lt_rings.proofs.Walks.{walk_stops, walk_steps}
 use Rattle.lt_rings.proofs.rings.walk_end.Goals as goal
