@@ -1,5 +1,5 @@
 -- What follows of the word `order`, and of an ordered script.
-use Rattle.std.proofs.Common.{◌≡◌, ◌∙◌, arith, ℕ, zero, suc, List, ◌++◌, Ok, Some, refl, ap}
+use Rattle.std.proofs.Common.{◌≡◌, ◌∙◌, ◌<◌, arith, ℕ, zero, suc, List, ◌++◌, Ok, Some, refl, ap}
 use Rattle.std.specs.Prelude.{codes}
 use Rattle.lt_modes.specs.Script.{ScriptData}
 use Rattle.lt_script.specs.Reading.{read_of}
@@ -19,7 +19,7 @@ given_up_read = refl
 
 given_up_ordered : IsOrdered given_up_script
 given_up_ordered zero inside = refl
-given_up_ordered (suc client) inside = absurd (omega (arith, inside))
+given_up_ordered (suc client) inside = let few : suc client < 1 = inside in absurd (omega (arith, few))
 
 -- the line that is written of a script
 abbrev line_of : ScriptData → List ℕ

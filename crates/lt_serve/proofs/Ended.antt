@@ -1,9 +1,10 @@
 -- How a run ended: what is known of it then, and why it ended with a client waiting.
-use Rattle.std.proofs.Common.{◌≡◌, ◌∙◌, ℕ, List, Option, Some, None, Ok, length, take, refl, sym, subst, arith}
+use Rattle.std.proofs.Common.{◌≡◌, ◌∙◌, ℕ, List, Option, Some, None, Result, Ok, length, take, refl, sym, subst, arith}
 use Rattle.std.specs.Prelude.{IsTrue, IsFalse}
 use Rattle.std.proofs.lemmas.Bool.{false≢true}
 use Rattle.std.proofs.lemmas.List.{take_all}
 use Rattle.lt_modes.specs.Script.{ScriptData}
+use Rattle.lt_script.specs.declared.fault.ScriptFault.{ScriptFault}
 use Rattle.lt_script.specs.Script.{IsScript}
 use Rattle.lt_script.specs.Reading.{read_of}
 use Rattle.lt_spec.specs.Log.{Logged}
@@ -54,10 +55,10 @@ ran_to moves end script run promises finish is_script is_run e = record {
 unordered : (moves : ℕ) (left : Option (List ℕ)) (run : List Logged) (text : List ℕ) → Journals moves Stuck left run text → IsUnordered left
 unordered moves None run text j = tt
 unordered moves (Some bytes) run text j =
-    λ script read ordered. j.ran.ordered (subst IsOrdered (same script j.script (sym read ∙ j.denoted)) ordered) refl
+    λ script read ordered. j.ran.ordered (subst IsOrdered (same script j.script (read_of bytes) read j.denoted) ordered) refl
   where
-    same : (a b : ScriptData) → Ok a ≡ Ok b → a ≡ b
-    same a b e = cc
+    same : (a b : ScriptData) (answer : Result ScriptData ScriptFault) → answer ≡ Ok a → answer ≡ Ok b → a ≡ b
+    same a b answer e f = cc
 
 not_done : Stuck ≡ Done → ⊥
 not_done e = cc

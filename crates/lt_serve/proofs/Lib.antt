@@ -5,4 +5,3 @@ mod Completing
 mod Ended
 mod Ordered
 mod Rooms
-mod Told

@@ -18,7 +18,7 @@ pub fn finish(
     mut runners: Vec<Runner>,
 ) -> Result<Vec<Log>, AllocError>
     requires { IsCrew script.now runners.items }
-    ensures { IfOk result (λ logs. AreCrewLogs script.now runners.entry.items logs.items) }
+    ensures { IfOk result (λ logs. AreCrewLogs script.now runners.items logs.items) }
 {
     meet_all(&mut runners);
     all_kept(&runners);
@@ -29,7 +29,7 @@ pub fn finish(
 // Adds the logs of the runners.
 fn take_logs(mut runners: Vec<Runner>, mut logs: Vec<Log>) -> Result<Vec<Log>, AllocError>
     requires { logs.items ≡ [] }
-    ensures { IfOk result (λ all. map run_entries all.items ≡ map log_of runners.entry.items) }
+    ensures { IfOk result (λ all. map run_entries all.items ≡ map log_of runners.items) }
 {
     while !runners.is_empty() {
         let runner = runners.remove(0);
