@@ -186,3 +186,42 @@ fn asks_park_behind_asks(rt: HostRuntime) -> Result<(), Fail> {
     assert_eq!(rt; b.count(0, 0, Mode::Write), 1);
     Ok(())
 }
+
+// Three writers on one node.
+fn lone_writers(alloc: Global) -> Result<Script, AllocError> {
+    let lock = Command::Lock {
+        set: 0,
+        mode: Mode::Write,
+    };
+    let mut script = Script::new(alloc, 1)?;
+    script.add_set("s".as_bytes(), 0)?;
+    script.add_client("a".as_bytes(), 0)?;
+    script.add_client("b".as_bytes(), 0)?;
+    script.add_client("c".as_bytes(), 0)?;
+    script.add_command(0, lock)?;
+    script.add_command(1, lock)?;
+    script.add_command(2, lock)?;
+    Ok(script)
+}
+
+#[test]
+fn asks_stand_before_asks(rt: HostRuntime) -> Result<(), Fail> {
+    let script = lone_writers(rt.alloc())?;
+    let mut out = Out::new(rt.alloc());
+    assert!(rt; script.nodes() == 1 && script.sets() == 1);
+    let mut node = Node::new(rt.alloc(), &script, 0)?;
+    assert_eq!(rt;
+        act(&mut node, &script, 0, &mut out)?,
+        Some(Answer::Granted)
+    );
+    assert_eq!(rt; act(&mut node, &script, 1, &mut out)?, Some(Answer::Waits));
+    assert_eq!(rt; act(&mut node, &script, 2, &mut out)?, Some(Answer::Waits));
+    assert!(rt; node.stands_before(0, 1, 2) && !node.stands_before(0, 2, 1));
+    assert_eq!(rt; node.ask_of(0), None);
+    for client in [1, 2] {
+        let (set, ask) = node.ask_of(client).ok_or("no ask")?;
+        assert_eq!(rt; (set, ask.client, ask.mode), (0, client, Mode::Write));
+        assert_eq!(rt; node.ask_in(0, client), Some(ask));
+    }
+    Ok(())
+}
