@@ -76,6 +76,25 @@ def ordered(drawing, client):
     drawing.add(client, *[f'lock {lock}' for lock in held], *[f'unlock {lock}' for lock in reversed(held)])
 
 
+def orderly(drawing, client):
+    """What an ordered script may have: locks and tries in the order of the sets, some given up on the way, and all at the end."""
+    draw, held, group = drawing.draw, [], []
+
+    def give_up():
+        name, mode = held.pop(draw.randrange(len(held)))
+        group.append(f'drop {client} {name}' if draw.random() < 0.2 else f'unlock {name} {mode}')
+
+    for name in drawing.sets:
+        if draw.random() < 0.5:
+            held.append((name, draw.choice(drawing.modes)))
+            group.append(f'{draw.choice(["lock", "lock", "try"])} {name} {held[-1][1]}')
+        while held and draw.random() < 0.2:
+            give_up()
+    while held:
+        give_up()
+    drawing.add(client, *group)
+
+
 def wild(drawing, client):
     """Any command: many clients then wait for ever."""
     draw, name = drawing.draw, drawing.draw.choice(drawing.sets)
@@ -97,14 +116,34 @@ def mixed(drawing, client):
         drawing.add(client, f'drop {client} {drawing.draw.choice(drawing.sets)}')
 
 
-def draw_script(seed, version=1):
-    """The script of a number: its size and kind are drawn too."""
+def nearly(drawing):
+    """Ordered but for one command, which may be of any kind, or for one that is left out."""
+    drawing.room -= 1
+    drawing.fill(orderly)
+    drawing.room += 1
+    client = drawing.draw.choice([client for client in drawing.clients if drawing.todo[client]] or [None])
+    if client is None:
+        return
+    lines = drawing.todo[client]
+    place = drawing.draw.randrange(len(lines))
+    if drawing.draw.random() < 0.5:
+        wild(drawing, client)
+        lines.insert(place, lines.pop())
+    else:
+        del lines[place]
+
+
+def draw_script(seed, version=1, kind='any'):
+    """The script of a number: its size is drawn too, and its kind, if it may be any."""
     draw = random.Random(seed)
     nodes = draw.choice([1, 2, 3, 4, draw.randint(1, MOST_NODES[version]), MOST_NODES[version]])
     clients = min(draw.choice([0, 2, 5, 16, draw.randint(1, MOST_CLIENTS[version])]), nodes * MOST['of_node'])
     commands = draw.choice([0, 4, 16, 64, 64, 256, 256, draw.randint(0, MOST['commands'])])
     drawing = Drawing(draw, nodes, draw.choice([0, 1, 1, 1, 2, 4, MOST['sets']]), clients, commands, version)
-    drawing.fill(draw.choice([tidy, ordered, wild, mixed]))
+    if kind == 'nearly':
+        nearly(drawing)
+    else:
+        drawing.fill(draw.choice([tidy, ordered, wild, mixed]) if kind == 'any' else orderly)
     return drawing.text()
 
 

@@ -25,6 +25,8 @@ def words_of():
     parser.add_argument('--count', type=int, default=300, help='how many inputs')
     parser.add_argument('--seed', type=int, default=1, help='the number of the first one')
     parser.add_argument('--version', type=int, choices=(1, 2), default=1, help='the version of the scripts')
+    parser.add_argument('--kind', choices=('any', 'ordered', 'nearly'), default='any',
+                        help='scripts of any kind, ordered ones, or such as are ordered but for one command')
     parser.add_argument('--keep', default='drawn.script', help='the file for the first input whose answers differ')
     args = parser.parse_args()
     name, words = ('locknest', '') if args.nested else ('lockrun', 'sim first')
@@ -35,7 +37,7 @@ def words_of():
 
 def input_of(seed, args):
     """The bytes of an input; each tenth one has a fault."""
-    text = draw_nest(seed) if args.nested else draw_script(seed, args.version)
+    text = draw_nest(seed) if args.nested else draw_script(seed, args.version, args.kind)
     spoil = with_nest_fault if args.nested else with_fault
     return (spoil(text, seed) if seed % 10 == 0 else text).encode('latin-1')
 

@@ -1,8 +1,8 @@
 #!/bin/sh
-# Tests of all examples: both tools run on each; the pictures of docs/ are those that the tool draws; and if the
-# program is built, it makes each journal, with the right status, accepts it, and refuses it at each line that is
-# exchanged for another; a word that isn't text gets the line of usage, which the wrapper prints too. If none is built,
-# the runs left out are counted.
+# Tests of all examples: the tools run on each, journal-state also after the first move; the pictures of docs/ are those
+# that the tool draws, with who waits for whom if somebody waits at the end; and if the program is built, it makes each
+# journal, with the right status, accepts it, and refuses it at each line that is exchanged for another; a word that
+# isn't text gets the line of usage, which the wrapper prints too. If none is built, the runs left out are counted.
 cd "$(dirname "$0")/.." || exit 1
 program=crates/lockrun/out/lockrun
 room=$(mktemp -d) || exit 1
@@ -40,7 +40,14 @@ for script in examples/*.script; do
   journal=examples/$name.journal
   examples=$((examples + 1))
   tools/journal-summary "$script" "$journal" >"$room/table" || fail "$name: no summary"
-  tools/journal-picture "$script" "$journal" >"$room/picture" || fail "$name: no picture"
+  # shellcheck disable=SC2046 # a flag or none
+  tools/journal-picture "$script" "$journal" $(grep -q '^waiting ' "$journal" && echo --waits) >"$room/picture" ||
+    fail "$name: no picture"
+  tools/journal-summary --json "$script" "$journal" >"$room/table" || fail "$name: no summary in JSON"
+  tools/journal-trace "$script" "$journal" >"$room/trace" || fail "$name: no trace"
+  tools/journal-trace --chrome "$script" "$journal" >"$room/trace" || fail "$name: no trace for Chrome"
+  tools/journal-state "$script" "$journal" >"$room/state" || fail "$name: no state at the end"
+  tools/journal-state "$script" "$journal" 1 >"$room/state" || fail "$name: no state after its first move"
   if [ -f "docs/pictures/$name.svg" ] && ! cmp -s "docs/pictures/$name.svg" "$room/picture"; then
     fail "docs/pictures/$name.svg isn't what tools/journal-picture draws of $name"
   fi

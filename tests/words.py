@@ -13,7 +13,7 @@ from pathlib import Path
 ONE_RUN = b'nodes 1\nset s\nclient a at 0\na lock s write\na unlock s write\n'
 MANY_RUNS = (b'nodes 2\nset s\nclient a at 0\nclient b at 1\nclient c at 0\n'
              b'a lock s write\nb lock s read\nc try s read\na unlock s write\n')
-FORMS = ['run', 'check', 'sim first', 'sim SEED', 'soak SEED'] + 3 * ['make NODES CLIENTS COMMANDS SEED']
+FORMS = ['run', 'check', 'order', 'sim first', 'sim SEED', 'soak SEED'] + 3 * ['make NODES CLIENTS COMMANDS SEED']
 # Numbers at the limits, on both sides; more clients than a few nodes have room for.
 RIGHT = {
     'NODES': ['1', '2', '3', '16', '000000016'],
@@ -38,8 +38,6 @@ def words_of():
     parser = argparse.ArgumentParser(description=__doc__)
     parser.add_argument('reference', help='the command that is right, as one word: "python3 MODEL"')
     parser.add_argument('--program', default=str(top / 'crates/lockrun/out/lockrun'), help='the command to be tested')
-    parser.add_argument('--also', metavar='WORD',
-                        help="a command that the reference alone has: its end of the reference's usage line, ' | WORD', isn't compared")
     parser.add_argument('--count', type=int, default=500, help='how many lists')
     parser.add_argument('--seed', type=int, default=1, help='the number of the first one')
     return parser.parse_args()
@@ -96,16 +94,10 @@ def main():
     journal = answer(args.reference, ['sim', 'first'], MANY_RUNS)[1]
     inputs = {('run',): ONE_RUN, ('check',): MANY_RUNS + b'journal\n' + journal}
 
-    def wanted_of(words, data):
-        status, output, line = answer(args.reference, words, data)
-        if args.also and b': usage: ' in line:
-            line = line.removesuffix(f' | {args.also}'.encode())
-        return status, output, line
-
     def both(seed):
         words = draw_words(seed)
         data = inputs.get(tuple(words), MANY_RUNS)
-        return seed, words, answer(args.program, words, data), wanted_of(words, data)
+        return seed, words, answer(args.program, words, data), answer(args.reference, words, data)
 
     with ThreadPoolExecutor() as pool:
         for seed, words, got, wanted in pool.map(both, range(args.seed, args.seed + args.count)):

@@ -81,12 +81,12 @@ for word in --help -h help; do
   expect "$word has status 0" 'status 0' "$(said "$top/lockrun" $word | tail -n 1)"
 done
 expect '--help names the limits' 2 "$("$top/lockrun" --help | grep -c -e '64 clients on up to 16 nodes' -e '256 clients on up to 64')"
-for word in 'sim first' 'sim SEED' run check 'make NODES CLIENTS COMMANDS SEED' 'soak SEED'; do
+for word in 'sim first' 'sim SEED' run check 'make NODES CLIENTS COMMANDS SEED' 'soak SEED' order; do
   expect "--help names $word" 1 "$("$top/lockrun" --help | grep -c "^  ./lockrun $word  ")"
 done
 expect '--version' "lockrun $(sed -n 's/^version=//p' "$here/lockrun")
 status 0" "$(said "$top/lockrun" --version)"
-usage='lockrun: usage: run | sim first | sim SEED | check | make NODES CLIENTS COMMANDS SEED | soak SEED
+usage='lockrun: usage: run | sim first | sim SEED | check | make NODES CLIENTS COMMANDS SEED | soak SEED | order
 status 1'
 no_command() { expect "no command: $*" "$usage" "$(PATH=$room/no-rt && said "$room/bare/lockrun" "$@" </dev/null)"; }
 no_command
@@ -101,7 +101,8 @@ no_command soak -7
 no_command make 2 3 8
 no_command make 2 3 eight 7
 no_command run now
-for words in 'sim 99999999999999999999' 'make 17 1 1 1' 'soak 007' 'check'; do
+no_command order first
+for words in 'sim 99999999999999999999' 'make 17 1 1 1' 'soak 007' 'check' 'order'; do
   # shellcheck disable=SC2086 # a call may be more words
   expect "a command, or the program says why not: $words" "$(printf '<%s>' $words)
 status 0" "$(said "$top/lockrun" $words </dev/null)"

@@ -86,6 +86,7 @@ class Ask(NamedTuple):
     node: int
     mode: str
     stamp: tuple
+    is_holder: bool = False   # whether the client held some lock of the set
 
 
 @dataclass

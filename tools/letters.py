@@ -13,17 +13,18 @@ from journal import CONFLICTS, MODES, SHOWN, Ask, Fault, Letter, in_order, unfit
 
 
 def follow(journal):
-    """Makes all moves of a journal: its letters, matched with the moves that took them."""
+    """Makes all moves of a journal: its letters, matched with the moves that took them. What it came to is returned."""
     follower = Follower(journal.script)
     for move in journal.moves:
         follower.make(move)
     journal.letters = follower.letters
     if journal.is_cut:
-        return
+        return follower
     if any(letter.taken is None for letter in journal.letters):
         raise Fault("the journal doesn't fit the script: a letter is never taken, and the run wasn't cut")
     if [line.text for line in journal.closing] != follower.closing_lines(len(journal.moves)):
         raise Fault("the journal doesn't fit the script: its closing lines are not those of its moves")
+    return follower
 
 
 def bars(modes):
@@ -45,6 +46,7 @@ class Core:
     firm: tuple = (0, 0)
     hoped: Optional[tuple] = None
     pending: dict = field(default_factory=dict)      # the ask of a client
+    parked: list = field(default_factory=list)       # asks that wait here for the token, or behind an older one
 
     def modes(self):
         """The modes that are held."""
@@ -62,6 +64,7 @@ class Follower:
         self.on_way = defaultdict(deque)
         self.letters = []
         self.owner = {name: '0 0' for name in script.family}
+        self.queue = {name: [] for name in script.family}   # the asks at the desk, in the order of their coming
 
     def make(self, move):
         """One move with all its lines."""
@@ -95,7 +98,8 @@ class Follower:
             raise unfit(move.line, f'no answer of `{client} {" ".join(command)}`')
         core = self.cores[move.node, answer.set]
         if answer.kind == 'wait':
-            ask = Ask(client, move.node, answer.words[2], (move.clock, move.node))
+            is_holder = any(core.held[client, mode] for mode in MODES)
+            ask = Ask(client, move.node, answer.words[2], (move.clock, move.node), is_holder)
             core.pending[client] = ask
             self.route(move, answer.set, core, 'ask', f'ask {client} {answer.set} {ask.mode}', ask)
         elif answer.kind == 'drop':
@@ -121,6 +125,9 @@ class Follower:
             self.take_copy(move, core, lines, letter.ask)
         elif letter.kind == 'token':
             core.has_desk, core.firm, core.hoped = True, (move.node, letter.link[1]), None
+            for ask in core.parked:
+                self.enter(letter.set, ask)
+            core.parked = []
         return [letter.set]
 
     def take_copy(self, move, core, lines, ask):
@@ -184,7 +191,18 @@ class Follower:
         ask = core.pending.pop(event.words[0], None)
         if ask is None or ask.mode != event.words[-1]:
             raise unfit(event.number, f'{event.words[0]} does not wait for that')
+        self.leave(event.set, event.words[0])
         self.hold(core, event)
+
+    def enter(self, name, ask):
+        """Puts an ask into the queue of a set: a holder's after the last holder's, any other at the end."""
+        queue = self.queue[name]
+        holders = [place for place, other in enumerate(queue, 1) if other.is_holder]
+        queue.insert(max(holders, default=0) if ask.is_holder else len(queue), ask)
+
+    def leave(self, name, client):
+        """Takes the ask of a client out of the queue of a set."""
+        self.queue[name] = [ask for ask in self.queue[name] if ask.client != client]
 
     # The letters
 
@@ -197,6 +215,7 @@ class Follower:
         name, to, ask = event.set, int(event.words[1]), None
         if event.kind == 'copy':
             ask = Ask(event.words[2], to, event.words[3], ())
+            self.leave(name, ask.client)
         if event.kind == 'token':
             core.has_desk, core.charge, core.hoped = False, core.modes(), None
             core.firm = (to, int(event.words[2]))
@@ -209,10 +228,15 @@ class Follower:
     def route(self, move, name, core, kind, text, ask=None, by_hoped=False):
         """Sends an ask or a tell on, if it doesn't stay here (docs/RULES.md, Routing)."""
         if core.has_desk or core.firm[0] == move.node:
+            if ask and core.has_desk:
+                self.enter(name, ask)
+            elif ask:
+                core.parked.append(ask)
             return
         to, goes_by_hoped = core.firm[0], False
         if kind == 'ask':
             if by_hoped and any(is_taking(own.mode) and own.stamp < ask.stamp for own in core.pending.values()):
+                core.parked.append(ask)
                 return
             if not by_hoped and core.hoped and core.hoped[1] < ask.stamp:
                 to, goes_by_hoped = core.hoped[0], True

@@ -2,13 +2,42 @@
 use crate::desk::{Ask, Desk, Parked, Stamp, Tell, barred, bars, conflicts, covers, is_taking};
 use crate::letter::{Body, Event, Letter, Out};
 use crate::script::Mode;
-use std::collections::BTreeMap;
+
+/// So many locks of a client in a mode.
+pub struct Row {
+    pub client: u16,
+    pub mode: Mode,
+    pub count: u32,
+}
+
+// The records of all nodes: each one's, the modes of one at least, and those of two at least.
+struct Records {
+    each: [u8; 16],
+    one: u8,
+    two: u8,
+}
+
+impl Records {
+    // The modes that stand in the records of other nodes.
+    fn others(&self, node: u8) -> u8 {
+        self.two | self.one & !self.each[usize::from(node)]
+    }
+}
+
+// What the desk does next.
+enum Pick {
+    Local(usize),
+    Copy(usize),
+    Move(usize),
+    Nothing,
+}
 
 #[derive(Default)]
 pub struct Core {
     pub me: u8,
     pub set: u8,
-    pub held: BTreeMap<(u16, Mode), u32>,
+    pub held: Vec<Row>,
+    modes: u8,
     charge: u8,
     frozen: u8,
     number: u64,
@@ -25,16 +54,24 @@ impl Core {
         Core { me, set, desk, ..Core::default() }
     }
 
-    fn modes(&self) -> u8 {
-        self.held.keys().fold(0, |modes, row| modes | 1 << row.1)
+    fn count_modes(&mut self) {
+        self.modes = self.held.iter().fold(0, |modes, row| modes | 1 << row.mode);
     }
 
     fn modes_of(&self, client: u16) -> u8 {
-        self.held.range((client, 0)..=(client, 4)).fold(0, |modes, (row, _)| modes | 1 << row.1)
+        self.held.iter().filter(|row| row.client == client).fold(0, |modes, row| modes | 1 << row.mode)
     }
 
     fn others_bar(&self, client: u16, mode: Mode) -> bool {
-        self.held.keys().any(|row| row.0 != client && conflicts(mode, row.1))
+        barred(self.modes, mode) && self.held.iter().any(|row| row.client != client && conflicts(mode, row.mode))
+    }
+
+    fn place_of(&self, client: u16, mode: Mode) -> Option<usize> {
+        self.held.iter().position(|row| row.client == client && row.mode == mode)
+    }
+
+    pub fn holds(&self, client: u16, mode: Mode) -> bool {
+        self.place_of(client, mode).is_some()
     }
 
     fn own_owed(&self, desk: &Desk) -> u8 {
@@ -43,12 +80,15 @@ impl Core {
         owed.filter(|copy| waits(copy.0)).fold(0, |modes, copy| modes | 1 << copy.1)
     }
 
-    fn records(&self, desk: &Desk) -> [u8; 16] {
-        let mut records = [0; 16];
-        for (record, entry) in records.iter_mut().zip(&desk.entries) {
-            *record = entry.record();
+    fn records(&self, desk: &Desk) -> Records {
+        let mut records = Records { each: [0; 16], one: 0, two: 0 };
+        for (x, entry) in desk.entries.iter().enumerate() {
+            let is_own = x == usize::from(self.me);
+            let record = if is_own { self.modes | self.own_owed(desk) } else { entry.record };
+            records.two |= records.one & record;
+            records.one |= record;
+            records.each[x] = record;
         }
-        records[usize::from(self.me)] = self.modes() | self.own_owed(desk);
         records
     }
 
@@ -64,7 +104,7 @@ impl Core {
             return covers(self.charge, mode) && self.frozen >> mode & 1 == 0;
         };
         let mut others = desk.entries.iter().enumerate().filter(|(x, _)| *x != usize::from(self.me));
-        !others.any(|(_, entry)| barred(entry.record(), mode))
+        !others.any(|(_, entry)| barred(entry.record, mode))
             && !barred(self.own_owed(desk), mode)
             && !desk.queue[..desk.place(own != 0)].iter().any(|ask| conflicts(mode, ask.mode))
     }
@@ -73,19 +113,34 @@ impl Core {
         if let Some(gives_up) = gives_up {
             self.take(client, gives_up);
         }
-        *self.held.entry((client, mode)).or_insert(0) += 1;
+        match self.place_of(client, mode) {
+            Some(k) => self.held[k].count += 1,
+            None => self.held.push(Row { client, mode, count: 1 }),
+        }
+        self.modes |= 1 << mode;
     }
 
-    /// One lock goes, where the client holds one.
+    /// One lock goes, if the client holds one.
     pub fn take(&mut self, client: u16, mode: Mode) -> bool {
-        let Some(count) = self.held.get_mut(&(client, mode)) else {
+        let Some(k) = self.place_of(client, mode) else {
             return false;
         };
-        *count -= 1;
-        if *count == 0 {
-            self.held.remove(&(client, mode));
+        self.held[k].count -= 1;
+        if self.held[k].count == 0 {
+            self.held.swap_remove(k);
+            self.count_modes();
         }
         true
+    }
+
+    /// All locks of a client go; how many there were.
+    pub fn take_all(&mut self, client: u16) -> u32 {
+        let count = self.held.iter().filter(|row| row.client == client).map(|row| row.count).sum();
+        if count > 0 {
+            self.held.retain(|row| row.client != client);
+            self.count_modes();
+        }
+        count
     }
 
     fn send(&self, to: u8, body: Body, stamp: Stamp, out: &mut Out) {
@@ -164,69 +219,65 @@ impl Core {
         }
     }
 
-    // The place of the ask that is served next, and whether it is of this node.
-    fn next_service(&self) -> Option<(usize, bool)> {
-        let desk = self.desk.as_ref().filter(|desk| !desk.queue.is_empty())?;
+    // The place of the ask that is served next, and whether it is of this node; or else that of the ask to whose node
+    // the desk goes.
+    fn pick(&self, desk: &Desk) -> Pick {
         let records = self.records(desk);
-        let mut before = 0;
+        let (mut before, mut next) = (0, Pick::Nothing);
         for (k, ask) in desk.queue.iter().enumerate() {
-            let others = others(&records, ask.node);
-            if !barred(before, ask.mode) && !barred(others, ask.mode) {
-                if ask.node != self.me {
-                    if covers(others, ask.mode) && !barred(records[usize::from(ask.node)], ask.mode) {
-                        return Some((k, false));
+            let others = records.others(ask.node);
+            if !barred(before | others, ask.mode) {
+                let own = records.each[usize::from(ask.node)];
+                if ask.node == self.me {
+                    if !self.others_bar(ask.client, ask.mode) && !barred(self.own_owed(desk), ask.mode) {
+                        return Pick::Local(k);
                     }
-                } else if !self.others_bar(ask.client, ask.mode) && !barred(self.own_owed(desk), ask.mode) {
-                    return Some((k, true));
+                } else if covers(others, ask.mode) && !barred(own, ask.mode) {
+                    return Pick::Copy(k);
+                } else if matches!(next, Pick::Nothing) && (k == 0 || !barred(own, ask.mode)) {
+                    next = Pick::Move(k);
                 }
             }
             before |= 1 << ask.mode;
         }
-        None
-    }
-
-    // The place of the ask to whose node the desk goes.
-    fn next_move(&self) -> Option<usize> {
-        let desk = self.desk.as_ref().filter(|desk| !desk.queue.is_empty())?;
-        let records = self.records(desk);
-        let mut before = 0;
-        for (k, ask) in desk.queue.iter().enumerate() {
-            if ask.node != self.me
-                && !barred(before, ask.mode)
-                && !barred(others(&records, ask.node), ask.mode)
-                && (k == 0 || !barred(records[usize::from(ask.node)], ask.mode))
-            {
-                return Some(k);
-            }
-            before |= 1 << ask.mode;
-        }
-        None
+        next
     }
 
     /// The end of a move.
     pub fn finish(&mut self, stamp: Stamp, out: &mut Out) {
         if self.desk.is_some() {
-            self.serve(stamp, out);
-            let next = self.next_move();
+            let next = self.serve(stamp, out);
             self.freeze(stamp, out);
             if let Some((k, desk)) = next.and_then(|k| Some((k, self.desk.take()?))) {
                 self.hand_over(k, desk, stamp, out);
             }
-        } else if bars(self.modes()) != bars(self.charge) {
-            self.charge = self.modes();
+        } else if self.modes != self.charge && bars(self.modes) != bars(self.charge) {
+            self.charge = self.modes;
             let pending = self.pending.iter().map(|ask| ask.stamp).collect();
             let tell = Tell { node: self.me, modes: self.charge, pending, stamp };
             self.route(Parked::Tell(tell), false, stamp, out);
         }
     }
 
-    fn serve(&mut self, stamp: Stamp, out: &mut Out) {
-        while let (Some((k, is_own)), Some(desk)) = (self.next_service(), &mut self.desk) {
+    // Serves what can be served; the place of the ask to whose node the desk goes then.
+    fn serve(&mut self, stamp: Stamp, out: &mut Out) -> Option<usize> {
+        loop {
+            let desk = self.desk.as_ref().filter(|desk| !desk.queue.is_empty())?;
+            let (k, is_own) = match self.pick(desk) {
+                Pick::Local(k) => (k, true),
+                Pick::Copy(k) => (k, false),
+                Pick::Move(k) => return Some(k),
+                Pick::Nothing => return None,
+            };
+            let desk = self.desk.as_mut()?;
             let ask = desk.queue.remove(k);
             if is_own {
                 self.answer(ask, out);
             } else {
-                desk.entries[usize::from(ask.node)].owed.push((ask.stamp, ask.mode));
+                let entry = &mut desk.entries[usize::from(ask.node)];
+                entry.owed.push((ask.stamp, ask.mode));
+                entry.record |= 1 << ask.mode;
+                desk.is_stale = true;
                 self.send(ask.node, Body::Copy(ask), stamp, out);
                 out.events.push(Event::Copy(self.set, ask.node, ask.client, ask.mode));
             }
@@ -236,41 +287,38 @@ impl Core {
     fn freeze(&mut self, stamp: Stamp, out: &mut Out) {
         let Some(desk) = &mut self.desk else { return };
         let (me, modes) = (usize::from(self.me), desk.frozen());
-        let entries = desk.entries.iter_mut().enumerate();
-        let is_told = |x: usize, entry: &crate::desk::Entry| x != me && entry.frozen != modes && entry.record() != 0;
-        let mut targets = Vec::new();
-        for (x, entry) in entries.filter(|(x, entry)| *x == me || is_told(*x, entry)) {
-            entry.frozen = modes;
-            if x != me {
-                targets.push(x as u8);
-            }
-        }
-        desk.number += u64::from(!targets.is_empty());
         self.frozen = modes;
         self.number = desk.number;
-        for to in targets {
-            self.send(to, Body::Freeze(self.number, modes), stamp, out);
-            out.events.push(Event::Freeze(self.set, to, self.number, modes));
+        if modes == desk.told && !desk.is_stale {
+            return;
         }
+        (desk.told, desk.is_stale) = (modes, false);
+        let mut number = desk.number;
+        desk.entries[me].frozen = modes;
+        for (x, entry) in desk.entries.iter_mut().enumerate() {
+            if x != me && entry.frozen != modes && entry.record != 0 {
+                entry.frozen = modes;
+                number = desk.number + 1;
+                let body = Body::Freeze(number, modes);
+                out.letters.push((x as u8, Letter { stamp, set: self.set, link: self.firm, body }));
+                out.events.push(Event::Freeze(self.set, x as u8, number, modes));
+            }
+        }
+        desk.number = number;
+        self.number = number;
     }
 
     fn hand_over(&mut self, k: usize, mut desk: Desk, stamp: Stamp, out: &mut Out) {
         let to = desk.queue[k].node;
-        self.charge = self.modes();
+        self.charge = self.modes;
         let pending = &self.pending;
         let entry = &mut desk.entries[usize::from(self.me)];
-        entry.reported = self.charge;
-        entry.owed.retain(|copy| pending.iter().any(|ask| ask.stamp == copy.0));
-        entry.told_at = stamp;
+        entry.settle(self.charge, stamp, |owed| pending.iter().any(|ask| ask.stamp == owed));
+        desk.is_stale = true;
         desk.epoch += 1;
         self.firm = (to, desk.epoch);
         self.hoped = None;
         out.events.push(Event::Token(self.set, to, desk.epoch));
         self.send(to, Body::Token(desk), stamp, out);
     }
-}
-
-fn others(records: &[u8; 16], node: u8) -> u8 {
-    let all = records.iter().enumerate();
-    all.filter(|(x, _)| *x != usize::from(node)).fold(0, |modes, (_, record)| modes | record)
 }

@@ -6,8 +6,20 @@ pub type Stamp = (u64, u8);
 // The modes that conflict with each mode, as bits.
 const BARS: [u8; 5] = [16, 24, 28, 22, 31];
 
+// Of each set of modes, those that conflict with one of them.
+const BARRED: [u8; 32] = {
+    let mut all = [0; 32];
+    let mut modes = 1;
+    while modes < 32 {
+        let lowest = (modes as u32).trailing_zeros() as usize;
+        all[modes] = all[modes & (modes - 1)] | BARS[lowest];
+        modes += 1;
+    }
+    all
+};
+
 pub fn bars(modes: u8) -> u8 {
-    (0..5).filter(|mode| modes >> mode & 1 == 1).fold(0, |all, mode| all | BARS[mode])
+    BARRED[usize::from(modes & 31)]
 }
 
 pub fn conflicts(a: Mode, b: Mode) -> bool {
@@ -56,11 +68,17 @@ pub struct Entry {
     pub owed: Vec<(Stamp, Mode)>,
     pub told_at: Stamp,
     pub frozen: u8,
+    /// The reported modes and those of the owed asks.
+    pub record: u8,
 }
 
 impl Entry {
-    pub fn record(&self) -> u8 {
-        self.owed.iter().fold(self.reported, |modes, copy| modes | 1 << copy.1)
+    /// Keeps these of the owed asks, with new reported modes.
+    pub fn settle(&mut self, reported: u8, told_at: Stamp, mut keeps: impl FnMut(Stamp) -> bool) {
+        self.reported = reported;
+        self.owed.retain(|copy| keeps(copy.0));
+        self.told_at = told_at;
+        self.record = self.owed.iter().fold(reported, |modes, copy| modes | 1 << copy.1);
     }
 }
 
@@ -69,11 +87,14 @@ pub struct Desk {
     pub number: u64,
     pub queue: Vec<Ask>,
     pub entries: Vec<Entry>,
+    /// The modes of the last freezes, and whether a record has got modes since.
+    pub told: u8,
+    pub is_stale: bool,
 }
 
 impl Desk {
     pub fn new(nodes: u8) -> Desk {
-        Desk { epoch: 0, number: 0, queue: Vec::new(), entries: vec![Entry::default(); usize::from(nodes)] }
+        Desk { epoch: 0, number: 0, queue: Vec::new(), entries: vec![Entry::default(); usize::from(nodes)], told: 0, is_stale: false }
     }
 
     /// Where a new ask stands in the queue.
@@ -87,9 +108,9 @@ impl Desk {
             Parked::Tell(tell) => {
                 let entry = &mut self.entries[usize::from(tell.node)];
                 if tell.stamp > entry.told_at {
-                    entry.reported = tell.modes;
-                    entry.owed.retain(|copy| tell.pending.contains(&copy.0) || copy.0 > tell.stamp);
-                    entry.told_at = tell.stamp;
+                    let Tell { modes, pending, stamp, .. } = tell;
+                    entry.settle(modes, stamp, |owed| pending.contains(&owed) || owed > stamp);
+                    self.is_stale = true;
                 }
             }
         }

@@ -1,123 +1,221 @@
 //! The text of a run.
 use crate::letter::Event;
 use crate::script::{Mode, Script, WORDS};
-use crate::world::{Step, World};
+use crate::world::{Move, Step};
 use std::collections::BTreeMap;
-use std::fmt::Write;
 
-// What the lines of a run's end tell.
-struct Tally<'a> {
+/// Writes the lines of a run, and keeps what the lines of its end tell.
+pub struct Journal<'a> {
     script: &'a Script,
-    held: BTreeMap<(u16, u8, Mode), u32>,
+    /// The lines so far.
+    pub text: Vec<u8>,
+    moves: u64,
+    held: Vec<u32>,
     waiting: BTreeMap<u16, (u8, Mode)>,
     owners: Vec<(u8, u64)>,
 }
 
-/// The journal of a run at rest.
-pub fn write(script: &Script, world: &World<'_>) -> String {
-    write_all(script, world).expect("writing to a string can't fail")
-}
+impl<'a> Journal<'a> {
+    pub fn new(script: &'a Script) -> Journal<'a> {
+        let sets = script.sets.len();
+        Journal {
+            script,
+            text: Vec::new(),
+            moves: 0,
+            held: vec![0; script.clients.len() * sets * WORDS.len()],
+            waiting: BTreeMap::new(),
+            owners: vec![(0, 0); sets],
+        }
+    }
 
-fn write_all(script: &Script, world: &World<'_>) -> Result<String, std::fmt::Error> {
-    let mut text = String::new();
-    let mut tally =
-        Tally { script, held: BTreeMap::new(), waiting: BTreeMap::new(), owners: vec![(0, 0); script.sets.len()] };
-    let mut first = 0;
-    for made in &world.moves {
+    /// The lines of a move.
+    pub fn add(&mut self, made: &Move, events: &[Event]) {
+        self.moves += 1;
+        self.word("move");
+        self.number(made.clock);
+        self.number(u64::from(made.node));
         match made.step {
             Step::Act(client) => {
-                let name = &script.clients[usize::from(client)].0;
-                writeln!(text, "move {} {} act {name}", made.clock, made.node)?;
+                self.word("act");
+                self.client(client);
             }
-            Step::Take(sender) => writeln!(text, "move {} {} take {sender}", made.clock, made.node)?,
-        }
-        for event in &world.events[first..made.events] {
-            event_line(&mut text, script, *event)?;
-            tally.note(*event);
-        }
-        first = made.events;
-    }
-    tally.write(&mut text)?;
-    writeln!(text, "end {}", world.moves.len())?;
-    Ok(text)
-}
-
-fn event_line(text: &mut String, script: &Script, event: Event) -> std::fmt::Result {
-    let client = |client: u16| &script.clients[usize::from(client)].0;
-    let set = |set: u8| &script.sets[usize::from(set)].0;
-    let mode = |mode: Mode| WORDS[usize::from(mode)];
-    match event {
-        Event::Grant(c, s, m) => writeln!(text, "grant {} {} {}", client(c), set(s), mode(m)),
-        Event::Wait(c, s, m) => writeln!(text, "wait {} {} {}", client(c), set(s), mode(m)),
-        Event::Try(c, s, m, got) => writeln!(text, "try {} {} {} {got}", client(c), set(s), mode(m)),
-        Event::Unlock(c, s, m) => writeln!(text, "unlock {} {} {}", client(c), set(s), mode(m)),
-        Event::NotHeld(c, s, m) => writeln!(text, "not_held {} {} {}", client(c), set(s), mode(m)),
-        Event::Change(c, s, from, to) => writeln!(text, "change {} {} {} {}", client(c), set(s), mode(from), mode(to)),
-        Event::Drop(c, other, s, count) => writeln!(text, "drop {} {} {} {count}", client(c), client(other), set(s)),
-        Event::Busy(c, other, s) => writeln!(text, "busy {} {} {}", client(c), client(other), set(s)),
-        Event::Copy(s, to, c, m) => writeln!(text, "copy {} {to} {} {}", set(s), client(c), mode(m)),
-        Event::Token(s, to, epoch) => writeln!(text, "token {} {to} {epoch}", set(s)),
-        Event::Freeze(s, to, number, modes) => {
-            write!(text, "freeze {} {to} {number}", set(s))?;
-            for m in (0..5).filter(|m| modes >> m & 1 == 1) {
-                write!(text, " {}", mode(m))?;
+            Step::Take(sender) => {
+                self.word("take");
+                self.number(u64::from(sender));
             }
-            writeln!(text, "{}", if modes == 0 { " none" } else { "" })
+        }
+        self.end_line();
+        for event in events {
+            self.event(*event);
+            self.end_line();
+            self.note(*event);
         }
     }
-}
 
-impl Tally<'_> {
+    // Each word is followed by a space, which the line end takes the place of at last.
+    fn word(&mut self, word: &str) {
+        self.text.extend_from_slice(word.as_bytes());
+        self.text.push(b' ');
+    }
+
+    fn end_line(&mut self) {
+        if let Some(last) = self.text.last_mut() {
+            *last = b'\n';
+        }
+    }
+
+    fn number(&mut self, mut number: u64) {
+        if number < 10 {
+            return self.text.extend_from_slice(&[b'0' + number as u8, b' ']);
+        }
+        let mut digits = [b' '; 21];
+        let mut at = 20;
+        loop {
+            at -= 1;
+            digits[at] = b'0' + (number % 10) as u8;
+            number /= 10;
+            if number == 0 {
+                break;
+            }
+        }
+        self.text.extend_from_slice(&digits[at..]);
+    }
+
+    fn client(&mut self, client: u16) {
+        let script = self.script;
+        self.word(&script.clients[usize::from(client)].0);
+    }
+
+    fn set(&mut self, set: u8) {
+        let script = self.script;
+        self.word(&script.sets[usize::from(set)].0);
+    }
+
+    fn mode(&mut self, mode: Mode) {
+        self.word(WORDS[usize::from(mode)]);
+    }
+
+    fn lock(&mut self, word: &str, client: u16, set: u8, mode: Mode) {
+        self.word(word);
+        self.client(client);
+        self.set(set);
+        self.mode(mode);
+    }
+
+    fn event(&mut self, event: Event) {
+        match event {
+            Event::Grant(c, s, m) => self.lock("grant", c, s, m),
+            Event::Wait(c, s, m) => self.lock("wait", c, s, m),
+            Event::Try(c, s, m, got) => {
+                self.lock("try", c, s, m);
+                self.word(if got { "true" } else { "false" });
+            }
+            Event::Unlock(c, s, m) => self.lock("unlock", c, s, m),
+            Event::NotHeld(c, s, m) => self.lock("not_held", c, s, m),
+            Event::Change(c, s, from, to) => {
+                self.lock("change", c, s, from);
+                self.mode(to);
+            }
+            Event::Drop(c, other, s, count) => {
+                self.word("drop");
+                self.client(c);
+                self.client(other);
+                self.set(s);
+                self.number(u64::from(count));
+            }
+            Event::Busy(c, other, s) => {
+                self.word("busy");
+                self.client(c);
+                self.client(other);
+                self.set(s);
+            }
+            Event::Copy(s, to, c, m) => {
+                self.notice("copy", s, to);
+                self.client(c);
+                self.mode(m);
+            }
+            Event::Token(s, to, epoch) => {
+                self.notice("token", s, to);
+                self.number(epoch);
+            }
+            Event::Freeze(s, to, number, modes) => {
+                self.notice("freeze", s, to);
+                self.number(number);
+                for m in (0..5).filter(|m| modes >> m & 1 == 1) {
+                    self.mode(m);
+                }
+                if modes == 0 {
+                    self.word("none");
+                }
+            }
+        }
+    }
+
+    fn notice(&mut self, word: &str, set: u8, to: u8) {
+        self.word(word);
+        self.set(set);
+        self.number(u64::from(to));
+    }
+
     fn note(&mut self, event: Event) {
         match event {
             Event::Grant(client, set, mode) => {
-                self.more(client, set, mode);
+                *self.count(client, set, mode) += 1;
                 self.waiting.remove(&client);
             }
-            Event::Try(client, set, mode, true) => self.more(client, set, mode),
+            Event::Try(client, set, mode, true) => *self.count(client, set, mode) += 1,
             Event::Wait(client, set, mode) => {
                 self.waiting.insert(client, (set, mode));
             }
-            Event::Unlock(client, set, mode) => self.less(client, set, mode),
+            Event::Unlock(client, set, mode) => *self.count(client, set, mode) -= 1,
             Event::Change(client, set, from, to) => {
-                self.less(client, set, from);
-                self.more(client, set, to);
+                *self.count(client, set, from) -= 1;
+                *self.count(client, set, to) += 1;
                 self.waiting.remove(&client);
             }
             Event::Drop(_, other, set, _) => {
-                let family = self.script.family(set);
-                self.held.retain(|row, _| row.0 != other || !family.contains(&usize::from(row.1)));
+                for k in self.script.family(set) {
+                    let first = self.row(other, k as u8, 0);
+                    self.held[first..first + WORDS.len()].fill(0);
+                }
             }
             Event::Token(set, to, epoch) => self.owners[usize::from(set)] = (to, epoch),
             _ => {}
         }
     }
 
-    fn more(&mut self, client: u16, set: u8, mode: Mode) {
-        *self.held.entry((client, set, mode)).or_insert(0) += 1;
+    fn row(&self, client: u16, set: u8, mode: Mode) -> usize {
+        (usize::from(client) * self.script.sets.len() + usize::from(set)) * WORDS.len() + usize::from(mode)
     }
 
-    fn less(&mut self, client: u16, set: u8, mode: Mode) {
-        if let Some(count) = self.held.get_mut(&(client, set, mode)) {
-            *count -= 1;
-            if *count == 0 {
-                self.held.remove(&(client, set, mode));
+    fn count(&mut self, client: u16, set: u8, mode: Mode) -> &mut u32 {
+        let row = self.row(client, set, mode);
+        &mut self.held[row]
+    }
+
+    /// The lines of the end.
+    pub fn close(&mut self) {
+        let modes = WORDS.len();
+        let sets = self.script.sets.len();
+        for row in 0..self.held.len() {
+            if self.held[row] > 0 {
+                self.lock("held", (row / modes / sets) as u16, (row / modes % sets) as u8, (row % modes) as u8);
+                self.number(u64::from(self.held[row]));
+                self.end_line();
             }
         }
-    }
-
-    fn write(&self, text: &mut String) -> std::fmt::Result {
-        let client = |client: u16| &self.script.clients[usize::from(client)].0;
-        let set = |set: u8| &self.script.sets[usize::from(set)].0;
-        for ((c, s, m), count) in &self.held {
-            writeln!(text, "held {} {} {} {count}", client(*c), set(*s), WORDS[usize::from(*m)])?;
+        for (client, (set, mode)) in std::mem::take(&mut self.waiting) {
+            self.lock("waiting", client, set, mode);
+            self.end_line();
         }
-        for (c, (s, m)) in &self.waiting {
-            writeln!(text, "waiting {} {} {}", client(*c), set(*s), WORDS[usize::from(*m)])?;
+        for set in 0..sets {
+            let (node, epoch) = self.owners[set];
+            self.notice("owner", set as u8, node);
+            self.number(epoch);
+            self.end_line();
         }
-        for (s, (node, epoch)) in self.owners.iter().enumerate() {
-            writeln!(text, "owner {} {node} {epoch}", set(s as u8))?;
-        }
-        Ok(())
+        self.word("end");
+        self.number(self.moves);
+        self.end_line();
     }
 }

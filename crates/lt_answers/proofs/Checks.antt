@@ -15,8 +15,8 @@ use Rattle.lt_law_checking.specs.Checking.{checked}
 use Rattle.lt_law_checking.specs.Input.{checked_input, counted_from, journal_in, lines_before}
 use Rattle.lt_law_checking.proofs.RowAnswers.{short_rows}
 use Rattle.lt_serve.specs.declared.status.Status.TheVariants.{Done}
-use Rattle.lt_serve.specs.Causes.{IsBad}
-use Rattle.lt_serve.specs.TopCall.{Checks, HasFaultBefore, ok_text}
+use Rattle.lt_checker.specs.Input.{IsBad, HasFaultBefore}
+use Rattle.lt_serve.specs.TopCall.{Checks, ok_text}
 use Rattle.lt_answers.proofs.Results.{same_script, same_run, same_line, same_fault, run_or_line, script_or_fault}
 use Rattle.lt_answers.specs.Examples.{one_lock, one_lock_script, the_move}
 use Rattle.lt_answers.specs.OtherAnswers.{CheckSays, checked_lock, wrong_mode, no_mode, checked_no_mode}

@@ -8,8 +8,9 @@ use Rattle.lt_limits.specs.declared.moves.TheConstants.{MAX_MOVES}
 use Rattle.lt_script.specs.declared.fault.ScriptFault.{ScriptFault}
 use Rattle.lt_script.specs.Reading.{read_of}
 use Rattle.lt_words.specs.declared.command.Command.{Command}
-use Rattle.lt_words.specs.declared.command.Command.TheVariants.{Run, SimFirst, Sim, Check}
-use Rattle.lt_serve.specs.declared.limits.TheConstants.{MAX_INPUT, MAX_JOURNAL}
+use Rattle.lt_words.specs.declared.command.Command.TheVariants.{Run, SimFirst, Sim, Check, Order}
+use Rattle.lt_checker.specs.declared.limits.TheConstants.{MAX_JOURNAL}
+use Rattle.lt_serve.specs.declared.limits.TheConstants.{MAX_INPUT}
 use Rattle.lt_serve.specs.declared.status.Status.{Status}
 use Rattle.lt_serve.specs.declared.status.Status.TheVariants.{Done, Stuck, Usage, Refused, TooLong, ReadFault, WriteFault, NoMemory, Cut, BadJournal}
 use Rattle.lt_serve.specs.Causes.{IsEnding}
@@ -63,6 +64,9 @@ good_drawn seed = record { no_read_fault = no_rise; not_too_long = short_script;
 good_threads : IsGood Run (untouched (Some one_lock)) (read_whole one_lock)
 good_threads = record { no_read_fault = no_rise; not_too_long = short_script; no_fault = no_fault; no_bad_line = λ e. cc }
 
+good_order : IsGood Order (untouched (Some one_lock)) (read_whole one_lock)
+good_order = record { no_read_fault = no_rise; not_too_long = short_script; no_fault = no_fault; no_bad_line = λ e. cc }
+
 good_check : IsGood Check (untouched (Some checked_lock)) (read_whole checked_lock)
 good_check = record { no_read_fault = no_rise; not_too_long = short_journal; no_fault = without_fault; no_bad_line = λ e. never_bad }
 
@@ -91,5 +95,6 @@ complete_says = record {
   drawn = λ seed. is_done (Sim seed) (one_lock_says.drawn seed) (good_drawn seed) (λ answer e. e);
   threads = is_done Run one_lock_says.threads good_threads (λ answer e. e);
   check = λ answer complete there. complete (λ reads. good_check) no_rise there;
+  order = λ answer complete there. complete (λ reads. good_order) no_rise there;
   make = λ answer complete there. complete (λ reads. absurd (false≢true reads)) no_rise there;
 }

@@ -8,4 +8,5 @@ pub mod Checks
 pub mod Makes
 pub mod Failing
 pub mod Orderings
+pub mod OrderSaid
 pub mod Serving

@@ -5,7 +5,7 @@ use Rattle.lt_spec.specs.Log.{Logged}
 use Rattle.lt_limits.specs.declared.moves.TheConstants.{MAX_MOVES}
 use Rattle.lt_script.specs.declared.fault.ScriptFault.{ScriptFault}
 use Rattle.lt_words.specs.declared.command.Command.{Command}
-use Rattle.lt_words.specs.declared.command.Command.TheVariants.{Run, SimFirst, Sim, Check, Make}
+use Rattle.lt_words.specs.declared.command.Command.TheVariants.{Run, SimFirst, Sim, Check, Make, Order}
 use Rattle.lt_serve.specs.declared.status.Status.{Status}
 use Rattle.lt_serve.specs.declared.status.Status.TheVariants.{Done, Usage, Refused, TooLong, ReadFault, NoMemory, BadJournal}
 use Rattle.lt_serve.specs.Causes.{WritesNothing}
@@ -44,5 +44,7 @@ pub record CompleteSays : Type 0 where
   pub drawn : (seed : ℕ) → IsDone (Sim seed)
   pub threads : IsDone Run
   pub check : (answer : Status) → IsComplete (Some Check) answer (untouched (Some checked_lock)) (read_whole checked_lock) 0 0
+      → answer ≢ NoMemory → answer ≡ Done
+  pub order : (answer : Status) → IsComplete (Some Order) answer (untouched (Some one_lock)) (read_whole one_lock) 0 0
       → answer ≢ NoMemory → answer ≡ Done
   pub make : (answer : Status) → IsComplete (Some (Make 1 1 1 7)) answer (untouched None) (untouched None) 0 0 → answer ≢ NoMemory → answer ≡ Done

@@ -2,4 +2,5 @@ pub mod Examples
 pub mod OtherAnswers
 pub mod Failures
 pub mod TwoOrders
+pub mod OrderAnswers
 pub mod WholeAnswers

@@ -2,6 +2,7 @@ ghost use Rattle.lt_answers.specs.Examples.{OneLock, TwoWriters, CutShort};
 ghost use Rattle.lt_answers.specs.OtherAnswers.{WordsSay, FaultSays, CheckSays, MakeSays, SoakSays, CountsSay};
 ghost use Rattle.lt_answers.specs.Failures.{FailuresSay, UnwrittenSays, CompleteSays};
 ghost use Rattle.lt_answers.specs.TwoOrders.{OrdersSay};
+ghost use Rattle.lt_answers.specs.OrderAnswers.{OrderSays};
 ghost use Rattle.lt_answers.specs.WholeAnswers.{ServesSay};
 
 use lt_io::{Sink, Source};
@@ -21,5 +22,6 @@ pub fn law_answers<S: Source, K: Sink>()
     ensures unwritten { UnwrittenSays }
     ensures complete { CompleteSays }
     ensures orders { OrdersSay }
+    ensures order { OrderSays }
     ensures serves { ServesSay S.state K.held K.faults }
 {}

@@ -2,3 +2,9 @@ mod Keeping
 mod Moving
 mod DueLines
 mod LeftLines
+mod LastLines
+mod Feeding
+mod TwoParts
+mod BadLines
+pub mod Inputs
+mod WorldAnswers

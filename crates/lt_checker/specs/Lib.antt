@@ -1,2 +1,5 @@
 pub mod Place
 pub mod Checker
+pub mod Endings
+pub mod Input
+pub mod Heads

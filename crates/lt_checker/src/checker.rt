@@ -3,6 +3,7 @@ ghost use Rattle.lt_text.specs.Text.{lines, without_return};
 ghost use Rattle.lt_law_checking.specs.Checking.{checked, read_on};
 ghost use Rattle.lt_law_checking.specs.Feeding.{Feed, new_feed, fed_piece, last_ended, ended};
 ghost use Rattle.lt_checker.specs.Checker.{CheckerData, StandsFor, IsAnswer, with_piece, spent};
+ghost use Rattle.lt_checker.specs.Endings.{IsWorldAnswer};
 
 use crate::error::ReplayError;
 use crate::reader::Reader;
@@ -10,6 +11,7 @@ use arrayvec::ArrayVec;
 use lt_merge::Run;
 use lt_script::Script;
 use lt_text::trim_return;
+use lt_world::World;
 use std::alloc::{AllocError, Global};
 use std::marker::Model;
 
@@ -18,32 +20,34 @@ use std::marker::Model;
 /// It keeps the world, the lines that must come next, the number of good lines, and at most 201 bytes of a line
 /// that isn't whole: no good line is so long.
 #[derive(Drop)]
-pub struct Checker<'a> {
-    script: &'a Script,
+pub struct Checker {
+    script: Script,
     // What the whole lines have told; none once memory was refused.
-    reader: Option<Reader<'a>>,
+    reader: Option<Reader>,
     rest: ArrayVec<u8, 201>,
 }
 
-impl<'a> Model for Checker<'a> {
+impl Model for Checker {
     ghost use Rattle.lt_checker.specs.Checker.{CheckerData, IsOfScript, feed_of};
 
     ghost Value = { CheckerData };
 
-    ghost view = { λ c. record { script = c.script.now; feed = feed_of c.reader c.rest.items } };
+    ghost view = { λ c. record { script = c.script; feed = feed_of c.reader c.rest.items } };
 
-    ghost invariant = { λ c. IsOfScript c.script.now c.reader };
+    ghost invariant = { λ c. IsOfScript c.script c.reader };
 }
 
-impl<'a> Checker<'a> {
+impl Checker {
     /// A checker that has no bytes yet.
-    pub fn new(alloc: Global, script: &'a Script) -> Result<Checker<'a>, AllocError>
+    pub fn new(alloc: Global, script: &Script) -> Result<Checker, AllocError>
         ensures checker { IfOk result (λ checker. checker ≡ record { script = script.now; feed = Some (new_feed script.now) }) }
         ensures stands { IfOk result (λ checker. StandsFor checker []) }
     {
+        let reader = Reader::new(alloc, script)?;
+        let script = script.copy(alloc)?;
         Ok(Checker {
             script,
-            reader: Some(Reader::new(alloc, script)?),
+            reader: Some(reader),
             rest: ArrayVec::new(),
         })
     }
@@ -65,9 +69,20 @@ impl<'a> Checker<'a> {
 
     /// The run whose journal the bytes are, or the first bad line.
     pub fn end(self) -> Result<Run, ReplayError>
-        ensures answers { (bytes : List ℕ) → StandsFor self.entry bytes → IsAnswer (checked self.entry.script (lines bytes)) result }
-        ensures ended { (feed : Feed) → self.entry.feed ≡ Some feed → IsAnswer (ended self.entry.script feed) result }
-        ensures refused { IsNone self.entry.feed → result ≡ Err ReplayError.Memory }
+        ensures answers { (bytes : List ℕ) → StandsFor self bytes → IsAnswer (checked self.script (lines bytes)) result }
+        ensures ended { (feed : Feed) → self.feed ≡ Some feed → IsAnswer (ended self.script feed) result }
+        ensures refused { IsNone self.feed → result ≡ Err ReplayError.Memory }
+    {
+        Ok(self.end_world()?.into_run())
+    }
+
+    /// The world in which the run ended whose journal the bytes are, or the first bad line.
+    pub fn end_world(self) -> Result<World, ReplayError>
+        ensures answers { (bytes : List ℕ) → StandsFor self bytes
+            → IsWorldAnswer self.script (checked self.script (lines bytes)) result }
+        ensures ended { (feed : Feed) → self.feed ≡ Some feed
+            → IsWorldAnswer self.script (ended self.script feed) result }
+        ensures refused { IsNone self.feed → result ≡ Err ReplayError.Memory }
     {
         let Checker {
             reader,
@@ -77,18 +92,15 @@ impl<'a> Checker<'a> {
         let Some(reader) = reader else {
             return Err(ReplayError::Memory);
         };
-        end_last_line(reader, &mut rest)?.finish()
+        end_last_line(reader, &mut rest)?.finish_world()
     }
 }
 
 // Ends a last line that has no line end.
-fn end_last_line<'a>(
-    reader: Reader<'a>,
-    rest: &mut ArrayVec<u8, 201>,
-) -> Result<Reader<'a>, AllocError>
-    ensures script { IfOk result (λ after. after.script ≡ reader.entry.script) }
+fn end_last_line(reader: Reader, rest: &mut ArrayVec<u8, 201>) -> Result<Reader, AllocError>
+    ensures script { IfOk result (λ after. after.script ≡ reader.script) }
     ensures ended { IfOk result (λ after. after.reader
-        ≡ (last_ended reader.entry.script (record { reader = reader.entry.reader; rest = rest.old.items })).reader) }
+        ≡ (last_ended reader.script (record { reader = reader.reader; rest = rest.old.items })).reader) }
 {
     if rest.is_empty() {
         return Ok(reader);
@@ -97,14 +109,14 @@ fn end_last_line<'a>(
 }
 
 // Takes the bytes one by one.
-fn feed_all<'a>(
-    mut reader: Reader<'a>,
+fn feed_all(
+    mut reader: Reader,
     rest: &mut ArrayVec<u8, 201>,
     piece: &[u8],
-) -> Result<Reader<'a>, AllocError>
-    ensures script { IfOk result (λ after. after.script ≡ reader.entry.script) }
+) -> Result<Reader, AllocError>
+    ensures script { IfOk result (λ after. after.script ≡ reader.script) }
     ensures fed { IfOk result (λ after. record { reader = after.reader; rest = rest.new.items }
-        ≡ fed_piece reader.entry.script (record { reader = reader.entry.reader; rest = rest.old.items }) piece.now) }
+        ≡ fed_piece reader.script (record { reader = reader.reader; rest = rest.old.items }) piece.now) }
 {
     for byte in piece {
         if *byte == b'\n' {
@@ -117,9 +129,9 @@ fn feed_all<'a>(
 }
 
 // The line is whole.
-fn end_line<'a>(reader: Reader<'a>, rest: &mut ArrayVec<u8, 201>) -> Result<Reader<'a>, AllocError>
-    ensures script { IfOk result (λ after. after.script ≡ reader.entry.script) }
-    ensures read { IfOk result (λ after. after.reader ≡ read_on reader.entry.script reader.entry.reader (without_return rest.old.items)) }
+fn end_line(reader: Reader, rest: &mut ArrayVec<u8, 201>) -> Result<Reader, AllocError>
+    ensures script { IfOk result (λ after. after.script ≡ reader.script) }
+    ensures read { IfOk result (λ after. after.reader ≡ read_on reader.script reader.reader (without_return rest.old.items)) }
     ensures empty { rest.new.items ≡ [] }
 {
     let reader = reader.take(trim_return(rest));

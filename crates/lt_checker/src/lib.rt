@@ -1,5 +1,5 @@
 //! Journals, checked against their script line by line: as their bytes come, in pieces of any size, or once they
-//! were read.
+//! were read. An input that is a script and a journal is checked as it comes.
 #![tactic(auto)]
 
 mod checker;
@@ -7,11 +7,17 @@ mod counts;
 mod due;
 mod error;
 mod following;
+mod head;
+mod input;
+mod limits;
 mod reader;
 mod replaying;
+mod rest;
 #[cfg(test)]
 mod tests;
 
 pub use checker::Checker;
-pub use error::ReplayError;
+pub use error::{InputError, ReplayError};
+pub use input::{EndedRun, check_input};
+pub use limits::MAX_JOURNAL;
 pub use replaying::replay;

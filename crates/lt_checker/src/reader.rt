@@ -2,6 +2,7 @@ ghost use Rattle.std.specs.Prelude.{◌≡◌, IfOk};
 ghost use Rattle.lt_script.specs.Script.{IsScript};
 ghost use Rattle.lt_law_checking.specs.Checking.{first_reader, read_on, verdict};
 ghost use Rattle.lt_checker.specs.Checker.{IsAnswer};
+ghost use Rattle.lt_checker.specs.Endings.{IsWorldAnswer};
 
 use crate::counts::Counts;
 use crate::due::{push_closing, push_first};
@@ -19,10 +20,10 @@ use std::marker::Model;
 /// What the lines so far have told: the moves, the lines that must come before any further move, and how many lines
 /// were good.
 #[derive(Drop)]
-pub(crate) struct Reader<'a> {
+pub(crate) struct Reader {
     alloc: Global,
-    script: &'a Script,
-    world: World<'a>,
+    script: Script,
+    world: World,
     counts: Counts,
     due: VecDeque<Line>,
     // The words of the last line that was due.
@@ -32,7 +33,7 @@ pub(crate) struct Reader<'a> {
     bad: bool,
 }
 
-impl<'a> Model for Reader<'a> {
+impl Model for Reader {
     ghost use Rattle.std.specs.Prelude.{◌<◌, ◌+◌, ◌^◌};
     ghost use Rattle.lt_script.specs.Script.{IsScript};
     ghost use Rattle.lt_checker.specs.Place.{ReaderData, KeepsPlace, place_now};
@@ -40,16 +41,16 @@ impl<'a> Model for Reader<'a> {
     ghost Value = { ReaderData };
 
     ghost view = { λ r. record {
-      script = r.script.now;
+      script = r.script;
       reader = record { place = place_now r.bad r.world.run r.due.items; good = r.good };
     } };
 
-    ghost invariant = { λ r. IsScript r.script.now × (r.good + 1 < 2 ^ 32) × KeepsPlace r.bad r.script.now r.world r.counts r.due.items };
+    ghost invariant = { λ r. IsScript r.script × (r.good + 1 < 2 ^ 32) × KeepsPlace r.bad r.script r.world r.counts r.due.items };
 }
 
-impl<'a> Reader<'a> {
+impl Reader {
     /// Before the first line.
-    pub(crate) fn new(alloc: Global, script: &'a Script) -> Result<Reader<'a>, AllocError>
+    pub(crate) fn new(alloc: Global, script: &Script) -> Result<Reader, AllocError>
         ensures { IfOk result (λ reader. reader ≡ record { script = script.now; reader = first_reader script.now }) }
     {
         let world = World::new(alloc, script, MAX_MOVES)?;
@@ -57,6 +58,7 @@ impl<'a> Reader<'a> {
         let mut due = VecDeque::new(alloc);
         push_first(&mut due, script)?;
         push_closing(alloc, &mut due, script, &world)?;
+        let script = script.copy(alloc)?;
         Ok(Reader {
             alloc,
             script,
@@ -70,9 +72,9 @@ impl<'a> Reader<'a> {
     }
 
     /// Takes one line. It also fails where the count of lines would pass the largest number.
-    pub(crate) fn take(self, line: &[u8]) -> Result<Reader<'a>, AllocError>
-        ensures script { IfOk result (λ reader. reader.script ≡ self.entry.script) }
-        ensures reader { IfOk result (λ reader. reader.reader ≡ read_on self.entry.script self.entry.reader line.now) }
+    pub(crate) fn take(self, line: &[u8]) -> Result<Reader, AllocError>
+        ensures script { IfOk result (λ reader. reader.script ≡ self.script) }
+        ensures reader { IfOk result (λ reader. reader.reader ≡ read_on self.script self.reader line.now) }
     {
         if self.bad {
             return Ok(self);
@@ -89,7 +91,7 @@ impl<'a> Reader<'a> {
         } = self;
         let is_good = follow(
             alloc,
-            script,
+            &script,
             &mut world,
             &mut counts,
             &mut due,
@@ -113,14 +115,22 @@ impl<'a> Reader<'a> {
 
     /// The run, where all its lines are there.
     pub(crate) fn finish(self) -> Result<Run, ReplayError>
-        ensures answers { IsAnswer (verdict self.entry.script self.entry.reader) result }
-        ensures is_script { IsScript self.entry.script }
+        ensures answers { IsAnswer (verdict self.script self.reader) result }
+        ensures is_script { IsScript self.script }
+    {
+        Ok(self.finish_world()?.into_run())
+    }
+
+    /// The world in which the run ended, where all its lines are there.
+    pub(crate) fn finish_world(self) -> Result<World, ReplayError>
+        ensures answers { IsWorldAnswer self.script (verdict self.script self.reader) result }
+        ensures is_script { IsScript self.script }
     {
         if self.bad || !self.due.is_empty() || !self.world.at_rest() {
             return Err(ReplayError::Bad {
                 line: self.good + 1,
             });
         }
-        Ok(self.world.into_run())
+        Ok(self.world)
     }
 }

@@ -21,11 +21,7 @@ pub fn replay(alloc: Global, script: &Script, journal: &Journal) -> Result<Run, 
 }
 
 // Takes all lines of the journal, as they are written.
-fn read_all<'a>(
-    alloc: Global,
-    script: &'a Script,
-    journal: &Journal,
-) -> Result<Reader<'a>, AllocError>
+fn read_all(alloc: Global, script: &Script, journal: &Journal) -> Result<Reader, AllocError>
     ensures script { IfOk result (λ reader. reader.script ≡ script.now) }
     ensures reader { IfOk result (λ reader. reader.reader ≡ reader_after script.now (map (written script.now) journal.now)) }
 {

@@ -7,3 +7,4 @@ pub mod BoundLemmas
 pub mod FitsLemmas
 pub mod PremiseLemmas
 pub mod BoundServices
+pub mod BehindLemmas

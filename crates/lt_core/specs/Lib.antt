@@ -5,3 +5,4 @@ pub mod Bound
 pub mod Tests
 pub mod Notices
 pub mod Premises
+pub mod Behind

@@ -114,7 +114,7 @@ impl Core {
         true
     }
 
-    fn parked_len(&self) -> usize
+    pub(crate) fn parked_len(&self) -> usize
         ensures { result ≡ length self.now.state.parked }
     {
         self.parked.len()

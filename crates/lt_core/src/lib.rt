@@ -16,6 +16,7 @@ mod taking;
 mod telling;
 #[cfg(test)]
 mod tests;
+mod waiting;
 
 pub use fits::LAST_CLOCK;
 pub use laws::{law_room_to_move, law_room_to_send};

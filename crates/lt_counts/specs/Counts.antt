@@ -1,17 +1,11 @@
 -- For each mode a number.
-use Rattle.std.specs.Prelude.{ℕ, ◌≡◌, ◌+◌, ◌<◌, ◌≤◌, ◌^◌, Bool, List, slice_index_or, if◌then◌else◌, nat_lt}
+use Rattle.std.specs.Prelude.{ℕ, ◌≡◌, ◌+◌, ◌<◌, ◌≤◌, ◌^◌, Bool, List, slice_index_or, position, unwrap_or, if◌then◌else◌, nat_lt}
 use Rattle.lt_modes.specs.declared.mode.Mode.{Mode}
-use Rattle.lt_modes.specs.declared.mode.Mode.TheVariants.{IntentionRead, Read, Upgrade, IntentionWrite, ReadIntentionWrite, Write}
-use Rattle.lt_modes.specs.Modes.{Modes, has, modes_by, with_mode}
+use Rattle.lt_modes.specs.Modes.{Modes, has, modes_by, with_mode, same_mode, modes_in_order}
 
--- where the mode's number stands
+-- the mode's place among all modes
 abbrev pub place_of_mode : Mode → ℕ
-place_of_mode IntentionRead = 0
-place_of_mode Read = 1
-place_of_mode Upgrade = 2
-place_of_mode IntentionWrite = 3
-place_of_mode ReadIntentionWrite = 4
-place_of_mode Write = 5
+place_of_mode mode = unwrap_or (position (same_mode mode) modes_in_order) 0
 
 -- the mode's number
 abbrev pub mode_count : Mode → List ℕ → ℕ

@@ -1,9 +1,9 @@
-ghost use Rattle.std.specs.Prelude.{◌≡◌};
+ghost use Rattle.std.specs.Prelude.{◌≡◌, ◌<◌};
 ghost use Rattle.lt_modes.specs.declared.mode.Mode.{Mode as AnyMode};
 ghost use Rattle.lt_modes.specs.Modes.{has};
 ghost use Rattle.lt_counts.specs.Counts.{place_of_mode, mode_count, CanShift, IsShifted, modes_beyond, with_beyond};
 
-use lt_modes::{Mode, ModeSet};
+use lt_modes::{MODES, Mode, ModeSet};
 use std::marker::Model;
 
 /// How many sets of modes have each mode, among sets that come and change.
@@ -37,20 +37,16 @@ impl ModeCounts {
     }
 
     /// The counts once a set of the first modes has the second ones.
+    #[tactic(auto, using(crate::proofs::PlaceLemmas::none_placed, crate::proofs::PlaceLemmas::one_placed, crate::proofs::PlaceLemmas::all_placed))]
     pub fn shifted(&self, from: ModeSet, to: ModeSet) -> ModeCounts
         requires { (mode : AnyMode) → CanShift self.now from to mode }
         ensures { (mode : AnyMode) → IsShifted self.now from to mode (mode_count mode result) }
     {
-        ModeCounts {
-            by_mode: [
-                self.moved(Mode::IntentionRead, from, to),
-                self.moved(Mode::Read, from, to),
-                self.moved(Mode::Upgrade, from, to),
-                self.moved(Mode::IntentionWrite, from, to),
-                self.moved(Mode::ReadIntentionWrite, from, to),
-                self.moved(Mode::Write, from, to),
-            ],
+        let mut by_mode = [0; 6];
+        for &mode in &MODES {
+            by_mode[place(mode)] = self.moved(mode, from, to);
         }
+        ModeCounts { by_mode }
     }
 
     // The mode's number once a set of the first modes has the second ones.
@@ -74,13 +70,11 @@ impl ModeCounts {
     pub fn beyond(&self, a: ModeSet, b: ModeSet) -> ModeSet
         ensures { result ≡ modes_beyond self.now a b }
     {
-        let all = ModeSet::empty();
-        let all = self.with_beyond(all, Mode::IntentionRead, a, b);
-        let all = self.with_beyond(all, Mode::Read, a, b);
-        let all = self.with_beyond(all, Mode::Upgrade, a, b);
-        let all = self.with_beyond(all, Mode::IntentionWrite, a, b);
-        let all = self.with_beyond(all, Mode::ReadIntentionWrite, a, b);
-        self.with_beyond(all, Mode::Write, a, b)
+        let mut all = ModeSet::empty();
+        for &mode in &MODES {
+            all = self.with_beyond(all, mode, a, b);
+        }
+        all
     }
 
     // The set, and the mode where more sets have it than these two make up.
@@ -95,16 +89,10 @@ impl ModeCounts {
     }
 }
 
-// The mode's place.
-fn place(mode: Mode) -> usize
-    ensures { result ≡ place_of_mode mode }
+/// The mode's place among all modes.
+pub fn place(mode: Mode) -> usize
+    ensures place { result ≡ place_of_mode mode }
+    ensures within { result < 6 }
 {
-    match mode {
-        Mode::IntentionRead => 0,
-        Mode::Read => 1,
-        Mode::Upgrade => 2,
-        Mode::IntentionWrite => 3,
-        Mode::ReadIntentionWrite => 4,
-        Mode::Write => 5,
-    }
+    mode as usize
 }

@@ -5,4 +5,4 @@ mod counts;
 #[cfg(test)]
 mod tests;
 
-pub use counts::ModeCounts;
+pub use counts::{ModeCounts, place};

@@ -6,12 +6,12 @@ use Rattle.std.proofs.lemmas.Bool.{and_parts, leb-true}
 use Rattle.std.proofs.lemmas.Fmt.{length-decimal-le}
 use Rattle.std.proofs.lemmas.List.Sums.{length-filter, count_by-le-length}
 use Rattle.lt_modes.specs.declared.mode.Mode.{Mode}
-use Rattle.lt_modes.specs.declared.mode.Mode.TheVariants.{IntentionRead, Read, Upgrade, IntentionWrite, ReadIntentionWrite, Write}
 use Rattle.lt_modes.specs.declared.moves.Step.{Step}
 use Rattle.lt_modes.specs.declared.moves.Step.TheVariants.{Act, Take}
 use Rattle.lt_modes.specs.declared.event.Event.{Event}
 use Rattle.lt_modes.specs.declared.event.Event.TheVariants.{Grant, Wait, Try, Unlock, NotHeld, Change, DropAll, Busy, Copy, Freeze, Token}
 use Rattle.lt_modes.specs.Modes.{Modes, word_of, has, has_none, modes_in_order}
+use Rattle.lt_modes.proofs.EachMode.{word_length}
 use Rattle.lt_modes.specs.Script.{ScriptData, set_name, client_name}
 use Rattle.lt_text.specs.Text.{after_space, spaced}
 use Rattle.lt_journal.specs.Words.{words_of_modes, word_of_bool, step_words, event_words}
@@ -72,16 +72,8 @@ node_number script node is_script below = omega (arith, below, few_nodes script 
 short_node : (script : ScriptData) (node : ℕ) → IsScript script → HasNode script node → IsShort (decimal node)
 short_node script node is_script below = short_number node (node_number script node is_script below)
 
-mode_length : (mode : Mode) → length (word_of mode) ≤ 20
-mode_length IntentionRead = omega arith
-mode_length Read = omega arith
-mode_length Upgrade = omega arith
-mode_length IntentionWrite = omega arith
-mode_length ReadIntentionWrite = omega arith
-mode_length Write = omega arith
-
 short_mode : (mode : Mode) → IsShort (word_of mode)
-short_mode mode = omega (arith, mode_length mode)
+short_mode mode = omega (arith, word_length mode)
 
 short_bool : (got : Bool) → IsShort (word_of_bool got)
 short_bool true = omega arith
@@ -89,7 +81,7 @@ short_bool false = omega arith
 
 size_modes : (modes : List Mode) → size (map word_of modes) ≤ 21 * length modes
 size_modes [] = omega arith
-size_modes (mode ∷ modes) = omega (arith, mode_length mode, size_modes modes)
+size_modes (mode ∷ modes) = omega (arith, word_length mode, size_modes modes)
 
 size_words_of_modes : (modes : Modes) → size (words_of_modes modes) ≤ 126
 size_words_of_modes modes = elim (has_none modes) as (λ none. size (cond none (codes "none" ∷ []) (map word_of (filter (λ mode. has mode modes) modes_in_order))) ≤ 126) [

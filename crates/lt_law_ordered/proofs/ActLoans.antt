@@ -24,7 +24,7 @@ use Rattle.lt_law_invariant.proofs.ClientCounts.{asks_pushed}
 use Rattle.lt_law_invariant.proofs.ClientCommands.{IsIdle, no_ask_of}
 use Rattle.lt_law_lines.proofs.LineCounts.{count_after}
 use Rattle.lt_law_lines.proofs.LineRules.{key_is}
-use Rattle.lt_law_ordered.specs.Ordered.{best_answer}
+use Rattle.lt_order.specs.Ordered.{best_answer}
 use Rattle.lt_law_ordered.proofs.Loans.{is_for, asks_for, Loans, no_more, same_loans}
 
 -- a client that waits for nothing asks for no mode

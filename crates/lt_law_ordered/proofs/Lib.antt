@@ -7,4 +7,3 @@ pub mod MayHold
 pub mod LoanMoves
 pub mod OrderedRest
 pub mod Releasing
-pub mod FirstBad

@@ -28,7 +28,7 @@ use Rattle.lt_model.proofs.PathsMove.{has_mail_parts}
 use Rattle.lt_law_accounts.proofs.RowTotals.{total}
 use Rattle.lt_law_invariant.proofs.ClientsKept.{sound_clients}
 use Rattle.lt_law_lines.proofs.AlongRuns.{along_runs}
-use Rattle.lt_law_ordered.specs.Ordered.{may_hold}
+use Rattle.lt_order.specs.Ordered.{may_hold}
 use Rattle.lt_law_ordered.proofs.Loans.{asks_for}
 use Rattle.lt_law_ordered.specs.Ranked.{is_steady}
 use Rattle.lt_law_ordered.proofs.ActLoans.{ActLoans}

@@ -32,7 +32,7 @@ use Rattle.lt_law_lines.proofs.HeldRuns.{held_in_runs}
 use Rattle.lt_law_lines.proofs.LineCounts.{same_holding-true, same_holding-itself}
 use Rattle.lt_law_waiting.proofs.Finds.{any_below_which}
 use Rattle.lt_law_waiting.proofs.WaitsAtRest.{row_counts}
-use Rattle.lt_law_ordered.specs.Ordered.{may_hold}
+use Rattle.lt_order.specs.Ordered.{may_hold}
 use Rattle.lt_law_ordered.specs.Ranked.{is_ranked_from, IsRanked}
 use Rattle.lt_law_ordered.specs.OrderedLaws.{OrderedFinish, OrderedRelease, RankedFinish, RankedRelease, AloneFinish, RankedHold, RankedWait}
 use Rattle.lt_law_ordered.proofs.Loans.{is_for, asks_for}

@@ -1,9 +1,8 @@
 -- A change to a mode that the old one covers never waits.
 use Rattle.std.proofs.Common.{◌≡◌, ℕ, ◌≤◌, inl, inr, List, [], ◌∷◌, Bool, true, false, refl, sym, ap, subst, arith, ◌∙◌}
 use Rattle.std.specs.Prelude.{◌||◌, not, Contains, IsTrue, fold}
-use Rattle.std.proofs.lemmas.Bool.{and_from, or_left, eq-eqb}
+use Rattle.std.proofs.lemmas.Bool.{or_left, eq-eqb}
 use Rattle.lt_modes.specs.declared.mode.Mode.{Mode}
-use Rattle.lt_modes.specs.declared.mode.Mode.TheVariants.{IntentionRead, Read, Upgrade, IntentionWrite, ReadIntentionWrite, Write}
 use Rattle.lt_modes.specs.declared.parts.Row.{Row}
 use Rattle.lt_modes.specs.Modes.{Modes, conflicts, same_mode, has, every_mode, one, bars, covers, no_modes}
 use Rattle.lt_modes.specs.ModeLaws.{BarsBy}
@@ -18,7 +17,7 @@ use Rattle.lt_law_invariant.proofs.ClientCommands.{count_within}
 use Rattle.lt_law_lines.proofs.KeptLines.{row_of}
 
 every_mode-from : (test : Mode → Bool) → ((m : Mode) → test m ≡ true) → every_mode test ≡ true
-every_mode-from test h = and_from _ _ (and_from _ _ (and_from _ _ (and_from _ _ (and_from _ _ (h IntentionRead) (h Read)) (h Upgrade)) (h IntentionWrite)) (h ReadIntentionWrite)) (h Write)
+every_mode-from test h = simp h
 
 -- what one member covers, the set covers
 pub cover_more : (modes : Modes) (old new : Mode) → covers (one old) new ≡ true → IsTrue (has old modes) → covers modes new ≡ true

@@ -1,4 +1,3 @@
-pub mod Ordered
 pub mod Ranked
 pub mod OrderedLaws
 pub mod OrderedRows

@@ -1,5 +1,5 @@
 -- What holds of runs of ordered scripts, as statements.
-use Rattle.std.specs.Prelude.{◌≡◌, ◌↔◌, ◌≤◌, ◌<◌, ℕ, List, [], Some, None, length, take, IsTrue, IsFalse}
+use Rattle.std.specs.Prelude.{◌≡◌, ◌↔◌, ◌≤◌, ◌<◌, ℕ, List, [], length, take, IsTrue, IsFalse}
 use Rattle.lt_modes.specs.declared.mode.Mode.{Mode}
 use Rattle.lt_modes.specs.Script.{ScriptData}
 use Rattle.lt_spec.specs.Log.{Logged}
@@ -8,7 +8,7 @@ use Rattle.lt_spec.specs.World.{world_after, made_by, IsRun, is_at_rest, anyone_
 use Rattle.lt_model.specs.Homes.{IsWhole}
 use Rattle.lt_model.specs.Invariant.{WaitsFor}
 use Rattle.lt_law_waiting.specs.WaitingLaws.{WaitInRing}
-use Rattle.lt_law_ordered.specs.Ordered.{may_hold, is_orderly, IsOrdered, first_bad}
+use Rattle.lt_order.specs.Ordered.{may_hold, IsOrdered}
 use Rattle.lt_law_ordered.specs.Ranked.{IsRanked, NeverAsksHolding, IsReleasing}
 
 -- a run of an ordered script that is at rest has no waiting client
@@ -61,10 +61,3 @@ abbrev pub StuckByRing : Type 0
 StuckByRing = (script : ScriptData) (run : List Logged) → IsWhole script → IsRun script run → IsReleasing script → (k : ℕ)
     → IsTrue (is_at_rest script (world_after script (take k run)))
     → IsTrue (anyone_waits script (world_after script (take k run))) ↔ WaitInRing script (world_after script (take k run))
-
--- a script is ordered exactly where no client is named; the client that is named doesn't ask in order, and all before it do
-abbrev pub FirstBadIsExact : Type 0
-FirstBadIsExact = (script : ScriptData) → ((first_bad script ≡ None) ↔ IsOrdered script)
-    × ((client : ℕ) → first_bad script ≡ Some client
-    → (client < length script.clients) × IsFalse (is_orderly script client)
-    × ((earlier : ℕ) → earlier < client → IsTrue (is_orderly script earlier)))

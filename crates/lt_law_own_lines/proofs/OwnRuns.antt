@@ -66,7 +66,7 @@ not_reply script q client line own away = by_line line own
     by_line (Freeze s to number modes) e = refl
     by_line (Token s to epoch) e = refl
 
-no_replies : (script : ScriptData) (q client : ℕ) (lines : List Event) → AllByRecursion (IsOwnLine script q) lines → (home script client ≡ q → ⊥)
+pub no_replies : (script : ScriptData) (q client : ℕ) (lines : List Event) → AllByRecursion (IsOwnLine script q) lines → (home script client ≡ q → ⊥)
     → replies_of client lines ≡ []
 no_replies script q client [] own away = refl
 no_replies script q client (line ∷ rest) own away =

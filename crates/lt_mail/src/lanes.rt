@@ -7,9 +7,24 @@ ghost use Rattle.lt_mail.specs.Lanes.{ring_given, outbox_letters, sent_by, taken
 use crate::lane::{InLane, OutLane};
 use lt_desk::Letter;
 use std::alloc::AllocError;
+use std::collections::VecDeque;
+
+// How many places a new outbox has for so many letters: few sizes, so that the memory of one outbox serves another.
+fn places_for(letters: usize) -> usize
+    ensures { letters ≤ result }
+{
+    match letters {
+        0..=32 => 32,
+        33..=128 => 128,
+        129..=512 => 512,
+        _ => letters,
+    }
+}
 
 impl OutLane {
     /// Makes room in the outbox for so many further letters.
+    ///
+    /// Where it is empty and has less, it is made anew, so that no memory is copied that no letter was in.
     pub fn reserve(&mut self, letters: u32) -> Result<(), AllocError>
         ensures ring_given { ring_given self.new ≡ ring_given self.old }
         ensures outbox_letters { outbox_letters self.new ≡ outbox_letters self.old }
@@ -18,7 +33,12 @@ impl OutLane {
         ensures room { OnOk result (deque_len self.new.outbox + letters ≤ deque_capacity self.new.outbox) }
         ensures kept { deque_capacity self.old.outbox ≤ deque_capacity self.new.outbox }
     {
-        self.outbox.reserve(letters as usize)
+        let letters = letters as usize;
+        if self.outbox.is_empty() && self.outbox.capacity() < letters {
+            let alloc = *self.outbox.allocator();
+            self.outbox = VecDeque::with_capacity(alloc, places_for(letters))?;
+        }
+        self.outbox.reserve(letters)
     }
 
     /// Puts a letter at the end of the outbox.

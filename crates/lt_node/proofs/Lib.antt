@@ -9,3 +9,4 @@ pub mod CountLemmas
 pub mod StartLemmas
 pub mod KeptLemmas
 pub mod DropLemmas
+pub mod AskSearch

@@ -3,3 +3,4 @@ pub mod Room
 pub mod Answers
 pub mod Clients
 pub mod Family
+pub mod Asks

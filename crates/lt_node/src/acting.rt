@@ -19,7 +19,7 @@ use lt_core::{Answer, SetCommand};
 use lt_desk::Out;
 use lt_modes::{Command, Event, Stamp};
 
-impl Node<'_> {
+impl Node {
     /// Makes the next command of a client of this node.
     pub fn act(&mut self, client: u16, out: &mut Out) -> Answer
         requires client { client < length self.old.script.clients }
@@ -123,17 +123,17 @@ impl Node<'_> {
     {
         if self.waits(other) {
             out.push_event(Event::Busy { client, other, set });
-            family::end_each(&mut self.cores, self.script, set, None, stamp, out);
+            family::end_each(&mut self.cores, &self.script, set, None, stamp, out);
             return Answer::Busy;
         }
-        let locks = family::locks(&self.cores, self.script, set, other);
+        let locks = family::locks(&self.cores, &self.script, set, other);
         out.push_event(Event::DropAll {
             client,
             other,
             set,
             count: locks,
         });
-        family::end_each(&mut self.cores, self.script, set, Some(other), stamp, out);
+        family::end_each(&mut self.cores, &self.script, set, Some(other), stamp, out);
         Answer::Dropped(locks)
     }
 }

@@ -10,5 +10,6 @@ mod room;
 mod taking;
 #[cfg(test)]
 mod tests;
+mod waiting;
 
 pub use node::Node;

@@ -6,7 +6,7 @@ use crate::node::Node;
 use lt_core::Core;
 use lt_script::{MAX_CLIENTS, MAX_CLIENTS_OF_NODE, MAX_COMMANDS};
 
-impl Node<'_> {
+impl Node {
     /// Whether what the node keeps leaves room for a move.
     pub fn is_within(&self) -> bool
         ensures { result ≡ node_within self.now.script (state_of self.now) }

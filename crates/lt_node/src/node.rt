@@ -16,10 +16,10 @@ use lt_script::Script;
 use std::alloc::{AllocError, Global};
 use std::marker::Model;
 
-/// One node of a script: all its sets and its clients.
+/// One node of a script, of which it has a copy: all its sets and its clients.
 #[derive(Drop)]
-pub struct Node<'a> {
-    pub(crate) script: &'a Script,
+pub struct Node {
+    pub(crate) script: Script,
     pub(crate) me: u8,
     pub(crate) clock: u64,
     // The node of each client, by which letters are tested.
@@ -29,7 +29,7 @@ pub struct Node<'a> {
     pub(crate) cores: Vec<Core>,
 }
 
-impl<'a> Model for Node<'a> {
+impl Model for Node {
     ghost use Rattle.std.specs.Prelude.{map};
     ghost use Rattle.lt_node.specs.NodeData.{NodeData, IsNode};
     ghost use Rattle.lt_node.specs.Clients.{progress_made, KnowsClients};
@@ -37,7 +37,7 @@ impl<'a> Model for Node<'a> {
     ghost Value = { NodeData };
 
     ghost view = { λ n. record {
-      script = n.script.now;
+      script = n.script;
       me = n.me;
       clock = n.clock;
       made = map progress_made n.clients.items;
@@ -45,17 +45,17 @@ impl<'a> Model for Node<'a> {
     } };
 
     ghost invariant = { λ n. IsNode (record {
-      script = n.script.now;
+      script = n.script;
       me = n.me;
       clock = n.clock;
       made = map progress_made n.clients.items;
       cores = n.cores.items;
-    }) × KnowsClients n.script.now n.me n.homes.items n.clients.items };
+    }) × KnowsClients n.script n.me n.homes.items n.clients.items };
 }
 
-impl<'a> Node<'a> {
+impl Node {
     /// The node at the start of the script.
-    pub fn new(alloc: Global, script: &'a Script, node: u8) -> Result<Node<'a>, AllocError>
+    pub fn new(alloc: Global, script: &Script, node: u8) -> Result<Node, AllocError>
         requires { node < script.now.nodes }
         ensures script { IfOk result (λ made. made.script ≡ script.now) }
         ensures me { IfOk result (λ made. made.me ≡ node) }
@@ -64,6 +64,7 @@ impl<'a> Node<'a> {
         let homes = homes_of(alloc, script)?;
         let clients = clients_of(alloc, script, node)?;
         let cores = cores_of(alloc, script, node)?;
+        let script = script.copy(alloc)?;
         Ok(Node {
             script,
             me: node,
@@ -80,6 +81,12 @@ impl<'a> Node<'a> {
         ensures kept { IsNode self.now }
     {
         self.me
+    }
+
+    pub fn script(&self) -> &Script
+        ensures { result.now ≡ self.now.script }
+    {
+        &self.script
     }
 
     pub fn clock(&self) -> u64

@@ -13,7 +13,7 @@ use lt_core::Core;
 use lt_desk::{Body, Letter, Out};
 use std::alloc::AllocError;
 
-impl Node<'_> {
+impl Node {
     /// Makes room for one command.
     pub fn reserve(&mut self, out: &mut Out) -> Result<(), AllocError>
         requires { IsTrue (node_within self.old.script (state_of self.old)) }

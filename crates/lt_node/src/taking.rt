@@ -9,7 +9,7 @@ ghost use Rattle.lt_node.specs.Room.{RoomToTake};
 use crate::node::Node;
 use lt_desk::{Letter, Out};
 
-impl Node<'_> {
+impl Node {
     /// Takes the letter.
     pub fn take(&mut self, letter: Letter, out: &mut Out)
         requires fits { IsTrue (fits (numbers_of self.old.script) self.old.me self.old.clock ((state_of self.old).set letter.set) (letter_seen letter)) }

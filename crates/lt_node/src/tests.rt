@@ -29,7 +29,7 @@ fn script(alloc: Global) -> Result<Script, AllocError> {
 
 // The client's next command, where it can make one.
 fn act(
-    node: &mut Node<'_>,
+    node: &mut Node,
     script: &Script,
     client: u16,
     out: &mut Out,
@@ -48,7 +48,7 @@ fn act(
 }
 
 // Takes the letter, where it fits.
-fn take(node: &mut Node<'_>, mut letter: Letter, out: &mut Out) -> Result<bool, AllocError>
+fn take(node: &mut Node, mut letter: Letter, out: &mut Out) -> Result<bool, AllocError>
     ensures { node.new.script ≡ node.old.script }
 {
     if !node.fits(&letter) || !node.is_within() {
@@ -148,7 +148,7 @@ fn writers(alloc: Global) -> Result<Script, AllocError> {
 }
 
 // Takes the letter that was sent last, where it is for the node and fits.
-fn take_sent(node: &mut Node<'_>, out: &mut Out) -> Result<bool, AllocError>
+fn take_sent(node: &mut Node, out: &mut Out) -> Result<bool, AllocError>
     ensures { node.new.script ≡ node.old.script }
 {
     match out.next_letter() {
@@ -180,5 +180,9 @@ fn asks_park_behind_asks(rt: HostRuntime) -> Result<(), Fail> {
     assert!(rt; b.cores.first().is_some_and(|core| core.queues(1)));
     assert!(rt; c.cores.first().is_some_and(|core| core.parks(2)));
     assert!(rt; d.cores.first().is_some_and(|core| core.parks(3)));
+    assert!(rt; script.sets() == 1);
+    assert!(rt; c.parked_behind(0, 1, 2) && !c.parked_behind(0, 2, 1));
+    assert!(rt; d.parked_behind(0, 2, 3) && !b.parked_behind(0, 0, 1));
+    assert_eq!(rt; b.count(0, 0, Mode::Write), 1);
     Ok(())
 }

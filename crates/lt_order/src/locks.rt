@@ -2,7 +2,7 @@ ghost use Rattle.std.specs.Prelude.{◌≡◌, ◌<◌, ◌++◌, ◌∷◌, [],
 ghost use Rattle.std.specs.List.{list_all};
 ghost use Rattle.lt_spec.specs.Families.{family};
 ghost use Rattle.lt_spec.specs.Holdings.{Holding, holding, without_one, is_dropped};
-ghost use Rattle.lt_law_ordered.specs.Ordered.{are_below, holds_none, keeps_order, may_hold_after};
+ghost use Rattle.lt_order.specs.Ordered.{are_below, holds_none, keeps_order, may_hold_after};
 ghost use Rattle.lt_order.specs.Locks.{locks_in, set_named, is_mode};
 
 use lt_modes::{Command, Mode};

@@ -19,7 +19,7 @@ KnowsOf a m hand = Knows a.node.script.nodes a.mail.me a.node.script.nodes a.mai
 pub fetched : (a b : Parts) (m : Mail) (hand : Option Hand) → a.hand ≡ None → KnowsOf a m hand → b ≡ record a { mail = m; hand = hand } → Fetches a b
 fetched a b m hand empty k e = subst (λ (p : Parts). Fetches a p) (sym e) (record {
   seen = record {
-    same = record { reads = refl; script = refl; me = refl; limit = refl; ends = k.ends };
+    same = record { script = refl; me = refl; limit = refl; ends = k.ends };
     state = refl;
     log = refl;
     sent = λ node. ap (on_out sent_by) (k.outs node);

@@ -12,7 +12,7 @@ use Rattle.lt_law_plays.proofs.PlayLemmas.{plays_same, plays_grow}
 use Rattle.lt_law_recipients.specs.Peers.{NodeNames}
 use Rattle.lt_node.specs.NodeData.{state_of}
 use Rattle.lt_mail.specs.Words.{outs_count, ins_count, sent_to, taken_from}
-use Rattle.lt_mail.proofs.MailLemmas.{ends_join}
+use Rattle.lt_mail.proofs.MailLemmas.{ends_join, ends_same}
 use Rattle.lt_runner.specs.declared.parts.Hand.{Hand}
 use Rattle.lt_runner.specs.declared.parts.Parts.{Parts}
 use Rattle.lt_runner.specs.Hands.{in_hand, IsFromPeer, HandStays}
@@ -49,7 +49,6 @@ below_as a b s h = subst (λ (script : ScriptData). b.node.me < script.nodes) (s
 pub kept_still : (a b : Parts) → RunnerInvariant a → AsSeen a b → IsFromPeer a.node.script.nodes a.node.me b.hand → b.out.posts ≡ [] → b.out.events ≡ [] → RunnerInvariant b
 kept_still a b h s from posts events = record {
   used = h.used;
-  script = ap (λ r. r.now) s.same.reads ∙ (h.script ∙ sym s.same.script);
   me = s.same.ends.me ∙ (h.me ∙ sym s.same.me);
   below = below_as a b s.same h.below;
   outs = same_count a b (outs_count b.mail) s.same (s.same.ends.counts.0 ∙ h.outs);
@@ -82,7 +81,6 @@ pub record Moves (a b : Parts) (cause : Cause) : Type 0 where
 pub kept_moved : (a b : Parts) (cause : Cause) → RunnerInvariant a → Moves a b cause → RunnerInvariant b
 kept_moved a b cause h m = record {
   used = λ node. h.used node ++ used_by cause node;
-  script = ap (λ r. r.now) m.same.reads ∙ (h.script ∙ sym m.same.script);
   me = m.same.ends.me ∙ (h.me ∙ sym m.same.me);
   below = below_as a b m.same h.below;
   outs = same_count a b (outs_count b.mail) m.same (m.same.ends.counts.0 ∙ h.outs);
@@ -108,7 +106,6 @@ kept_moved a b cause h m = record {
 
 pub same_join : (a b c : Parts) → SameRunner a b → SameRunner b c → SameRunner a c
 same_join a b c h k = record {
-  reads = k.reads ∙ h.reads;
   script = k.script ∙ h.script;
   me = k.me ∙ h.me;
   limit = k.limit ∙ h.limit;
@@ -130,3 +127,37 @@ seen_join a b c h k = record {
   used = λ node letters e. k.used node letters (h.used node letters e);
   hand = holds_join a.hand b.hand c.hand h.hand k.hand;
 }
+
+-- nothing happened but that it was asked which nodes letters went to
+abbrev pub asked : Parts → Parts
+asked p = record p { reached = 0 }
+
+pub kept_asked : (p : Parts) → RunnerInvariant p → RunnerInvariant (asked p)
+kept_asked p h = record {
+  used = h.used;
+  me = h.me;
+  below = h.below;
+  outs = h.outs;
+  ins = h.ins;
+  plays = h.plays;
+  taken = h.taken;
+  hand = h.hand;
+  names = h.names;
+  bounded = h.bounded;
+  posts = h.posts;
+  events = h.events;
+}
+
+pub seen_asked : (p : Parts) → AsSeen p (asked p)
+seen_asked p = record {
+  same = record { script = refl; me = refl; limit = refl; ends = ends_same p.mail };
+  state = refl;
+  log = refl;
+  sent = λ node. refl;
+  used = λ node letters e. e;
+  hand = holds_same p.hand;
+}
+  where
+    holds_same : (x : Option Hand) → HandStays x x
+    holds_same None = tt
+    holds_same (Some x) = (refl, refl)

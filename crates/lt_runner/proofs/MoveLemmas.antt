@@ -50,7 +50,6 @@ pub finished : (a f : Parts) (node : NodeData) (out : OutData) (hand : Option Ha
     → ((k : ℕ) → in_hand k a.hand ≡ used_by cause k ++ in_hand k hand) → IsFromPeer a.node.script.nodes a.node.me hand → length a.log.entries < a.limit → Moves a f cause
 finished a f node out hand cause h can reaches d e hands peer place = record {
   same = record {
-    reads = e.script;
     script = ap (λ (n : NodeData). n.script) e.node ∙ d.script;
     me = ap (λ (n : NodeData). n.me) e.node ∙ d.me;
     limit = e.limit;

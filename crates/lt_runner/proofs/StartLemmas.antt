@@ -15,12 +15,11 @@ use Rattle.lt_runner.specs.declared.parts.Hand.{Hand}
 use Rattle.lt_runner.specs.Hands.{in_hand, IsFromPeer}
 use Rattle.lt_runner.specs.Kept.{RunnerInvariant}
 
-pub kept_at_start : (p : Parts) (script : ScriptData) (node : ℕ) → p.script.now ≡ script → p.node.script ≡ script → p.node.me ≡ node
+pub kept_at_start : (p : Parts) (script : ScriptData) (node : ℕ) → p.node.script ≡ script → p.node.me ≡ node
     → state_of p.node ≡ (start script).node node → node < script.nodes → IsFresh script.nodes node p.mail → p.log.entries ≡ [] → p.hand ≡ None
     → p.out.posts ≡ [] → p.out.events ≡ [] → RunnerInvariant p
-kept_at_start p script node reads is me state below fresh log hand posts events = record {
+kept_at_start p script node is me state below fresh log hand posts events = record {
   used = λ a. [];
-  script = reads ∙ sym is;
   me = fresh.me ∙ sym me;
   below = subst (λ (s : ScriptData). p.node.me < s.nodes) (sym is) (subst (λ (x : ℕ). x < script.nodes) (sym me) below);
   outs = fresh.outs ∙ ap (λ (s : ScriptData). s.nodes) (sym is);

@@ -83,7 +83,7 @@ turn_grew Full a b c h s k = record { same = same_join a b c h.same s; log = (h.
 turn_grew NoMemory a b c h s k = record { same = same_join a b c h.same s; log = (h.log.0, h.log.1 ∙ sym k.log) }
 
 pub same_self : (a : Parts) → SameRunner a a
-same_self a = record { reads = refl; script = refl; me = refl; limit = refl; ends = ends_same a.mail }
+same_self a = record { script = refl; me = refl; limit = refl; ends = ends_same a.mail }
 
 pub grew_self : (a : Parts) → Grew a a
 grew_self a = record { same = same_self a; log = ([], append-nil a.log.entries) }

@@ -21,7 +21,6 @@ use Rattle.lt_runner.specs.Choices.{next_choice}
 -- are those that it took but the one in hand
 pub record RunnerInvariant (p : Parts) : Type 0 where
   pub used : ℕ → List Letter
-  pub script : p.script.now ≡ p.node.script
   pub me : p.mail.me ≡ p.node.me
   pub below : p.node.me < p.node.script.nodes
   pub outs : outs_count p.mail ≡ p.node.script.nodes
@@ -36,7 +35,6 @@ pub record RunnerInvariant (p : Parts) : Type 0 where
 
 -- the runner of the same node, with the same ends of rings and the same limit
 pub record SameRunner (a b : Parts) : Type 0 where
-  pub reads : b.script ≡ a.script
   pub script : b.node.script ≡ a.node.script
   pub me : b.node.me ≡ a.node.me
   pub limit : b.limit ≡ a.limit

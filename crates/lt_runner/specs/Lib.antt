@@ -6,3 +6,4 @@ pub mod Polled
 pub mod Posting
 pub mod Starts
 pub mod Looking
+pub mod Same

@@ -33,7 +33,6 @@ pub record Posting (nodes me : ℕ) (a b : Mail) (all left : OutData) : Type 0 w
 pub record Finished (made : Move) (a b : Parts) : Type 0 where
   pub node : b.node ≡ a.node
   pub hand : b.hand ≡ a.hand
-  pub script : b.script ≡ a.script
   pub limit : b.limit ≡ a.limit
   pub log : b.log.entries ≡ a.log.entries ++ record { made = made; events = a.out.events } ∷ []
   pub mail : Posted a.out.posts a.mail b.mail

@@ -11,7 +11,7 @@ use std::thread::{Threads, for_each_mut};
 /// A runner that stopped for want of memory shows its next move still.
 pub fn all_at_once<R: Threads + Sync, G: Gate>(
     rt: &R,
-    runners: &mut [Runner<'_>],
+    runners: &mut [Runner],
     patience: u32,
     gate: &G,
 )

@@ -9,7 +9,6 @@ use crate::parts::Parts;
 use lt_core::LAST_CLOCK;
 use lt_desk::Letter;
 use lt_node::Node;
-use lt_script::Script;
 
 /// The move that a runner shows.
 #[derive(Clone, Copy)]
@@ -22,58 +21,54 @@ pub enum Choice {
 }
 
 /// The move that this runner shows: the letter in hand, or where there is none or it doesn't fit, a client's command.
-pub(crate) fn choose(parts: &Parts<'_>) -> Choice
-    requires script { parts.now.script.now ≡ parts.now.node.script }
+pub(crate) fn choose(parts: &Parts) -> Choice
     ensures { result ≡ next_choice parts.now }
 {
     match &parts.hand {
         Some(hand) if may_take(&parts.node, &hand.letter) => Choice::Take,
-        _ => act_choice(parts.script, &parts.node),
+        _ => act_choice(&parts.node),
     }
 }
 
-fn may_move(node: &Node<'_>) -> bool
+fn may_move(node: &Node) -> bool
     ensures { result ≡ may_move node.now.script (state_of node.now) }
 {
     node.clock() < LAST_CLOCK && node.is_within()
 }
 
-fn may_take(node: &Node<'_>, letter: &Letter) -> bool
+fn may_take(node: &Node, letter: &Letter) -> bool
     ensures { result ≡ may_take node.now.script node.now.me (state_of node.now) (letter_seen letter.now) }
 {
     may_move(node) && node.fits(letter)
 }
 
-fn act_choice(script: &Script, node: &Node<'_>) -> Choice
-    requires { script.now ≡ node.now.script }
+fn act_choice(node: &Node) -> Choice
     ensures { result ≡ act_choice node.now.script node.now.me (state_of node.now) }
 {
     if !(may_move(node) && node.leaves_asks()) {
         return Choice::Nothing;
     }
-    match first_client(script, node) {
+    match first_client(node) {
         Some(client) => Choice::Act(client),
         None => Choice::Nothing,
     }
 }
 
-fn first_client(script: &Script, node: &Node<'_>) -> Option<u16>
-    requires { script.now ≡ node.now.script }
+fn first_client(node: &Node) -> Option<u16>
     ensures { result ≡ first_client node.now.script node.now.me (state_of node.now) }
 {
     let mut first = None;
-    for client in 0..script.clients() {
-        if first.is_none() && can_act(script, node, client) {
+    for client in 0..node.script().clients() {
+        if first.is_none() && can_act(node, client) {
             first = Some(client);
         }
     }
     first
 }
 
-fn can_act(script: &Script, node: &Node<'_>, client: u16) -> bool
-    requires script { script.now ≡ node.now.script }
-    requires client { client < length script.now.clients }
+fn can_act(node: &Node, client: u16) -> bool
+    requires { client < length node.now.script.clients }
     ensures { result ≡ can_act node.now.script node.now.me (state_of node.now) client }
 {
-    script.home(client) == node.me() && node.runnable(client)
+    node.script().home(client) == node.me() && node.runnable(client)
 }

@@ -9,6 +9,7 @@ mod meeting;
 mod parts;
 mod readying;
 mod runner;
+mod same;
 #[cfg(test)]
 mod tests;
 mod turning;

@@ -17,7 +17,7 @@ use lt_mail::Mail;
 use lt_merge::Log;
 use lt_modes::{Move, Step};
 
-impl Parts<'_> {
+impl Parts {
     /// Makes the next command of the client.
     pub(crate) fn make_act(&mut self, client: u16)
         requires kept { RunnerInvariant self.old }
@@ -74,7 +74,6 @@ impl Parts<'_> {
 
     // Puts the move into the log, and its letters into the mail.
     fn finish_move(&mut self, made: Move)
-        requires script { self.old.script.now ≡ self.old.node.script }
         requires count { outs_count self.old.mail ≡ self.old.node.script.nodes }
         requires peers { All (IsForPeer self.old.node.script.nodes self.old.node.me) self.old.out.posts }
         requires room { CanLog self.old }
@@ -85,25 +84,29 @@ impl Parts<'_> {
         self.out.post_room();
         self.out.event_room();
         log_move(&mut self.log, &mut self.out, made, self.limit);
-        post_all(
+        let reached = post_all(
             &mut self.mail,
             &mut self.out,
-            self.script.nodes(),
+            self.node.script().nodes(),
             self.node.me(),
         );
+        self.reached |= reached;
     }
 }
 
-/// Puts the letters of a move into the outboxes to their nodes.
+/// Puts the letters of a move into the outboxes to their nodes, and tells which these are, bit q % 64 for node q.
 #[tactic(auto, using(crate::proofs::PostLemmas::all_posted, crate::proofs::PostLemmas::none_posted, crate::proofs::PostLemmas::next_post))]
-pub(crate) fn post_all(mail: &mut Mail, out: &mut Out, _nodes: u8, _me: u8)
+pub(crate) fn post_all(mail: &mut Mail, out: &mut Out, _nodes: u8, _me: u8) -> u64
     requires { CanPost _nodes _me mail.old out.old.posts }
     ensures mail { Posted out.old.posts mail.old mail.new }
     ensures out { out.new ≡ record out.old { posts = [] } }
 {
+    let mut reached = 0;
     while let Some(post) = out.next_letter() {
+        reached |= 1 << (post.to % 64);
         mail.put(post.to, post.letter);
     }
+    reached
 }
 
 // Notes the event lines of the last move.

@@ -12,10 +12,10 @@ use crate::runner::Runner;
 use lt_mail::{Mail, beside};
 use lt_merge::Log;
 
-impl<'a> Runner<'a> {
+impl Runner {
     /// Looks at the ring to another runner from both of its ends.
     #[tactic(auto, using(crate::proofs::Fetched::linked))]
-    pub fn meet(&mut self, taker: &mut Runner<'_>)
+    pub fn meet(&mut self, taker: &mut Runner)
         requires { AreBeside self.old taker.old }
         ensures sender { LooksTo taker.old.node.me self.old self.new }
         ensures taker { LooksFrom self.old.node.me taker.old taker.new }
@@ -32,7 +32,7 @@ impl<'a> Runner<'a> {
     {
         if self.parts.hand.is_none() {
             let me = self.parts.mail.node();
-            let nodes = self.parts.script.nodes();
+            let nodes = self.parts.node.script().nodes();
             let found = first_known(&mut self.parts.mail, me, nodes);
             hold(&mut self.parts.hand, found);
         }
@@ -54,7 +54,7 @@ impl<'a> Runner<'a> {
 
     /// The moves that its node has made.
     pub fn into_log(self) -> Log
-        ensures { result.entries ≡ self.entry.log.entries }
+        ensures { result.entries ≡ self.log.entries }
     {
         self.parts.log
     }

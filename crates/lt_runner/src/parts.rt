@@ -2,13 +2,11 @@ use lt_desk::{Letter, Out};
 use lt_mail::Mail;
 use lt_merge::Log;
 use lt_node::Node;
-use lt_script::Script;
 
 /// What a runner has.
 #[derive(Drop)]
-pub struct Parts<'a> {
-    pub(crate) script: &'a Script,
-    pub(crate) node: Node<'a>,
+pub struct Parts {
+    pub(crate) node: Node,
     pub(crate) mail: Mail,
     pub(crate) log: Log,
     // What a move sends out, on its way into the mail and the log; nothing between moves.
@@ -17,6 +15,8 @@ pub struct Parts<'a> {
     pub(crate) hand: Option<Hand>,
     // How many moves there may be in the log.
     pub(crate) limit: u32,
+    // The nodes that letters went to since this was last asked, bit q % 64 for node q.
+    pub(crate) reached: u64,
 }
 
 /// A letter that was taken from a ring, with the node that sent it.

@@ -14,9 +14,9 @@ use crate::parts::{Hand, Parts};
 use lt_mail::Mail;
 use std::alloc::AllocError;
 
-impl Parts<'_> {
-    // Gives the rings what waits in the outboxes.
-    fn flush(&mut self)
+impl Parts {
+    /// Gives the rings what waits in the outboxes.
+    pub(crate) fn flush(&mut self)
         requires { RunnerInvariant self.old }
         ensures kept { RunnerInvariant self.new }
         ensures seen { AsSeen self.old self.new }
@@ -33,7 +33,7 @@ impl Parts<'_> {
         ensures seen { AsSeen self.old self.new }
         ensures rings { KnowsNoLetter self.new }
     {
-        self.hand = poll(&mut self.mail, self.node.me(), self.script.nodes());
+        self.hand = poll(&mut self.mail, self.node.me(), self.node.script().nodes());
     }
 
     /// Gives the rings what waits in the outboxes, and takes a letter where none is in hand.

@@ -1,11 +1,11 @@
-ghost use Rattle.std.specs.Prelude.{◌≡◌, ◌≢◌, ◌<◌, ◌≤◌, length, IfOk};
+ghost use Rattle.std.specs.Prelude.{◌≡◌, ◌≢◌, ◌<◌, ◌≤◌, ◌==◌, length, IfOk};
 ghost use Rattle.lt_limits.specs.declared.moves.TheConstants.{MAX_MOVES};
 ghost use Rattle.lt_mail.specs.Opening.{IsFresh};
 ghost use Rattle.lt_runner.specs.declared.choice.Choice.TheVariants as choices;
 ghost use Rattle.lt_runner.specs.declared.turning.Turned.TheVariants as turns;
 ghost use Rattle.lt_runner.specs.declared.turning.Worked.TheVariants as answers;
 ghost use Rattle.lt_runner.specs.Choices.{next_choice};
-ghost use Rattle.lt_runner.specs.Kept.{RunnerInvariant, Grew, TurnEnds, WorkEnds};
+ghost use Rattle.lt_runner.specs.Kept.{RunnerInvariant, AsSeen, Grew, TurnEnds, WorkEnds};
 ghost use Rattle.lt_runner.specs.Starts.{StartsWith};
 
 use crate::gate::Gate;
@@ -21,11 +21,11 @@ use std::marker::Model;
 
 /// What runs a node: its state, its mail and its log.
 #[derive(Drop)]
-pub struct Runner<'a> {
-    pub(crate) parts: Parts<'a>,
+pub struct Runner {
+    pub(crate) parts: Parts,
 }
 
-impl<'a> Model for Runner<'a> {
+impl Model for Runner {
     ghost use Rattle.lt_runner.specs.declared.parts.Parts.{Parts as RunnerParts};
     ghost use Rattle.lt_runner.specs.Kept.{RunnerInvariant};
 
@@ -36,17 +36,17 @@ impl<'a> Model for Runner<'a> {
     ghost invariant = { λ r. RunnerInvariant r.parts };
 }
 
-impl<'a> Runner<'a> {
+impl Runner {
     /// The runner of a node at the start of the script, which makes up to `limit` moves.
     ///
     /// Without memory the mail is dropped.
     pub fn new(
         alloc: Global,
-        script: &'a Script,
+        script: &Script,
         node: u8,
         mail: Mail,
         limit: u32,
-    ) -> Result<Runner<'a>, AllocError>
+    ) -> Result<Runner, AllocError>
         requires node { node < script.now.nodes }
         requires mail { IsFresh script.now.nodes node mail }
         requires limit { (0 < limit) × (limit ≤ MAX_MOVES) }
@@ -77,6 +77,31 @@ impl<'a> Runner<'a> {
         self.parts.turn(gate)
     }
 
+    /// Makes turns until one finds no move or a full log, or a letter was sent, and flushes the outboxes.
+    pub fn work_until_sent<G: Gate>(&mut self, gate: &G) -> Worked
+        ensures grew { Grew self.old self.new }
+        ensures ends { WorkEnds result 0 self.new }
+    {
+        self.parts.work_until_sent(gate)
+    }
+
+    /// The nodes that letters went to since this was last asked, bit q % 64 for node q: a hint where to look for moves.
+    #[tactic(auto, using(crate::proofs::KeptLemmas::kept_asked, crate::proofs::KeptLemmas::seen_asked))]
+    pub fn reached(&mut self) -> u64
+        ensures { AsSeen self.old self.new }
+    {
+        let reached = self.parts.reached;
+        self.parts.reached = 0;
+        reached
+    }
+
+    /// Whether as many moves were made as there may be.
+    pub fn is_full(&self) -> bool
+        ensures { result ≡ (length self.now.log.entries == self.now.limit) }
+    {
+        self.parts.moves() == self.parts.limit
+    }
+
     /// How many moves were made.
     pub fn moves(&self) -> u32
         ensures { result ≡ length self.now.log.entries }
@@ -93,13 +118,13 @@ impl<'a> Runner<'a> {
 }
 
 #[tactic(auto, using(crate::proofs::StartLemmas::kept_at_start))]
-fn begin<'a>(
+fn begin(
     alloc: Global,
-    script: &'a Script,
+    script: &Script,
     node: u8,
     mail: Mail,
     limit: u32,
-) -> Result<Parts<'a>, AllocError>
+) -> Result<Parts, AllocError>
     requires node { node < script.now.nodes }
     requires mail { IsFresh script.now.nodes node mail }
     ensures kept { IfOk result RunnerInvariant }
@@ -107,12 +132,12 @@ fn begin<'a>(
 {
     let state = Node::new(alloc, script, node)?;
     Ok(Parts {
-        script,
         node: state,
         mail,
         log: Log::new(alloc),
         out: Out::new(alloc),
         hand: None,
         limit,
+        reached: 0,
     })
 }

@@ -68,7 +68,7 @@ fn script_of(alloc: Global, text: &str) -> Result<Script, Fail> {
 
 // The runner of node 0.
 #[tactic(auto, using(lt_mail::proofs::FirstMails::first_fresh))]
-fn first_runner<'a>(alloc: Global, script: &'a Script, limit: u32) -> Result<Runner<'a>, Fail>
+fn first_runner(alloc: Global, script: &Script, limit: u32) -> Result<Runner, Fail>
     requires { (0 < limit) × (limit ≤ MAX_MOVES) }
 {
     let mut mails = open(alloc, script.nodes(), 1)?;
@@ -79,7 +79,7 @@ fn first_runner<'a>(alloc: Global, script: &'a Script, limit: u32) -> Result<Run
 
 // The runners of nodes 0 and 1.
 #[tactic(auto, using(lt_mail::proofs::FirstMails::first_fresh))]
-fn two_runners<'a>(alloc: Global, script: &'a Script) -> Result<(Runner<'a>, Runner<'a>), Fail>
+fn two_runners(alloc: Global, script: &Script) -> Result<(Runner, Runner), Fail>
     requires { 1 < script.now.nodes }
     ensures { IfOk result (λ runners. AreBeside runners.1 runners.0) }
 {
@@ -93,7 +93,7 @@ fn two_runners<'a>(alloc: Global, script: &'a Script) -> Result<(Runner<'a>, Run
 
 // The second runner makes a turn, and both look at the ring between them.
 #[tactic(auto, using(crate::proofs::FirstRunners::beside_later))]
-fn turn_and_meet(first: &mut Runner<'_>, second: &mut Runner<'_>, gate: &Counter) -> Turned
+fn turn_and_meet(first: &mut Runner, second: &mut Runner, gate: &Counter) -> Turned
     requires { AreBeside second.old first.old }
 {
     let turned = second.turn(gate);

@@ -30,7 +30,7 @@ pub enum Worked {
     NoMemory,
 }
 
-impl Parts<'_> {
+impl Parts {
     /// Sends what waits in the outboxes, looks for a move, and makes it.
     #[tactic(auto, using(crate::proofs::TurnLemmas::turn_later, crate::proofs::TurnLemmas::same_later, crate::proofs::TurnLemmas::choice_lasts))]
     pub fn turn<G: Gate>(&mut self, gate: &G) -> Turned
@@ -98,7 +98,7 @@ impl Parts<'_> {
     }
 }
 
-impl Parts<'_> {
+impl Parts {
     /// Makes turns until `patience` of them, one after the other, found no move, or the log is full.
     #[tactic(auto, using(crate::proofs::TurnLemmas::turn_grew, crate::proofs::TurnLemmas::grew_self))]
     pub fn work<G: Gate>(&mut self, patience: u32, gate: &G) -> Worked
@@ -117,6 +117,26 @@ impl Parts<'_> {
                 Turned::NoMemory => return Worked::NoMemory,
             }
         }
+        Worked::Idle
+    }
+
+    /// Makes turns until one finds no move or a full log, or a letter was sent, and flushes the outboxes.
+    #[tactic(auto, using(crate::proofs::TurnLemmas::turn_grew, crate::proofs::TurnLemmas::grew_self))]
+    pub fn work_until_sent<G: Gate>(&mut self, gate: &G) -> Worked
+        requires { RunnerInvariant self.old }
+        ensures kept { RunnerInvariant self.new }
+        ensures grew { Grew self.old self.new }
+        ensures ends { WorkEnds result 0 self.new }
+    {
+        while self.reached == 0 {
+            match self.turn(gate) {
+                Turned::Moved => {}
+                Turned::Quiet => return Worked::Idle,
+                Turned::Full => return Worked::Full,
+                Turned::NoMemory => return Worked::NoMemory,
+            }
+        }
+        self.flush();
         Worked::Idle
     }
 

@@ -19,6 +19,14 @@ impl Model for SetDecl {
     ghost view = { λ d. record { name = d.name.items; family = d.family } };
 }
 
+impl Clone for SetDecl {
+    ghost is_clone = { λ d copy. copy ≡ d };
+
+    fn clone(&self) -> Result<SetDecl, AllocError> {
+        SetDecl::new(*self.name.allocator(), &self.name, self.family)
+    }
+}
+
 impl SetDecl {
     pub fn new(alloc: Global, name: &[u8], family: u8) -> Result<SetDecl, AllocError>
         ensures { IfOk result (λ d. d ≡ record { name = name.now; family = family }) }
@@ -60,6 +68,14 @@ impl Model for ClientDecl {
     ghost Value = { ClientData };
 
     ghost view = { λ d. record { name = d.name.items; node = d.node } };
+}
+
+impl Clone for ClientDecl {
+    ghost is_clone = { λ d copy. copy ≡ d };
+
+    fn clone(&self) -> Result<ClientDecl, AllocError> {
+        ClientDecl::new(*self.name.allocator(), &self.name, self.node)
+    }
 }
 
 impl ClientDecl {

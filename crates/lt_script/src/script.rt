@@ -86,6 +86,24 @@ impl Script {
         })
     }
 
+    /// The same script once more, with names yet to be looked up.
+    pub fn copy(&self, alloc: Global) -> Result<Script, AllocError>
+        ensures { IfOk result (λ s. s ≡ self.now) }
+    {
+        let sets = self.sets.to_vec(alloc)?;
+        let clients = self.clients.to_vec(alloc)?;
+        let commands = Vec::from_slice(alloc, &self.commands)?;
+        Ok(Script {
+            version: self.version,
+            nodes: self.nodes,
+            sets,
+            clients,
+            commands,
+            set_hints: Hints::new(),
+            client_hints: Hints::new(),
+        })
+    }
+
     /// The version: 1 or 2.
     pub fn version(&self) -> u8
         ensures version { result ≡ self.now.version }

@@ -5,7 +5,7 @@ use Rattle.lt_io.specs.Source.{SourceState}
 use Rattle.lt_io.specs.Whole.{IsReadWhole}
 use Rattle.lt_spec.specs.Log.{Logged}
 use Rattle.lt_words.specs.declared.command.Command.{Command}
-use Rattle.lt_words.specs.declared.command.Command.TheVariants.{Run, SimFirst, Sim, Check, Make, Soak}
+use Rattle.lt_words.specs.declared.command.Command.TheVariants.{Run, SimFirst, Sim, Check, Make, Soak, Order}
 use Rattle.lt_serve.specs.declared.serving.Served.{Served}
 use Rattle.lt_serve.specs.declared.status.Status.{Status}
 use Rattle.lt_serve.specs.declared.status.Status.TheVariants.{Done, Stuck, Usage, Refused, TooLong, ReadFault, WriteFault, NoMemory, Cut, BadJournal}
@@ -15,6 +15,7 @@ use Rattle.lt_serve.specs.Serves.{Serves}
 use Rattle.lt_serve.specs.TopCall.{JournalsBy, DidOf}
 use Rattle.lt_serve.proofs.Causing.{HasWritten, written_causes, refused_causes, written_reading}
 use Rattle.lt_serve.proofs.Completing.{rose, refusal_complete}
+use Rattle.lt_serve.proofs.Ended.{stuck_cause}
 
 does_answered : (moves : ℕ) (command : Command) (status : Status) (left : Option (List ℕ)) (run : List Logged) (text : List ℕ)
     → JournalsBy moves command status left run text → IsEnding status → IsAnswered command status
@@ -24,6 +25,7 @@ does_answered moves (Make nodes clients commands seed) status left run text does
 does_answered moves Check status left run text does h = does.done
 does_answered moves Run status left run text does h = h
 does_answered moves (Soak seed) status left run text does h = h
+does_answered moves Order status left run text does h = does.done
 
 told_answered : (moves : ℕ) (command : Command) (status : Status) (left : Option (List ℕ)) (run : List Logged) (old new : Option (List ℕ))
     → DidOf moves command status left run old new → IsEnding status → IsAnswered command status
@@ -98,7 +100,8 @@ pub written_serves : {S K : Type 0} (state : S → SourceState) (held : K → Op
 written_serves state held write_faults moves asked command answer before after sink sink_after is written told whole unread writing unwritten =
     subst (λ (a : Option Command). Serves state held write_faults moves a answer before after sink sink_after) (sym is) (record {
       did = told;
-      causes = written_causes (Some command) command (state before).left answer.status refl written;
+      causes = written_causes (Some command) command (state before).left answer.status refl written
+          (stuck_cause moves command answer.status (state before).left answer.run.entries (held sink) (held sink_after) told);
       reading = λ read. written_reading (limit_of (Some command)) answer.status (state before) (state after) (whole read) written;
       unread = unread;
       writing = writing;

@@ -11,7 +11,7 @@ use Rattle.lt_serve.specs.declared.status.Status.{Status}
 use Rattle.lt_serve.specs.declared.status.Status.TheVariants.{Done, Stuck, Usage, Refused, TooLong, ReadFault, WriteFault, NoMemory, Cut, BadJournal}
 use Rattle.lt_words.specs.Words.{seed_of, make_of, command_of}
 use Rattle.lt_gen.specs.Sizes.{can_make}
-use Rattle.lt_serve.specs.Causes.{HasStatusCause, SaysOfSource, WritesNothing, IsEnding, CanBeMade, IsRefusal}
+use Rattle.lt_serve.specs.Causes.{HasStatusCause, SaysOfSource, MayGetStuck, WritesNothing, IsEnding, CanBeMade, IsRefusal}
 
 -- the writing has begun
 abbrev pub HasWritten : Status → Type 0
@@ -43,12 +43,13 @@ is_other : (status other : Status) → HasWritten status → WritesNothing other
 is_other status other h n e = never_written status h (subst WritesNothing (sym e) n)
 
 pub written_causes : (asked : Option Command) (command : Command) (left : Option (List ℕ)) (status : Status) → asked ≡ Some command
-    → HasWritten status → HasStatusCause asked left status
-written_causes asked command left status is h = record {
+    → HasWritten status → (status ≡ Stuck → MayGetStuck asked left) → HasStatusCause asked left status
+written_causes asked command left status is h stuck = record {
   usage = λ e. absurd (is_other status Usage h tt e);
   no_command = λ none. absurd (not_none (sym none ∙ is));
   refused = λ fault e. absurd (is_other status (Refused fault) h tt e);
   bad_journal = λ line e. absurd (is_other status (BadJournal line) h tt e);
+  stuck = stuck;
   read_fault = λ e. absurd (is_other status ReadFault h tt e);
   too_long = λ e. absurd (is_other status TooLong h tt e);
 }
@@ -63,6 +64,7 @@ refused_causes asked command left status is h = subst (λ (a : Option Command). 
   no_command = λ none. absurd (not_none none);
   refused = λ fault e. (subst (λ (s : Status). IsRefusal command left s) e h).1;
   bad_journal = λ line e. let k = subst (λ (s : Status). IsRefusal command left s) e h in (ap Some k.1, k.2);
+  stuck = λ e. absurd (subst (λ (s : Status). IsRefusal command left s) e h);
   read_fault = λ e. subst (λ (s : Status). IsRefusal command left s) e h;
   too_long = λ e. subst (λ (s : Status). IsRefusal command left s) e h;
 })
@@ -107,7 +109,7 @@ make_may None clients commands seed = tt
 -- the numbers of a command are such that its script can be made
 pub may_be_made : (words : List (List ℕ)) → MayBeMade (command_of words)
 may_be_made [] = tt
-may_be_made (word ∷ []) = if_may (bytes_eq word (codes "run")) _ _ tt (if_may (bytes_eq word (codes "check")) _ _ tt tt)
+may_be_made (word ∷ []) = if_may (bytes_eq word (codes "run")) _ _ tt (if_may (bytes_eq word (codes "check")) _ _ tt (if_may (bytes_eq word (codes "order")) _ _ tt tt))
 may_be_made (word ∷ seed ∷ []) =
     if_may (bytes_eq word (codes "sim")) _ _ (if_may (bytes_eq seed (codes "first")) _ _ tt (seed_may Sim (λ k. tt) (seed_of seed)))
     (if_may (bytes_eq word (codes "soak")) _ _ (seed_may Soak (λ k. tt) (seed_of seed)) tt)

@@ -1,11 +1,7 @@
 mod Answering
-mod BadLines
 mod Causing
+mod Checked
 mod Completing
-mod Feeding
-mod Journals
-mod LastLines
+mod Ended
 mod Ordered
 mod Rooms
-mod Told
-mod TwoParts

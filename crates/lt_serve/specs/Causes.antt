@@ -1,15 +1,21 @@
 -- Why an answer comes, and what it says of the source and the sink.
-use Rattle.std.specs.Prelude.{◌≡◌, ◌≢◌, Bool, true, false, ℕ, ◌+◌, ◌≤◌, Option, Some, None, List}
+use Rattle.std.specs.Prelude.{◌≡◌, ◌≢◌, Bool, true, false, ℕ, ◌+◌, ◌≤◌, Option, Some, None, Ok, List}
 use Rattle.lt_io.specs.FaultCounts.{CountsFaults}
 use Rattle.lt_io.specs.Source.{SourceState}
 use Rattle.lt_io.specs.declared.whole.ReadFailure.{ReadFailure}
 use Rattle.lt_io.specs.declared.whole.ReadFailure.TheVariants.{Memory, Failed, TooLong as Long}
 use Rattle.lt_script.specs.declared.fault.ScriptFault.{ScriptFault}
+use Rattle.lt_script.specs.Reading.{read_of}
+use Rattle.lt_order.specs.Ordered.{IsOrdered}
 use Rattle.lt_words.specs.declared.command.Command.{Command}
-use Rattle.lt_words.specs.declared.command.Command.TheVariants.{Run, SimFirst, Sim, Check, Make}
+use Rattle.lt_words.specs.declared.command.Command.TheVariants.{Run, SimFirst, Sim, Check, Make, Soak, Order}
 use Rattle.lt_modes.specs.Script.{ScriptData}
-use Rattle.lt_serve.specs.declared.limits.TheConstants.{MAX_INPUT, MAX_JOURNAL}
-use Rattle.lt_serve.specs.TopCall.{HasFault, HasFaultBefore, DenotesBefore, IsBadLine}
+use Rattle.lt_checker.specs.declared.limits.TheConstants.{MAX_JOURNAL}
+use Rattle.lt_checker.specs.declared.error.InputError.{InputError}
+use Rattle.lt_checker.specs.declared.error.InputError.TheVariants as error
+use Rattle.lt_checker.specs.Input.{HasFaultBefore, IsBad}
+use Rattle.lt_serve.specs.declared.limits.TheConstants.{MAX_INPUT}
+use Rattle.lt_serve.specs.TopCall.{HasFault, greatest_script}
 use Rattle.lt_gen.specs.Sizes.{can_make}
 use Rattle.lt_serve.specs.declared.status.Status.{Status}
 use Rattle.lt_serve.specs.declared.status.Status.TheVariants.{Done, Stuck, Usage, Refused, TooLong, ReadFault, WriteFault, NoMemory, Cut, BadJournal}
@@ -20,6 +26,7 @@ reads (Some SimFirst) = true
 reads (Some (Sim seed)) = true
 reads (Some Run) = true
 reads (Some Check) = true
+reads (Some Order) = true
 reads other = false
 
 -- so many bytes its input may have
@@ -32,17 +39,27 @@ abbrev pub IsRefused : Option Command → Option (List ℕ) → ScriptFault → 
 IsRefused (Some Check) left fault = HasFaultBefore left fault
 IsRefused other left fault = HasFault left fault
 
--- the input that `check` reads has this first bad line
-abbrev pub IsBad : Option (List ℕ) → ℕ → Type 0
-IsBad left line = (script : ScriptData) × DenotesBefore left script × IsBadLine left script line
+-- if the bytes are known, the script that they denote isn't ordered
+abbrev pub IsUnordered : Option (List ℕ) → Type 0
+IsUnordered None = Unit {0}
+IsUnordered (Some bytes) = (script : ScriptData) → read_of bytes ≡ Ok script → IsOrdered script → ⊥
+
+-- a run that the command makes may end with a client waiting: its script isn't ordered
+abbrev pub MayGetStuck : Option Command → Option (List ℕ) → Type 0
+MayGetStuck (Some SimFirst) left = IsUnordered left
+MayGetStuck (Some (Sim seed)) left = IsUnordered left
+MayGetStuck (Some Run) left = IsUnordered left
+MayGetStuck (Some (Soak seed)) left = IsOrdered (greatest_script seed) → ⊥
+MayGetStuck other left = ⊥
 
 -- why a command is answered so, where the source had these bytes left: each answer has a cause here but want of memory, and but
--- for the ends of a run, of which `Did` speaks
+-- for the other ends of a run, of which `Did` speaks
 pub record HasStatusCause (asked : Option Command) (left : Option (List ℕ)) (answer : Status) : Type 0 where
   pub usage : answer ≡ Usage → asked ≡ None
   pub no_command : asked ≡ None → answer ≡ Usage
   pub refused : (fault : ScriptFault) → answer ≡ Refused fault → IsRefused asked left fault
   pub bad_journal : (line : ℕ) → answer ≡ BadJournal line → (asked ≡ Some Check) × IsBad left line
+  pub stuck : answer ≡ Stuck → MayGetStuck asked left
   -- these come of reading alone
   pub read_fault : answer ≡ ReadFault → reads asked ≡ true
   pub too_long : answer ≡ TooLong → reads asked ≡ true
@@ -107,3 +124,11 @@ abbrev pub status_of : ReadFailure → Status
 status_of Memory = NoMemory
 status_of Failed = ReadFault
 status_of Long = TooLong
+
+-- why an input is no script and journal, as a status
+abbrev pub status_of_input : InputError → Status
+status_of_input error.ReadFault = ReadFault
+status_of_input error.TooLong = TooLong
+status_of_input error.NoMemory = NoMemory
+status_of_input (error.Refused fault) = Refused fault
+status_of_input (error.BadJournal line) = BadJournal line

@@ -4,10 +4,11 @@ use Rattle.lt_io.specs.FaultCounts.{Rose, RoseBy}
 use Rattle.lt_io.specs.Source.{SourceState}
 use Rattle.lt_script.specs.declared.fault.ScriptFault.{ScriptFault}
 use Rattle.lt_words.specs.declared.command.Command.{Command}
-use Rattle.lt_words.specs.declared.command.Command.TheVariants.{Check, Make}
+use Rattle.lt_words.specs.declared.command.Command.TheVariants.{Check, Make, Order}
+use Rattle.lt_checker.specs.Input.{IsBad}
 use Rattle.lt_serve.specs.declared.status.Status.{Status}
 use Rattle.lt_serve.specs.declared.status.Status.TheVariants.{Done, NoMemory}
-use Rattle.lt_serve.specs.Causes.{IsRefused, IsBad, IsEnding, reads, limit_of}
+use Rattle.lt_serve.specs.Causes.{IsRefused, IsEnding, reads, limit_of}
 
 -- the source failed at no read and gave no more than the input may have, and its bytes are known: their script has no fault,
 -- and the journal that `check` reads has no bad line
@@ -17,11 +18,12 @@ pub record IsGood (command : Command) (before after : SourceState) : Type 0 wher
   pub no_fault : (fault : ScriptFault) → IsRefused (Some command) before.left fault → ⊥
   pub no_bad_line : command ≡ Check → (line : ℕ) → IsBad before.left line → ⊥
 
--- `make` and `check` are done; every other command has made a run to its end, which is Done, Stuck or Cut: of which end it is,
+-- `make`, `check` and `order` are done; every other command has made a run to its end, which is Done, Stuck or Cut: of which end it is,
 -- and that a node met its limit at Cut, `Did` speaks
 abbrev pub IsAnswered : Command → Status → Type 0
 IsAnswered (Make nodes clients commands seed) answer = answer ≡ Done
 IsAnswered Check answer = answer ≡ Done
+IsAnswered Order answer = answer ≡ Done
 IsAnswered other answer = IsEnding answer
 
 -- where the input is good, if the command reads one, no write failed, and memory wasn't wanting, the command is answered so

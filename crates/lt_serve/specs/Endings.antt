@@ -1,9 +1,10 @@
 -- How a run ended, and what is known of a run that was made.
-use Rattle.std.specs.Prelude.{◌≡◌, ◌<◌, ℕ, List, Option, Some, None, length, take}
+use Rattle.std.specs.Prelude.{◌≡◌, ◌≢◌, ◌<◌, ℕ, List, Option, Some, None, length, take}
 use Rattle.lt_modes.specs.Script.{ScriptData}
 use Rattle.lt_spec.specs.Log.{Logged}
 use Rattle.lt_spec.specs.World.{IsRun}
 use Rattle.lt_law_promises.specs.Promised.{Promised}
+use Rattle.lt_order.specs.Ordered.{IsOrdered}
 use Rattle.lt_limits.specs.declared.ending.Ending.{Ending}
 use Rattle.lt_limits.specs.declared.ending.Ending.TheVariants as ending
 use Rattle.lt_limits.specs.Endings.{EndsBy}
@@ -34,8 +35,11 @@ status_of_end ending.Done = Done
 status_of_end ending.Stuck = Stuck
 status_of_end (ending.Cut node) = Cut node
 
--- a run of the script by all rules, in which a node makes up to so many moves; it ended so, and keeps all that is promised
+-- a run of the script by all rules, in which a node makes up to so many moves; it ended so, and keeps all that is
+-- promised
 pub record RanTo (moves : ℕ) (ending : Status) (script : ScriptData) (run : List Logged) : Type 0 where
   pub is_run : IsRun script run
   pub ends : EndsAs moves ending script run
   pub promised : Promised script run
+  -- if the script is ordered, no client waits at its end
+  pub ordered : IsOrdered script → ending ≢ Stuck

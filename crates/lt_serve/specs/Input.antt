@@ -2,7 +2,7 @@
 use Rattle.std.specs.Prelude.{◌≡◌, ℕ, List, Err}
 use Rattle.lt_script.specs.Reading.{read_of}
 use Rattle.lt_serve.specs.declared.status.Status.{Status}
-use Rattle.lt_serve.specs.declared.status.Status.TheVariants.{Refused, TooLong, ReadFault, NoMemory, BadJournal}
+use Rattle.lt_serve.specs.declared.status.Status.TheVariants.{Refused, TooLong, ReadFault, NoMemory}
 
 -- the answers of reading bytes
 abbrev pub IsReadFailure : Status → Type 0
@@ -16,10 +16,3 @@ abbrev pub IsFaultOf : List ℕ → Status → Type 0
 IsFaultOf bytes (Refused fault) = read_of bytes ≡ Err fault
 IsFaultOf bytes NoMemory = Unit {0}
 IsFaultOf bytes other = ⊥
-
--- the answers to bytes that were read
-abbrev pub IsAnswerOfBytes : Status → Type 0
-IsAnswerOfBytes (Refused fault) = Unit {0}
-IsAnswerOfBytes (BadJournal line) = Unit {0}
-IsAnswerOfBytes NoMemory = Unit {0}
-IsAnswerOfBytes other = ⊥

@@ -6,5 +6,4 @@ pub mod Causes
 pub mod Complete
 pub mod Literals
 pub mod Input
-pub mod Heads
 pub mod Serves

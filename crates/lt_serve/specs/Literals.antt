@@ -7,7 +7,8 @@ use Rattle.lt_gen.specs.Generator.{HasSizes}
 use Rattle.lt_summary.specs.Summary.{summary_text}
 use Rattle.lt_limits.specs.declared.moves.TheConstants.{MAX_MOVES}
 use Rattle.lt_mail.specs.declared.opening.TheConstants.{MAX_CAPACITY}
-use Rattle.lt_serve.specs.declared.limits.TheConstants.{MAX_INPUT, MAX_JOURNAL}
+use Rattle.lt_checker.specs.declared.limits.TheConstants.{MAX_JOURNAL}
+use Rattle.lt_serve.specs.declared.limits.TheConstants.{MAX_INPUT}
 use Rattle.lt_serve.specs.declared.serving.TheConstants.{USUAL}
 use Rattle.lt_serve.specs.declared.status.Status.{Status}
 use Rattle.lt_serve.specs.declared.status.Status.TheVariants.{Done, Stuck, Usage, Refused, TooLong, ReadFault, WriteFault, NoMemory, Cut, BadJournal}
@@ -33,7 +34,7 @@ pub record CodesAre : Type 0 where
 pub record TextsAre : Type 0 where
   pub done : status_text Done ≡ []
   pub stuck : status_text Stuck ≡ []
-  pub usage : status_text Usage ≡ codes "lockrun: usage: run | sim first | sim SEED | check | make NODES CLIENTS COMMANDS SEED | soak SEED"
+  pub usage : status_text Usage ≡ codes "lockrun: usage: run | sim first | sim SEED | check | make NODES CLIENTS COMMANDS SEED | soak SEED | order"
   pub refused : status_text fault_of_nothing ≡ codes "lockrun: line 1: S5"
   pub too_long : status_text TooLong ≡ codes "lockrun: input too long"
   pub read_fault : status_text ReadFault ≡ codes "lockrun: read fault"

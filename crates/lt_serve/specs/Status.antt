@@ -20,7 +20,7 @@ code_of (BadJournal line) = 8
 abbrev pub status_text : Status → List ℕ
 status_text Done = []
 status_text Stuck = []
-status_text Usage = codes "lockrun: usage: run | sim first | sim SEED | check | make NODES CLIENTS COMMANDS SEED | soak SEED"
+status_text Usage = codes "lockrun: usage: run | sim first | sim SEED | check | make NODES CLIENTS COMMANDS SEED | soak SEED | order"
 status_text (Refused fault) = codes "lockrun: " ++ text_of_fault fault
 status_text TooLong = codes "lockrun: input too long"
 status_text ReadFault = codes "lockrun: read fault"

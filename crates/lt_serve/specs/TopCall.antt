@@ -1,26 +1,25 @@
 -- What each answer of the top call means.
-use Rattle.std.specs.Prelude.{◌≡◌, ℕ, List, [], ◌∷◌, ◌++◌, Option, Some, None, Ok, Err, length, take, codes}
+use Rattle.std.specs.Prelude.{◌≡◌, ℕ, List, [], ◌∷◌, ◌++◌, Option, Some, None, Ok, Err, length, codes}
 use Rattle.std.specs.Fmt.{decimal}
 use Rattle.std.specs.Io.KnownBytes.{Appends}
 use Rattle.lt_io.specs.Sink.{AppendsPart}
-use Rattle.lt_modes.specs.Script.{ScriptData}
+use Rattle.lt_modes.specs.Script.{ScriptData, client_name}
 use Rattle.lt_spec.specs.Log.{Logged}
 use Rattle.lt_merge.specs.Merging.{AreRising}
 use Rattle.lt_spec.specs.FixedOrder.{first_run}
-use Rattle.lt_journal.specs.Split.{input_parts}
 use Rattle.lt_journal.specs.Text.{text_of, lines_text}
 use Rattle.lt_journal.specs.declared.line.Line.TheVariants.{Cut as CutLine}
-use Rattle.lt_text.specs.Text.{lines}
-use Rattle.lt_law_checking.specs.Input.{checked_input}
 use Rattle.lt_law_checking.specs.Journals.{IsFinished}
 use Rattle.lt_law_promises.specs.Promised.{Promised}
+use Rattle.lt_checker.specs.Input.{DenotesBefore, IsJournalOf}
 use Rattle.lt_gen.specs.Generator.{script_of}
+use Rattle.lt_order.specs.Ordered.{first_bad}
 use Rattle.lt_summary.specs.Summary.{summary_of, summary_text}
 use Rattle.lt_script.specs.declared.fault.ScriptFault.{ScriptFault}
 use Rattle.lt_script.specs.Printing.{print_of}
 use Rattle.lt_script.specs.Reading.{read_of}
 use Rattle.lt_words.specs.declared.command.Command.{Command}
-use Rattle.lt_words.specs.declared.command.Command.TheVariants.{Run, SimFirst, Sim, Check, Make, Soak}
+use Rattle.lt_words.specs.declared.command.Command.TheVariants.{Run, SimFirst, Sim, Check, Make, Soak, Order}
 use Rattle.lt_serve.specs.declared.status.Status.{Status}
 use Rattle.lt_serve.specs.declared.status.Status.TheVariants.{Done, Stuck, Usage, Refused, TooLong, ReadFault, WriteFault, NoMemory, Cut, BadJournal}
 use Rattle.lt_serve.specs.Endings.{RanTo, StopsInTime, cut_of}
@@ -87,26 +86,6 @@ abbrev pub Prints : ℕ → ℕ → ℕ → ℕ → Status → List Logged → L
 Prints nodes clients commands seed ending run text =
     (ending ≡ Done) × (run ≡ []) × (text ≡ print_of (script_of nodes clients commands seed))
 
--- if the bytes are known, their lines before the journal denote this script
-abbrev pub DenotesBefore : Option (List ℕ) → ScriptData → Type 0
-DenotesBefore None script = Unit {0}
-DenotesBefore (Some bytes) script = read_of (take (input_parts bytes).script bytes) ≡ Ok script
-
--- if the bytes are known, this is the first fault of the lines before the journal
-abbrev pub HasFaultBefore : Option (List ℕ) → ScriptFault → Type 0
-HasFaultBefore None fault = Unit {0}
-HasFaultBefore (Some bytes) fault = read_of (take (input_parts bytes).script bytes) ≡ Err fault
-
--- if the bytes are known, the journal in them is that of this run of the script
-abbrev pub IsJournalOf : Option (List ℕ) → ScriptData → List Logged → Type 0
-IsJournalOf None script run = Unit {0}
-IsJournalOf (Some bytes) script run = checked_input script (lines bytes) ≡ Ok run
-
--- if the bytes are known, this is the first line in them that is bad
-abbrev pub IsBadLine : Option (List ℕ) → ScriptData → ℕ → Type 0
-IsBadLine None script line = Unit {0}
-IsBadLine (Some bytes) script line = checked_input script (lines bytes) ≡ Err line
-
 -- `ok` and the number of moves
 abbrev pub ok_text : List Logged → List ℕ
 ok_text run = codes "ok " ++ decimal (length run) ++ codes "\n"
@@ -121,6 +100,20 @@ pub record Checks (ending : Status) (left : Option (List ℕ)) (run : List Logge
   pub promised : Promised script run
   pub counted : text ≡ ok_text run
 
+-- `ordered`, or `not ordered` and this client
+abbrev pub order_answer : ScriptData → Option ℕ → List ℕ
+order_answer script None = codes "ordered\n"
+order_answer script (Some client) = codes "not ordered " ++ client_name script client ++ codes "\n"
+
+-- the script that the bytes denote, of which it is written whether it is ordered, or which client is the first that isn't in
+-- order; and no run
+pub record TellsOrder (ending : Status) (left : Option (List ℕ)) (run : List Logged) (text : List ℕ) : Type 0 where
+  pub done : ending ≡ Done
+  pub no_run : run ≡ []
+  pub script : ScriptData
+  pub denoted : Denotes left script
+  pub told : text ≡ order_answer script (first_bad script)
+
 -- what a command did that ended so: its run, and the text that is to be written
 abbrev pub JournalsBy : ℕ → Command → Status → Option (List ℕ) → List Logged → List ℕ → Type 0
 JournalsBy moves SimFirst ending left run text = JournalsFirst moves ending left run text
@@ -129,6 +122,7 @@ JournalsBy moves (Make nodes clients commands seed) ending left run text = Print
 JournalsBy moves Check ending left run text = Checks ending left run text
 JournalsBy moves Run ending left run text = JournalsThreads moves ending left run text
 JournalsBy moves (Soak seed) ending left run text = Soaks seed moves ending run text
+JournalsBy moves Order ending left run text = TellsOrder ending left run text
 
 -- it gives no run, and nothing was written
 abbrev pub DidNothing : List Logged → Option (List ℕ) → Option (List ℕ) → Type 0

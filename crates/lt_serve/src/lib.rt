@@ -3,13 +3,12 @@
 
 mod arguments;
 mod checking;
-mod head;
 mod laws;
 mod limits;
 mod made;
 mod making;
+mod ordering;
 mod reading;
-mod rest;
 mod schedule;
 mod serving;
 mod simulated;
@@ -22,7 +21,8 @@ mod threaded;
 
 pub use arguments::program;
 pub use laws::law_literals;
-pub use limits::{MAX_INPUT, MAX_JOURNAL};
+pub use limits::MAX_INPUT;
+pub use lt_checker::MAX_JOURNAL;
 pub use lt_mail::MAX_CAPACITY;
 pub use lt_runner::{Gate, Open};
 pub use serving::{Served, Setup, USUAL, serve, serve_with};

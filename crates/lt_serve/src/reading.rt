@@ -2,7 +2,8 @@ ghost use Rattle.std.specs.Prelude.{◌≡◌, ◌≤◌, Ok, length, IfOk, OnOk
 ghost use Rattle.lt_io.specs.Whole.{Left, IsReadWhole};
 ghost use Rattle.lt_script.specs.Script.{IsScript};
 ghost use Rattle.lt_script.specs.Reading.{read_of};
-ghost use Rattle.lt_serve.specs.declared.limits.TheConstants.{MAX_INPUT, MAX_JOURNAL};
+ghost use Rattle.lt_checker.specs.declared.limits.TheConstants.{MAX_JOURNAL};
+ghost use Rattle.lt_serve.specs.declared.limits.TheConstants.{MAX_INPUT};
 ghost use Rattle.lt_words.specs.declared.command.Command.TheVariants as command;
 ghost use Rattle.lt_serve.specs.Causes.{SaysOfSource, IsRefusal, status_of};
 ghost use Rattle.lt_serve.specs.Input.{IsReadFailure, IsFaultOf};

@@ -18,7 +18,7 @@ pub enum Schedule {
 
 impl Schedule {
     /// The move that comes next, where one is enabled.
-    pub fn choose(&mut self, world: &World<'_>) -> Option<Choice>
+    pub fn choose(&mut self, world: &World) -> Option<Choice>
         ensures none { IsNone result → IsTrue (is_at_rest world.now.script (world_of world.now)) }
         ensures place { OnSome result (result ≡ option_map choice_of (pick world.now.script (world_of world.now)
             (scheduled self.old (count_turns world.now.script (world_of world.now))).0)) }
@@ -33,7 +33,7 @@ impl Schedule {
 }
 
 // A move that is drawn from the enabled ones.
-fn draw(numbers: &mut Draws, world: &World<'_>) -> Option<Choice>
+fn draw(numbers: &mut Draws, world: &World) -> Option<Choice>
     ensures none { IsNone result → IsTrue (is_at_rest world.now.script (world_of world.now)) }
     ensures place { OnSome result (result ≡ option_map choice_of (pick world.now.script (world_of world.now)
         (draw_of (count_turns world.now.script (world_of world.now)) numbers.old).0)) }

@@ -11,6 +11,7 @@ ghost use Rattle.lt_serve.specs.TopCall.{JournalsBy};
 use crate::checking::checked;
 use crate::made::{Made, write_made};
 use crate::making::printed;
+use crate::ordering::order_told;
 use crate::schedule::Schedule;
 use crate::simulated::simulated;
 use crate::soaking::soaked;
@@ -145,5 +146,6 @@ fn make<R: Threads + Sync, S: Source, G: Gate>(
             Ok(made) => Ok(made),
             Err(_) => Err(Status::NoMemory),
         },
+        Command::Order => order_told(alloc, source),
     }
 }

@@ -8,6 +8,7 @@ ghost use Rattle.lt_serve.specs.Schedules.{AreInOrder};
 ghost use Rattle.lt_serve.specs.Endings.{RanTo, StopsInTime, status_of_end};
 
 use crate::schedule::Schedule;
+use lt_law_ordered::law_ordered;
 use lt_law_promises::law_promised;
 use lt_limits::Ending;
 use lt_merge::Run;
@@ -17,6 +18,7 @@ use std::alloc::{AllocError, Global};
 
 /// Makes the moves of a script by this schedule, until the world is at rest or a node that has made as many as it may
 /// could make another.
+#[tactic(auto, using(crate::proofs::Ended::ran_to))]
 pub(crate) fn simulate(
     alloc: Global,
     script: &Script,
@@ -30,13 +32,14 @@ pub(crate) fn simulate(
     ensures in_time { IfOk result (λ made. StopsInTime moves script.now made.1.entries) }
 {
     law_promised();
+    law_ordered();
     let mut world = World::new(alloc, script, moves)?;
     make_moves(&mut world, schedule)?;
     let ending = world.ending();
     Ok((ending, world.into_run()))
 }
 
-fn make_moves(world: &mut World<'_>, mut schedule: Schedule) -> Result<(), AllocError>
+fn make_moves(world: &mut World, mut schedule: Schedule) -> Result<(), AllocError>
     requires kept { IsScript world.old.script }
     requires start { world.old.run ≡ [] }
     requires limit { 0 < world.old.limit }

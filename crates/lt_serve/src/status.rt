@@ -1,6 +1,7 @@
 ghost use Rattle.std.specs.Prelude.{◌≡◌, ◌≢◌, ◌↔◌, [], IsTrue};
 ghost use Rattle.lt_serve.specs.Status.{code_of, status_text};
 
+use lt_checker::InputError;
 use lt_limits::Ending;
 use lt_script::ScriptFault;
 use std::fmt;
@@ -79,6 +80,22 @@ impl From<Ending> for Status {
     }
 }
 
+impl From<InputError> for Status {
+    ghost use Rattle.lt_serve.specs.Causes.{status_of_input};
+
+    ghost from_gives = { λ error status. status ≡ status_of_input error };
+
+    fn from(error: InputError) -> Status {
+        match error {
+            InputError::ReadFault => Status::ReadFault,
+            InputError::TooLong => Status::TooLong,
+            InputError::NoMemory => Status::NoMemory,
+            InputError::Refused(fault) => Status::Refused(fault),
+            InputError::BadJournal { line } => Status::BadJournal { line },
+        }
+    }
+}
+
 /// The line that the program writes on standard error, without its line end; empty where it writes none.
 impl fmt::Display for Status {
     ghost use Rattle.std.specs.Prelude.{Some};
@@ -102,4 +119,4 @@ impl fmt::Display for Status {
 }
 
 const USAGE: &str =
-    "lockrun: usage: run | sim first | sim SEED | check | make NODES CLIENTS COMMANDS SEED | soak SEED";
+    "lockrun: usage: run | sim first | sim SEED | check | make NODES CLIENTS COMMANDS SEED | soak SEED | order";

@@ -17,6 +17,7 @@ use crate::serving::Setup;
 use crate::status::Status;
 use lt_io::Source;
 use lt_journal::write;
+use lt_law_ordered::law_ordered;
 use lt_law_promises::law_promised;
 use lt_limits::Ending;
 use lt_merge::Run;
@@ -27,6 +28,7 @@ use std::alloc::{AllocError, Global};
 use std::thread::Threads;
 
 /// The run of a script on threads, and how it ended.
+#[tactic(auto, using(crate::proofs::Ended::ran_to))]
 pub(crate) fn run_nodes<R: Threads + Sync, G: Gate>(
     rt: &R,
     alloc: Global,
@@ -41,6 +43,7 @@ pub(crate) fn run_nodes<R: Threads + Sync, G: Gate>(
     ensures rising { IfOk result (λ made. AreRising made.1.entries) }
 {
     law_promised();
+    law_ordered();
     run_on_threads(
         rt,
         alloc,

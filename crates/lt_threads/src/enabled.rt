@@ -14,7 +14,7 @@ use lt_script::Script;
 ///
 /// Each two runners look at the rings between them, and each that has no letter in hand takes one that came: then who can
 /// make a move shows one.
-pub fn any_enabled<'a>(script: &Script, runners: &mut Vec<Runner<'a>>) -> Option<u8>
+pub fn any_enabled(script: &Script, runners: &mut Vec<Runner>) -> Option<u8>
     requires { IsCrew script.now runners.old.items }
     ensures crew { IsCrew script.now runners.new.items }
     ensures seen { EachIs AsSeen runners.old.items runners.new.items }
@@ -30,7 +30,7 @@ pub fn any_enabled<'a>(script: &Script, runners: &mut Vec<Runner<'a>>) -> Option
 }
 
 #[tactic(auto, using(crate::proofs::Enabling::next_shows, crate::proofs::Enabling::first_shows, crate::proofs::Enabling::none_shows))]
-fn first_to_move(runners: &[Runner<'_>], nodes: u8) -> Option<u8>
+fn first_to_move(runners: &[Runner], nodes: u8) -> Option<u8>
     requires { nodes ≡ length runners.now }
     ensures { IsFirstMove runners.now result }
 {

@@ -7,7 +7,7 @@ use lt_runner::Runner;
 
 /// What each runner keeps.
 #[tactic(auto, using(crate::proofs::Fetches::next_kept, crate::proofs::Fetches::all_kept))]
-pub(crate) fn all_kept(runners: &[Runner<'_>])
+pub(crate) fn all_kept(runners: &[Runner])
     ensures { AreKept runners.now }
 {
     for k in 0..runners.len() {
@@ -16,7 +16,7 @@ pub(crate) fn all_kept(runners: &[Runner<'_>])
 }
 
 /// Each runner that has no letter in hand takes one that is known to come.
-pub(crate) fn fetch_all<'a>(runners: &mut Vec<Runner<'a>>)
+pub(crate) fn fetch_all(runners: &mut Vec<Runner>)
     requires { AreMet AnyTwo runners.old.items }
     ensures { Fetching (vec_len runners.new) runners.old.items runners.new.items }
 {

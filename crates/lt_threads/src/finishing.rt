@@ -12,13 +12,13 @@ use std::alloc::{AllocError, Global};
 
 /// The logs of all runners, in order of their nodes, as `merge` takes them. Without memory all is dropped.
 #[tactic(auto, using(crate::proofs::Logs::crew_logs))]
-pub fn finish<'a>(
+pub fn finish(
     alloc: Global,
     script: &Script,
-    mut runners: Vec<Runner<'a>>,
+    mut runners: Vec<Runner>,
 ) -> Result<Vec<Log>, AllocError>
     requires { IsCrew script.now runners.items }
-    ensures { IfOk result (λ logs. AreCrewLogs script.now runners.entry.items logs.items) }
+    ensures { IfOk result (λ logs. AreCrewLogs script.now runners.items logs.items) }
 {
     meet_all(&mut runners);
     all_kept(&runners);
@@ -27,9 +27,9 @@ pub fn finish<'a>(
 }
 
 // Adds the logs of the runners.
-fn take_logs<'a>(mut runners: Vec<Runner<'a>>, mut logs: Vec<Log>) -> Result<Vec<Log>, AllocError>
+fn take_logs(mut runners: Vec<Runner>, mut logs: Vec<Log>) -> Result<Vec<Log>, AllocError>
     requires { logs.items ≡ [] }
-    ensures { IfOk result (λ all. map run_entries all.items ≡ map log_of runners.entry.items) }
+    ensures { IfOk result (λ all. map run_entries all.items ≡ map log_of runners.items) }
 {
     while !runners.is_empty() {
         let runner = runners.remove(0);

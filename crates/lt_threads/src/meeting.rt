@@ -8,7 +8,7 @@ ghost use Rattle.lt_threads.specs.Meeting.{AreMet, AnyTwo, RunnersLinked, BothLo
 use lt_runner::Runner;
 
 /// Each two runners look at the rings between them, after which each knows all letters that are in its rings.
-pub(crate) fn meet_all<'a>(runners: &mut Vec<Runner<'a>>)
+pub(crate) fn meet_all(runners: &mut Vec<Runner>)
     requires { RunnersLinked runners.old.items }
     ensures seen { EachIs AsSeen runners.old.items runners.new.items }
     ensures met { AreMet AnyTwo runners.new.items }
@@ -23,7 +23,7 @@ pub(crate) fn meet_all<'a>(runners: &mut Vec<Runner<'a>>)
 }
 
 // The last runner and each other one look at the rings between them.
-fn meet_last<'a>(runners: &mut [Runner<'a>], last: &mut Runner<'a>)
+fn meet_last(runners: &mut [Runner], last: &mut Runner)
     requires linked { RunnersLinked (runners.old ++ last.old ∷ []) }
     requires met { AreMet AnyTwo runners.old }
     ensures { Meeting (length runners.old) (length runners.old) (runners.old ++ last.old ∷ []) (runners.new ++ last.new ∷ []) }
@@ -33,7 +33,7 @@ fn meet_last<'a>(runners: &mut [Runner<'a>], last: &mut Runner<'a>)
     }
 }
 
-fn meet_two<'a>(runners: &mut [Runner<'a>], earlier: usize, last: &mut Runner<'a>)
+fn meet_two(runners: &mut [Runner], earlier: usize, last: &mut Runner)
     requires inside { earlier < length runners.old }
     requires linked { RunnersLinked (runners.old ++ last.old ∷ []) }
     ensures { PairMeets earlier (length runners.old) (runners.old ++ last.old ∷ []) (runners.new ++ last.new ∷ []) }
@@ -42,7 +42,7 @@ fn meet_two<'a>(runners: &mut [Runner<'a>], earlier: usize, last: &mut Runner<'a
 }
 
 #[tactic(auto, using(crate::proofs::Pairs::both_look))]
-fn meet_both(first: &mut Runner<'_>, second: &mut Runner<'_>)
+fn meet_both(first: &mut Runner, second: &mut Runner)
     requires there { AreBeside first.old second.old }
     requires back { AreBeside second.old first.old }
     ensures { BothLook first.old.node.me second.old.node.me first.old second.old first.new second.new }

@@ -25,7 +25,7 @@ pub enum Ended {
 pub fn run_rounds<R: Threads + Sync, G: Gate>(
     rt: &R,
     script: &Script,
-    runners: &mut Vec<Runner<'_>>,
+    runners: &mut Vec<Runner>,
     patience: u32,
     gate: &G,
 ) -> Ended
@@ -45,7 +45,7 @@ pub fn run_rounds<R: Threads + Sync, G: Gate>(
 fn round<R: Threads + Sync, G: Gate>(
     rt: &R,
     script: &Script,
-    runners: &mut Vec<Runner<'_>>,
+    runners: &mut Vec<Runner>,
     patience: u32,
     gate: &G,
 ) -> Option<Ended>
@@ -58,7 +58,7 @@ fn round<R: Threads + Sync, G: Gate>(
 
 fn work_at_once<R: Threads + Sync, G: Gate>(
     rt: &R,
-    runners: &mut Vec<Runner<'_>>,
+    runners: &mut Vec<Runner>,
     patience: u32,
     gate: &G,
 )
@@ -68,7 +68,7 @@ fn work_at_once<R: Threads + Sync, G: Gate>(
 }
 
 // Makes a move where one is enabled that a node may make; else tells how the rounds end.
-fn push_on<G: Gate>(script: &Script, runners: &mut Vec<Runner<'_>>, gate: &G) -> Option<Ended>
+fn push_on<G: Gate>(script: &Script, runners: &mut Vec<Runner>, gate: &G) -> Option<Ended>
     requires crew { IsCrew script.now runners.old.items }
     ensures { PushEnds result script.now runners.old.items runners.new.items }
 {
@@ -81,7 +81,7 @@ fn push_on<G: Gate>(script: &Script, runners: &mut Vec<Runner<'_>>, gate: &G) ->
 // Makes a move of the least node that can make one, or where its log is full of the first other node that may.
 fn push_from<G: Gate>(
     script: &Script,
-    runners: &mut Vec<Runner<'_>>,
+    runners: &mut Vec<Runner>,
     node: u8,
     gate: &G,
 ) -> Option<Ended>
@@ -111,7 +111,7 @@ fn first_end(pushed: Turned) -> Option<Ended>
 // Makes a move of the first node that can and may make one; where there is none the run is cut at this one.
 fn push_another<G: Gate>(
     script: &Script,
-    runners: &mut Vec<Runner<'_>>,
+    runners: &mut Vec<Runner>,
     node: u8,
     gate: &G,
 ) -> Option<Ended>
@@ -135,7 +135,7 @@ fn other_end(tried: Turned, node: u8) -> Option<Ended>
 }
 
 // Lets one runner after the other make a turn, until one makes a move.
-fn try_each<G: Gate>(runners: &mut Vec<Runner<'_>>, gate: &G) -> Turned
+fn try_each<G: Gate>(runners: &mut Vec<Runner>, gate: &G) -> Turned
     ensures { Tried result runners.old.items runners.new.items }
 {
     for place in 0..runners.len() {
@@ -154,7 +154,7 @@ fn is_end(pushed: Turned) -> bool
     matches!(pushed, Turned::Moved | Turned::NoMemory)
 }
 
-fn push_at<G: Gate>(runners: &mut Vec<Runner<'_>>, place: usize, gate: &G) -> Turned
+fn push_at<G: Gate>(runners: &mut Vec<Runner>, place: usize, gate: &G) -> Turned
     requires { place < length runners.old.items }
     ensures { PushedAt result place runners.old.items runners.new.items }
 {
@@ -163,7 +163,7 @@ fn push_at<G: Gate>(runners: &mut Vec<Runner<'_>>, place: usize, gate: &G) -> Tu
 
 // Lets the runner make a turn.
 #[tactic(auto, using(crate::proofs::Turns::one_pushed))]
-fn push<G: Gate>(runner: &mut Runner<'_>, gate: &G) -> Turned
+fn push<G: Gate>(runner: &mut Runner, gate: &G) -> Turned
     ensures { OnePushed result runner.old runner.new }
 {
     let turned = runner.turn(gate);

@@ -9,12 +9,12 @@ use std::alloc::{AllocError, Global};
 
 /// A runner for each node of the script, in order, with rings of so many places; each makes up to `limit` moves.
 #[tactic(auto, using(crate::proofs::Starts::starting, crate::proofs::Starts::first_crew))]
-pub fn start_crew<'a>(
+pub fn start_crew(
     alloc: Global,
-    script: &'a Script,
+    script: &Script,
     capacity: u32,
     limit: u32,
-) -> Result<Vec<Runner<'a>>, AllocError>
+) -> Result<Vec<Runner>, AllocError>
     requires capacity { (0 < capacity) × (capacity ≤ MAX_CAPACITY) }
     requires limit { (0 < limit) × (limit ≤ MAX_MOVES) }
     ensures { IfOk result (λ runners. IsFirstCrew script.now limit runners.items) }
@@ -30,13 +30,13 @@ pub fn start_crew<'a>(
 
 // The runner of the next node, with the first mail that is left.
 #[tactic(auto, using(crate::proofs::Starts::has_mail, crate::proofs::Starts::next_fresh, crate::proofs::Starts::one_more))]
-fn add_runner<'a>(
+fn add_runner(
     alloc: Global,
-    script: &'a Script,
+    script: &Script,
     node: u8,
     limit: u32,
     mails: &mut Vec<Mail>,
-    runners: &mut Vec<Runner<'a>>,
+    runners: &mut Vec<Runner>,
 ) -> Result<(), AllocError>
     requires node { node < script.now.nodes }
     requires limit { (0 < limit) × (limit ≤ MAX_MOVES) }

@@ -41,11 +41,7 @@ pub fn run_on_threads<R: Threads + Sync, G: Gate>(
 }
 
 // How rounds that ended so end the run.
-fn end_of<'a>(
-    script: &Script,
-    runners: &mut Vec<Runner<'a>>,
-    ended: Ended,
-) -> Result<Ending, AllocError>
+fn end_of(script: &Script, runners: &mut Vec<Runner>, ended: Ended) -> Result<Ending, AllocError>
     requires crew { IsCrew script.now runners.old.items }
     requires ended { RoundsEnd ended script.now runners.old.items }
     ensures crew { IsCrew script.now runners.new.items }

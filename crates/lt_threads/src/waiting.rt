@@ -11,7 +11,7 @@ use lt_runner::Runner;
 use lt_script::Script;
 
 /// Whether some client of the script waits.
-pub fn anyone_waits<'a>(script: &Script, runners: &mut Vec<Runner<'a>>) -> bool
+pub fn anyone_waits(script: &Script, runners: &mut Vec<Runner>) -> bool
     requires { IsCrew script.now runners.old.items }
     ensures crew { IsCrew script.now runners.new.items }
     ensures seen { EachIs AsSeen runners.old.items runners.new.items }
@@ -22,7 +22,7 @@ pub fn anyone_waits<'a>(script: &Script, runners: &mut Vec<Runner<'a>>) -> bool
     some_client_waits(script, runners)
 }
 
-fn some_client_waits(script: &Script, runners: &[Runner<'_>]) -> bool
+fn some_client_waits(script: &Script, runners: &[Runner]) -> bool
     requires crew { IsCrew script.now runners.now }
     requires kept { AreKept runners.now }
     requires met { AreMet AnyTwo runners.now }
@@ -36,7 +36,7 @@ fn some_client_waits(script: &Script, runners: &[Runner<'_>]) -> bool
     false
 }
 
-fn client_waits(script: &Script, runners: &[Runner<'_>], client: u16) -> bool
+fn client_waits(script: &Script, runners: &[Runner], client: u16) -> bool
     requires crew { IsCrew script.now runners.now }
     requires kept { AreKept runners.now }
     requires met { AreMet AnyTwo runners.now }

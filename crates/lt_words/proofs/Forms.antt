@@ -26,6 +26,10 @@ check_taken : takes lockrun (codes "check" ∷ []) ≡ true
 unfolding clap_on_literals
 check_taken = refl
 
+order_taken : takes lockrun (codes "order" ∷ []) ≡ true
+unfolding clap_on_literals
+order_taken = refl
+
 sim_taken : (b : ℕ) (rest : List ℕ) → (b == 45) ≡ false → takes lockrun (codes "sim" ∷ (b ∷ rest) ∷ []) ≡ true
 unfolding clap_on_literals
 sim_taken b rest e = simp e
@@ -41,6 +45,10 @@ run_found = refl
 check_found : command_in (subcommand_of lockrun (codes "check" ∷ [])) ≡ command_of (codes "check" ∷ [])
 unfolding clap_on_literals
 check_found = refl
+
+order_found : command_in (subcommand_of lockrun (codes "order" ∷ [])) ≡ command_of (codes "order" ∷ [])
+unfolding clap_on_literals
+order_found = refl
 
 sim_found : (b : ℕ) (rest : List ℕ) → (b == 45) ≡ false → command_in (subcommand_of lockrun (codes "sim" ∷ (b ∷ rest) ∷ [])) ≡ command_of (codes "sim" ∷ (b ∷ rest) ∷ [])
 unfolding clap_on_literals
@@ -58,28 +66,37 @@ plain_word P [] plain each = absurd (cc)
 plain_word P (b ∷ rest) plain each = each b rest (no_hyphen b rest plain)
 
 -- what holds of words of each form holds of all words that have one
-by_form : (P : List (List ℕ) → Type 0) → P (codes "run" ∷ []) → P (codes "check" ∷ [])
+by_form : (P : List (List ℕ) → Type 0) → P (codes "run" ∷ []) → P (codes "check" ∷ []) → P (codes "order" ∷ [])
     → ((b : ℕ) (rest : List ℕ) → (b == 45) ≡ false → P (codes "sim" ∷ (b ∷ rest) ∷ []))
     → ((b : ℕ) (rest : List ℕ) → (b == 45) ≡ false → P (codes "soak" ∷ (b ∷ rest) ∷ []))
     → ((a b c d : ℕ) (u v w x : List ℕ) → (a == 45) ≡ false → (b == 45) ≡ false → (c == 45) ≡ false → (d == 45) ≡ false
     → P (codes "make" ∷ (a ∷ u) ∷ (b ∷ v) ∷ (c ∷ w) ∷ (d ∷ x) ∷ []))
     → (words : List (List ℕ)) → is_form words ≡ true → P words
-by_form P run check sim soak make [] form = absurd (cc)
-by_form P run check sim soak make (verb ∷ []) form =
-    elim (or_cases (bytes_eq verb (codes "run")) (bytes_eq verb (codes "check")) (and_parts (has_verb (verb ∷ [])) (is_plain verb && true) form).0) [
-      | inl h ↦ subst (λ v. P (v ∷ [])) (sym (same_word verb (codes "run") h)) run
-      | inr h ↦ subst (λ v. P (v ∷ [])) (sym (same_word verb (codes "check") h)) check
+by_form P run check order sim soak make [] form = absurd (cc)
+by_form P run check order sim soak make (verb ∷ []) form =
+    let is : (word : List ℕ) → bytes_eq verb word ≡ true → P (word ∷ []) → P (verb ∷ []) =
+    λ word h p. subst (λ v. P (v ∷ [])) (sym (same_word verb word h)) p in
+    let has = (and_parts (has_verb (verb ∷ [])) (is_plain verb && true) form).0 in
+    elim (cases_Bool (bytes_eq verb (codes "run"))) [
+      | inl h ↦ is (codes "run") h run
+      | inr h ↦ elim (cases_Bool (bytes_eq verb (codes "check"))) [
+        | inl k ↦ is (codes "check") k check
+        | inr k ↦ elim (cases_Bool (bytes_eq verb (codes "order"))) [
+          | inl l ↦ is (codes "order") l order
+          | inr l ↦ absurd (let wrong = rw (h, k, l) at has in cc)
+        ]
+      ]
     ]
-by_form P run check sim soak make (verb ∷ word ∷ []) form =
+by_form P run check order sim soak make (verb ∷ word ∷ []) form =
     let parts = and_parts (has_verb (verb ∷ word ∷ [])) (is_plain verb && (is_plain word && true)) form in
     let plain = and_parts (is_plain word) true (and_parts (is_plain verb) (is_plain word && true) parts.1).1 in
     elim (or_cases (bytes_eq verb (codes "sim")) (bytes_eq verb (codes "soak")) parts.0) [
       | inl h ↦ subst (λ v. P (v ∷ word ∷ [])) (sym (same_word verb (codes "sim") h)) (plain_word (λ w. P (codes "sim" ∷ w ∷ [])) word plain.0 sim)
       | inr h ↦ subst (λ v. P (v ∷ word ∷ [])) (sym (same_word verb (codes "soak") h)) (plain_word (λ w. P (codes "soak" ∷ w ∷ [])) word plain.0 soak)
     ]
-by_form P run check sim soak make (verb ∷ a ∷ b ∷ []) form = absurd (cc)
-by_form P run check sim soak make (verb ∷ a ∷ b ∷ c ∷ []) form = absurd (cc)
-by_form P run check sim soak make (verb ∷ t ∷ u ∷ v ∷ w ∷ []) form =
+by_form P run check order sim soak make (verb ∷ a ∷ b ∷ []) form = absurd (cc)
+by_form P run check order sim soak make (verb ∷ a ∷ b ∷ c ∷ []) form = absurd (cc)
+by_form P run check order sim soak make (verb ∷ t ∷ u ∷ v ∷ w ∷ []) form =
     let parts = and_parts (has_verb (verb ∷ t ∷ u ∷ v ∷ w ∷ [])) (is_plain verb && (is_plain t && (is_plain u && (is_plain v && (is_plain w && true))))) form in
     let four = and_parts (is_plain verb) (is_plain t && (is_plain u && (is_plain v && (is_plain w && true)))) parts.1 in
     let three = and_parts (is_plain t) (is_plain u && (is_plain v && (is_plain w && true))) four.1 in
@@ -92,10 +109,10 @@ by_form P run check sim soak make (verb ∷ t ∷ u ∷ v ∷ w ∷ []) form =
     plain_word (λ v. P (codes "make" ∷ (a ∷ t) ∷ (b ∷ u) ∷ v ∷ w ∷ [])) v one.0 (λ c v g.
     plain_word (λ w. P (codes "make" ∷ (a ∷ t) ∷ (b ∷ u) ∷ (c ∷ v) ∷ w ∷ [])) w last.0 (λ d w h.
     make a b c d t u v w e f g h)))))
-by_form P run check sim soak make (verb ∷ t ∷ u ∷ v ∷ w ∷ x ∷ rest) form = absurd (cc)
+by_form P run check order sim soak make (verb ∷ t ∷ u ∷ v ∷ w ∷ x ∷ rest) form = absurd (cc)
 
 pub form_taken : (words : List (List ℕ)) → is_form words ≡ true → takes lockrun words ≡ true
-form_taken = by_form (λ words. takes lockrun words ≡ true) run_taken check_taken sim_taken soak_taken make_taken
+form_taken = by_form (λ words. takes lockrun words ≡ true) run_taken check_taken order_taken sim_taken soak_taken make_taken
 
 pub form_found : (words : List (List ℕ)) → is_form words ≡ true → command_in (subcommand_of lockrun words) ≡ command_of words
-form_found = by_form (λ words. command_in (subcommand_of lockrun words) ≡ command_of words) run_found check_found sim_found soak_found make_found
+form_found = by_form (λ words. command_in (subcommand_of lockrun words) ≡ command_of words) run_found check_found order_found sim_found soak_found make_found

@@ -1,5 +1,5 @@
 -- Words without a form are no command.
-use Rattle.std.proofs.Common.{◌≡◌, ◌⊎◌, refl, ℕ, true, false, ◌&&◌, ◌==◌, nat_lt, nat_le, length, inl, inr, List, [], ◌∷◌, Option, Some, None, codes}
+use Rattle.std.proofs.Common.{◌≡◌, ◌⊎◌, refl, sym, ℕ, true, false, ◌&&◌, ◌==◌, nat_lt, nat_le, length, inl, inr, List, [], ◌∷◌, Option, Some, None, codes}
 use Rattle.std.specs.Str.{bytes_eq}
 use Rattle.std.proofs.lemmas.Bool.{and_cases, and_right, or_parts, cases_Bool, eqb-true}
 use Rattle.lt_text.specs.Number.{are_digits, is_numeral, number}
@@ -7,6 +7,10 @@ use Rattle.std.specs.Prelude.{is_some}
 use Rattle.lt_words.specs.declared.command.Command.{Command}
 use Rattle.lt_words.specs.Words.{command_of, one_word, two_words, sim_of, seed_of, make_of, five_words}
 use Rattle.lt_words.specs.Grammar.{is_plain, has_verb, is_form}
+
+pub none_found : (found : Option Command) → is_some found ≡ false → None ≡ found
+none_found None e = refl
+none_found (Some command) e = absurd (cc)
 
 hyphen_first : (byte : ℕ) (rest : List ℕ) → is_plain (byte ∷ rest) ≡ false → byte ≡ 45
 hyphen_first byte rest e = elim (cases_Bool (byte == 45)) [ inl h ↦ eqb-true byte 45 h | inr h ↦ absurd (let wrong = rw h at e in cc) ]
@@ -41,8 +45,8 @@ no_make (Some a) (Some b) (Some c) (Some d) (inr (inl h)) = absurd (cc)
 no_make (Some a) (Some b) (Some c) (Some d) (inr (inr (inl h))) = absurd (cc)
 no_make (Some a) (Some b) (Some c) (Some d) (inr (inr (inr h))) = absurd (cc)
 
-no_one_word : (verb : List ℕ) → bytes_eq verb (codes "run") ≡ false → bytes_eq verb (codes "check") ≡ false → one_word verb ≡ None
-no_one_word verb e f = rw (e, f) refl
+no_one_word : (verb : List ℕ) → is_plain verb ≡ false → one_word verb ≡ None
+no_one_word verb e = rw (no_word verb (codes "un") 114 e refl, no_word verb (codes "heck") 99 e refl, no_word verb (codes "rder") 111 e refl) refl
 
 no_two_words : (verb word : List ℕ) → bytes_eq verb (codes "sim") ≡ false → bytes_eq verb (codes "soak") ≡ false → two_words verb word ≡ None
 no_two_words verb word e f = rw (e, f) refl
@@ -80,9 +84,9 @@ no_size verb t u v w e = elim (cases_Bool (bytes_eq verb (codes "make"))) [
 pub no_form : (words : List (List ℕ)) → is_form words ≡ false → command_of words ≡ None
 no_form [] form = refl
 no_form (verb ∷ []) form = elim (and_cases (has_verb (verb ∷ [])) (is_plain verb && true) form) [
-  | inl none ↦ let parts = or_parts (bytes_eq verb (codes "run")) (bytes_eq verb (codes "check")) none in no_one_word verb parts.0 parts.1
+  | inl none ↦ sym (none_found (one_word verb) none)
   | inr word ↦ elim (and_cases (is_plain verb) true word) [
-    | inl e ↦ no_one_word verb (no_word verb (codes "un") 114 e refl) (no_word verb (codes "heck") 99 e refl)
+    | inl e ↦ no_one_word verb e
     | inr never ↦ absurd (cc)
   ]
 ]
@@ -107,7 +111,3 @@ no_form (verb ∷ t ∷ u ∷ v ∷ w ∷ []) form =
       ]
     ]
 no_form (verb ∷ t ∷ u ∷ v ∷ w ∷ x ∷ rest) form = refl
-
-pub none_found : (found : Option Command) → is_some found ≡ false → None ≡ found
-none_found None e = refl
-none_found (Some command) e = absurd (cc)

@@ -1,5 +1,5 @@
 -- The commands as `clap` knows them, and what a parse finds.
-use Rattle.std.specs.Prelude.{Bool, true, false, ◌&&◌, ◌||◌, not, ◌==◌, if◌then◌else◌, ℕ, List, [], ◌∷◌, Option, Some, None, unwrap_or, codes}
+use Rattle.std.specs.Prelude.{Bool, true, false, ◌&&◌, ◌||◌, not, ◌==◌, if◌then◌else◌, ℕ, List, [], ◌∷◌, Option, Some, None, is_some, unwrap_or, codes}
 use Rattle.std.specs.List.{list_all}
 use Rattle.std.specs.Str.{bytes_eq}
 use Rattle.clap.specs.Words.{App, Row, Rule, Text, first_of, new_app, new_rule, with_rule, with_subcommand}
@@ -41,7 +41,7 @@ top_app = record (new_app (codes "lockrun")) {
 
 -- the program
 abbrev pub lockrun : App
-lockrun = with_subcommand (with_subcommand (with_subcommand (with_subcommand (with_subcommand top_app (plain_app (codes "run")).top) (plain_app (codes "check")).top) sim_app.top) soak_app.top) make_app.top
+lockrun = with_subcommand (with_subcommand (with_subcommand (with_subcommand (with_subcommand (with_subcommand top_app (plain_app (codes "run")).top) (plain_app (codes "check")).top) sim_app.top) soak_app.top) make_app.top) (plain_app (codes "order")).top
 
 -- the word isn't empty and doesn't begin with a hyphen
 abbrev pub is_plain : List ℕ → Bool
@@ -50,7 +50,7 @@ is_plain (byte ∷ rest) = not (byte == 45)
 
 -- a first word of a command, and as many words as it has
 abbrev pub has_verb : List (List ℕ) → Bool
-has_verb (verb ∷ []) = bytes_eq verb (codes "run") || bytes_eq verb (codes "check")
+has_verb (verb ∷ []) = is_some (one_word verb)
 has_verb (verb ∷ a ∷ []) = bytes_eq verb (codes "sim") || bytes_eq verb (codes "soak")
 has_verb (verb ∷ a ∷ b ∷ c ∷ d ∷ []) = bytes_eq verb (codes "make")
 has_verb words = false

@@ -5,17 +5,18 @@ use Rattle.std.specs.Str.Parse.{digits_value}
 use Rattle.lt_text.specs.Number.{is_numeral, number}
 use Rattle.lt_gen.specs.Sizes.{can_make}
 use Rattle.lt_words.specs.declared.command.Command.{Command}
-use Rattle.lt_words.specs.declared.command.Command.TheVariants.{Run, SimFirst, Sim, Check, Make, Soak}
+use Rattle.lt_words.specs.declared.command.Command.TheVariants.{Run, SimFirst, Sim, Check, Make, Soak, Order}
 
 -- the number below 2 ^ 64 that 1 to 20 digits write
 abbrev pub seed_of : List ℕ → Option ℕ
 seed_of word = if is_numeral word 20 && nat_lt (digits_value 10 word) (2 ^ 64) then Some (digits_value 10 word) else None
 
--- `run` and `check`
+-- `run`, `check` and `order`
 abbrev pub one_word : List ℕ → Option Command
 one_word word =
     if bytes_eq word (codes "run") then Some Run
     else if bytes_eq word (codes "check") then Some Check
+    else if bytes_eq word (codes "order") then Some Order
     else None
 
 -- `sim first` and `sim SEED`

@@ -35,6 +35,8 @@ pub enum Command {
     Soak {
         seed: u64,
     },
+    /// Tells whether a script is ordered.
+    Order,
 }
 
 impl Command {
@@ -109,7 +111,7 @@ fn has_verb(words: &[String]) -> bool
     ensures { result ≡ has_verb (map string_bytes words.now) }
 {
     match words {
-        [verb] => is_one_of(verb, "run", "check"),
+        [verb] => one_word(verb).is_some(),
         [verb, _] => is_one_of(verb, "sim", "soak"),
         [verb, _, _, _, _] => verb.as_str() == "make",
         _ => false,
@@ -151,6 +153,7 @@ fn one_word(word: &str) -> Option<Command>
     match word {
         "run" => Some(Command::Run),
         "check" => Some(Command::Check),
+        "order" => Some(Command::Order),
         _ => None,
     }
 }

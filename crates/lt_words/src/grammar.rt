@@ -30,7 +30,8 @@ fn commands<'a>(alloc: Global) -> Result<Command<'a>, AllocError>
     let with_check = with_run.subcommand(plain(alloc, "check"))?;
     let with_sim = with_check.subcommand(sim(alloc)?)?;
     let with_soak = with_sim.subcommand(soak(alloc)?)?;
-    let command = with_soak.subcommand(make(alloc)?)?;
+    let with_make = with_soak.subcommand(make(alloc)?)?;
+    let command = with_make.subcommand(plain(alloc, "order"))?;
     Ok(command)
 }
 

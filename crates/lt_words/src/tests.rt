@@ -11,9 +11,10 @@ fn words_of(alloc: Global, line: &str) -> Result<Vec<String>, AllocError> {
 }
 
 // Words, and the command that they are.
-const COMMANDS: [(&str, Command); 7] = [
+const COMMANDS: [(&str, Command); 8] = [
     ("run", Command::Run),
     ("check", Command::Check),
+    ("order", Command::Order),
     ("sim first", Command::SimFirst),
     ("sim 007", Command::Sim { seed: 7 }),
     (
@@ -54,7 +55,7 @@ fn commands(rt: HostRuntime) -> Result<(), Fail> {
 }
 
 // Words that are no command.
-const OTHERS: [&str; 46] = [
+const OTHERS: [&str; 48] = [
     "sim 18446744073709551616",
     "sim 000000000000000000007",
     "sim 99999999999999999999",
@@ -96,6 +97,8 @@ const OTHERS: [&str; 46] = [
     " run",
     "run ",
     "check x",
+    "order x",
+    "ordered",
     "journal",
     "Run",
     "-h",

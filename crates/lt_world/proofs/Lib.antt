@@ -13,3 +13,4 @@ pub mod Counts
 pub mod Rest
 pub mod Picks
 pub mod MadeLemmas
+pub mod AgainstLemmas

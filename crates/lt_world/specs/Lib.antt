@@ -3,3 +3,4 @@ pub mod Mail
 pub mod Fields
 pub mod Moving
 pub mod Network
+pub mod Against

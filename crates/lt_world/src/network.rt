@@ -25,17 +25,17 @@ use std::alloc::{AllocError, Global};
 
 /// The nodes of a script, the letters on their way to each of them, and the moves made.
 #[derive(Drop)]
-pub(crate) struct Network<'a> {
-    pub(crate) nodes: Vec<Node<'a>>,
+pub(crate) struct Network {
+    pub(crate) nodes: Vec<Node>,
     pub(crate) inboxes: Vec<Inbox>,
     // What a move sends out, on its way to the inboxes and into the run; nothing between moves.
     pub(crate) out: Out,
     pub(crate) run: Run,
 }
 
-impl<'a> Network<'a> {
+impl Network {
     /// The nodes of the script at its start.
-    pub(crate) fn new(alloc: Global, script: &'a Script) -> Result<Network<'a>, AllocError>
+    pub(crate) fn new(alloc: Global, script: &Script) -> Result<Network, AllocError>
         ensures holds { IfOk result (IsAfterRun script.now) }
         ensures start { IfOk result (λ n. n.run.entries ≡ []) }
     {
@@ -145,7 +145,7 @@ impl<'a> Network<'a> {
 }
 
 // All nodes of the script at its start.
-fn nodes_of<'a>(alloc: Global, script: &'a Script) -> Result<Vec<Node<'a>>, AllocError>
+fn nodes_of(alloc: Global, script: &Script) -> Result<Vec<Node>, AllocError>
     ensures count { IfOk result (λ nodes. length nodes.items ≡ script.now.nodes) }
     ensures each { IfOk result (λ nodes. (q : ℕ) → q < script.now.nodes → IsNodeOf script.now q ((start script.now).node q) (node_at nodes.items q)) }
     ensures script { IsScript script.now }
@@ -171,7 +171,7 @@ fn inboxes_of(alloc: Global, nodes: u8) -> Result<Vec<Inbox>, AllocError>
 }
 
 // This node makes the next command of the client.
-fn act_at(nodes: &mut Vec<Node<'_>>, node: u8, client: u16, out: &mut Out) -> Stamp
+fn act_at(nodes: &mut Vec<Node>, node: u8, client: u16, out: &mut Out) -> Stamp
     requires node { node < length nodes.old.items }
     requires acts { CanAct (node_at nodes.old.items node) client }
     requires room { RoomToAct (node_at nodes.old.items node) out.old }
@@ -186,7 +186,7 @@ fn act_at(nodes: &mut Vec<Node<'_>>, node: u8, client: u16, out: &mut Out) -> St
 }
 
 // This node takes the letter.
-fn take_at(nodes: &mut Vec<Node<'_>>, node: u8, letter: Letter, out: &mut Out) -> Stamp
+fn take_at(nodes: &mut Vec<Node>, node: u8, letter: Letter, out: &mut Out) -> Stamp
     requires node { node < length nodes.old.items }
     requires takes { CanTake (node_at nodes.old.items node) (letter_seen letter) }
     requires room { RoomToTake (node_at nodes.old.items node) letter out.old }

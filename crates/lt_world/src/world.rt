@@ -1,5 +1,6 @@
 mod full;
 mod order;
+mod waiting;
 
 ghost use Rattle.std.specs.Prelude.{◌≡◌, ◌≢◌, ◌≤◌, ◌<◌, ◌↔◌, ℕ, [], ◌∷◌, ◌++◌, length, IsTrue, IsFalse, IsNone, IfOk, IfSome, OnSome, OnOk, OnErr, option_map, slice_index_or};
 ghost use Rattle.lt_limits.specs.declared.moves.TheConstants.{MAX_MOVES};
@@ -21,12 +22,12 @@ use lt_script::Script;
 use std::alloc::{AllocError, Global};
 use std::marker::Model;
 
-/// The nodes of a script, the letters on their way, and the run so far.
+/// The nodes of a script, the letters on their way, and the run so far, with a copy of the script.
 #[derive(Drop)]
-pub struct World<'a> {
-    script: &'a Script,
+pub struct World {
+    script: Script,
     limit: u32,
-    network: Network<'a>,
+    network: Network,
     // How many moves each node has made.
     moves: Vec<u32>,
     // How many commands each client has made.
@@ -35,25 +36,26 @@ pub struct World<'a> {
     most: u32,
 }
 
-impl<'a> Model for World<'a> {
+impl Model for World {
     ghost use Rattle.lt_world.specs.Fields.{WorldData, Stands};
 
     ghost Value = { WorldData };
 
-    ghost view = { λ w. record { script = w.script.now; limit = w.limit; run = w.network.run.entries } };
+    ghost view = { λ w. record { script = w.script; limit = w.limit; run = w.network.run.entries } };
 
-    ghost invariant = { λ w. Stands w.script.now w.limit w.most w.network.nodes.items w.network.inboxes.items w.moves.items w.made.items w.network.out w.network.run.entries };
+    ghost invariant = { λ w. Stands w.script w.limit w.most w.network.nodes.items w.network.inboxes.items w.moves.items w.made.items w.network.out w.network.run.entries };
 }
 
-impl<'a> World<'a> {
+impl World {
     /// The world at the start of a script, in which a node may make up to `limit` moves.
-    pub fn new(alloc: Global, script: &'a Script, limit: u32) -> Result<World<'a>, AllocError>
+    pub fn new(alloc: Global, script: &Script, limit: u32) -> Result<World, AllocError>
         requires { (0 < limit) × (limit ≤ MAX_MOVES) }
         ensures { IfOk result (λ w. w ≡ record { script = script.now; limit = limit; run = [] }) }
     {
         let network = Network::new(alloc, script)?;
         let moves = no_moves(alloc, script.nodes())?;
         let made = none_made(alloc, script)?;
+        let script = script.copy(alloc)?;
         Ok(World {
             script,
             limit,
@@ -132,12 +134,11 @@ impl<'a> World<'a> {
         ensures ok { OnOk result (self.new ≡ record self.old { run = self.old.run ++ logged self.old.script (world_of self.old) choice.node choice.step ∷ [] }) }
         ensures err { OnErr result (self.new ≡ self.old) }
     {
-        let script = self.script;
-        self.network.make(script, choice)?;
+        self.network.make(&self.script, choice)?;
         let made = &mut self.moves[usize::from(choice.node)];
         *made += 1;
         self.most = self.most.max(*made);
-        note_made(&mut self.made, script, &self.network, choice);
+        note_made(&mut self.made, &self.script, &self.network, choice);
         Ok(())
     }
 
@@ -150,10 +151,11 @@ impl<'a> World<'a> {
 
     /// The moves made, without the world.
     pub fn into_run(self) -> Run
-        ensures run { result.entries ≡ self.entry.run }
-        ensures is_run { IsRun self.entry.script self.entry.run }
+        ensures run { result.entries ≡ self.run }
+        ensures is_run { IsRun self.script self.run }
     {
-        self.network.run
+        let network = self.network;
+        network.run
     }
 
     // Whether the client doesn't wait and has a command left.
@@ -211,7 +213,7 @@ fn none_made(alloc: Global, script: &Script) -> Result<Vec<u32>, AllocError>
 }
 
 // Notes how many commands the client of a move has made.
-fn note_made(made: &mut Vec<u32>, script: &Script, network: &Network<'_>, choice: Choice)
+fn note_made(made: &mut Vec<u32>, script: &Script, network: &Network, choice: Choice)
     requires holds { IsAfterRun script.now network.now }
     requires count { length made.old.items ≡ length script.now.clients }
     requires client { (client : ℕ) → choice.step ≡ Act client → client < length script.now.clients }
@@ -225,7 +227,7 @@ fn note_made(made: &mut Vec<u32>, script: &Script, network: &Network<'_>, choice
 }
 
 // How many commands the client has made.
-fn made_of(script: &Script, network: &Network<'_>, client: u16) -> u32
+fn made_of(script: &Script, network: &Network, client: u16) -> u32
     requires holds { IsAfterRun script.now network.now }
     requires client { client < length script.now.clients }
     ensures { result ≡ made_by script.now (world_in script.now network.now) client }

@@ -6,7 +6,7 @@ use std::io::{self, ErrorKind};
 use std::test::Fail;
 
 // Words, an input, and what they come to.
-const ANSWERS: [(&str, &str, Status, &str); 11] = [
+const ANSWERS: [(&str, &str, Status, &str); 13] = [
     (
         "sim 7",
         "nodes 1\n\
@@ -94,6 +94,19 @@ const ANSWERS: [(&str, &str, Status, &str); 11] = [
          commands 4096\n\
          held 0\n\
          waiting 0\n",
+    ),
+    ("order", "nodes 1", Status::Done, "ordered\n"),
+    (
+        "order",
+        "nodes 1\n\
+         set s\n\
+         client a at 0\n\
+         client b at 0\n\
+         a lock s write\n\
+         a unlock s write\n\
+         b lock s write\n",
+        Status::Done,
+        "not ordered b\n",
     ),
     ("sim", "nodes 1", Status::Usage, ""),
 ];

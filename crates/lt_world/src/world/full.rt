@@ -13,7 +13,7 @@ use lt_limits::Ending;
 use lt_modes::Step;
 
 // Nodes that have made as many moves as they may.
-impl<'a> World<'a> {
+impl World {
     /// The least node that has made as many moves as it may and has an enabled one.
     pub fn full(&self) -> Option<u8>
         ensures full { result ≡ full_node self.now.script self.now.limit self.now.run }

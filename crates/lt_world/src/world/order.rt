@@ -10,7 +10,7 @@ use crate::takes;
 use lt_modes::Step;
 
 // The order of the enabled moves.
-impl<'a> World<'a> {
+impl World {
     // The enabled move at place `k`.
     pub(super) fn turn_at(&self, k: u32) -> Option<Choice>
         ensures { result ≡ option_map choice_of (pick self.now.script (world_of self.now) k) }

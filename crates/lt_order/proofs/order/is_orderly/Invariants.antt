@@ -1,5 +1,5 @@
 use Rattle.std.proofs.Common.{◌≡◌}
-use Rattle.lt_law_ordered.specs.Ordered.{is_orderly}
+use Rattle.lt_order.specs.Ordered.{is_orderly}
 use Rattle.lt_order.specs.Locks.{locks_in}
 use Rattle.lt_order.proofs.Orders.{orderly_at}
 use Rattle.lt_order.proofs.order.is_orderly.Given as goal

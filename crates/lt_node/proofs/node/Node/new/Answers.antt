@@ -4,10 +4,12 @@ use Rattle.lt_node.proofs.node.Node.new.Goals as goal
 pub invariant_of-result : goal.invariant_of-result
 invariant_of-result c =
     let clients = c.in_ok-clients.clients.items in
-    let cores = c.in_ok-cores.cores.items in (
+    let cores = c.in_ok-cores.cores.items in
+    rw c.in_ok-script.ensures (
       node_at_start c.args.script.now c.args.node clients cores c.homes_of.ensures.script c.requires c.in_ok-clients.ensures.count c.in_ok-cores.ensures.count c.in_ok-cores.ensures.places,
       clients_known c.args.script.now c.args.node c.in_ok-homes.homes.items clients c.in_ok-homes.ensures.homes c.in_ok-clients.ensures.each,
     )
 
 pub returns-clause-state : goal.returns-clause-state
-returns-clause-state c = state_at_start c.args.script.now c.args.node c.in_ok-clients.clients.items c.in_ok-cores.cores.items c.in_ok-clients.ensures.each c.in_ok-cores.ensures.states
+returns-clause-state c = rw c.in_ok-script.ensures
+    (state_at_start c.args.script.now c.args.node c.in_ok-clients.clients.items c.in_ok-cores.cores.items c.in_ok-clients.ensures.each c.in_ok-cores.ensures.states)

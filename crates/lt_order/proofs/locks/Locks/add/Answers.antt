@@ -2,7 +2,7 @@ use Rattle.std.proofs.Common.{ℕ, ap, arith, ◌∙◌, List, Option, ◌++◌,
 use Rattle.std.specs.Prelude.{slice_set}
 use Rattle.lt_modes.specs.declared.mode.Mode.{Mode}
 use Rattle.lt_spec.specs.Holdings.{holding}
-use Rattle.lt_law_ordered.specs.Ordered.{are_below}
+use Rattle.lt_order.specs.Ordered.{are_below}
 use Rattle.lt_order.specs.Locks.{locks_in}
 use Rattle.lt_order.proofs.locks.Locks.add.Goals as goal
 use Rattle.std.proofs.Common.{Some}

@@ -11,15 +11,15 @@ use Rattle.lt_world.proofs.world.World.full.Goals as goal
 pub returns-then-self-clause-full : goal.returns-then-self-clause-full
 returns-then-self-clause-full c =
     let s = c.self.inside in
-    let none = none_at_limit s.script.now s.limit s.most s.network.run.entries c.self.invariant.at_most (omega (arith, c.if-self.true)) in
-    sym (subst (λ (w : WorldData). full_node w.script w.limit w.run ≡ None) c.self.view_is (none_full s.script.now s.limit s.network.run.entries none))
+    let none = none_at_limit s.script s.limit s.most s.network.run.entries c.self.invariant.at_most (omega (arith, c.if-self.true)) in
+    sym (subst (λ (w : WorldData). full_node w.script w.limit w.run ≡ None) c.self.view_is (none_full s.script s.limit s.network.run.entries none))
 
 pub returns-then-self-clause-room : goal.returns-then-self-clause-room
 returns-then-self-clause-room c = λ none q step e.
     let s = c.self.inside in
-    let none' = none_at_limit s.script.now s.limit s.most s.network.run.entries c.self.invariant.at_most (omega (arith, c.if-self.true)) in
+    let none' = none_at_limit s.script s.limit s.most s.network.run.entries c.self.invariant.at_most (omega (arith, c.if-self.true)) in
     subst (λ (w : WorldData). (q : ℕ) (step : Step) → IsTrue (is_enabled w.script (world_of w) q step) → moves_of q w.run < w.limit)
-    c.self.view_is (room_left s.script.now s.limit s.moves.items s.network.run.entries c.self.invariant.holds.is_script c.self.invariant.counted none') q step e
+    c.self.view_is (room_left s.script s.limit s.moves.items s.network.run.entries c.self.invariant.holds.is_script c.self.invariant.counted none') q step e
 
 pub returns-then-is_full-clause-full : goal.returns-then-is_full-clause-full
 returns-then-is_full-clause-full c =
@@ -43,4 +43,4 @@ returns-clause-room c = λ none q step e.
     let none' : (k : ℕ) → k < w.script.nodes → is_full w.script w.limit w.run k ≡ false =
     λ k below. c.loop-node.invariant k (omega (arith, below, c.loop-node-test.false, c.nodes-node-end.ensures.nodes, nodes)) in
     subst (λ (w : WorldData). ((k : ℕ) → k < w.script.nodes → is_full w.script w.limit w.run k ≡ false) → (q : ℕ) (step : Step) → IsTrue (is_enabled w.script (world_of w) q step) → moves_of q w.run < w.limit)
-    c.self.view_is (room_left s.script.now s.limit s.moves.items s.network.run.entries c.self.invariant.holds.is_script c.self.invariant.counted) none' q step e
+    c.self.view_is (room_left s.script s.limit s.moves.items s.network.run.entries c.self.invariant.holds.is_script c.self.invariant.counted) none' q step e

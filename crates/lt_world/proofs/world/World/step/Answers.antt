@@ -18,7 +18,7 @@ counter moves place q now at inside e =
 pub make-requires-clause-few : goal.make-requires-clause-few
 make-requires-clause-few c =
     let s = c.self.inside in
-    few_moves s.script.now s.limit s.moves.items s.network.run.entries c.self.invariant.holds.is_script c.self.invariant.counted
+    few_moves s.script s.limit s.moves.items s.network.run.entries c.self.invariant.holds.is_script c.self.invariant.counted
 
 pub overflow_add-made : goal.overflow_add-made
 overflow_add-made c =
@@ -28,7 +28,7 @@ overflow_add-made c =
     let counted = c.self.invariant.counted in
     let enabled = subst (λ (w : WorldData). IsTrue (is_enabled w.script (world_of w) q step)) (sym c.self.view_is) c.requires.enabled in
     let room = subst (λ (w : WorldData). moves_of q w.run < w.limit) (sym c.self.view_is) c.requires.room in
-    let inside = moves_inside s.script.now (world_of (record { script = s.script.now; limit = s.limit; run = s.network.run.entries })) q step c.self.invariant.holds.is_script enabled in
+    let inside = moves_inside s.script (world_of (record { script = s.script; limit = s.limit; run = s.network.run.entries })) q step c.self.invariant.holds.is_script enabled in
     let was = counter s.moves.items c.from.result q c.index_mut-made.result.now c.from.ensures (omega (arith, inside, counted.count)) c.index_mut-made.ensures.value in
     omega (arith, was, counted.moves_are q inside, room, counted.small)
 
@@ -38,9 +38,9 @@ invariant_of-self c =
     let same = sym c.in_err-make.ensures.err in
     record {
       holds = c.make.ensures.holds;
-      counted = subst (AreCounted s.script.now s.limit s.moves.items) same c.self.invariant.counted;
-      at_most = subst (AreAtMost s.script.now s.most) same c.self.invariant.at_most;
-      acts = subst (λ (r : List Logged). AreMade s.script.now s.made.items (world_after s.script.now r)) same c.self.invariant.acts;
+      counted = subst (AreCounted s.script s.limit s.moves.items) same c.self.invariant.counted;
+      at_most = subst (AreAtMost s.script s.most) same c.self.invariant.at_most;
+      acts = subst (λ (r : List Logged). AreMade s.script s.made.items (world_after s.script r)) same c.self.invariant.acts;
     }
 
 pub invariant_of-self-2 : goal.invariant_of-self-2
@@ -49,25 +49,25 @@ invariant_of-self-2 c =
     let q = c.args.choice.node in
     let step = c.args.choice.step in
     let counted = c.self.invariant.counted in
-    let seen : WorldData = record { script = s.script.now; limit = s.limit; run = s.network.run.entries } in
+    let seen : WorldData = record { script = s.script; limit = s.limit; run = s.network.run.entries } in
     let enabled = subst (λ (w : WorldData). IsTrue (is_enabled w.script (world_of w) q step)) (sym c.self.view_is) c.requires.enabled in
     let room = subst (λ (w : WorldData). moves_of q w.run < w.limit) (sym c.self.view_is) c.requires.room in
-    let inside = moves_inside s.script.now (world_of seen) q step c.self.invariant.holds.is_script enabled in
+    let inside = moves_inside s.script (world_of seen) q step c.self.invariant.holds.is_script enabled in
     let was = counter s.moves.items c.from.result q c.index_mut-made.result.now c.from.ensures (omega (arith, inside, counted.count)) c.index_mut-made.ensures.value in
-    let moved = counted_moved s.script.now s.limit s.moves.items s.network.run.entries (logged s.script.now (world_of seen) q step) q counted inside (stamp_node (world_of seen) q step) room in
+    let moved = counted_moved s.script s.limit s.moves.items s.network.run.entries (logged s.script (world_of seen) q step) q counted inside (stamp_node (world_of seen) q step) room in
     let moves : slice_set s.moves.items c.from.result (c.index_mut-made.result.now + 1) ≡ slice_set s.moves.items q (slice_index_or s.moves.items q 0 + 1) =
     ap (λ (k : ℕ). slice_set s.moves.items k (c.index_mut-made.result.now + 1)) c.from.ensures ∙ ap (λ (n : ℕ). slice_set s.moves.items q (n + 1)) was in
     record {
       holds = c.make.ensures.holds;
       acts = c.note_made.ensures;
-      at_most = subst (λ (r : List Logged). AreAtMost s.script.now c.max-self-inside.result r) (sym c.in_ok-make.ensures.ok)
-          (at_most_moved s.script.now s.most c.max-self-inside.result s.network.run.entries (logged s.script.now (world_of seen) q step) q c.self.invariant.at_most (stamp_node (world_of seen) q step)
+      at_most = subst (λ (r : List Logged). AreAtMost s.script c.max-self-inside.result r) (sym c.in_ok-make.ensures.ok)
+          (at_most_moved s.script s.most c.max-self-inside.result s.network.run.entries (logged s.script (world_of seen) q step) q c.self.invariant.at_most (stamp_node (world_of seen) q step)
           (omega (arith, was, counted.moves_are q inside, c.max-self-inside.ensures)) (omega (arith, c.max-self-inside.ensures)));
-      counted = subst (λ (ms : List ℕ). AreCounted s.script.now s.limit ms c.make.new.self.run.entries) (sym moves)
-          (subst (λ (r : List Logged). AreCounted s.script.now s.limit (slice_set s.moves.items q (slice_index_or s.moves.items q 0 + 1)) r) (sym c.in_ok-make.ensures.ok) moved);
+      counted = subst (λ (ms : List ℕ). AreCounted s.script s.limit ms c.make.new.self.run.entries) (sym moves)
+          (subst (λ (r : List Logged). AreCounted s.script s.limit (slice_set s.moves.items q (slice_index_or s.moves.items q 0 + 1)) r) (sym c.in_ok-make.ensures.ok) moved);
     }
 
 pub note_made-requires-clause-others : goal.note_made-requires-clause-others
 note_made-requires-clause-others c =
     let s = c.self.inside in
-    others_made s.script.now s.network.run.entries c.make.new.self.run.entries c.args.choice.node c.args.choice.step s.made.items c.self.invariant.acts c.in_ok-make.ensures.ok
+    others_made s.script s.network.run.entries c.make.new.self.run.entries c.args.choice.node c.args.choice.step s.made.items c.self.invariant.acts c.in_ok-make.ensures.ok

@@ -12,4 +12,4 @@ returns c =
     let s = c.self.inside in
     subst (λ (w : WorldData). c.at.result ≡ option_map choice_of (slice_get (takes w.script (world_of w)) c.args.k)) c.self.view_is
     (c.at.ensures ∙ (ap (λ (boxes : List (List WireData)). option_map choice_of (slice_get (takes_in boxes) c.args.k)) c.deref.ensures.value) ∙ ap (λ (ts : List Turn). option_map choice_of (slice_get ts c.args.k))
-    (takes_are s.script.now s.network.nodes.items s.network.inboxes.items s.network.out s.network.run.entries c.self.invariant.holds))
+    (takes_are s.script s.network.nodes.items s.network.inboxes.items s.network.out s.network.run.entries c.self.invariant.holds))

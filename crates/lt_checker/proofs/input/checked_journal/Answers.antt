@@ -1,0 +1,19 @@
+use Rattle.std.proofs.Common.{◌≡◌, ◌∙◌, ◌++◌, ap, subst, []}
+use Rattle.lt_modes.specs.Script.{ScriptData}
+use Rattle.lt_text.specs.Text.{lines}
+use Rattle.lt_law_checking.specs.Checking.{checked}
+use Rattle.lt_checker.specs.Checker.{CheckerData}
+use Rattle.lt_checker.specs.Endings.{IsWorldAnswer}
+use Rattle.lt_checker.proofs.input.checked_journal.Goals as goal
+
+pub returns-clause-told : goal.returns-clause-told
+returns-clause-told g c =
+    let first = c.args.first.now in
+    let fed = c.in_ok-feed_rest.ensures.rest in
+    let script : c.feed_rest.new.checker.script ≡ c.args.script.now =
+    fed.1.script ∙ (ap (λ (d : CheckerData). d.script) c.in_ok-feed.ensures.ok ∙ ap (λ (d : CheckerData). d.script) c.in_ok-checker.ensures.checker) in (
+      fed.0,
+      subst (λ (s : ScriptData). IsWorldAnswer s (checked s (lines (first ++ fed.0))) c.end_world.result) script
+          (c.end_world.ensures.answers (first ++ fed.0) (fed.1.stands first (c.in_ok-feed.ensures.stands [] c.in_ok-checker.ensures.stands))),
+      fed.2,
+    )

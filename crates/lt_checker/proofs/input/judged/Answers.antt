@@ -1,0 +1,39 @@
+use Rattle.std.proofs.Common.{rules, ◌≡◌, ◌∙◌, ◌*◌, ◌≤◌, ◌++◌, ℕ, List, length, Ok, take, drop, ap, sym, subst}
+use Rattle.lt_text.specs.Text.{lines}
+use Rattle.lt_script.specs.Reading.{read_of}
+use Rattle.lt_journal.specs.declared.splitting.Parts.{Parts}
+use Rattle.lt_journal.specs.Split.{input_parts}
+use Rattle.lt_law_checking.specs.Checking.{checked}
+use Rattle.lt_checker.specs.Endings.{IsWorldAnswer}
+use Rattle.lt_checker.specs.declared.limits.TheConstants.{MAX_JOURNAL}
+use Rattle.lt_checker.proofs.BadLines.{journal_few, line_within, lines_few}
+use Rattle.lt_checker.proofs.TwoParts.{same_parts}
+use Rattle.lt_checker.proofs.input.judged.Goals as goal
+
+pub returns-clause-answer : goal.returns-clause-answer
+returns-clause-answer g c =
+    let bytes = c.args.bytes.now in
+    let script = c.in-Ok.script in
+    let heard = c.in_ok-told.ensures.told in
+    let rest = heard.0 in
+    let same = same_parts bytes rest c.args.room _ _ c.requires.cut heard.2 in
+    let parts : c.split-parts.result ≡ input_parts bytes = c.split-parts.ensures in
+    let read : read_of (take (input_parts bytes).script bytes) ≡ Ok script = search rules in
+    let journal : c.split_at.result.1.now ≡ drop (input_parts bytes).journal bytes =
+    c.split_at.ensures.back ∙ ap (λ (p : Parts). drop p.journal bytes) parts in (
+      rest,
+      c.answered.ensures.answer (bytes ++ rest) (ap read_of same.script ∙ read) (ap (λ (p : Parts). p.lines) (parts ∙ sym same.parts))
+          (subst (λ (b : List ℕ). IsWorldAnswer script (checked script (lines b)) c.in_ok-told.told)
+          (ap (λ (b : List ℕ). b ++ rest) journal ∙ sym same.journal) heard.1),
+      heard.2,
+    )
+
+pub answered-requires-clause-few : goal.answered-requires-clause-few
+answered-requires-clause-few g c = subst (λ (p : Parts). p.lines ≤ MAX_JOURNAL) (sym c.split-parts.ensures) (lines_few c.args.bytes.now c.requires.few)
+
+pub answered-requires-clause-line : goal.answered-requires-clause-line
+answered-requires-clause-line g c =
+    let heard = c.in_ok-told.ensures.told in
+    let few = journal_few c.args.bytes.now heard.0 c.split-parts.result.journal c.args.room _ _ c.requires.few c.requires.room heard.2 in
+    line_within c.in-Ok.script (c.split_at.result.1.now ++ heard.0) c.in_ok-told.told (2 * MAX_JOURNAL) heard.1
+    (subst (λ (first : List ℕ). length (first ++ heard.0) ≤ 2 * MAX_JOURNAL) (sym c.split_at.ensures.back) few)

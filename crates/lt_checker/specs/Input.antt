@@ -1,0 +1,65 @@
+-- What an input says that is a script and a journal, and why it says nothing.
+use Rattle.std.specs.Prelude.{◌≡◌, ℕ, ◌+◌, ◌≤◌, List, Option, Some, None, Ok, Err, take}
+use Rattle.lt_io.specs.FaultCounts.{CountsFaults}
+use Rattle.lt_io.specs.Source.{SourceState}
+use Rattle.lt_io.specs.Whole.{IsReadWhole}
+use Rattle.lt_io.specs.declared.whole.ReadFailure.{ReadFailure}
+use Rattle.lt_io.specs.declared.whole.ReadFailure.TheVariants.{Memory, Failed, TooLong as Long}
+use Rattle.lt_modes.specs.Script.{ScriptData}
+use Rattle.lt_spec.specs.Log.{Logged}
+use Rattle.lt_text.specs.Text.{lines}
+use Rattle.lt_script.specs.declared.fault.ScriptFault.{ScriptFault}
+use Rattle.lt_script.specs.Reading.{read_of}
+use Rattle.lt_journal.specs.Split.{input_parts}
+use Rattle.lt_world.specs.Fields.{WorldData}
+use Rattle.lt_law_checking.specs.Input.{checked_input}
+use Rattle.lt_law_checking.specs.Journals.{IsFinished}
+use Rattle.lt_checker.specs.declared.limits.TheConstants.{MAX_JOURNAL}
+use Rattle.lt_checker.specs.declared.error.InputError.{InputError}
+use Rattle.lt_checker.specs.declared.error.InputError.TheVariants.{ReadFault, TooLong, NoMemory, Refused, BadJournal}
+
+-- if the bytes are known, their lines before the journal denote this script
+abbrev pub DenotesBefore : Option (List ℕ) → ScriptData → Type 0
+DenotesBefore None script = Unit {0}
+DenotesBefore (Some bytes) script = read_of (take (input_parts bytes).script bytes) ≡ Ok script
+
+-- if the bytes are known, this is the first fault of the lines before the journal
+abbrev pub HasFaultBefore : Option (List ℕ) → ScriptFault → Type 0
+HasFaultBefore None fault = Unit {0}
+HasFaultBefore (Some bytes) fault = read_of (take (input_parts bytes).script bytes) ≡ Err fault
+
+-- if the bytes are known, the journal in them is that of this run of the script
+abbrev pub IsJournalOf : Option (List ℕ) → ScriptData → List Logged → Type 0
+IsJournalOf None script run = Unit {0}
+IsJournalOf (Some bytes) script run = checked_input script (lines bytes) ≡ Ok run
+
+-- if the bytes are known, this is the first line in them that is bad
+abbrev pub IsBadLine : Option (List ℕ) → ScriptData → ℕ → Type 0
+IsBadLine None script line = Unit {0}
+IsBadLine (Some bytes) script line = checked_input script (lines bytes) ≡ Err line
+
+-- the input has this first bad line
+abbrev pub IsBad : Option (List ℕ) → ℕ → Type 0
+IsBad left line = (script : ScriptData) × DenotesBefore left script × IsBadLine left script line
+
+-- the input is this script and the journal of a run of it that ended at rest, in this world
+pub record IsEndedRun (left : Option (List ℕ)) (script : ScriptData) (world : WorldData) : Type 0 where
+  pub denoted : DenotesBefore left script
+  pub accepted : IsJournalOf left script world.run
+  pub finished : IsFinished script world.run
+  pub script_is : world.script ≡ script
+
+-- why an input could not be read, as what an input is answered
+abbrev pub error_of : ReadFailure → InputError
+error_of Memory = NoMemory
+error_of Failed = ReadFault
+error_of Long = TooLong
+
+-- why an input says nothing, and what its source tells before and after: one read failed, or it gave one byte more than an
+-- input may have, or memory was refused, or it was read whole, and has this fault or this first bad line
+abbrev pub FailsInput : InputError → SourceState → SourceState → Type 0
+FailsInput ReadFault before after = CountsFaults 1 before.faults after.faults × (after.given ≤ before.given + MAX_JOURNAL)
+FailsInput TooLong before after = CountsFaults (MAX_JOURNAL + 1) before.given after.given × (after.faults ≡ before.faults)
+FailsInput NoMemory before after = (after.given ≤ before.given + MAX_JOURNAL) × (after.faults ≡ before.faults)
+FailsInput (Refused fault) before after = HasFaultBefore before.left fault × IsReadWhole MAX_JOURNAL before after
+FailsInput (BadJournal line) before after = IsBad before.left line × IsReadWhole MAX_JOURNAL before after

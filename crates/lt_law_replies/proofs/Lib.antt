@@ -1,0 +1,7 @@
+mod ReplyRules
+mod ReplyActs
+mod ReplyMoves
+mod ReplyCommands
+mod ReplySteps
+mod ReplyRuns
+mod AnswerRows

@@ -1,0 +1,17 @@
+mod TakingModes
+mod DeskStays
+mod Balance
+mod DeskEffects
+mod DeskGrants
+mod DeskRoutes
+mod DeskAsks
+mod DeskArrives
+mod CommandDesks
+mod ActBalance
+mod MayUpgrade
+mod UpgradeActs
+mod UpgradeTakes
+mod UpgradeWithin
+mod UpgradeReady
+mod UpgradeRuns
+mod UpgradeRest

@@ -1,0 +1,73 @@
+ghost use Rattle.std.specs.Prelude.{◌≡◌, ◌<◌, is_some, length};
+ghost use Rattle.lt_modes.specs.Held.{count_of};
+ghost use Rattle.lt_modes.specs.Waiting.{pending_ask, stands_before, parked_behind};
+ghost use Rattle.lt_spec.specs.NodeMove.{node_waits};
+ghost use Rattle.lt_node.specs.Asks.{first_ask};
+ghost use Rattle.lt_node.specs.NodeData.{core_at, state_of};
+
+use crate::node::Node;
+use lt_core::Core;
+use lt_modes::{Ask, Mode};
+
+// What the clients hold and wait for here, and behind whose asks.
+impl Node {
+    /// How many locks of the mode the client holds in the set.
+    pub fn count(&self, set: u8, client: u16, mode: Mode) -> u32
+        requires { set < length self.now.script.sets }
+        ensures { result ≡ count_of ((state_of self.now).set set).held client mode }
+    {
+        self.core(set).count(client, mode)
+    }
+
+    /// The client's unanswered ask in the set, if it has one.
+    pub fn ask_in(&self, set: u8, client: u16) -> Option<Ask>
+        requires { set < length self.now.script.sets }
+        ensures { result ≡ pending_ask ((state_of self.now).set set) client }
+    {
+        self.core(set).ask_of(client)
+    }
+
+    /// The client's unanswered ask, if it has one, and its set: the first one, if it has more.
+    pub fn ask_of(&self, client: u16) -> Option<(u8, Ask)>
+        ensures ask { result ≡ first_ask self.now.script (state_of self.now) client }
+        ensures some { is_some result ≡ node_waits self.now.script (state_of self.now) client }
+    {
+        self.search_ask(client)
+    }
+
+    // The client's unanswered ask in the first set that has one.
+    fn search_ask(&self, client: u16) -> Option<(u8, Ask)>
+        ensures { result ≡ first_ask self.now.script (state_of self.now) client }
+    {
+        for set in 0..self.script.sets() {
+            if let Some(ask) = self.ask_in(set, client) {
+                return Some((set, ask));
+            }
+        }
+        None
+    }
+
+    /// Whether in the queue of the set's desk here an ask of the other client stands before one of the client.
+    pub fn stands_before(&self, set: u8, other: u16, client: u16) -> bool
+        requires { set < length self.now.script.sets }
+        ensures { result ≡ stands_before ((state_of self.now).set set) other client }
+    {
+        self.core(set).stands_before(other, client)
+    }
+
+    /// Whether an ask of the client for the set is parked here behind an older one of the other client.
+    pub fn parked_behind(&self, set: u8, other: u16, client: u16) -> bool
+        requires { set < length self.now.script.sets }
+        ensures { result ≡ parked_behind ((state_of self.now).set set) other client }
+    {
+        self.core(set).parked_behind(other, client)
+    }
+
+    // What the node keeps for the set.
+    fn core(&self, set: u8) -> &Core
+        requires { set < length self.now.script.sets }
+        ensures { result.now ≡ core_at self.now set }
+    {
+        &self.cores[usize::from(set)]
+    }
+}

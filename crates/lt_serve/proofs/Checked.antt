@@ -1,0 +1,91 @@
+-- What `check` answers, by what its input says.
+use Rattle.std.proofs.Common.{◌≡◌, ◌∙◌, ℕ, List, Option, Some, refl, sym, ap, subst, true}
+use Rattle.std.specs.Prelude.{◌≢◌}
+use Rattle.lt_io.specs.Source.{SourceState}
+use Rattle.lt_io.specs.Whole.{IsReadWhole}
+use Rattle.lt_spec.specs.Log.{Logged}
+use Rattle.lt_modes.specs.Script.{ScriptData}
+use Rattle.lt_world.specs.Fields.{WorldData}
+use Rattle.lt_law_promises.specs.Promised.{Promised}
+use Rattle.lt_checker.specs.declared.limits.TheConstants.{MAX_JOURNAL}
+use Rattle.lt_checker.specs.declared.error.InputError.{InputError}
+use Rattle.lt_checker.specs.declared.error.InputError.TheVariants as error
+use Rattle.lt_checker.specs.Input.{IsJournalOf, IsEndedRun, FailsInput}
+use Rattle.lt_law_checking.specs.Journals.{IsFinished}
+use Rattle.lt_words.specs.declared.command.Command.TheVariants.{Check}
+use Rattle.lt_serve.specs.declared.made.Made.{Made}
+use Rattle.lt_serve.specs.declared.status.Status.{Status}
+use Rattle.lt_serve.specs.declared.status.Status.TheVariants.{Done, NoMemory}
+use Rattle.lt_serve.specs.Causes.{SaysOfSource, IsRefusal, status_of_input}
+use Rattle.lt_serve.specs.TopCall.{Checks, ok_text}
+
+-- the number of moves of the run is the answer to the input that tells the run
+pub counted : (left : Option (List ℕ)) (script : ScriptData) (world : WorldData) (run : List Logged) (made : Made) → IsEndedRun left script world → run ≡ world.run → Promised script world.run
+    → (made.ending ≡ Done) × (made.run.entries ≡ run) × (made.text.items ≡ ok_text run) → Checks made.ending left made.run.entries made.text.items
+counted left script world run made ended is promised h =
+    let same : world.run ≡ made.run.entries = sym is ∙ sym h.1 in
+    record {
+      done = h.0;
+      script = script;
+      denoted = ended.denoted;
+      accepted = subst (λ (r : List Logged). IsJournalOf left script r) same ended.accepted;
+      finished = subst (λ (r : List Logged). IsFinished script r) same ended.finished;
+      promised = subst (λ (r : List Logged). Promised script r) same promised;
+      counted = h.2 ∙ ap ok_text (sym h.1);
+    }
+
+-- what an answer says of the source, where the input says nothing
+pub fails_says : (e : InputError) (before after : SourceState) → FailsInput e before after → SaysOfSource MAX_JOURNAL (status_of_input e) before after
+fails_says error.ReadFault before after fails = record {
+  too_long = λ e. absurd (cc e);
+  not_too_long = λ other. fails.1;
+  read_fault = λ e. fails.0;
+  no_read_fault = λ other. absurd (other refl);
+  whole = λ read. absurd read;
+}
+fails_says error.TooLong before after fails = record {
+  too_long = λ e. fails.0;
+  not_too_long = λ other. absurd (other refl);
+  read_fault = λ e. absurd (cc e);
+  no_read_fault = λ other. fails.1;
+  whole = λ read. absurd read;
+}
+fails_says error.NoMemory before after fails = record {
+  too_long = λ e. absurd (cc e);
+  not_too_long = λ other. fails.0;
+  read_fault = λ e. absurd (cc e);
+  no_read_fault = λ other. fails.1;
+  whole = λ read. absurd read;
+}
+fails_says (error.Refused fault) before after fails = record {
+  too_long = λ e. absurd (cc e);
+  not_too_long = λ other. fails.1.few;
+  read_fault = λ e. absurd (cc e);
+  no_read_fault = λ other. fails.1.without_fault;
+  whole = λ read. fails.1.ended;
+}
+fails_says (error.BadJournal line) before after fails = record {
+  too_long = λ e. absurd (cc e);
+  not_too_long = λ other. fails.1.few;
+  read_fault = λ e. absurd (cc e);
+  no_read_fault = λ other. fails.1.without_fault;
+  whole = λ read. fails.1.ended;
+}
+
+-- why it is the answer
+pub fails_refused : (e : InputError) (before after : SourceState) → FailsInput e before after → IsRefusal Check before.left (status_of_input e)
+fails_refused error.ReadFault before after fails = refl
+fails_refused error.TooLong before after fails = refl
+fails_refused error.NoMemory before after fails = tt
+fails_refused (error.Refused fault) before after fails = (refl, fails.0)
+fails_refused (error.BadJournal line) before after fails = (refl, refl, fails.0)
+
+-- memory was refused once all was read
+pub memory_says : (before after : SourceState) → IsReadWhole MAX_JOURNAL before after → SaysOfSource MAX_JOURNAL NoMemory before after
+memory_says before after whole = record {
+  too_long = λ e. absurd (cc e);
+  not_too_long = λ other. whole.few;
+  read_fault = λ e. absurd (cc e);
+  no_read_fault = λ other. whole.without_fault;
+  whole = λ read. absurd read;
+}
