@@ -79,8 +79,10 @@ class Nest:
 def draw_nest(seed):
     """The lines of a number: their size and kind are drawn too."""
     draw = random.Random(seed)
-    weights = draw.choice([[4, 8, 16, 6, 8, 1], [2, 2, 20, 8, 4, 1], [8, 2, 16, 16, 16, 1], [2, 16, 16, 4, 4, 1], [2, 2, 2, 2, 2, 1]])
-    nest = Nest(draw, draw.choice([0, 1, 1, 1, 2, 4, MOST['sets']]), draw.choice([2, 5, 16, 64, MOST['transactions']]), weights)
+    weights = draw.choice([[4, 8, 16, 6, 8, 1], [2, 2, 20, 8, 4, 1], [8, 2, 16, 16, 16, 1], [2, 16, 16, 4, 4, 1],
+                           [2, 2, 2, 2, 2, 1]])
+    sets = draw.choice([0, 1, 1, 1, 2, 4, MOST['sets']])
+    nest = Nest(draw, sets, draw.choice([2, 5, 16, 64, MOST['transactions']]), weights)
     if draw.random() < 0.2:
         chain(nest, draw.randint(2, nest.most))
     for _ in range(draw.choice([0, 5, 20, 60, 60, 200, 200, 800])):
@@ -103,7 +105,8 @@ def with_nest_fault(text, seed):
     k = draw.randrange(len(lines))
     words = lines[k].split(' ')
     at = draw.randrange(len(words))
-    words[at] = draw.choice(['', 'read', 's0', 't0', 's8', 't999', 'set', 'begin', 'in', 'lock', 'commit', 'x' * 33, 'journal', '9', '# ', '\xe9'])
+    words[at] = draw.choice(['', 'read', 's0', 't0', 's8', 't999', 'set', 'begin', 'in', 'lock', 'commit', 'x' * 33,
+                             'journal', '9', '# ', '\xe9'])
     lines[k] = ' '.join(words)
     if draw.random() < 0.1:
         lines[k:k] = [f'set more{n}' for n in range(9)]

@@ -1,6 +1,6 @@
 #!/usr/bin/env python3
-"""Draws inputs of all kinds, scripts or lines of nested transactions, and compares what two programs answer: bytes, status
-and standard error."""
+"""Draws inputs of all kinds, scripts or lines of nested transactions, and compares what two programs answer: bytes,
+status and standard error."""
 import argparse
 import shlex
 import subprocess
@@ -66,7 +66,8 @@ def main():
                 if not wrong:
                     Path(args.keep).write_bytes(data)
                 wrong.append(seed)
-                print(f'input {seed}: status {got[0]}, wanted {wanted[0]}; {len(got[1])} bytes, wanted {len(wanted[1])}')
+                sizes = f'{len(got[1])} bytes, wanted {len(wanted[1])}'
+                print(f'input {seed}: status {got[0]}, wanted {wanted[0]}; {sizes}')
     told = ', '.join(f'{count} with status {status}' for status, count in sorted(statuses.items()))
     made = '' if args.nested else f', {moves} moves'
     print(f'{args.count} inputs of {lines} lines ({told}){made}: {len(wrong)} differ')

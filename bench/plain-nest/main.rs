@@ -1,6 +1,7 @@
-//! A plain Rust program of the rules of nested transactions, to measure `locknest` and `bench_nest` against: it proves
-//! nothing and checks little. With no word it reads lines without faults from standard input and writes their answers to
-//! standard output; with the name of a shape it makes the calls of `bench_nest`, and writes the same line.
+//! A plain Rust program of the rules of nested transactions, to measure `locknest` against: it proves nothing and
+//! checks little. With no word it reads lines without faults from standard input and writes their answers to standard
+//! output. With the name of a shape it makes 65,535 transactions of that shape, more than lines can have, and tells
+//! what came of them.
 mod lines;
 mod nest;
 mod shapes;

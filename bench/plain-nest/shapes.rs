@@ -53,8 +53,9 @@ impl Made {
         }
     }
 
-    /// Families of a parent and four children, of which up to 64 are open at a time, two in each of 32 sets: the parent
-    /// asks for `write`, two children for `read` and two for `write`. So the second family of a set waits for the first.
+    /// Families of a parent and four children, of which up to 64 are open at a time, two in each of 32 sets: the
+    /// parent asks for `write`, two children for `read` and two for `write`. So the second family of a set waits for
+    /// the first.
     fn families(&mut self) {
         for family in 0..13_107 + 64 {
             if family < 13_107 {
@@ -63,7 +64,8 @@ impl Made {
                 self.lock(parent, set, WRITE);
                 for child in 1..5 {
                     self.begin(Some(parent));
-                    self.lock(parent + child, set, if child < 3 { READ } else { WRITE });
+                    let mode = if child < 3 { READ } else { WRITE };
+                    self.lock(parent + child, set, mode);
                 }
             }
             if family >= 64 {
