@@ -1,15 +1,20 @@
 -- What an answer says once the text is written, and where nothing is to be written.
-use Rattle.std.proofs.Common.{◌≡◌, ◌<◌, ◌≤◌, ◌+◌, ℕ, List, Option, refl, sym, subst, arith, inl, inr, ◌∙◌}
+use Rattle.std.proofs.Common.{◌≡◌, ◌<◌, ◌≤◌, ◌+◌, ℕ, List, Option, refl, sym, ap, subst, arith, inl, inr, ◌∙◌}
 use Rattle.std.specs.Prelude.{◌⊎◌, ◌≢◌}
 use Rattle.std.specs.Io.KnownBytes.{Appends}
 use Rattle.lt_io.specs.FaultCounts.{CountsFaults, RoseBy, count_after}
 use Rattle.lt_io.specs.Source.{SourceState}
 use Rattle.lt_io.specs.Sink.{AppendsPart}
 use Rattle.lt_io.specs.Whole.{IsReadWhole}
+use Rattle.lt_modes.specs.Script.{ScriptData}
+use Rattle.lt_spec.specs.World.{world_after}
+use Rattle.lt_law_waiting.specs.Reports.{waits_report}
+use Rattle.lt_world.specs.Fields.{WorldData, world_of}
+use Rattle.lt_rings.specs.Report.{waits_text}
 use Rattle.lt_checker.specs.declared.limits.TheConstants.{MAX_JOURNAL}
 use Rattle.lt_checker.specs.declared.error.InputError.{InputError}
 use Rattle.lt_checker.specs.declared.error.InputError.TheVariants as error
-use Rattle.lt_checker.specs.Input.{FailsInput}
+use Rattle.lt_checker.specs.Input.{IsEndedRun, FailsInput}
 use Rattle.lt_waits.specs.declared.answer.Answer.{Answer}
 use Rattle.lt_waits.specs.declared.answer.Answer.TheVariants.{Done, Usage, Refused, TooLong, ReadFault, WriteFault, NoMemory, BadJournal}
 use Rattle.lt_waits.specs.Answers.{answer_of_input}
@@ -140,4 +145,25 @@ usage_serves state held write_faults words source sink some = record {
   whole = λ begun. absurd (begun_usage Usage begun refl);
   writing = record { write_fault = λ e. absurd (cc e); no_write_fault = λ other. refl };
   complete = λ none good writes memory. absurd (omega (arith, none, some));
+}
+
+-- why an input says nothing is the answer
+pub refuses : (answer : Answer) (reason : InputError) (before after : SourceState) → answer ≡ answer_of_input reason → FailsInput reason before after
+    → RefusesInput answer before after
+refuses answer reason before after e fails = record { error = reason; is = e; fails = fails }
+
+-- memory was refused once all was read
+pub refuses_memory : (before after : SourceState) → IsReadWhole MAX_JOURNAL before after → RefusesInput NoMemory before after
+refuses_memory before after whole = record { error = error.NoMemory; is = refl; fails = (whole.few, whole.without_fault) }
+
+-- the report of the world in which the run ended is that of the run
+pub reported : (left : Option (List ℕ)) (script : ScriptData) (world : WorldData) (text : List ℕ) → IsEndedRun left script world
+    → text ≡ waits_text script (waits_report script (world_of world)) → IsReportOf left text
+reported left script world text ended told = record {
+  script = script;
+  run = world.run;
+  denoted = ended.denoted;
+  accepted = ended.accepted;
+  finished = ended.finished;
+  told = told ∙ ap (λ (s : ScriptData). waits_text script (waits_report script (world_after s world.run))) ended.script_is;
 }

@@ -37,7 +37,10 @@ fn make<S: Source>(alloc: Global, source: &mut S) -> Result<Vec<u8>, Answer>
     ensures whole { OnOk result (IsReadWhole MAX_JOURNAL (S.state source.old) (S.state source.new)) }
     ensures refused { IfErr result (λ answer. RefusesInput answer (S.state source.old) (S.state source.new)) }
 {
-    let ended = check_input(alloc, source)?;
+    let ended = match check_input(alloc, source) {
+        Ok(ended) => ended,
+        Err(error) => return Err(Answer::from(error)),
+    };
     match report(alloc, &ended.script, &ended.world) {
         Ok(text) => Ok(text),
         Err(_) => Err(Answer::NoMemory),
