@@ -5,7 +5,7 @@ use Rattle.std.specs.Io.KnownBytes.{Appends}
 use Rattle.lt_io.specs.FaultCounts.{CountsFaults, RoseBy, count_after}
 use Rattle.lt_io.specs.Source.{SourceState}
 use Rattle.lt_io.specs.Sink.{AppendsPart}
-use Rattle.lt_io.specs.Whole.{IsReadWhole}
+use Rattle.lt_io.specs.Whole.{Left, IsReadWhole}
 use Rattle.lt_nest_serve.specs.declared.reading.TheConstants.{MAX_INPUT}
 use Rattle.lt_nest_serve.specs.declared.answer.Answer.{Answer}
 use Rattle.lt_nest_serve.specs.declared.answer.Answer.TheVariants.{Done, Usage, Refused, TooLong, ReadFault, WriteFault, NoMemory}
