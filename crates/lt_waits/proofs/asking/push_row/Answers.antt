@@ -16,7 +16,7 @@ loop-other-preserved c =
     let world = c.args.world.now in
     let row = waits_for c.args.script.now (world_of world) c.args.client in
     let mark : c.waits_for.result ≡ row c.loop-other.other =
-        c.waits_for.ensures ∙ ap (λ (s : ScriptData). waits_for s (world_of world) c.args.client c.loop-other.other) c.requires.script in
+    c.waits_for.ensures ∙ ap (λ (s : ScriptData). waits_for s (world_of world) c.args.client c.loop-other.other) c.requires.script in
     let pushed : c.push.new.self.items ≡ c.loop-other.pairs.items ++ c.waits_for.result ∷ [] = search rules in
     row_push row c.args.pairs.now.items c.loop-other.pairs.items c.push.new.self.items c.loop-other.other c.loop-other.invariant
     (pushed ∙ ap (λ (b : Bool). c.loop-other.pairs.items ++ b ∷ []) mark)
