@@ -1,17 +1,14 @@
 -- How many of the locks are like one, after one of them is given up, and after those of a client in a family are dropped.
-use Rattle.std.proofs.Common.{◌≡◌, subst, ℕ, suc, ◌+◌, ◌-◌, cond, Bool, true, false, List, [], ◌∷◌, length, Some, None, refl, sym, ap, ◌∙◌, arith, filter, count_by, nat_lt}
+use Rattle.std.proofs.Common.{◌≡◌, subst, ℕ, suc, ◌+◌, ◌-◌, cond, Bool, true, false, List, [], ◌∷◌, ◌++◌, length, Some, None, refl, sym, ap, ◌∙◌, arith, filter, count_by, nat_lt}
 use Rattle.std.specs.Prelude.{position, ◌&&◌, ◌==◌, not}
 use Rattle.std.specs.List.{position_or_len}
 use Rattle.std.proofs.lemmas.Bool.{and_parts, eqb-true}
 use Rattle.std.proofs.lemmas.Bool.Decides.{nat_tests}
-use Rattle.std.proofs.lemmas.List.Sums.{sum_by-cons}
-use Rattle.lt_modes.specs.declared.mode.Mode.{Mode}
+use Rattle.std.proofs.lemmas.List.Sums.{sum_by-cons, sum_by_push}
 use Rattle.lt_modes.specs.Modes.{same_mode}
 use Rattle.lt_modes.specs.Script.{ScriptData}
+use Rattle.lt_modes.proofs.EachMode.{same_mode-true}
 use Rattle.lt_spec.specs.Holdings.{Holding, same_holding, without_one, without_holding, is_dropped, times_held}
-
-same_mode-equal : (a b : Mode) → same_mode a b ≡ true → a ≡ b
-same_mode-equal a b e = grind arith
 
 pub same_holding-equal : (a b : Holding) → same_holding a b ≡ true → a ≡ b
 same_holding-equal a b e =
@@ -19,8 +16,11 @@ same_holding-equal a b e =
     let two = and_parts (a.set == b.set) (same_mode a.mode b.mode) one.1 in
     let client : a.client ≡ b.client = eqb-true a.client b.client one.0 in
     let lock_set : a.set ≡ b.set = eqb-true a.set b.set two.0 in
-    let mode : a.mode ≡ b.mode = same_mode-equal a.mode b.mode two.1 in
+    let mode : a.mode ≡ b.mode = same_mode-true a.mode b.mode two.1 in
     λ i. record { client = client i; set = lock_set i; mode = mode i }
+
+pub same_holding-itself : (a : Holding) → same_holding a a ≡ true
+same_holding-itself a = grind arith
 
 -- no lock is like another that isn't like it
 same_holding-apart : (a b : Holding) → same_holding a b ≡ false → same_holding b a ≡ false
@@ -111,6 +111,10 @@ count_of-without lock other held = by_test (same_holding lock other) refl
     by_test false e =
         count_same (same_holding lock) (same_holding other) held
         (λ x same. ap (λ (y : Holding). same_holding other y) (sym (same_holding-equal lock x same)) ∙ same_holding-apart lock other e)
+
+-- one such lock more, and as many others as before
+pub count_of-more : (lock other : Holding) (held : List Holding) → times_held (held ++ lock ∷ []) other ≡ times_held held other + cond (same_holding other lock) 1 0
+count_of-more lock other held = sum_by_push (λ (x : Holding). cond (same_holding other x) 1 0) held lock
 
 -- a filter keeps all such locks, or none
 count_filtered : (test : Holding → Bool) (other : Holding) (held : List Holding) → times_held (filter test held) other ≡ cond (test other) (times_held held other) 0

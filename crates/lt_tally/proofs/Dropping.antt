@@ -4,11 +4,11 @@ use Rattle.std.specs.Prelude.{◌==◌, not}
 use Rattle.std.proofs.lemmas.Bool.{eqb-true, eqb-false, ne_eqb, cases_lt}
 use Rattle.std.proofs.lemmas.Bool.Decides.{eqb_tells}
 use Rattle.std.proofs.lemmas.List.{get_or_past}
-use Rattle.lt_modes.specs.declared.mode.Mode.{Mode}
 use Rattle.lt_modes.specs.Script.{ScriptData}
 use Rattle.lt_spec.specs.Families.{is_related}
 use Rattle.lt_spec.specs.Holdings.{Holding, is_dropped, times_held}
 use Rattle.lt_tally.specs.LockTable.{mode_place, cell_of, HasCell, Counts}
+use Rattle.lt_tally.proofs.Places.{place_of-few}
 use Rattle.lt_tally.proofs.Counting.{count_of-kept}
 
 -- the place of a lock's cell among those of its client
@@ -21,9 +21,6 @@ pub record Cleared (script : ScriptData) (client lock_set cell : ℕ) (old now :
   pub dropped : (lock : Holding) → lock.set < length script.sets → lock.client ≡ client → is_related script lock.set lock_set ≡ true → place_in lock < cell → get_or now (cell_of lock) 0 ≡ 0
   pub unrelated : (lock : Holding) → lock.set < length script.sets → is_related script lock.set lock_set ≡ false → get_or now (cell_of lock) 0 ≡ get_or old (cell_of lock) 0
   pub others : (lock : Holding) → lock.set < length script.sets → lock.client ≢ client → get_or now (cell_of lock) 0 ≡ get_or old (cell_of lock) 0
-
-place_of-few : (mode : Mode) → mode_place mode < 6
-place_of-few mode = grind arith
 
 get_or-cleared : (cells : List ℕ) (place : ℕ) → get_or (set cells place 0) place 0 ≡ 0
 get_or-cleared cells place = elim (cases_lt place (length cells)) [

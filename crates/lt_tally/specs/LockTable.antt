@@ -1,20 +1,15 @@
 -- The table of the locks held: how many of each mode each client holds in each set.
 use Rattle.std.specs.Prelude.{◌≡◌, ◌<◌, ◌+◌, ◌*◌, List, ℕ, Option, None, length, slice_index, slice_index_or}
 use Rattle.lt_modes.specs.declared.mode.Mode.{Mode}
-use Rattle.lt_modes.specs.declared.mode.Mode.TheVariants.{IntentionRead, Read, Upgrade, IntentionWrite, ReadIntentionWrite, Write}
 use Rattle.lt_modes.specs.Script.{ScriptData}
 use Rattle.lt_modes.specs.declared.event.Event.{Event}
 use Rattle.lt_modes.specs.declared.parts.Link.{Link}
 use Rattle.lt_spec.specs.Holdings.{Holding, holdings, times_held, wanted, owner_of}
+use Rattle.lt_counts.specs.Counts.{place_of_mode}
 
--- the place of a mode among all modes
-abbrev pub mode_place : Mode → ℕ
-mode_place IntentionRead = 0
-mode_place Read = 1
-mode_place Upgrade = 2
-mode_place IntentionWrite = 3
-mode_place ReadIntentionWrite = 4
-mode_place Write = 5
+-- the place of a mode among all modes; sealed: what looks at it says so (`unfolding mode_place`)
+unfoldable pub mode_place : Mode → ℕ
+mode_place mode = place_of_mode mode
 
 -- the place of a lock's cell: a client has six cells for each of eight sets
 abbrev pub cell_of : Holding → ℕ

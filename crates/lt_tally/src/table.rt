@@ -1,9 +1,10 @@
-ghost use Rattle.std.specs.Prelude.{◌≡◌, ◌+◌, ◌^◌, OnErr, ◌↔◌, ◌≤◌, ◌++◌, ◌∷◌, [], List, not, IsTrue, IfOk, OnOk, length, filter, slice_index, slice_set};
+ghost use Rattle.std.specs.Prelude.{◌≡◌, ◌+◌, ◌^◌, OnErr, ◌↔◌, ◌<◌, ◌≤◌, ◌++◌, ◌∷◌, [], List, not, IsTrue, IfOk, OnOk, length, filter, slice_index, slice_set};
 ghost use Rattle.lt_spec.specs.Holdings.{Holding as AnyHolding, without_one, is_dropped};
 ghost use Rattle.lt_tally.specs.LockTable.{mode_place, cell_of, HasCell, Counts};
 
 use crate::families::is_related;
 use crate::holding::Holding;
+use lt_counts::place;
 use lt_modes::Mode;
 use lt_script::{MAX_SETS, Script};
 use std::alloc::{AllocError, Global};
@@ -121,15 +122,10 @@ fn cell_of(lock: Holding) -> usize
 }
 
 // The place of the mode among all modes.
+#[tactic(auto, unfolding(crate::specs::LockTable::mode_place))]
 fn place_of(mode: Mode) -> usize
-    ensures { result ≡ mode_place mode }
+    ensures place { result ≡ mode_place mode }
+    ensures within { result < 6 }
 {
-    match mode {
-        Mode::IntentionRead => 0,
-        Mode::Read => 1,
-        Mode::Upgrade => 2,
-        Mode::IntentionWrite => 3,
-        Mode::ReadIntentionWrite => 4,
-        Mode::Write => 5,
-    }
+    place(mode)
 }
