@@ -1,6 +1,6 @@
 -- What holds of the commands of a drawn group.
-use Rattle.std.specs.Prelude.{IsTrue}
-use Rattle.std.proofs.Common.{◌≡◌, ◌≢◌, ℕ, ◌<◌, ◌≤◌, ◌==◌, nat_lt, nat_le, not, true, List, length, refl, inl, inr, arith}
+use Rattle.std.specs.Prelude.{IsTrue, if◌then◌else◌}
+use Rattle.std.proofs.Common.{◌≡◌, ◌≢◌, ℕ, zero, suc, get_or, ◌<◌, ◌≤◌, ◌==◌, nat_lt, nat_le, not, true, List, length, refl, inl, inr, arith}
 use Rattle.std.specs.List.{AllByRecursion}
 use Rattle.std.proofs.lemmas.Bool.{cases_eq, cases_Bool, eq-eqb, ne_eqb, leb-true}
 use Rattle.std.proofs.lemmas.Nat.{mod_below}
@@ -10,6 +10,7 @@ use Rattle.lt_modes.specs.Script.{SetData, ClientData}
 use Rattle.lt_modes.specs.declared.command.Command.{Command}
 use Rattle.lt_modes.specs.declared.mode.Mode.{Mode}
 use Rattle.lt_modes.specs.declared.mode.Mode.TheVariants as modes
+use Rattle.lt_modes.specs.declared.mode.TheConstants.{MODES}
 use Rattle.lt_modes.specs.FiveModes.{is_of_five, is_of_version}
 use Rattle.lt_script.specs.Script.{IsRequest, HasModesOf}
 use Rattle.lt_gen.specs.declared.group.Group.{Group}
@@ -52,16 +53,28 @@ few_drawn left g some = elim (cases_eq left 1) [
 
 -- a drawn mode is one of the five
 mode_five : (k : ℕ) → is_of_five (nth_mode k) ≡ true
-mode_five k = elim (cases_Bool (k == 0)) [
-  | inl zeroth ↦ rw zeroth refl
-  | inr other ↦ rw other (elim (cases_Bool (k == 1)) [
-    | inl first ↦ rw first refl
-    | inr other ↦ rw other (elim (cases_Bool (k == 2)) [
-      | inl second ↦ rw second refl
-      | inr other ↦ rw other (elim (cases_Bool (k == 3)) [ inl third ↦ rw third refl | inr last ↦ rw last refl ])
-    ])
-  ])
-]
+mode_five zero = refl
+mode_five (suc zero) = refl
+mode_five (suc (suc zero)) = refl
+mode_five (suc (suc (suc zero))) = refl
+mode_five (suc (suc (suc (suc k)))) = by_rest k
+  where
+    by_rest : (k : ℕ) → is_of_five (nth_mode (suc (suc (suc (suc k))))) ≡ true
+    by_rest zero = refl
+    by_rest (suc k) = refl
+
+-- a drawn one of all modes, and `write` in the place of the one that isn't one of the five
+pub drawn_is_nth : (k : ℕ) (other : Mode) → k < 5 → (if is_of_five (get_or MODES k other) then get_or MODES k other else modes.Write) ≡ nth_mode k
+drawn_is_nth zero other below = refl
+drawn_is_nth (suc zero) other below = refl
+drawn_is_nth (suc (suc zero)) other below = refl
+drawn_is_nth (suc (suc (suc zero))) other below = refl
+drawn_is_nth (suc (suc (suc (suc k)))) other below = by_rest k below
+  where
+    by_rest : (k : ℕ) → suc (suc (suc (suc k))) < 5
+        → (if is_of_five (get_or MODES (suc (suc (suc (suc k)))) other) then get_or MODES (suc (suc (suc (suc k)))) other else modes.Write) ≡ nth_mode (suc (suc (suc (suc k))))
+    by_rest zero below = refl
+    by_rest (suc k) below = absurd (omega (arith, below))
 
 group_five : (left set kind : ℕ) (g : Lcg) → HasFiveModes (group_by left set kind g).0
 group_five left set kind g = elim (cases_Bool (nat_lt kind 2)) [

@@ -1,10 +1,11 @@
 -- The groups of commands of a generated script: what a client does in its turn.
-use Rattle.std.specs.Prelude.{ℕ, ◌==◌, nat_lt, nat_le, if◌then◌else◌, List, [], ◌∷◌, map, IsTrue}
+use Rattle.std.specs.Prelude.{ℕ, ◌==◌, nat_lt, nat_le, if◌then◌else◌, List, [], ◌∷◌, map, filter, slice_index_or, IsTrue}
 use Rattle.rand_pcg.specs.Lcg.{Lcg}
 use Rattle.lt_modes.specs.declared.mode.Mode.{Mode}
 use Rattle.lt_modes.specs.declared.mode.Mode.TheVariants as modes
 use Rattle.lt_modes.specs.declared.command.Command.{Command}
 use Rattle.lt_modes.specs.declared.command.Command.TheVariants as commands
+use Rattle.lt_modes.specs.Modes.{modes_in_order}
 use Rattle.lt_modes.specs.FiveModes.{is_of_five}
 use Rattle.lt_gen.specs.declared.group.Group.{Group}
 use Rattle.lt_gen.specs.declared.group.Group.TheVariants.{Last, Lock, Try, Upgrade, Change}
@@ -12,12 +13,7 @@ use Rattle.lt_gen.specs.Draws.{draw_of}
 
 -- the five modes of version 1, in order
 abbrev pub nth_mode : ℕ → Mode
-nth_mode k =
-    if k == 0 then modes.IntentionRead
-    else if k == 1 then modes.Read
-    else if k == 2 then modes.Upgrade
-    else if k == 3 then modes.IntentionWrite
-    else modes.Write
+nth_mode k = slice_index_or (filter is_of_five modes_in_order) k modes.Write
 
 -- one of the five modes
 abbrev pub drawn_mode : Lcg → Mode × Lcg

@@ -3,7 +3,7 @@ ghost use Rattle.lt_modes.specs.FiveModes.{is_of_five};
 ghost use Rattle.lt_gen.specs.Groups.{drawn_mode, group_of, set_of, group_commands, HasFiveModes};
 
 use crate::draws::Draws;
-use lt_modes::{Command, Mode};
+use lt_modes::{Command, MODES, Mode};
 use std::alloc::{AllocError, Global};
 
 /// The number of sets of a generated script.
@@ -95,15 +95,16 @@ impl Group {
     }
 }
 
+#[tactic(auto, using(crate::proofs::GroupLemmas::drawn_is_nth))]
 fn drawn_mode(draws: &mut Draws) -> Mode
     ensures value { (result, draws.new) ≡ drawn_mode draws.old }
     ensures five { IsTrue (is_of_five result) }
 {
-    match draws.draw(5) {
-        0 => Mode::IntentionRead,
-        1 => Mode::Read,
-        2 => Mode::Upgrade,
-        3 => Mode::IntentionWrite,
-        _ => Mode::Write,
+    let mode = MODES[draws.draw(5) as usize];
+    if mode.is_of_five() {
+        mode
+    } else {
+        // The last but one of all modes is the one that version 1 lacks, and `write` comes after it.
+        Mode::Write
     }
 }

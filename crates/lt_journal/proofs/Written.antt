@@ -3,13 +3,13 @@ use Rattle.std.proofs.Common.{◌≡◌, ℕ, ◌<◌, cond, Bool, true, false, 
 use Rattle.std.specs.List.{AllByRecursion}
 use Rattle.std.specs.Fmt.{decimal}
 use Rattle.lt_modes.specs.declared.mode.Mode.{Mode}
-use Rattle.lt_modes.specs.declared.mode.Mode.TheVariants.{IntentionRead, Read, Upgrade, IntentionWrite, ReadIntentionWrite, Write}
 use Rattle.lt_modes.specs.declared.moves.Step.{Step}
 use Rattle.lt_modes.specs.declared.moves.Step.TheVariants.{Act, Take}
 use Rattle.lt_modes.specs.declared.event.Event.{Event}
 use Rattle.lt_modes.specs.declared.event.Event.TheVariants.{Grant, Wait, Try, Unlock, NotHeld, Change, DropAll, Busy, Copy, Freeze, Token}
 use Rattle.lt_modes.specs.Modes.{Modes, word_of, has, has_none, modes_in_order}
 use Rattle.lt_modes.specs.Script.{ScriptData, set_name, client_name}
+use Rattle.lt_modes.proofs.EachMode.{each_mode}
 use Rattle.lt_journal.specs.Words.{step_words, event_words, words_of_modes, word_of_bool, line_words}
 use Rattle.lt_journal.specs.Text.{lines_text}
 use Rattle.lt_text.specs.Text.{lines, cut_at, fields, spaced}
@@ -17,7 +17,7 @@ use Rattle.lt_journal.specs.declared.line.Line.{Line}
 use Rattle.lt_journal.specs.declared.line.Line.TheVariants.{Version, Move as MoveLine, Event as EventLine, Held, Waiting, Owner, End, Cut, Bad}
 use Rattle.lt_journal.specs.Grammar.{line_of, read_line, journal_of}
 use Rattle.lt_journal.specs.LineFits.{IsNumber, FitsStep, FitsEvent, FitsLine}
-use Rattle.lt_journal.proofs.Conditions.{IsNamed, FewNodes}
+use Rattle.lt_journal.proofs.Conditions.{IsNamed, FewNodes, is_plain}
 use Rattle.lt_journal.proofs.Plain.{IsPlain, ArePlain, plain, plain_decimal, lines_line, fields_line}
 use Rattle.lt_journal.proofs.Spelled.{line_read}
 
@@ -35,12 +35,7 @@ plain_node : (script : ScriptData) (node : ℕ) → FewNodes script → node < s
 plain_node script node few below = plain_decimal node (omega arith)
 
 plain_mode : (mode : Mode) → IsPlain (word_of mode)
-plain_mode IntentionRead = plain (word_of IntentionRead) refl
-plain_mode Read = plain (word_of Read) refl
-plain_mode Upgrade = plain (word_of Upgrade) refl
-plain_mode IntentionWrite = plain (word_of IntentionWrite) refl
-plain_mode ReadIntentionWrite = plain (word_of ReadIntentionWrite) refl
-plain_mode Write = plain (word_of Write) refl
+plain_mode mode = plain (word_of mode) (each_mode (λ m. is_plain (word_of m) ≡ true) refl refl refl refl refl refl mode)
 
 plain_bool : (got : Bool) → IsPlain (word_of_bool got)
 plain_bool true = plain (word_of_bool true) refl

@@ -5,10 +5,11 @@ use Rattle.std.specs.List.{flat_map}
 use Rattle.std.proofs.lemmas.Bool.{cases_eq, eqb-false, ne_eqb}
 use Rattle.std.proofs.lemmas.List.Elements.{Contains-append_left, Contains-append_right, Contains-append_cases}
 use Rattle.lt_modes.specs.declared.mode.Mode.{Mode}
-use Rattle.lt_modes.specs.declared.mode.Mode.TheVariants.{IntentionRead, Read, Upgrade, IntentionWrite, ReadIntentionWrite, Write}
+use Rattle.lt_modes.specs.declared.mode.Mode.TheVariants.{IntentionRead}
 use Rattle.lt_modes.specs.declared.event.Event.{Event}
 use Rattle.lt_modes.specs.declared.parts.Link.{Link}
 use Rattle.lt_modes.specs.Script.{ScriptData}
+use Rattle.lt_modes.proofs.EachMode.{in_order}
 use Rattle.lt_lists.proofs.Members.{contains_first, contains_cases}
 use Rattle.lt_spec.specs.Holdings.{Holding, holding, holdings, times_held, wanted, owner_of}
 use Rattle.lt_journal.specs.declared.line.Line.{Line}
@@ -57,14 +58,6 @@ modes_at f (first ∷ rest) x mode there h = elim (contains_cases first mode res
   | inr later ↦ Contains-append_right (f first) (flat_map f rest) x (modes_at f rest x mode later h)
 ]
 
-every_mode : (mode : Mode) → Contains modes_in_order mode
-every_mode IntentionRead = (0, omega arith, refl)
-every_mode Read = (1, omega arith, refl)
-every_mode Upgrade = (2, omega arith, refl)
-every_mode IntentionWrite = (3, omega arith, refl)
-every_mode ReadIntentionWrite = (4, omega arith, refl)
-every_mode Write = (5, omega arith, refl)
-
 -- what a `held` line says
 abbrev count_in : Line → ℕ
 count_in (Held client s mode count) = count
@@ -107,7 +100,7 @@ held_at : (script : ScriptData) (held : List Holding) (client s : ℕ) (mode : M
 held_at script held client s mode count known below some same =
     below_at (length script.clients) (held_by script held) (Held client s mode count) client known
     (below_at (length script.sets) (held_in_set held client) (Held client s mode count) s below
-    (modes_at (held_in_mode held client s) modes_in_order (Held client s mode count) mode (every_mode mode)
+    (modes_at (held_in_mode held client s) modes_in_order (Held client s mode count) mode (in_order mode)
     (subst (λ (n : ℕ). Contains (held_line (holding client s mode) n) (Held client s mode count)) (sym same) here)))
   where
     here : Contains (held_line (holding client s mode) count) (Held client s mode count)

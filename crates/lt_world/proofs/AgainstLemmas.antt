@@ -1,25 +1,30 @@
 -- Whether a client holds a lock of one of some modes, mode by mode.
-use Rattle.std.proofs.Common.{◌≡◌, ◌<◌, ◌+◌, ◌||◌, ℕ, Bool, true, false, drop, length, refl, ap}
+use Rattle.std.proofs.Common.{◌≡◌, ◌<◌, ◌+◌, ◌∙◌, ◌||◌, ℕ, Bool, true, false, drop, length, refl, sym, ap}
 use Rattle.std.specs.Prelude.{slice_index_or}
 use Rattle.std.specs.List.{list_any}
+use Rattle.std.proofs.lemmas.Bool.{false≢true}
 use Rattle.std.proofs.lemmas.List.{drop_more}
 use Rattle.lt_modes.specs.declared.mode.Mode.{Mode}
-use Rattle.lt_modes.specs.declared.mode.Mode.TheVariants.{IntentionRead, Read, Upgrade, IntentionWrite, ReadIntentionWrite, Write}
+use Rattle.lt_modes.specs.declared.mode.Mode.TheVariants.{IntentionRead}
 use Rattle.lt_modes.specs.declared.mode.TheConstants.{MODES}
 use Rattle.lt_modes.specs.Modes.{any_mode}
-
-or_in_order : (a b c d e f : Bool) → (a || (b || (c || (d || (e || (f || false)))))) ≡ (a || b || c || d || e || f)
-or_in_order true b c d e f = refl
-or_in_order false true c d e f = refl
-or_in_order false false true d e f = refl
-or_in_order false false false true e f = refl
-or_in_order false false false false true f = refl
-or_in_order false false false false false true = refl
-or_in_order false false false false false false = refl
+use Rattle.lt_modes.proofs.EachMode.{in_order}
+use Rattle.lt_modes.proofs.ModeAlgebra.{any_mode-which, any_mode-at}
+use Rattle.lt_lists.proofs.Members.{list_any-at, list_any-which}
 
 -- some mode of the list passes exactly where some mode does
 pub against_all : (test : Mode → Bool) → list_any test MODES ≡ any_mode test
-against_all test = or_in_order (test IntentionRead) (test Read) (test Upgrade) (test IntentionWrite) (test ReadIntentionWrite) (test Write)
+against_all test = by_test (list_any test MODES) (any_mode test) refl refl
+  where
+    by_test : (listed some : Bool) → list_any test MODES ≡ listed → any_mode test ≡ some → listed ≡ some
+    by_test true true e f = refl
+    by_test true false e f =
+        let found = list_any-which test MODES e in
+        absurd (false≢true (sym f ∙ any_mode-at test found.0 found.2))
+    by_test false true e f =
+        let found = any_mode-which test f in
+        absurd (false≢true (sym e ∙ list_any-at test MODES found.0 (in_order found.0) found.1))
+    by_test false false e f = refl
 
 -- the next mode of the list, and those behind it
 pub against_step : (test : Mode → Bool) (k : ℕ) → k < length MODES
