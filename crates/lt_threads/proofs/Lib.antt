@@ -12,4 +12,4 @@ pub mod Starts
 pub mod Logs
 pub mod Waiters
 pub mod Ends
-pub mod Sharing
+pub mod SharedRunners

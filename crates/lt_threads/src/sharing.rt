@@ -3,7 +3,7 @@ ghost use Rattle.std.specs.Prelude.{◌≡◌, ◌<◌, ◌≤◌, length, IfOk}
 ghost use Rattle.lt_pool.specs.PoolData.{new_post};
 ghost use Rattle.lt_runner.specs.Kept.{Grew};
 ghost use Rattle.lt_threads.specs.Together.{EachIs};
-ghost use Rattle.lt_threads.specs.Workers.{AreFree, Leads};
+ghost use Rattle.lt_threads.specs.Workers.{IsFree, AreFree, Leads};
 ghost use Rattle.lt_threads.specs.Settled.{CrewWorked};
 ghost use Rattle.lt_threads.specs.declared.sharing.TheConstants.{MAX_WORKERS};
 
@@ -112,9 +112,10 @@ fn work_all<R: Threads + Sync, G: Gate>(
         rt,
         hands,
         threads,
-        &|_, hand| {
-            hand.run(pool, count, patience, gate);
-        },
+        &|_: usize, hand: &mut Worker|
+            requires { IsFree pool.now hand.old.post × (count ≡ length pool.now.firsts) × (0 < count) }
+            ensures { IsFree pool.entry.now hand.new.post }
+        { hand.run(pool, count, patience, gate) },
     );
 }
 

@@ -2,7 +2,7 @@
 use Rattle.std.proofs.Common.{◌≡◌, length}
 use Rattle.lt_runner.specs.Kept.{Grew}
 use Rattle.lt_threads.specs.Together.{EachIs}
-use Rattle.lt_threads.proofs.Sharing.{SettledTo}
+use Rattle.lt_threads.proofs.SharedRunners.{SettledTo}
 use Rattle.lt_threads.proofs.settling.settle_all.Given as goal
 
 abbrev pub invariant-loop-place : goal.invariant-loop-place

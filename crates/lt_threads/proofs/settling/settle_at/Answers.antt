@@ -3,7 +3,7 @@ use Rattle.std.proofs.Common.{subst}
 use Rattle.lt_runner.specs.declared.parts.Parts.{Parts}
 use Rattle.lt_runner.specs.Kept.{Grew}
 use Rattle.lt_threads.proofs.Each.{set_other}
-use Rattle.lt_threads.proofs.Sharing.{one_grew, one_settled}
+use Rattle.lt_threads.proofs.SharedRunners.{one_grew, one_settled}
 use Rattle.lt_threads.proofs.settling.settle_at.Goals as goal
 
 pub returns-clause-grew : goal.returns-clause-grew

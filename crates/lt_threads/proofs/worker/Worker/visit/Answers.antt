@@ -1,5 +1,5 @@
 -- A runner that worked continues the first one of its slot.
-use Rattle.lt_threads.proofs.Sharing.{works_on}
+use Rattle.lt_threads.proofs.SharedRunners.{works_on}
 use Rattle.lt_threads.proofs.worker.Worker.visit.Goals as goal
 
 pub give-requires-clause-item : goal.give-requires-clause-item

@@ -1,5 +1,5 @@
 -- Workers on shared runners, and what is left when they have ended.
-use Rattle.std.proofs.Common.{◌≡◌, ◌≢◌, ◌<◌, ◌+◌, ℕ, inl, inr, List, length, Option, Some, None, refl, sym, subst, arith, ◌∙◌}
+use Rattle.std.proofs.Common.{◌≡◌, ◌≢◌, ◌<◌, ◌≤◌, ◌+◌, ℕ, zero, suc, inl, inr, List, [], ◌∷◌, length, Option, Some, None, refl, sym, subst, arith, ◌∙◌}
 use Rattle.std.specs.Prelude.{slice_get, slice_set, slice_index_or}
 use Rattle.std.proofs.lemmas.Bool.{cases_eq}
 use Rattle.lt_lists.proofs.Members.{some_equal}
@@ -12,7 +12,7 @@ use Rattle.lt_runner.specs.declared.turning.Worked.TheVariants.{Idle, Full, NoMe
 use Rattle.lt_runner.specs.Kept.{Grew, WorkEnds}
 use Rattle.lt_runner.specs.Same.{grew_itself}
 use Rattle.lt_threads.specs.Together.{EachIs}
-use Rattle.lt_threads.specs.Settled.{IsSettled}
+use Rattle.lt_threads.specs.Settled.{IsSettled, AreSettled}
 use Rattle.lt_threads.proofs.Each.{each_self, set_here, set_other}
 use Rattle.lt_threads.proofs.Turns.{grew_join, get_is}
 
@@ -58,3 +58,13 @@ next_settled patience place old new first others here k p below there = elim (ca
   | inl e ↦ here p (subst (λ (i : ℕ). slice_get new i ≡ Some p) e there)
   | inr apart ↦ first k p (omega (arith, below, apart)) (sym (others k apart) ∙ there)
 ]
+
+below_length : (rs : List Parts) (k : ℕ) (p : Parts) → slice_get rs k ≡ Some p → k < length rs
+below_length [] k p there = cc
+below_length (q ∷ rs) zero p there = omega arith
+below_length (q ∷ rs) (suc k) p there = let rest = below_length rs k p there in omega (arith, rest)
+
+-- once each place was passed all are settled
+pub all_settled : (patience place : ℕ) (rs : List Parts) → length rs ≤ place → SettledTo patience place rs → AreSettled patience rs
+all_settled patience place rs passed first k p there =
+    let within = below_length rs k p there in first k p (omega (arith, within, passed)) there
