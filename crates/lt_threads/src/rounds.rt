@@ -43,9 +43,7 @@ pub fn run_rounds<R: Threads + Sync, G: Gate>(
     ensures ends { IfOk result (λ made. RoundsEnd made.1 script.now made.0.items) }
 {
     loop {
-        let (back, ended) = round(
-            rt, alloc, script, runners, workers, patience, gate,
-        )?;
+        let (back, ended) = round(rt, alloc, script, runners, workers, patience, gate)?;
         if let Some(ended) = ended {
             return Ok((back, ended));
         }

@@ -127,7 +127,11 @@ fn dismiss(pool: &Pool<Runner>, first: &mut Post<Runner>, mut hands: Vec<Worker>
 {
     let mut short = false;
     while let Some(hand) = hands.pop() {
-        let Worker { post, short: met, .. } = hand;
+        let Worker {
+            post,
+            short: met,
+            ..
+        } = hand;
         pool.join(first, post);
         short = short || met;
     }

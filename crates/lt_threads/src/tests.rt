@@ -69,15 +69,7 @@ fn rounds_end(rt: HostRuntime) -> Result<(), Fail> {
         let mut runners = start_crew(rt.alloc(), &script, 1, limit)?;
         assert_eq!(rt; any_enabled(&script, &mut runners), Some(0));
         assert!(rt; !anyone_waits(&script, &mut runners));
-        let (mut runners, told) = run_rounds(
-            &rt,
-            rt.alloc(),
-            &script,
-            runners,
-            1,
-            0,
-            &Open,
-        )?;
+        let (mut runners, told) = run_rounds(&rt, rt.alloc(), &script, runners, 1, 0, &Open)?;
         assert_eq!(rt; told, ended);
         assert!(rt; anyone_waits(&script, &mut runners));
         assert_eq!(rt;
@@ -96,15 +88,7 @@ fn rounds_end(rt: HostRuntime) -> Result<(), Fail> {
 fn rest_on_threads(rt: HostRuntime) -> Result<(), Fail> {
     let script = script_of(rt.alloc(), TWO_NODES)?;
     let runners = start_crew(rt.alloc(), &script, 64, 1_000)?;
-    let (mut runners, told) = run_rounds(
-        &rt,
-        rt.alloc(),
-        &script,
-        runners,
-        8,
-        256,
-        &Open,
-    )?;
+    let (mut runners, told) = run_rounds(&rt, rt.alloc(), &script, runners, 8, 256, &Open)?;
     assert_eq!(rt; told, Ended::Rest);
     assert_eq!(rt; any_enabled(&script, &mut runners), None);
     assert!(rt; anyone_waits(&script, &mut runners));

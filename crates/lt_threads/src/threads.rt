@@ -37,9 +37,7 @@ pub fn run_on_threads<R: Threads + Sync, G: Gate>(
     ensures { IfOk result (λ made. IsThreadRun limit made.0 script.now made.1.entries) }
 {
     let runners = start_crew(alloc, script, capacity, limit)?;
-    let (mut runners, ended) = run_rounds(
-        rt, alloc, script, runners, workers, patience, gate,
-    )?;
+    let (mut runners, ended) = run_rounds(rt, alloc, script, runners, workers, patience, gate)?;
     let ending = end_of(script, &mut runners, ended)?;
     let logs = finish(alloc, script, runners)?;
     let run = merge(alloc, logs)?;
@@ -47,11 +45,7 @@ pub fn run_on_threads<R: Threads + Sync, G: Gate>(
 }
 
 // How rounds that ended so end the run.
-fn end_of(
-    script: &Script,
-    runners: &mut Vec<Runner>,
-    ended: Ended,
-) -> Result<Ending, AllocError>
+fn end_of(script: &Script, runners: &mut Vec<Runner>, ended: Ended) -> Result<Ending, AllocError>
     requires crew { IsCrew script.now runners.old.items }
     requires ended { RoundsEnd ended script.now runners.old.items }
     ensures crew { IsCrew script.now runners.new.items }
