@@ -52,7 +52,7 @@ pub record SoakLimitsAre : Type 0 where
   pub piece : MAX_PIECE ≡ 4096
   -- locks of one mode that a client holds in a set
   pub locks : most_locks ≡ 65536
-  pub usual : USUAL ≡ record { moves = 1048576; capacity = 64; patience = 256 }
+  pub usual : USUAL ≡ record { moves = 1048576; capacity = 64; patience = 256; workers = 8 }
 
 pub record SoakIs : Type 0 where
   -- the script that is made from each seed

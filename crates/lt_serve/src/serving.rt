@@ -3,6 +3,7 @@ ghost use Rattle.std.specs.String.{string_bytes};
 ghost use Rattle.lt_io.specs.Whole.{IsReadWhole};
 ghost use Rattle.lt_limits.specs.declared.moves.TheConstants.{MAX_MOVES};
 ghost use Rattle.lt_mail.specs.declared.opening.TheConstants.{MAX_CAPACITY};
+ghost use Rattle.lt_threads.specs.declared.sharing.TheConstants.{MAX_WORKERS};
 ghost use Rattle.lt_words.specs.Words.{command_of};
 ghost use Rattle.lt_serve.specs.Causes.{SaysOfSource, IsEnding, IsRefusal, CanBeMade, reads, limit_of};
 ghost use Rattle.lt_serve.specs.Serves.{Serves};
@@ -33,8 +34,10 @@ pub struct Setup {
     pub moves: u32,
     /// How many letters a ring between two nodes holds.
     pub capacity: u32,
-    /// How often a node looks for a move in vain before it ends its turn.
+    /// How often a worker looks in vain for a move before it ends.
     pub patience: u32,
+    /// How many workers share the nodes, at most as many as there are nodes.
+    pub workers: u8,
 }
 
 /// What `serve` takes.
@@ -42,6 +45,7 @@ pub const USUAL: Setup = Setup {
     moves: MAX_MOVES,
     capacity: 64,
     patience: 256,
+    workers: 8,
 };
 
 /// What a command came to: its status, and the run that it made.
@@ -80,6 +84,7 @@ pub fn serve_with<R: Threads + Sync, S: Source, K: Sink, G: Gate>(
 ) -> Served
     requires moves { (0 < setup.moves) × (setup.moves ≤ MAX_MOVES) }
     requires capacity { (0 < setup.capacity) × (setup.capacity ≤ MAX_CAPACITY) }
+    requires workers { (0 < setup.workers) × (setup.workers ≤ MAX_WORKERS) }
     ensures { Serves S.state K.held K.faults setup.moves (command_of (map string_bytes words.now)) result source.old source.new sink.old sink.new }
 {
     let command = match Command::from_words(alloc, words) {
@@ -117,6 +122,7 @@ fn make<R: Threads + Sync, S: Source, G: Gate>(
 ) -> Result<Made, Status>
     requires moves { (0 < setup.moves) × (setup.moves ≤ MAX_MOVES) }
     requires capacity { (0 < setup.capacity) × (setup.capacity ≤ MAX_CAPACITY) }
+    requires workers { (0 < setup.workers) × (setup.workers ≤ MAX_WORKERS) }
     requires possible { CanBeMade command }
     ensures ended { IfOk result (λ made. IsEnding made.ending) }
     ensures does { IfOk result (λ made. JournalsBy setup.moves command made.ending (S.state source.old).left made.run.entries made.text.items) }

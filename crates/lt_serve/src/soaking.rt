@@ -1,6 +1,7 @@
 ghost use Rattle.std.specs.Prelude.{◌≡◌, ◌<◌, ◌≤◌, IfOk};
 ghost use Rattle.lt_limits.specs.declared.moves.TheConstants.{MAX_MOVES};
 ghost use Rattle.lt_mail.specs.declared.opening.TheConstants.{MAX_CAPACITY};
+ghost use Rattle.lt_threads.specs.declared.sharing.TheConstants.{MAX_WORKERS};
 ghost use Rattle.lt_serve.specs.TopCall.{Soaks, soak_text};
 
 use crate::made::Made;
@@ -25,6 +26,7 @@ pub(crate) fn soaked<R: Threads + Sync, G: Gate>(
 ) -> Result<Made, AllocError>
     requires moves { (0 < setup.moves) × (setup.moves ≤ MAX_MOVES) }
     requires capacity { (0 < setup.capacity) × (setup.capacity ≤ MAX_CAPACITY) }
+    requires workers { (0 < setup.workers) × (setup.workers ≤ MAX_WORKERS) }
     ensures { IfOk result (λ made. Soaks seed setup.moves made.ending made.run.entries made.text.items) }
 {
     let script = lt_gen::script(alloc, 16, 64, 4_096, seed)?;

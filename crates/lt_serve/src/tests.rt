@@ -10,6 +10,7 @@ mod wide;
 ghost use Rattle.std.specs.Prelude.{◌<◌, ◌≤◌};
 ghost use Rattle.lt_limits.specs.declared.moves.TheConstants.{MAX_MOVES};
 ghost use Rattle.lt_mail.specs.declared.opening.TheConstants.{MAX_CAPACITY};
+ghost use Rattle.lt_threads.specs.declared.sharing.TheConstants.{MAX_WORKERS};
 
 use super::{Setup, Status, USUAL, serve_with};
 use lt_io::{MemorySink, MemorySource};
@@ -60,6 +61,7 @@ fn served<R: Threads + Sync>(
 ) -> Result<(Status, Vec<u8>), AllocError>
     requires moves { (0 < setup.moves) × (setup.moves ≤ MAX_MOVES) }
     requires capacity { (0 < setup.capacity) × (setup.capacity ≤ MAX_CAPACITY) }
+    requires workers { (0 < setup.workers) × (setup.workers ≤ MAX_WORKERS) }
 {
     let words = words_of(alloc, line)?;
     let mut source = source_of(alloc, input, &[])?;

@@ -6,6 +6,7 @@ ghost use Rattle.lt_journal.specs.Text.{text_of};
 ghost use Rattle.lt_limits.specs.declared.moves.TheConstants.{MAX_MOVES};
 ghost use Rattle.lt_serve.specs.Endings.{RanTo, cut_of, status_of_end};
 ghost use Rattle.lt_mail.specs.declared.opening.TheConstants.{MAX_CAPACITY};
+ghost use Rattle.lt_threads.specs.declared.sharing.TheConstants.{MAX_WORKERS};
 ghost use Rattle.lt_serve.specs.declared.limits.TheConstants.{MAX_INPUT};
 ghost use Rattle.lt_words.specs.declared.command.Command.TheVariants as command;
 ghost use Rattle.lt_serve.specs.Causes.{SaysOfSource, IsRefusal};
@@ -39,6 +40,7 @@ pub(crate) fn run_nodes<R: Threads + Sync, G: Gate>(
     requires kept { IsScript script.now }
     requires moves { (0 < setup.moves) × (setup.moves ≤ MAX_MOVES) }
     requires capacity { (0 < setup.capacity) × (setup.capacity ≤ MAX_CAPACITY) }
+    requires workers { (0 < setup.workers) × (setup.workers ≤ MAX_WORKERS) }
     ensures ran { IfOk result (λ made. RanTo setup.moves (status_of_end made.0) script.now made.1.entries) }
     ensures rising { IfOk result (λ made. AreRising made.1.entries) }
 {
@@ -50,6 +52,7 @@ pub(crate) fn run_nodes<R: Threads + Sync, G: Gate>(
         script,
         setup.capacity,
         setup.moves,
+        setup.workers,
         setup.patience,
         gate,
     )
@@ -66,6 +69,7 @@ pub(crate) fn threads_journal<R: Threads + Sync, G: Gate>(
     requires kept { IsScript script.now }
     requires moves { (0 < setup.moves) × (setup.moves ≤ MAX_MOVES) }
     requires capacity { (0 < setup.capacity) × (setup.capacity ≤ MAX_CAPACITY) }
+    requires workers { (0 < setup.workers) × (setup.workers ≤ MAX_WORKERS) }
     ensures ran { IfOk result (λ made. RanTo setup.moves made.ending script.now made.run.entries) }
     ensures rising { IfOk result (λ made. AreRising made.run.entries) }
     ensures text { IfOk result (λ made. made.text.items ≡ text_of script.now made.run.entries (cut_of made.ending)) }
@@ -86,6 +90,7 @@ pub(crate) fn threaded<R: Threads + Sync, S: Source, G: Gate>(
 ) -> Result<Made, Status>
     requires moves { (0 < setup.moves) × (setup.moves ≤ MAX_MOVES) }
     requires capacity { (0 < setup.capacity) × (setup.capacity ≤ MAX_CAPACITY) }
+    requires workers { (0 < setup.workers) × (setup.workers ≤ MAX_WORKERS) }
     ensures does { IfOk result (λ made. JournalsBy setup.moves (command.Run) made.ending (S.state source.old).left made.run.entries made.text.items) }
     ensures whole { OnOk result (IsReadWhole MAX_INPUT (S.state source.old) (S.state source.new)) }
     ensures reading { IfErr result (λ answer. SaysOfSource MAX_INPUT answer (S.state source.old) (S.state source.new)) }

@@ -12,3 +12,4 @@ pub mod Starts
 pub mod Logs
 pub mod Waiters
 pub mod Ends
+pub mod SharedRunners

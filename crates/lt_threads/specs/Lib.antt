@@ -7,3 +7,5 @@ pub mod Starting
 pub mod Finished
 pub mod Crews
 pub mod Threads
+pub mod Workers
+pub mod Settled

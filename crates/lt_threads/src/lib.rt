@@ -6,16 +6,21 @@ mod enabled;
 mod fetching;
 mod finishing;
 mod meeting;
+mod outlook;
 mod rounds;
+mod settling;
+mod sharing;
 mod starting;
 #[cfg(test)]
 mod tests;
 mod threads;
 mod waiting;
+mod worker;
 
 pub use enabled::any_enabled;
 pub use finishing::finish;
 pub use rounds::{Ended, run_rounds};
+pub use sharing::{MAX_WORKERS, crew};
 pub use starting::start_crew;
 pub use threads::run_on_threads;
 pub use waiting::anyone_waits;

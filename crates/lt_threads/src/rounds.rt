@@ -1,13 +1,16 @@
-ghost use Rattle.std.specs.Prelude.{◌≡◌, ◌<◌, ◌⊎◌, length};
+ghost use Rattle.std.specs.Prelude.{◌≡◌, ◌<◌, ◌≤◌, ◌⊎◌, length, IfOk};
 ghost use Rattle.lt_runner.specs.Kept.{Grew};
 ghost use Rattle.lt_threads.specs.Together.{EachIs, IsCrew};
 ghost use Rattle.lt_threads.specs.Rounds.{RoundsEnd, IsCrewCut};
+ghost use Rattle.lt_threads.specs.declared.sharing.TheConstants.{MAX_WORKERS};
 ghost use Rattle.lt_runner.specs.declared.turning.Turned.TheVariants as turns;
 ghost use Rattle.lt_threads.specs.Pushes.{OnePushed, PushedAt, Tried, CanPush, PushEnds, is_end, first_end, other_end};
 
 use crate::enabled::any_enabled;
-use lt_runner::{Gate, Runner, Turned, all_at_once};
+use crate::sharing::{MAX_WORKERS, crew};
+use lt_runner::{Gate, Runner, Turned};
 use lt_script::Script;
+use std::alloc::{AllocError, Global};
 use std::thread::Threads;
 
 /// How the rounds of runners ended.
@@ -20,51 +23,51 @@ pub enum Ended {
     NoMemory,
 }
 
-/// Runs the nodes of a script until no move is enabled, or none that a node may make: again and again all work at once,
-/// on threads, and then, where a move is enabled, the caller makes one itself.
+/// Runs the nodes of a script until no move is enabled, or none that a node may make: again and again so many workers
+/// share the nodes, on threads, and then, where a move is enabled, the caller makes one itself.
+///
+/// Where a crew finds no memory, the runners are dropped.
 pub fn run_rounds<R: Threads + Sync, G: Gate>(
     rt: &R,
+    alloc: Global,
     script: &Script,
-    runners: &mut Vec<Runner>,
+    mut runners: Vec<Runner>,
+    workers: u8,
     patience: u32,
     gate: &G,
-) -> Ended
-    requires crew { IsCrew script.now runners.old.items }
-    ensures crew { IsCrew script.now runners.new.items }
-    ensures grew { EachIs Grew runners.old.items runners.new.items }
-    ensures ends { RoundsEnd result script.now runners.new.items }
+) -> Result<(Vec<Runner>, Ended), AllocError>
+    requires crew { IsCrew script.now runners.items }
+    requires workers { (0 < workers) × (workers ≤ MAX_WORKERS) }
+    ensures crew { IfOk result (λ made. IsCrew script.now made.0.items) }
+    ensures grew { IfOk result (λ made. EachIs Grew runners.items made.0.items) }
+    ensures ends { IfOk result (λ made. RoundsEnd made.1 script.now made.0.items) }
 {
     loop {
-        if let Some(ended) = round(rt, script, runners, patience, gate) {
-            return ended;
+        let (back, ended) = round(rt, alloc, script, runners, workers, patience, gate)?;
+        if let Some(ended) = ended {
+            return Ok((back, ended));
         }
+        runners = back;
     }
 }
 
-// All work at once, and then a move is made where one is enabled.
+// Workers share the nodes, and then a move is made where one is enabled.
 fn round<R: Threads + Sync, G: Gate>(
     rt: &R,
+    alloc: Global,
     script: &Script,
-    runners: &mut Vec<Runner>,
+    runners: Vec<Runner>,
+    workers: u8,
     patience: u32,
     gate: &G,
-) -> Option<Ended>
-    requires crew { IsCrew script.now runners.old.items }
-    ensures { PushEnds result script.now runners.old.items runners.new.items }
+) -> Result<(Vec<Runner>, Option<Ended>), AllocError>
+    requires crew { IsCrew script.now runners.items }
+    requires workers { (0 < workers) × (workers ≤ MAX_WORKERS) }
+    ensures { IfOk result (λ made. PushEnds made.1 script.now runners.items made.0.items) }
 {
-    work_at_once(rt, runners, patience, gate);
-    push_on(script, runners, gate)
-}
-
-fn work_at_once<R: Threads + Sync, G: Gate>(
-    rt: &R,
-    runners: &mut Vec<Runner>,
-    patience: u32,
-    gate: &G,
-)
-    ensures { EachIs Grew runners.old.items runners.new.items }
-{
-    all_at_once(rt, runners.as_mut_slice(), patience, gate);
+    let (mut runners, _) = crew(rt, alloc, runners, workers, patience, gate)?;
+    let ended = push_on(script, &mut runners, gate);
+    Ok((runners, ended))
 }
 
 // Makes a move where one is enabled that a node may make; else tells how the rounds end.

@@ -54,7 +54,7 @@ fn runs_end(rt: HostRuntime) -> Result<(), Fail> {
     for (text, limit, ending, moves) in RUNS {
         let script = script_of(rt.alloc(), text)?;
         assert!(rt; 0 < limit && limit <= MAX_MOVES);
-        let (ended, run) = run_on_threads(&rt, rt.alloc(), &script, 1, limit, 0, &Open)?;
+        let (ended, run) = run_on_threads(&rt, rt.alloc(), &script, 1, limit, 1, 0, &Open)?;
         assert_eq!(rt; ended, ending, "{text}");
         assert_eq!(rt; run.len(), moves, "{text}");
     }
@@ -69,7 +69,8 @@ fn rounds_end(rt: HostRuntime) -> Result<(), Fail> {
         let mut runners = start_crew(rt.alloc(), &script, 1, limit)?;
         assert_eq!(rt; any_enabled(&script, &mut runners), Some(0));
         assert!(rt; !anyone_waits(&script, &mut runners));
-        assert_eq!(rt; run_rounds(&rt, &script, &mut runners, 0, &Open), ended);
+        let (mut runners, told) = run_rounds(&rt, rt.alloc(), &script, runners, 1, 0, &Open)?;
+        assert_eq!(rt; told, ended);
         assert!(rt; anyone_waits(&script, &mut runners));
         assert_eq!(rt;
             any_enabled(&script, &mut runners).is_none(),
@@ -86,11 +87,9 @@ fn rounds_end(rt: HostRuntime) -> Result<(), Fail> {
 #[test]
 fn rest_on_threads(rt: HostRuntime) -> Result<(), Fail> {
     let script = script_of(rt.alloc(), TWO_NODES)?;
-    let mut runners = start_crew(rt.alloc(), &script, 64, 1_000)?;
-    assert_eq!(rt;
-        run_rounds(&rt, &script, &mut runners, 256, &Open),
-        Ended::Rest
-    );
+    let runners = start_crew(rt.alloc(), &script, 64, 1_000)?;
+    let (mut runners, told) = run_rounds(&rt, rt.alloc(), &script, runners, 8, 256, &Open)?;
+    assert_eq!(rt; told, Ended::Rest);
     assert_eq!(rt; any_enabled(&script, &mut runners), None);
     assert!(rt; anyone_waits(&script, &mut runners));
     Ok(())

@@ -5,6 +5,7 @@ ghost use Rattle.lt_threads.specs.Rounds.{RoundsEnd};
 ghost use Rattle.lt_runner.specs.Kept.{AsSeen};
 ghost use Rattle.lt_threads.specs.Threads.{IsThreadRun};
 ghost use Rattle.lt_threads.specs.Crews.{CrewEnds};
+ghost use Rattle.lt_threads.specs.declared.sharing.TheConstants.{MAX_WORKERS};
 
 use crate::finishing::finish;
 use crate::rounds::{Ended, run_rounds};
@@ -18,22 +19,25 @@ use lt_script::Script;
 use std::alloc::{AllocError, Global};
 use std::thread::Threads;
 
-/// Runs a script, each node by a runner that makes up to `limit` moves, with rings of so many places between them.
+/// Runs a script, each node by a runner that makes up to `limit` moves, with rings of so many places between them, and so
+/// many workers that share them.
 pub fn run_on_threads<R: Threads + Sync, G: Gate>(
     rt: &R,
     alloc: Global,
     script: &Script,
     capacity: u32,
     limit: u32,
+    workers: u8,
     patience: u32,
     gate: &G,
 ) -> Result<(Ending, Run), AllocError>
     requires capacity { (0 < capacity) × (capacity ≤ MAX_CAPACITY) }
     requires limit { (0 < limit) × (limit ≤ MAX_MOVES) }
+    requires workers { (0 < workers) × (workers ≤ MAX_WORKERS) }
     ensures { IfOk result (λ made. IsThreadRun limit made.0 script.now made.1.entries) }
 {
-    let mut runners = start_crew(alloc, script, capacity, limit)?;
-    let ended = run_rounds(rt, script, &mut runners, patience, gate);
+    let runners = start_crew(alloc, script, capacity, limit)?;
+    let (mut runners, ended) = run_rounds(rt, alloc, script, runners, workers, patience, gate)?;
     let ending = end_of(script, &mut runners, ended)?;
     let logs = finish(alloc, script, runners)?;
     let run = merge(alloc, logs)?;

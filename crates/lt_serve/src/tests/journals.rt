@@ -234,6 +234,7 @@ fn cut(rt: HostRuntime) -> Result<(), Fail> {
         moves: 3,
         capacity: 1,
         patience: 0,
+        workers: 8,
     };
     let (status, text) = served(
         &rt,

@@ -72,6 +72,7 @@ fn two_nodes_move_at_once(rt: HostRuntime) -> Result<(), Fail> {
         moves: 1_000,
         capacity: 64,
         patience: 256,
+        workers: 8,
     };
     let words = words_of(alloc, "run")?;
     let mut source = source_of(alloc, TWO_IN_TURN, &[])?;

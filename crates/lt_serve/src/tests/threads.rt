@@ -40,6 +40,7 @@ fn three_readers_on_threads(rt: HostRuntime) -> Result<(), Fail> {
         moves: 1_000,
         capacity: 1,
         patience: 0,
+        workers: 8,
     };
     let (status, journal) = served(&rt, rt.alloc(), setup, "run", THREE_READERS)?;
     assert_eq!(rt; status, Status::Done);
@@ -57,6 +58,7 @@ fn cut_on_threads(rt: HostRuntime) -> Result<(), Fail> {
         moves: 1,
         capacity: 1,
         patience: 0,
+        workers: 8,
     };
     let (status, journal) = served(&rt, rt.alloc(), setup, "run", THREE_READERS)?;
     assert_eq!(rt; status, Status::Cut { node: 0 });

@@ -1,8 +1,19 @@
+-- The crew grew, and then a move was made or the rounds are over.
+use Rattle.std.proofs.Common.{arith}
 use Rattle.lt_threads.proofs.rounds.round.Goals as goal
 use Rattle.lt_threads.proofs.Pushing.{crew_grew, after_grew}
 
-pub push_on-requires-clause-crew : goal.push_on-requires-clause-crew
-push_on-requires-clause-crew g c = λ κs outlives. crew_grew c.args.script.now c.args.runners.now.items c.work_at_once.new.runners.items c.work_at_once.ensures c.requires.crew
+pub crew-requires-clause-runners : goal.crew-requires-clause-runners
+crew-requires-clause-runners g c = λ κs outlives. (
+  omega (arith, c.requires.crew.count, c.requires.crew.is_script.some_node),
+  omega (arith, c.requires.crew.count, c.requires.crew.is_script.few_nodes),
+)
+
+pub push_on-ended-requires-clause-crew : goal.push_on-ended-requires-clause-crew
+push_on-ended-requires-clause-crew g c = λ κs outlives.
+    crew_grew c.args.script.now c.args.runners.items c.in_ok-runners.runners.items c.in_ok-runners.ensures.grew c.requires.crew
 
 pub returns : goal.returns
-returns g c = after_grew c.push_on.result c.args.script.now c.args.runners.now.items c.work_at_once.new.runners.items c.push_on.new.runners.items c.work_at_once.ensures c.push_on.ensures
+returns g c =
+    after_grew c.push_on-ended.result c.args.script.now c.args.runners.items c.in_ok-runners.runners.items c.push_on-ended.new.runners.items
+    c.in_ok-runners.ensures.grew c.push_on-ended.ensures

@@ -4,11 +4,11 @@ use Rattle.lt_threads.specs.Together.{EachIs, IsCrew}
 use Rattle.lt_threads.specs.Rounds.{room_of}
 use Rattle.lt_threads.proofs.rounds.run_rounds.Given as goal
 
-abbrev pub invariant-loop-ended : goal.invariant-loop-ended
-invariant-loop-ended g l = record {
+abbrev pub invariant-loop-back : goal.invariant-loop-back
+invariant-loop-back g l = record {
   crew : IsCrew l.script l.runners.items;
   grew : EachIs Grew l.initial.runners.items l.runners.items;
 }
 
-abbrev pub decreases-loop-ended : goal.decreases-loop-ended
-decreases-loop-ended g l = room_of l.runners.items
+abbrev pub decreases-loop-back : goal.decreases-loop-back
+decreases-loop-back g l = room_of l.runners.items

@@ -1,0 +1,119 @@
+ghost use Rattle.std.specs.Prelude.{◌<◌};
+
+/// Visits in vain for each node after which a worker ends, where its patience isn't less.
+const VAIN_ROUNDS: u32 = 8;
+
+/// What a worker knows of the nodes, a bit each, and where it looks next.
+///
+/// It is chosen for speed alone: letters come before commands, so that a token stays where its clients are.
+#[derive(Clone, Copy)]
+pub(crate) struct Outlook {
+    // The node from which on it looks for the next one.
+    at: u8,
+    // The nodes that its runners sent letters to.
+    mail: u64,
+    // The nodes that may have another move.
+    acts: u64,
+    // The nodes that have made as many moves as they may.
+    full: u64,
+    // Whether the node that it looks at has mail.
+    by_mail: bool,
+    // Visits without a move, one after the other.
+    vain: u32,
+    // Refused claims, one after the other.
+    refused: u32,
+}
+
+impl Outlook {
+    pub(crate) fn new(at: u8) -> Outlook {
+        Outlook {
+            at,
+            mail: 0,
+            acts: u64::MAX,
+            full: 0,
+            by_mail: false,
+            vain: 0,
+            refused: 0,
+        }
+    }
+
+    /// Whether the worker has tried often enough.
+    pub(crate) fn is_over(&self, count: u8, patience: u32) -> bool {
+        self.vain >= patience.min(VAIN_ROUNDS) * u32::from(count) || self.refused >= patience
+    }
+
+    /// The next of so many nodes.
+    pub(crate) fn next(&mut self, count: u8) -> u8
+        requires { 0 < count }
+        ensures { result < count }
+    {
+        self.by_mail = self.mail != 0;
+        if self.acts & first_bits(count) == 0 {
+            self.acts = !self.full;
+        }
+        let node = if self.by_mail {
+            first_from(self.mail, self.at, count)
+        } else {
+            first_from(self.acts, self.at, count)
+        };
+        self.mail &= !bit(node);
+        self.acts &= !bit(node);
+        self.at = if node + 1 < count { node + 1 } else { 0 };
+        node
+    }
+
+    /// Another worker has the node.
+    pub(crate) fn note_refusal(&mut self, node: u8) {
+        self.refused = self.refused.saturating_add(1);
+        if self.by_mail {
+            self.acts |= bit(node);
+        }
+    }
+
+    /// The node made moves, and sent letters to the nodes that were reached.
+    pub(crate) fn note_moves(&mut self, node: u8, reached: u64) {
+        self.vain = 0;
+        self.refused = 0;
+        self.mail |= reached;
+        self.acts |= bit(node);
+    }
+
+    /// The node made no move.
+    pub(crate) fn note_no_move(&mut self) {
+        self.vain = self.vain.saturating_add(1);
+    }
+
+    /// The node has made as many moves as it may.
+    pub(crate) fn note_full(&mut self, node: u8) {
+        self.full |= bit(node);
+        self.acts &= !bit(node);
+    }
+}
+
+fn bit(node: u8) -> u64 {
+    1 << (node % 64)
+}
+
+// The bits of so many nodes.
+fn first_bits(count: u8) -> u64 {
+    if count < 64 {
+        !(u64::MAX << count)
+    } else {
+        u64::MAX
+    }
+}
+
+// The first of these nodes from `at` on, round all; some node where there is none.
+fn first_from(nodes: u64, at: u8, count: u8) -> u8
+    requires { 0 < count }
+    ensures { result < count }
+{
+    let later = nodes & (u64::MAX << (at % 64)) & first_bits(count);
+    let found = if later == 0 { nodes } else { later };
+    let first = found.trailing_zeros();
+    if first < u32::from(count) {
+        first as u8
+    } else {
+        0
+    }
+}

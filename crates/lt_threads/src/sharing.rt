@@ -1,0 +1,139 @@
+// Workers that share the runners.
+ghost use Rattle.std.specs.Prelude.{◌≡◌, ◌<◌, ◌≤◌, length, IfOk};
+ghost use Rattle.lt_pool.specs.PoolData.{new_post};
+ghost use Rattle.lt_runner.specs.Kept.{Grew};
+ghost use Rattle.lt_threads.specs.Together.{EachIs};
+ghost use Rattle.lt_threads.specs.Workers.{IsFree, AreFree, Leads};
+ghost use Rattle.lt_threads.specs.Settled.{CrewWorked};
+ghost use Rattle.lt_threads.specs.declared.sharing.TheConstants.{MAX_WORKERS};
+
+use crate::outlook::Outlook;
+use crate::settling::settle;
+use crate::worker::Worker;
+use lt_pool::{Pool, Post};
+use lt_runner::{Gate, Runner, Worked};
+use std::alloc::{AllocError, Global};
+use std::thread::{Threads, for_each_mut};
+
+/// The greatest number of workers.
+pub const MAX_WORKERS: u8 = 16;
+
+/// Lets workers share the runners, each on a thread, and then lets each runner work once itself.
+///
+/// The runners come back in order. Without memory for the crew itself they are dropped.
+pub fn crew<R: Threads + Sync, G: Gate>(
+    rt: &R,
+    alloc: Global,
+    runners: Vec<Runner>,
+    workers: u8,
+    patience: u32,
+    gate: &G,
+) -> Result<(Vec<Runner>, Worked), AllocError>
+    requires runners { (0 < length runners.items) × (length runners.items ≤ 64) }
+    requires workers { (0 < workers) × (workers ≤ MAX_WORKERS) }
+    ensures grew { IfOk result (λ ended. EachIs Grew runners.items ended.0.items) }
+    ensures ends { IfOk result (λ ended. CrewWorked ended.1 patience ended.0.items) }
+{
+    let (mut runners, short) = share(rt, alloc, runners, workers, patience, gate)?;
+    if short {
+        return Ok((runners, Worked::NoMemory));
+    }
+    let worked = settle(&mut runners, patience, gate);
+    Ok((runners, worked))
+}
+
+// Lets workers share the runners. True where memory ran out on one of them.
+fn share<R: Threads + Sync, G: Gate>(
+    rt: &R,
+    alloc: Global,
+    runners: Vec<Runner>,
+    workers: u8,
+    patience: u32,
+    gate: &G,
+) -> Result<(Vec<Runner>, bool), AllocError>
+    requires runners { (0 < length runners.items) × (length runners.items ≤ 64) }
+    requires workers { (0 < workers) × (workers ≤ MAX_WORKERS) }
+    ensures { IfOk result (λ ended. EachIs Grew runners.items ended.0.items) }
+{
+    let count = runners.len() as u8;
+    let (pool, mut first) = Pool::new(alloc, runners)?;
+    let mut hands = engage(alloc, &pool, &mut first, workers.min(count))?;
+    work_all(rt, &pool, hands.as_mut_slice(), count, patience, gate);
+    let short = dismiss(&pool, &mut first, hands);
+    match pool.close(first) {
+        Ok(runners) => Ok((runners, short)),
+        Err(_) => Err(AllocError),
+    }
+}
+
+// So many workers, each with a post of its own, and each begins at a node of its own.
+fn engage(
+    alloc: Global,
+    pool: &Pool<Runner>,
+    first: &mut Post<Runner>,
+    workers: u8,
+) -> Result<Vec<Worker>, AllocError>
+    requires { (first.old ≡ new_post pool.now 0) × (workers ≤ MAX_WORKERS) }
+    ensures free { IfOk result (λ hands. AreFree pool.now hands.items) }
+    ensures first { IfOk result (λ hands. Leads pool.now (length hands.items) first.new) }
+{
+    let mut hands = Vec::with_capacity(alloc, usize::from(workers))?;
+    for place in 0..workers {
+        let post = pool.split(first);
+        let outlook = Outlook::new(place);
+        hands.push_reserved(Worker {
+            post,
+            outlook,
+            short: false,
+        });
+    }
+    Ok(hands)
+}
+
+// Runs each worker on a thread. Where no thread can be made the caller's works.
+fn work_all<R: Threads + Sync, G: Gate>(
+    rt: &R,
+    pool: &Pool<Runner>,
+    hands: &mut [Worker],
+    count: u8,
+    patience: u32,
+    gate: &G,
+)
+    requires free { AreFree pool.now hands.old }
+    requires count { (count ≡ length pool.now.firsts) × (0 < count) }
+    ensures free { AreFree pool.now hands.new }
+    ensures count { length hands.new ≡ length hands.old }
+{
+    if hands.is_empty() {
+        return;
+    }
+    let threads = hands.len();
+    for_each_mut(
+        rt,
+        hands,
+        threads,
+        &|_: usize, hand: &mut Worker|
+            requires { IsFree pool.now hand.old.post × (count ≡ length pool.now.firsts) × (0 < count) }
+            ensures { IsFree pool.entry.now hand.new.post }
+        { hand.run(pool, count, patience, gate) },
+    );
+}
+
+// Joins all posts into the first one. True where memory ran out on a worker.
+fn dismiss(pool: &Pool<Runner>, first: &mut Post<Runner>, mut hands: Vec<Worker>) -> bool
+    requires free { AreFree pool.now hands.items }
+    requires first { Leads pool.now (length hands.items) first.old }
+    ensures { Leads pool.now 0 first.new }
+{
+    let mut short = false;
+    while let Some(hand) = hands.pop() {
+        let Worker {
+            post,
+            short: met,
+            ..
+        } = hand;
+        pool.join(first, post);
+        short = short || met;
+    }
+    short
+}

@@ -1,0 +1,88 @@
+// What a worker does on its thread.
+ghost use Rattle.std.specs.Prelude.{◌≡◌, ◌<◌, length};
+ghost use Rattle.lt_runner.specs.Kept.{Grew};
+ghost use Rattle.lt_threads.specs.Workers.{IsFree};
+
+use crate::outlook::Outlook;
+use lt_pool::{Pool, Post};
+use lt_runner::{Gate, Runner, Worked};
+
+/// A worker: what it claims runners with, where it looks next, and whether memory ran out on it.
+#[derive(Drop)]
+pub(crate) struct Worker {
+    pub(crate) post: Post<Runner>,
+    pub(crate) outlook: Outlook,
+    pub(crate) short: bool,
+}
+
+// What came of a visit.
+#[derive(Clone, Copy)]
+struct Visit {
+    moved: bool,
+    // The nodes that letters went to, a bit each.
+    reached: u64,
+    worked: Worked,
+}
+
+impl Worker {
+    /// Visits one node after the other until it has tried often enough, or memory ran out.
+    pub(crate) fn run<G: Gate>(&mut self, pool: &Pool<Runner>, count: u8, patience: u32, gate: &G)
+        requires free { IsFree pool.now self.old.post }
+        requires count { (count ≡ length pool.now.firsts) × (0 < count) }
+        ensures { IsFree pool.now self.new.post }
+    {
+        for _ in 0..u64::MAX {
+            if self.short || self.outlook.is_over(count, patience) {
+                return;
+            }
+            let node = self.outlook.next(count);
+            self.visit(pool, node, gate);
+        }
+    }
+
+    // Claims the node's runner, lets it work and gives it back; or another worker has it.
+    fn visit<G: Gate>(&mut self, pool: &Pool<Runner>, node: u8, gate: &G)
+        requires free { IsFree pool.now self.old.post }
+        requires inside { node < length pool.now.firsts }
+        ensures { IsFree pool.now self.new.post }
+    {
+        let Ok(mut runner) = pool.claim(&mut self.post, node) else {
+            self.outlook.note_refusal(node);
+            return;
+        };
+        let visit = work_on(&mut runner, gate);
+        pool.give(&mut self.post, node, runner);
+        self.note(node, visit);
+    }
+
+    // Notes what came of a visit.
+    fn note(&mut self, node: u8, visit: Visit)
+        ensures { self.new.post ≡ self.old.post }
+    {
+        if visit.moved {
+            self.outlook.note_moves(node, visit.reached);
+        } else {
+            self.outlook.note_no_move();
+        }
+        match visit.worked {
+            Worked::Idle => {}
+            Worked::Full => self.outlook.note_full(node),
+            Worked::NoMemory => self.short = true,
+        }
+    }
+}
+
+// Lets the runner work until it finds no move or has sent a letter.
+fn work_on<G: Gate>(runner: &mut Runner, gate: &G) -> Visit
+    ensures { Grew runner.old runner.new }
+{
+    let before = runner.moves();
+    let worked = runner.work_until_sent(gate);
+    let moved = before < runner.moves();
+    let reached = runner.reached();
+    Visit {
+        moved,
+        reached,
+        worked,
+    }
+}
