@@ -1,6 +1,8 @@
 mod answers;
+mod gates;
 mod journals;
 mod meeting;
+mod order;
 mod pieces;
 mod refusals;
 mod sizes;

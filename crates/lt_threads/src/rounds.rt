@@ -8,7 +8,7 @@ ghost use Rattle.lt_threads.specs.Pushes.{OnePushed, PushedAt, Tried, CanPush, P
 
 use crate::enabled::any_enabled;
 use crate::sharing::{MAX_WORKERS, crew};
-use lt_runner::{Gate, Runner, Turned};
+use lt_runner::{Gate, Runner, Turned, Worked};
 use lt_script::Script;
 use std::alloc::{AllocError, Global};
 use std::thread::Threads;
@@ -65,7 +65,10 @@ fn round<R: Threads + Sync, G: Gate>(
     requires workers { (0 < workers) × (workers ≤ MAX_WORKERS) }
     ensures { IfOk result (λ made. PushEnds made.1 script.now runners.items made.0.items) }
 {
-    let (mut runners, _) = crew(rt, alloc, runners, workers, patience, gate)?;
+    let (mut runners, worked) = crew(rt, alloc, runners, workers, patience, gate)?;
+    if worked == Worked::NoMemory {
+        return Err(AllocError);
+    }
     let ended = push_on(script, &mut runners, gate);
     Ok((runners, ended))
 }

@@ -1,11 +1,11 @@
+use super::gates::{Passes, TIMES};
 use super::{sink_of, source_of, words_of};
-use crate::{Setup, Status, serve_with};
+use crate::{Served, Setup, Status, serve_with};
 use lt_merge::Run;
 use lt_runner::Gate;
-use std::sync::atomic::{AtomicU64, Ordering};
+use std::alloc::{AllocError, Global};
 use std::test::Fail;
-
-const TURNS: u32 = 100_000_000;
+use std::thread::Threads;
 
 const TWO_IN_TURN: &str = "nodes 2\n\
 set s\n\
@@ -19,38 +19,14 @@ b unlock s write\n";
 // Before its first move each of two nodes waits until the other one comes to its own.
 #[derive(Drop)]
 struct Meeting {
-    passes: [AtomicU64; 2],
-    // Whether the wait ended before its turns did.
-    met: [AtomicU64; 2],
-}
-
-impl Meeting {
-    ghost use Rattle.std.specs.Prelude.{◌<◌};
-
-    fn new() -> Meeting {
-        Meeting {
-            passes: [AtomicU64::new(0), AtomicU64::new(0)],
-            met: [AtomicU64::new(0), AtomicU64::new(0)],
-        }
-    }
-
-    fn wait_for_the_other(&self, me: usize)
-        requires { me < 2 }
-    {
-        for _ in 0..TURNS {
-            if self.passes[1 - me].load(Ordering::SeqCst) > 0 {
-                self.met[me].store(1, Ordering::SeqCst);
-                return;
-            }
-        }
-    }
+    passes: Passes,
 }
 
 impl Gate for Meeting {
     fn pass(&self, node: u8) {
         let me = usize::from(node);
-        if me < 2 && self.passes[me].fetch_add(1, Ordering::SeqCst) == 0 {
-            self.wait_for_the_other(me);
+        if me < 2 && self.passes.is_first(me) {
+            self.passes.wait(me, 1 - me, 1);
         }
     }
 }
@@ -65,36 +41,41 @@ fn moves_of(run: &Run, node: u8) -> u64 {
     count
 }
 
-#[test]
-fn two_nodes_move_at_once(rt: HostRuntime) -> Result<(), Fail> {
-    let alloc = rt.alloc();
-    let setup = Setup {
-        moves: 1_000,
-        capacity: 64,
-        patience: 256,
-        workers: 8,
-    };
+const SETUP: Setup = Setup {
+    moves: 1_000,
+    capacity: 64,
+    patience: 256,
+    workers: 8,
+};
+
+fn ran<R: Threads + Sync>(rt: &R, alloc: Global, gate: &Meeting) -> Result<Served, AllocError> {
     let words = words_of(alloc, "run")?;
     let mut source = source_of(alloc, TWO_IN_TURN, &[])?;
     let mut sink = sink_of(alloc, 1_000, &[])?;
-    let gate = Meeting::new();
-    let served = serve_with(
-        &rt,
+    Ok(serve_with(
+        rt,
         alloc,
-        setup,
+        SETUP,
         words.as_slice(),
         &mut source,
         &mut sink,
-        &gate,
-    );
-    assert_eq!(rt; served.status, Status::Done);
-    for node in 0..2_u8 {
-        let me = usize::from(node);
-        assert_eq!(rt; gate.met[me].load(Ordering::SeqCst), 1);
-        assert_eq!(rt;
-            gate.passes[me].load(Ordering::SeqCst),
-            moves_of(&served.run, node)
-        );
+        gate,
+    ))
+}
+
+#[test]
+fn two_nodes_move_at_once(rt: HostRuntime) -> Result<(), Fail> {
+    for run in 0..TIMES {
+        let gate = Meeting {
+            passes: Passes::new(run),
+        };
+        let served = ran(&rt, rt.alloc(), &gate)?;
+        assert_eq!(rt; served.status, Status::Done);
+        for node in 0..2_u8 {
+            let me = usize::from(node);
+            assert!(rt; gate.passes.has_met(me));
+            assert_eq!(rt; gate.passes.count(me), moves_of(&served.run, node));
+        }
     }
     Ok(())
 }
