@@ -18,6 +18,7 @@ use Rattle.lt_checker.specs.Input.{IsEndedRun, FailsInput}
 use Rattle.lt_waits.specs.declared.answer.Answer.{Answer}
 use Rattle.lt_waits.specs.declared.answer.Answer.TheVariants.{Done, Usage, Refused, TooLong, ReadFault, WriteFault, NoMemory, BadJournal}
 use Rattle.lt_waits.specs.Answers.{answer_of_input}
+use Rattle.lt_waits.specs.Explained.{Explains}
 use Rattle.lt_waits.specs.Serves.{IsReportOf, RefusesInput, CountsWriting, IsGoodJournal, ServesReport}
 
 at_least : (a b : ℕ) → b ≡ a → a ≤ b
@@ -158,12 +159,13 @@ refuses_memory before after whole = record { error = error.NoMemory; is = refl; 
 
 -- the report of the world in which the run ended is that of the run
 pub reported : (left : Option (List ℕ)) (script : ScriptData) (world : WorldData) (text : List ℕ) → IsEndedRun left script world
-    → text ≡ waits_text script (waits_report script (world_of world)) → IsReportOf left text
-reported left script world text ended told = record {
+    → Explains script world.run → text ≡ waits_text script (waits_report script (world_of world)) → IsReportOf left text
+reported left script world text ended explained told = record {
   script = script;
   run = world.run;
   denoted = ended.denoted;
   accepted = ended.accepted;
   finished = ended.finished;
+  explained = explained;
   told = told ∙ ap (λ (s : ScriptData). waits_text script (waits_report script (world_after s world.run))) ended.script_is;
 }

@@ -18,14 +18,17 @@ use Rattle.lt_checker.specs.Input.{DenotesBefore, HasFaultBefore, IsJournalOf, I
 use Rattle.lt_waits.specs.declared.answer.Answer.{Answer}
 use Rattle.lt_waits.specs.declared.answer.Answer.TheVariants.{Done, Usage, WriteFault, NoMemory}
 use Rattle.lt_waits.specs.Answers.{answer_of_input}
+use Rattle.lt_waits.specs.Explained.{Explains}
 
--- the input is a script and the journal of a run of it that ended at rest, and this tells who waits for whom at its end
+-- the input is a script and the journal of a run of it that ended at rest, and this tells who waits for whom at its end, and
+-- why
 pub record IsReportOf (left : Option (List ℕ)) (text : List ℕ) : Type 0 where
   pub script : ScriptData
   pub run : List Logged
   pub denoted : DenotesBefore left script
   pub accepted : IsJournalOf left script run
   pub finished : IsFinished script run
+  pub explained : Explains script run
   pub told : text ≡ waits_text script (waits_report script (world_after script run))
 
 -- the input is no script and journal for this reason, which is the answer

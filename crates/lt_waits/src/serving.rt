@@ -9,6 +9,7 @@ use crate::answer::Answer;
 use crate::reporting::report;
 use lt_checker::check_input;
 use lt_io::{Sink, Source, write_all};
+use lt_law_waiting::{law_reports, law_waiting};
 use std::alloc::Global;
 
 /// Reads a script and the journal of a run of it that ended at rest, and writes the report of who waits for whom at its end.
@@ -41,6 +42,8 @@ fn make<S: Source>(alloc: Global, source: &mut S) -> Result<Vec<u8>, Answer>
         Ok(ended) => ended,
         Err(error) => return Err(Answer::from(error)),
     };
+    law_waiting();
+    law_reports();
     match report(alloc, &ended.script, &ended.world) {
         Ok(text) => Ok(text),
         Err(_) => Err(Answer::NoMemory),

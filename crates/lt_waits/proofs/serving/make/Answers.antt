@@ -1,4 +1,5 @@
 use Rattle.lt_waits.proofs.Answering.{refuses, refuses_memory, reported}
+use Rattle.lt_waits.proofs.Explaining.{explained}
 use Rattle.lt_waits.proofs.serving.make.Goals as goal
 
 pub returns-in-Err-clause-refused : goal.returns-in-Err-clause-refused
@@ -10,7 +11,11 @@ report-requires g c = c.in-Ok.ensures.told.script_is
 
 pub returns-in-Ok-report-clause-text : goal.returns-in-Ok-report-clause-text
 returns-in-Ok-report-clause-text g c =
-    reported (g.S.Source.state c.args.source.now).left c.in-Ok.ended.script c.in-Ok.ended.world c.in-Ok-report.text.items c.in-Ok.ensures.told c.in-Ok-report.ensures
+    let ended = c.in-Ok.ended in
+    let told = c.in-Ok.ensures.told in
+    let why = explained ended.script ended.world.run c.law_waiting.ensures.some c.law_reports.ensures.cycles c.law_reports.ensures.rings
+    c.law_waiting.ensures.ends c.law_waiting.ensures.all c.in-Ok.ensures.kept told.finished in
+    reported (g.S.Source.state c.args.source.now).left ended.script ended.world c.in-Ok-report.text.items told why c.in-Ok-report.ensures
 
 pub returns-in-Err-report-clause-refused : goal.returns-in-Err-report-clause-refused
 returns-in-Err-report-clause-refused g c = refuses_memory (g.S.Source.state c.args.source.now) (g.S.Source.state c.check_input.new.source) c.in-Ok.ensures.whole
