@@ -1,4 +1,4 @@
-use Rattle.lt_waits.proofs.Answering.{refuses, refuses_memory, reported}
+use Rattle.lt_waits.proofs.Answering.{refuses, reported}
 use Rattle.lt_waits.proofs.Explaining.{explained}
 use Rattle.lt_waits.proofs.serving.make.Goals as goal
 
@@ -16,6 +16,3 @@ returns-in-Ok-report-clause-text g c =
     let why = explained ended.script ended.world.run c.law_waiting.ensures.some c.law_reports.ensures.cycles c.law_reports.ensures.rings
     c.law_waiting.ensures.ends c.law_waiting.ensures.all c.in-Ok.ensures.kept told.finished in
     reported (g.S.Source.state c.args.source.now).left ended.script ended.world c.in-Ok-report.text.items told why c.in-Ok-report.ensures
-
-pub returns-in-Err-report-clause-refused : goal.returns-in-Err-report-clause-refused
-returns-in-Err-report-clause-refused g c = refuses_memory (g.S.Source.state c.args.source.now) (g.S.Source.state c.check_input.new.source) c.in-Ok.ensures.whole
