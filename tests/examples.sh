@@ -2,9 +2,11 @@
 # Tests of all examples: the tools run on each, journal-state also after the first move; the pictures of docs/ are those
 # that the tool draws, with who waits for whom if somebody waits at the end; and if the program is built, it makes each
 # journal, with the right status, accepts it, and refuses it at each line that is exchanged for another; a word that
-# isn't text gets the line of usage, which the wrapper prints too. If none is built, the runs left out are counted.
+# isn't text gets the line of usage, which the wrapper prints too. Of runs that are stuck, lockwaits tells who waits for
+# whom. If a program isn't built, its runs that are left out are counted.
 cd "$(dirname "$0")/.." || exit 1
 program=crates/lockrun/out/lockrun
+waits=crates/lockwaits/out/lockwaits
 room=$(mktemp -d) || exit 1
 trap 'rm -rf "$room"' EXIT
 examples=0 failed=0 left_out=0
@@ -22,6 +24,16 @@ program_says() {
   $program $2 <"$room/input" >"$room/printed" 2>/dev/null || status=$?
   if [ $status -ne "$3" ] || ! cmp -s "$4" "$room/printed"; then
     fail "$1: lockrun $2 prints something else, or its status isn't $3"
+  fi
+}
+
+# Sees that lockwaits prints the report of the input.
+tells_waits() {
+  [ -x $waits ] || { left_out=$((left_out + 1)); return; }
+  status=0
+  $waits <"$room/input" >"$room/printed" || status=$?
+  if [ $status -ne 0 ] || ! cmp -s "$2" "$room/printed"; then
+    fail "$1: lockwaits prints something else than $2, or its status isn't 0"
   fi
 }
 
@@ -58,6 +70,7 @@ for script in examples/*.script; do
   { cat "$script"; echo journal; cat "$journal"; } >"$room/input"
   sed -n 's/^end /ok /p' "$journal" >"$room/wanted"
   program_says "$name" check 0 "$room/wanted"
+  if grep -q '^waiting ' "$journal"; then tells_waits "$name" "examples/$name.waits"; fi
   lines=$(wc -l <"$room/input")
   k=$(($(wc -l <"$script") + 2))
   while [ $k -le "$lines" ]; do
@@ -81,5 +94,5 @@ refuses_bytes() {
 refuses_bytes
 
 echo "tests/examples.sh: $examples examples, $failed failures"
-if [ $left_out -gt 0 ]; then echo "tests/examples.sh: no program is built: $left_out runs of it left out"; fi
+if [ $left_out -gt 0 ]; then echo "tests/examples.sh: a program isn't built: $left_out runs left out"; fi
 [ $failed -eq 0 ]

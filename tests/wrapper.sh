@@ -1,6 +1,6 @@
 #!/bin/sh
-# Tests of the wrappers `lockrun` and `locknest`, with programs and a toolchain that are stand-ins: each tells what it was
-# given. A terminal is made by `script` (util-linux). Prints what failed, and the number of tests.
+# Tests of the wrappers `lockrun`, `lockwaits` and `locknest`, with programs and a toolchain that are stand-ins: each tells
+# what it was given. A terminal is made by `script` (util-linux). Prints what failed, and the number of tests.
 here=$(CDPATH='' cd -- "$(dirname -- "$0")/.." && pwd) || exit 1
 room=$(mktemp -d) || exit 1
 trap 'rm -rf "$room"' EXIT
@@ -9,7 +9,7 @@ tests=0 failed=0
 
 # A copy of the wrapper with a program that was built, and a second one with none.
 make_top() {
-  mkdir -p "$1/tools" "$1/crates/lockrun/src" && cp "$here/lockrun" "$here/locknest" "$1/" &&
+  mkdir -p "$1/tools" "$1/crates/lockrun/src" && cp "$here/lockrun" "$here/lockwaits" "$here/locknest" "$1/" &&
     cp "$here/tools/wrapper" "$here/tools/sources" "$here/tools/explain" "$here/tools/explain.awk" "$1/tools/" &&
     printf 'lockrun:\n' >"$1/crates.txt" && : >"$1/crates/lockrun/src/main.rt"
 }
@@ -208,7 +208,7 @@ status 125' "$(on_terminal "echo '# no answer' | PATH='$with_rt' '$room/bare/loc
 }
 if [ "$(on_terminal 'test -t 2 && echo yes')" = yes ]; then on_a_terminal; else echo "tests/wrapper.sh: no terminal can be made here"; fi
 
-# The other wrappers: locknest takes no words, and reads whatever it is given.
+# locknest takes no words, and reads whatever it is given.
 nest=$room/nest
 make_top "$nest" && mkdir -p "$nest/crates/locknest/out" "$nest/crates/locknest/src" && : >"$nest/crates/locknest/src/main.rt"
 expect 'locknest, unproved' 'locknest: not proved: no program is built from these sources (./build proves and builds it)
@@ -237,6 +237,58 @@ nest_on_a_terminal() {
 status 2' "$(on_terminal "'$nest/locknest' <'$room/refused'; echo status \$?")"
 }
 if [ "$(on_terminal 'test -t 2 && echo yes')" = yes ]; then nest_on_a_terminal; fi
+
+# lockwaits takes no words, or the files of a script and its journal, which may lack the end of their last lines.
+waits=$room/waits
+make_top "$waits" && mkdir -p "$waits/crates/lockwaits/out" "$waits/crates/lockwaits/src" && : >"$waits/crates/lockwaits/src/main.rt"
+expect 'lockwaits, unproved' 'lockwaits: not proved: no program is built from these sources (./build proves and builds it)
+lockwaits: read fault
+status 4' "$(PATH=$with_rt && said "$waits/lockwaits" </)"
+printf '%s\n' '#!/bin/sh
+input=$(cat) || { echo "lockwaits: read fault" >&2; exit 4; }
+case $input in
+  "# fault"*) echo "lockwaits: line 5: S10" >&2; exit 2 ;;
+  "# bad"*) echo "lockwaits: line 7: journal" >&2; exit 8 ;;
+esac
+echo "<$input>"' >"$waits/crates/lockwaits/out/lockwaits" && chmod +x "$waits/crates/lockwaits/out/lockwaits"
+printf 'crates.txt\ncrates/lockwaits/src\ncrates/lockwaits/src/main.rt\n' >"$waits/crates/lockwaits/out/sources"
+expect 'lockwaits' '<nodes 1
+journal
+end 0>
+status 0' "$(printf 'nodes 1\njournal\nend 0\n' | said "$waits/lockwaits")"
+printf 'nodes 1' >"$room/a script" && printf 'end 0' >"$room/-journal"
+expect 'lockwaits with two files' '<nodes 1
+journal
+end 0>
+status 0' "$(cd "$room" && said "$waits/lockwaits" 'a script' -journal)"
+expect 'lockwaits with a file that is none' "lockwaits: $room/none can't be read
+status 125" "$(said "$waits/lockwaits" "$room/a script" "$room/none")"
+expect 'lockrun check with two files' '<check>
+nodes 1
+journal
+end 0
+status 0' "$(said "$top/lockrun" check "$room/a script" "$room/-journal" | sed 's/^end 0status/end 0\nstatus/')"
+for words in run 'one two three'; do
+  # shellcheck disable=SC2086 # a call may be more words
+  expect "lockwaits with words: $words" 'lockwaits: usage: lockwaits
+status 1' "$(said "$waits/lockwaits" $words </dev/null)"
+done
+expect 'lockwaits --version' "lockwaits $(sed -n 's/^version=//p' "$here/lockwaits")
+status 0" "$(said "$waits/lockwaits" --version)"
+expect 'lockwaits --help names the two files' 1 "$("$waits/lockwaits" --help | grep -c '^  ./lockwaits SCRIPT JOURNAL  ')"
+expect 'lockwaits called by a link' '<x>
+status 0' "$(ln -s "$waits/lockwaits" "$room/waiting" && echo x | said "$room/waiting")"
+expect 'lockwaits, a bad journal' 'lockwaits: line 7: journal
+status 8' "$(echo '# bad' | said "$waits/lockwaits")"
+waits_on_a_terminal() {
+  printf '# fault\nnodes 1\nset s\nclient a at 0\na lock s reed\n' >"$room/refused"
+  expect 'lockwaits, refused, on a terminal' 'lockwaits: line 5: S10
+  a lock s reed
+           ^^^^
+  not a mode: intention_read, read, upgrade, intention_write or write
+status 2' "$(on_terminal "'$waits/lockwaits' <'$room/refused'; echo status \$?")"
+}
+if [ "$(on_terminal 'test -t 2 && echo yes')" = yes ]; then waits_on_a_terminal; fi
 
 # Each fault: the script, the line, the fault, the place of the caret, and how many carets there are.
 fault() {

@@ -1,0 +1,3 @@
+mod Answering
+mod Explaining
+mod Rows

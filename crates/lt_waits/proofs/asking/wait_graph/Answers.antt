@@ -1,0 +1,30 @@
+use Rattle.std.proofs.Common.{◌≡◌, ◌∙◌, ◌++◌, ℕ, List, Bool, ap, sym, map, length, arith}
+use Rattle.lt_spec.specs.Rings.{numbers_below}
+use Rattle.lt_spec.specs.Waiting.{waits_for}
+use Rattle.lt_world.specs.Fields.{world_of}
+use Rattle.lt_rings.specs.Graph.{marks}
+use Rattle.lt_rings.proofs.Marks.{marks_push}
+use Rattle.lt_waits.proofs.Rows.{square, all_marks}
+use Rattle.lt_waits.proofs.asking.wait_graph.Goals as goal
+
+pub loop-client-preserved : goal.loop-client-preserved
+loop-client-preserved c =
+    let n = length c.args.script.now.clients in
+    let graph = waits_for c.args.script.now (world_of c.args.world.now) in
+    c.in_ok-push_row.ensures
+    ∙ ap (λ (l : List Bool). l ++ map (graph c.loop-client.client) (numbers_below n)) c.loop-client.invariant
+    ∙ sym (marks_push n graph c.loop-client.client)
+
+pub new-requires : goal.new-requires
+new-requires c =
+    let n = length c.args.script.now.clients in
+    let graph = waits_for c.args.script.now (world_of c.args.world.now) in
+    let all : c.loop-client.client ≡ n = omega arith in
+    square n c.loop-client.client c.clients.result graph c.loop-client.pairs.items c.loop-client.invariant all c.clients.ensures.clients
+
+pub returns-clause-told : goal.returns-clause-told
+returns-clause-told c =
+    let n = length c.args.script.now.clients in
+    let graph = waits_for c.args.script.now (world_of c.args.world.now) in
+    let all : c.loop-client.client ≡ n = omega arith in
+    c.new.ensures.told graph (all_marks n c.loop-client.client c.clients.result graph c.loop-client.pairs.items c.loop-client.invariant all c.clients.ensures.clients)

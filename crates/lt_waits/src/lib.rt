@@ -1,0 +1,15 @@
+//! Who waits for whom at the end of a run, at the command line: a script and a journal come in, a report goes out.
+#![tactic(auto)]
+
+mod answer;
+mod arguments;
+mod asking;
+mod reporting;
+mod serving;
+#[cfg(test)]
+mod tests;
+
+pub use answer::Answer;
+pub use arguments::program;
+pub use reporting::report;
+pub use serving::serve;

@@ -1,0 +1,18 @@
+ghost use Rattle.std.specs.Prelude.{◌≡◌, IfOk};
+ghost use Rattle.lt_law_waiting.specs.Reports.{waits_report};
+ghost use Rattle.lt_world.specs.Fields.{world_of};
+ghost use Rattle.lt_rings.specs.Report.{waits_text};
+
+use crate::asking::wait_graph;
+use lt_script::Script;
+use lt_world::World;
+use std::alloc::{AllocError, Global};
+
+/// The report of who waits for whom in a world of the script. Each pair of clients is asked once.
+pub fn report(alloc: Global, script: &Script, world: &World) -> Result<Vec<u8>, AllocError>
+    requires { world.now.script ≡ script.now }
+    ensures { IfOk result (λ text. text.items ≡ waits_text script.now (waits_report script.now (world_of world.now))) }
+{
+    let graph = wait_graph(alloc, script, world)?;
+    lt_rings::report(alloc, script, &graph)
+}
