@@ -1,5 +1,6 @@
 #!/usr/bin/env python3
-"""Draws scripts of all kinds, and compares what two programs answer: bytes, status and standard error."""
+"""Draws inputs of all kinds, scripts or lines of nested transactions, and compares what two programs answer: bytes,
+status and standard error."""
 import argparse
 import shlex
 import subprocess
@@ -10,6 +11,7 @@ from pathlib import Path
 
 sys.dont_write_bytecode = True
 from drawing import draw_script, with_fault
+from drawing_nest import draw_nest, with_nest_fault
 
 
 def words_of():
@@ -17,21 +19,27 @@ def words_of():
     top = Path(__file__).resolve().parent.parent
     parser = argparse.ArgumentParser(description=__doc__)
     parser.add_argument('reference', help='the command that is right, as one word: "python3 MODEL"')
-    parser.add_argument('--program', default=str(top / 'crates/lockrun/out/lockrun'), help='the command to be tested')
-    parser.add_argument('--words', default='sim first', help='the words that both are given')
-    parser.add_argument('--count', type=int, default=300, help='how many scripts')
+    parser.add_argument('--nested', action='store_true', help='draw lines of nested transactions, for locknest')
+    parser.add_argument('--program', help='the command to be tested, if not the one that is built')
+    parser.add_argument('--words', help='the words that both are given, if not `sim first`, or none for locknest')
+    parser.add_argument('--count', type=int, default=300, help='how many inputs')
     parser.add_argument('--seed', type=int, default=1, help='the number of the first one')
     parser.add_argument('--version', type=int, choices=(1, 2), default=1, help='the version of the scripts')
     parser.add_argument('--kind', choices=('any', 'ordered', 'nearly'), default='any',
                         help='scripts of any kind, ordered ones, or such as are ordered but for one command')
-    parser.add_argument('--keep', default='drawn.script', help='the file for the first script whose answers differ')
-    return parser.parse_args()
+    parser.add_argument('--keep', default='drawn.script', help='the file for the first input whose answers differ')
+    args = parser.parse_args()
+    name, words = ('locknest', '') if args.nested else ('lockrun', 'sim first')
+    args.program = args.program or str(top / f'crates/{name}/out/{name}')
+    args.words = words if args.words is None else args.words
+    return args
 
 
-def script_of(seed, version, kind):
-    """The bytes of a script; each tenth one has a fault."""
-    text = draw_script(seed, version, kind)
-    return (with_fault(text, seed) if seed % 10 == 0 else text).encode('latin-1')
+def input_of(seed, args):
+    """The bytes of an input; each tenth one has a fault."""
+    text = draw_nest(seed) if args.nested else draw_script(seed, args.version, args.kind)
+    spoil = with_nest_fault if args.nested else with_fault
+    return (spoil(text, seed) if seed % 10 == 0 else text).encode('latin-1')
 
 
 def answer(command, words, data):
@@ -46,7 +54,7 @@ def main():
     statuses, moves, lines, wrong = Counter(), 0, 0, []
 
     def both(seed):
-        data = script_of(seed, args.version, args.kind)
+        data = input_of(seed, args)
         return seed, data, answer(args.program, args.words, data), answer(args.reference, args.words, data)
 
     with ThreadPoolExecutor() as pool:
@@ -58,9 +66,11 @@ def main():
                 if not wrong:
                     Path(args.keep).write_bytes(data)
                 wrong.append(seed)
-                print(f'script {seed}: status {got[0]}, wanted {wanted[0]}; {len(got[1])} bytes, wanted {len(wanted[1])}')
+                sizes = f'{len(got[1])} bytes, wanted {len(wanted[1])}'
+                print(f'input {seed}: status {got[0]}, wanted {wanted[0]}; {sizes}')
     told = ', '.join(f'{count} with status {status}' for status, count in sorted(statuses.items()))
-    print(f'{args.count} scripts of {lines} lines ({told}), {moves} moves: {len(wrong)} differ')
+    made = '' if args.nested else f', {moves} moves'
+    print(f'{args.count} inputs of {lines} lines ({told}){made}: {len(wrong)} differ')
     return 1 if wrong else 0
 
 

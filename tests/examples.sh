@@ -79,6 +79,20 @@ for script in examples/*.script; do
   done
 done
 
+# The lines of nested transactions: what locknest answers, and who waits for whom then.
+nested=crates/locknest/out/locknest
+for lines in examples/*.lines; do
+  name=$(basename "$lines" .lines)
+  examples=$((examples + 1))
+  tools/nest-waits "$lines" "examples/$name.answers" >"$room/waits" || fail "$name: nest-waits can't follow it"
+  cmp -s "examples/$name.waits" "$room/waits" || fail "$name: nest-waits prints something else"
+  if ! [ -x $nested ]; then
+    left_out=$((left_out + 1))
+  elif ! $nested <"$lines" >"$room/printed" || ! cmp -s "examples/$name.answers" "$room/printed"; then
+    fail "$name: locknest prints something else, or its status isn't 0"
+  fi
+done
+
 # Sees that a word that isn't text is answered as no words are: by the line of usage and status 1.
 refuses_bytes() {
   [ -x $program ] || { left_out=$((left_out + 1)); return; }

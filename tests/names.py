@@ -17,7 +17,7 @@ SOURCES = [path for part in ('src', 'specs', 'proofs') for path in sorted((TOP /
 FIRST_WORDS = '''
     version nodes set client journal lock try unlock change drop move grant wait not_held busy copy freeze token held
     waiting owner end cut ok act take run sim check make soak lockrun: rt rustc unfolding waits cycle no ends a
-    order ordered not
+    order ordered not needs
     T begin commit abort not_open children t u locknest: lockwaits:'''.split()
 # Words that are names of nothing in the repository: of languages, of the toolchain and its libraries, of what a build
 # or a check makes, and of places in an example.
@@ -25,7 +25,8 @@ OTHERS = '''
     abbrev pub record unfoldable ensures requires ghost result self.old self.new IfOk IfErr IfSome OnFalse IsTrue Err Model
     true false none λ (x clap awk sh args stdin stdout HANDLES lt_ lt_law_ line rand_pcg rand_core itoa rtrb arrayvec anyhow
     atomic_table seed_from_u64 for_each_mut rattle-kit-13f specs/declared Goals Given crates/lockrun/out/sources
-    --help --version --kind --moves --waits --set --client --json --chrome --words --write chrome://tracing pg_locks
+    --help --version --kind --moves --waits --set --client --json --chrome --words --write --nested chrome://tracing
+    pg_locks readers chain
     File crates/lt_modes/specs/File.antt tests/bugs/CRATE.edits
     s0 s1 s2 s3 c0 c1 cI name'''.split()
 

@@ -225,7 +225,7 @@ expect 'locknest with a word' 'locknest: usage: locknest
 status 1' "$(said "$nest/locknest" run </dev/null)"
 expect 'locknest --version' "locknest $(sed -n 's/^version=//p' "$here/locknest")
 status 0" "$(said "$nest/locknest" --version)"
-expect 'locknest --help names the limits' 1 "$("$nest/locknest" --help | grep -c '8 sets, 256 transactions and 65,535 lines')"
+expect 'locknest --help names the limits' 1 "$("$nest/locknest" --help | grep -c '8 sets, 256 transactions and 65,535$')"
 expect 'locknest called by a link' '<x>
 status 0' "$(ln -s "$nest/locknest" "$room/nested" && echo x | said "$room/nested")"
 expect 'locknest, refused' 'locknest: line 2

@@ -64,8 +64,8 @@ pub(crate) fn pass(entries: &mut Vec<Entry>, x: u16, p: u16)
     }
 }
 
-// The place of an entry of x.
-fn first_of(entries: &[Entry], x: u16) -> Option<usize>
+/// The place of an entry of x.
+pub(crate) fn first_of(entries: &[Entry], x: u16) -> Option<usize>
     ensures place { result ≡ position (is_held_by x) entries.now }
     ensures within { IfSome result (λ k. k < length entries.now) }
 {

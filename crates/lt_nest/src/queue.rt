@@ -65,8 +65,8 @@ pub(crate) fn first_free(
     None
 }
 
-/// The place of the ask of x.
-pub(crate) fn ask_place(queue: &[Ask], x: u16) -> Option<usize>
+// The place of the ask of x.
+fn ask_place(queue: &[Ask], x: u16) -> Option<usize>
     ensures place { result ≡ position (is_asked_by x) queue.now }
     ensures within { IfSome result (λ k. k < length queue.now) }
 {
