@@ -8,6 +8,4 @@ trap 'rm -rf "$copy"' EXIT
 cp -a "$top/crates" "$top/crates.txt" "$top/HANDLES" "$copy" || exit 1
 cd "$copy/crates/lt_serve" || exit 1
 sed -i "s/^pub(super) const TIMES: u64 = 1;/pub(super) const TIMES: u64 = $times;/; s/^const IDLE: u64 = 1;/const IDLE: u64 = 20_000;/" src/tests/gates.rt || exit 1
-# The other tests have no part in this.
-sed -i '/^mod \(answers\|journals\|pieces\|refusals\|sizes\|threads\|wide\);/d' src/tests.rt || exit 1
 rt try --test --seconds 3600
