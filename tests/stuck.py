@@ -21,7 +21,8 @@ def words_of():
     top = Path(__file__).resolve().parent.parent
     parser = argparse.ArgumentParser(description=__doc__)
     parser.add_argument('reference', help='the command that is right, as one word: "python3 MODEL waits"')
-    parser.add_argument('--program', default=str(top / 'crates/lockwaits/out/lockwaits'), help='the command to be tested')
+    parser.add_argument('--program', default=str(top / 'crates/lockwaits/out/lockwaits'),
+                        help='the command to be tested')
     parser.add_argument('--runs', default=str(top / 'crates/lockrun/out/lockrun'),
                         help='the command whose `sim SEED` makes the runs')
     parser.add_argument('--count', type=int, default=300, help='how many runs')

@@ -1,6 +1,6 @@
 #!/bin/sh
-# Tests of the wrappers `lockrun`, `lockwaits` and `locknest`, with programs and a toolchain that are stand-ins: each tells
-# what it was given. A terminal is made by `script` (util-linux). Prints what failed, and the number of tests.
+# Tests of the wrappers `lockrun`, `lockwaits` and `locknest`, with programs and a toolchain that are stand-ins: each
+# tells what it was given. A terminal is made by `script` (util-linux). Prints what failed, and the number of tests.
 here=$(CDPATH='' cd -- "$(dirname -- "$0")/.." && pwd) || exit 1
 room=$(mktemp -d) || exit 1
 trap 'rm -rf "$room"' EXIT
@@ -240,7 +240,8 @@ if [ "$(on_terminal 'test -t 2 && echo yes')" = yes ]; then nest_on_a_terminal; 
 
 # lockwaits takes no words, or the files of a script and its journal, which may lack the end of their last lines.
 waits=$room/waits
-make_top "$waits" && mkdir -p "$waits/crates/lockwaits/out" "$waits/crates/lockwaits/src" && : >"$waits/crates/lockwaits/src/main.rt"
+make_top "$waits" && mkdir -p "$waits/crates/lockwaits/out" "$waits/crates/lockwaits/src" &&
+  : >"$waits/crates/lockwaits/src/main.rt"
 expect 'lockwaits, unproved' 'lockwaits: not proved: no program is built from these sources (./build proves and builds it)
 lockwaits: read fault
 status 4' "$(PATH=$with_rt && said "$waits/lockwaits" </)"

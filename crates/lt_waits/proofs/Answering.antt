@@ -16,7 +16,7 @@ use Rattle.lt_checker.specs.declared.error.InputError.{InputError}
 use Rattle.lt_checker.specs.declared.error.InputError.TheVariants as error
 use Rattle.lt_checker.specs.Input.{IsEndedRun, FailsInput}
 use Rattle.lt_waits.specs.declared.answer.Answer.{Answer}
-use Rattle.lt_waits.specs.declared.answer.Answer.TheVariants.{Done, Usage, Refused, TooLong, ReadFault, WriteFault, NoMemory, BadJournal}
+use Rattle.lt_waits.specs.declared.answer.Answer.TheVariants.{Done, Usage, WriteFault, NoMemory}
 use Rattle.lt_waits.specs.Answers.{answer_of_input}
 use Rattle.lt_waits.specs.Explained.{Explains}
 use Rattle.lt_waits.specs.Serves.{IsReportOf, RefusesInput, CountsWriting, IsGoodJournal, ServesReport}

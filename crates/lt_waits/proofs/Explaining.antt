@@ -1,5 +1,5 @@
 -- The report at the end of a run at rest tells why each client waits.
-use Rattle.std.proofs.Common.{◌≡◌, ℕ, List, length, take, subst, sym, arith}
+use Rattle.std.proofs.Common.{ℕ, List, length, take, subst, sym, arith}
 use Rattle.std.specs.Prelude.{IsTrue}
 use Rattle.std.proofs.lemmas.List.{take_all}
 use Rattle.lt_modes.specs.Script.{ScriptData}

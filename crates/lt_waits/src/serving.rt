@@ -12,9 +12,9 @@ use lt_io::{Sink, Source, write_all};
 use lt_law_waiting::{law_reports, law_waiting};
 use std::alloc::Global;
 
-/// Reads a script and the journal of a run of it that ended at rest, and writes the report of who waits for whom at its end.
-/// The text is made whole before the first write. There are to be no words; else the source and the sink are left as they
-/// were.
+/// Reads a script and the journal of a run of it that ended at rest, and writes the report of who waits for whom at
+/// its end. The text is made whole before the first write. There are to be no words; else the source and the sink are
+/// left as they were.
 pub fn serve<S: Source, K: Sink>(
     alloc: Global,
     words: &[String],
