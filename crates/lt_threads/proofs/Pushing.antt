@@ -1,15 +1,12 @@
 -- Rounds: turns that the caller makes, where a move is enabled.
-use Rattle.std.proofs.Common.{◌≡◌, ◌≢◌, ◌⊎◌, inl, inr, ℕ, zero, suc, ◌<◌, ◌≤◌, List, [], ◌∷◌, ◌++◌, length, Option, Some, None, true, false, refl, sym, ap, subst, arith, ◌∙◌, take, drop}
-use Rattle.std.specs.Prelude.{slice_index_or}
+use Rattle.std.proofs.Common.{◌≡◌, ◌≢◌, ◌⊎◌, inl, inr, ℕ, ◌≤◌, List, length, Option, Some, None, true, false, refl, sym, ap, subst, arith, ◌∙◌}
 use Rattle.std.proofs.lemmas.Bool.{true≢false}
-use Rattle.std.proofs.lemmas.List.{take_at}
 use Rattle.lt_modes.specs.Script.{ScriptData}
 use Rattle.lt_spec.specs.Log.{Logged}
 use Rattle.lt_lists.proofs.Members.{some_equal}
 use Rattle.lt_spec.specs.World.{World, world_after}
 use Rattle.lt_limits.specs.Cut.{can_move}
 use Rattle.lt_runner.specs.declared.parts.Parts.{Parts}
-use Rattle.lt_runner.specs.Choices.{next_choice}
 use Rattle.lt_runner.specs.Looking.{is_move}
 use Rattle.lt_runner.specs.Kept.{SameRunner, AsSeen, Grew}
 use Rattle.lt_threads.specs.declared.rounds.Ended.{Ended}
@@ -17,7 +14,6 @@ use Rattle.lt_threads.specs.declared.rounds.Ended.TheVariants as ended
 use Rattle.lt_runner.specs.declared.turning.Turned.{Turned}
 use Rattle.lt_runner.specs.declared.turning.Turned.TheVariants.{Moved, Quiet, Full, NoMemory}
 use Rattle.lt_threads.specs.Together.{EachIs, IsCrew, crew_world}
-use Rattle.lt_threads.specs.Enabled.{IsLeastEnabled, IsFirstMove}
 use Rattle.lt_threads.specs.Rounds.{IsCrewCut, room_of}
 use Rattle.lt_threads.specs.Pushes.{PushedAt, Tried, CanPush, PushedOn, PushEnds, is_end, first_end, other_end}
 use Rattle.lt_runner.proofs.KeptLemmas.{seen_join}
@@ -180,28 +176,3 @@ first_ends Moved k script old new d crew can at = first_moved k script old new c
 first_ends NoMemory k script old new d crew can at = first_over k script old new crew at
 first_ends Quiet k script old new d crew can at = absurd (first_still k script old new can at)
 first_ends Full k script old new d crew can at = absurd (d refl)
-
--- a round
-
--- as many runners, each of which went on from what it was
-abbrev pub AllGrew : List Parts → List Parts → Type 0
-AllGrew old new = (k : ℕ) (other : Parts) → k < length old → Grew (slice_index_or old k other) (slice_index_or new k other)
-
-pub by_place : (xs ys : List Parts) → length ys ≡ length xs → AllGrew xs ys → EachIs Grew xs ys
-by_place [] [] same h k = tt
-by_place [] (y ∷ ys) same h k = absurd (omega (arith, same))
-by_place (x ∷ xs) [] same h k = absurd (omega (arith, same))
-by_place (x ∷ xs) (y ∷ ys) same h zero = h 0 x (omega arith)
-by_place (x ∷ xs) (y ∷ ys) same h (suc k) = by_place xs ys (omega (arith, same)) (λ j other below. h (suc j) other (omega (arith, below))) k
-
--- the list behind a vector that was lent as a slice
-pub lent_grew : (old new : List Parts) (len : ℕ) → len ≡ length old → length new ≡ length old → AllGrew old new
-    → EachIs Grew old (take len (new ++ drop (length new) old))
-lent_grew old new len whole same h = rw (take_at new (drop (length new) old) len (omega (arith, whole, same))) (by_place old new same h)
-
--- the first runner that shows a move is that of the least node that can make one
-pub can_push : (script : ScriptData) (k : ℕ) (rs : List Parts) → IsLeastEnabled script (crew_world script rs) (Some k) → IsFirstMove rs (Some k) → CanPush script k rs
-can_push script k rs least first = record {
-  least = least;
-  shows = λ p e. let same = some_equal first.0.p p (sym first.0.here ∙ e) in ap (λ (q : Parts). is_move (next_choice q)) (sym same) ∙ first.0.shows;
-}

@@ -1,15 +1,12 @@
 -- Workers on shared runners, and what is left when they have ended.
-use Rattle.std.proofs.Common.{◌≡◌, ◌≢◌, ◌<◌, ◌≤◌, ◌+◌, ℕ, zero, suc, inl, inr, List, [], ◌∷◌, length, Option, Some, None, refl, sym, subst, arith, ◌∙◌}
+use Rattle.std.proofs.Common.{◌≡◌, ◌≢◌, ◌<◌, ◌≤◌, ◌+◌, ℕ, zero, suc, inl, inr, List, [], ◌∷◌, length, Option, Some, sym, subst, arith, ◌∙◌}
 use Rattle.std.specs.Prelude.{slice_get, slice_set, slice_index_or}
 use Rattle.std.proofs.lemmas.Bool.{cases_eq}
 use Rattle.lt_lists.proofs.Members.{some_equal}
 use Rattle.lt_mail.specs.Words.{Alike}
-use Rattle.lt_pool.specs.Items.{ContinuesAt, EachContinues}
-use Rattle.lt_pool.specs.Items as items
+use Rattle.lt_pool.specs.Items.{ContinuesAt}
 use Rattle.lt_runner.specs.declared.parts.Parts.{Parts}
-use Rattle.lt_runner.specs.declared.turning.Worked.{Worked}
-use Rattle.lt_runner.specs.declared.turning.Worked.TheVariants.{Idle, Full, NoMemory}
-use Rattle.lt_runner.specs.Kept.{Grew, WorkEnds}
+use Rattle.lt_runner.specs.Kept.{Grew}
 use Rattle.lt_runner.specs.Same.{grew_itself}
 use Rattle.lt_threads.specs.Together.{EachIs}
 use Rattle.lt_threads.specs.Settled.{IsSettled, AreSettled}
@@ -19,16 +16,6 @@ use Rattle.lt_threads.proofs.Turns.{grew_join, get_is}
 -- a runner that continues the first one of its slot does so after work
 pub works_on : (firsts : List Parts) (slot : ℕ) (a b : Parts) → ContinuesAt Grew firsts slot a → Grew a b → ContinuesAt Grew firsts slot b
 works_on firsts slot a b h k = (h.0, h.1, grew_join h.0 a b h.2 k)
-
--- what a pool says of its items is what is said of runners together
-pub each_continues : (old new : List Parts) → EachContinues Grew old new → EachIs Grew old new
-each_continues old new h k = here (slice_get old k) (slice_get new k) (h k)
-  where
-    here : (x y : Option Parts) → items.Alike Grew x y → Alike Grew x y
-    here None None p = tt
-    here None (Some y) p = p
-    here (Some x) None p = p
-    here (Some x) (Some y) p = p
 
 -- one of them worked
 pub one_grew : (k : ℕ) (rs : List Parts) (d y : Parts) → k < length rs → Grew (slice_index_or rs k d) y → EachIs Grew rs (slice_set rs k y)
@@ -41,12 +28,6 @@ one_grew k rs d y within h j = elim (cases_eq j k) [
 
 pub one_settled : (patience k : ℕ) (rs : List Parts) (y p : Parts) → k < length rs → slice_get (slice_set rs k y) k ≡ Some p → IsSettled patience y → IsSettled patience p
 one_settled patience k rs y p within there h = subst (IsSettled patience) (some_equal y p (sym (set_here rs k y within) ∙ there)) h
-
--- work that ended, but for want of memory, leaves a runner so
-pub settled_by : (worked : Worked) (patience : ℕ) (p : Parts) → worked ≢ NoMemory → WorkEnds worked 1 p → IsSettled patience p
-settled_by Idle patience p apart ends = λ more some. ends (omega arith)
-settled_by Full patience p apart ends = λ more. absurd (omega (arith, more, ends.log))
-settled_by NoMemory patience p apart ends = absurd (apart refl)
 
 -- the first ones are settled
 abbrev pub SettledTo : ℕ → ℕ → List Parts → Type 0

@@ -22,6 +22,8 @@ pub(crate) struct Outlook {
     vain: u32,
     // Refused claims, one after the other.
     refused: u32,
+    // The nodes with mail that another worker had when they were claimed, and that weren't claimed since.
+    owed: u64,
 }
 
 impl Outlook {
@@ -34,12 +36,15 @@ impl Outlook {
             by_mail: false,
             vain: 0,
             refused: 0,
+            owed: 0,
         }
     }
 
-    /// Whether the worker has tried often enough.
+    /// Whether the worker has tried often enough. While another worker has a node with its mail, visits in vain don't
+    /// end it.
     pub(crate) fn is_over(&self, count: u8, patience: u32) -> bool {
-        self.vain >= patience.min(VAIN_ROUNDS) * u32::from(count) || self.refused >= patience
+        let most = patience.min(VAIN_ROUNDS) * u32::from(count);
+        self.vain >= most && self.owed == 0 || self.refused >= patience
     }
 
     /// The next of so many nodes.
@@ -67,7 +72,13 @@ impl Outlook {
         self.refused = self.refused.saturating_add(1);
         if self.by_mail {
             self.acts |= bit(node);
+            self.owed |= bit(node);
         }
+    }
+
+    /// The worker has the node.
+    pub(crate) fn note_claim(&mut self, node: u8) {
+        self.owed &= !bit(node);
     }
 
     /// The node made moves, and sent letters to the nodes that were reached.

@@ -19,8 +19,8 @@ use lt_script::Script;
 use std::alloc::{AllocError, Global};
 use std::thread::Threads;
 
-/// Runs a script, each node by a runner that makes up to `limit` moves, with rings of so many places between them, and so
-/// many workers that share them.
+/// Runs a script, each node by a runner that makes up to `limit` moves, with rings of so many places between them, and
+/// so many workers that share them.
 pub fn run_on_threads<R: Threads + Sync, G: Gate>(
     rt: &R,
     alloc: Global,

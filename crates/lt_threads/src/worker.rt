@@ -59,6 +59,7 @@ impl Worker {
     fn note(&mut self, node: u8, visit: Visit)
         ensures { self.new.post ≡ self.old.post }
     {
+        self.outlook.note_claim(node);
         if visit.moved {
             self.outlook.note_moves(node, visit.reached);
         } else {
