@@ -1,6 +1,5 @@
 -- What `check` answers, by what its input says.
-use Rattle.std.proofs.Common.{◌≡◌, ◌∙◌, ℕ, List, Option, Some, refl, sym, ap, subst, true}
-use Rattle.std.specs.Prelude.{◌≢◌}
+use Rattle.std.proofs.Common.{◌≡◌, ◌∙◌, ℕ, List, Option, refl, sym, ap, subst}
 use Rattle.lt_io.specs.Source.{SourceState}
 use Rattle.lt_io.specs.Whole.{IsReadWhole}
 use Rattle.lt_spec.specs.Log.{Logged}
@@ -14,7 +13,6 @@ use Rattle.lt_checker.specs.Input.{IsJournalOf, IsEndedRun, FailsInput}
 use Rattle.lt_law_checking.specs.Journals.{IsFinished}
 use Rattle.lt_words.specs.declared.command.Command.TheVariants.{Check}
 use Rattle.lt_serve.specs.declared.made.Made.{Made}
-use Rattle.lt_serve.specs.declared.status.Status.{Status}
 use Rattle.lt_serve.specs.declared.status.Status.TheVariants.{Done, NoMemory}
 use Rattle.lt_serve.specs.Causes.{SaysOfSource, IsRefusal, status_of_input}
 use Rattle.lt_serve.specs.TopCall.{Checks, ok_text}

@@ -11,7 +11,7 @@ use Rattle.lt_spec.specs.Log.{Logged}
 use Rattle.lt_spec.specs.World.{world_after, IsRun, is_at_rest, anyone_waits}
 use Rattle.lt_order.specs.Ordered.{IsOrdered}
 use Rattle.lt_law_ordered.specs.OrderedLaws.{OrderedFinish}
-use Rattle.lt_law_promises.specs.Promised.{Promised, RunsKeepPromises}
+use Rattle.lt_law_promises.specs.Promised.{RunsKeepPromises}
 use Rattle.lt_limits.specs.declared.ending.Ending.{Ending}
 use Rattle.lt_limits.specs.declared.ending.Ending.TheVariants as ending
 use Rattle.lt_limits.specs.Endings.{EndsBy}
