@@ -1,6 +1,6 @@
 #!/bin/sh
-# Tests of the wrappers `lockrun` and `locknest` and of `build`, with programs and a toolchain that are stand-ins: each
-# tells what it was given. A terminal is made by `script` (util-linux). Prints what failed, and the number of tests.
+# Tests of the wrappers `lockrun` and `locknest`, with programs and a toolchain that are stand-ins: each tells what it was
+# given. A terminal is made by `script` (util-linux). Prints what failed, and the number of tests.
 here=$(CDPATH='' cd -- "$(dirname -- "$0")/.." && pwd) || exit 1
 room=$(mktemp -d) || exit 1
 trap 'rm -rf "$room"' EXIT
@@ -9,9 +9,10 @@ tests=0 failed=0
 
 # A copy of the wrapper with a program that was built, and a second one with none.
 make_top() {
-  mkdir -p "$1/tools" "$1/crates/lockrun/src" && cp "$here/lockrun" "$here/locknest" "$here/build" "$1/" &&
-    cp "$here/tools/wrapper" "$here/tools/sources" "$here/tools/seeds" "$here/tools/explain" "$here/tools/explain.awk" "$1/tools/" &&
-    printf 'lockrun:\n' >"$1/crates.txt" && : >"$1/crates/lockrun/src/main.rt"
+  mkdir -p "$1/tools" "$1/crates/lockrun/src" && cp "$here/lockrun" "$here/locknest" "$1/" &&
+    cp "$here/tools/wrapper" "$here/tools/sources" "$here/tools/explain" "$here/tools/explain.awk" "$1/tools/" &&
+    printf 'lockrun:\n' >"$1/crates.txt" && : >"$1/crates/lockrun/src/main.rt" &&
+    cp "$here/build" "$1/" && cp "$here/tools/seeds" "$1/tools/"
 }
 
 # The stand-in for the program: prints its words and its input. The first line of the input may ask for an answer.
@@ -243,6 +244,7 @@ expect 'what was built runs' 'built
 status 0' "$(cd / && said "$made/lockrun" run </dev/null)"
 ln -s "$made/build" "$room/link-to-build"
 expect 'the build called by a link' 'status 0' "$(cd / && PATH=$with_build && said "$room/link-to-build" lockrun | tail -n 1)"
+expect 'the build of all programs' 1 "$(PATH=$with_build && said "$made/build" | grep -c 'is proved and linked')"
 expect 'the build of no program' 'build: there is no program lockrum
 status 1' "$(PATH=$with_build && said "$made/build" lockrum)"
 echo refused >"$made/crates/lt_low/src/refused"
