@@ -107,6 +107,47 @@ refuses_bytes() {
 }
 refuses_bytes
 
+# Sees that a tool answers by this line and status 1.
+answers() {
+  wanted=$1
+  shift
+  status=0
+  "$@" 2>"$room/said" >/dev/null || status=$?
+  if [ $status -ne 1 ] || [ "$(cat "$room/said")" != "$wanted" ]; then fail "$*: it says: $(cat "$room/said")"; fi
+}
+
+# Parts of pictures; a run that is too long for one; and what can't be written.
+parts() {
+  script=examples/hot-row.script journal=examples/hot-row.journal
+  tools/journal-picture --moves 5-9 "$script" "$journal" | grep -q '>moves 5 to 9 of 28 moves,' ||
+    fail 'no part from move 5 to 9'
+  tools/journal-picture --set stock --client cache "$script" "$journal" | grep -q 'set stock, client cache of' ||
+    fail 'no part of a set and a client'
+  answers 'journal-picture: the script has no set none' tools/journal-picture --set none "$script" "$journal"
+  answers 'journal-picture: the script has no client none' tools/journal-picture --client none "$script" "$journal"
+  awk 'BEGIN {
+    print "nodes 1\nset s\nclient a at 0"
+    for (k = 1; k <= 251; k++) print "a lock s read\na unlock s read" }' >"$room/long.script"
+  awk 'BEGIN {
+    for (k = 1; k <= 502; k++) print "move", k, "0 act a\n" (k % 2 ? "grant" : "unlock"), "a s read"
+    print "owner s 0 0\nend 502" }' >"$room/long.journal"
+  answers 'journal-picture: too many moves for a picture: name 500 of the 502 by --moves A-B' \
+    tools/journal-picture "$room/long.script" "$room/long.journal"
+  tools/journal-picture --moves 3-502 "$room/long.script" "$room/long.journal" >/dev/null || fail 'no 500 moves of 502'
+  for tool in picture summary state trace; do
+    said=$(tools/journal-$tool "$script" "$journal" 2>&1 >/dev/full)
+    [ "$said" = "journal-$tool: write fault" ] || fail "journal-$tool on a full disk: it says: $said"
+  done
+}
+parts
+
+# The page of all runs is as the tool makes it, and each example has its picture there.
+tools/examples-page >"$room/page" || fail 'no page of all examples'
+cmp -s docs/pictures/index.html "$room/page" || fail "docs/pictures/index.html isn't what tools/examples-page makes"
+# shellcheck disable=SC2046 # a word for each example
+[ "$(ls docs/pictures/*.svg)" = "$(printf 'docs/pictures/%s.svg\n' $(basename -s .script examples/*.script))" ] ||
+  fail "docs/pictures hasn't one picture of each example: tools/examples-page --write makes them"
+
 echo "tests/examples.sh: $examples examples, $failed failures"
 if [ $left_out -gt 0 ]; then echo "tests/examples.sh: a program isn't built: $left_out runs left out"; fi
 [ $failed -eq 0 ]

@@ -11,7 +11,8 @@ tests=0 failed=0
 make_top() {
   mkdir -p "$1/tools" "$1/crates/lockrun/src" && cp "$here/lockrun" "$here/lockwaits" "$here/locknest" "$1/" &&
     cp "$here/tools/wrapper" "$here/tools/sources" "$here/tools/explain" "$here/tools/explain.awk" "$1/tools/" &&
-    printf 'lockrun:\n' >"$1/crates.txt" && : >"$1/crates/lockrun/src/main.rt"
+    printf 'lockrun:\n' >"$1/crates.txt" && : >"$1/crates/lockrun/src/main.rt" &&
+    cp "$here/build" "$1/" && cp "$here/tools/seeds" "$1/tools/"
 }
 
 # The stand-in for the program: prints its words and its input. The first line of the input may ask for an answer.
@@ -23,6 +24,7 @@ cat "$0.input"
 case $(head -n 1 "$0.input") in
   "# refuse "*) set -- $(head -n 1 "$0.input"); echo "lockrun: line $3: S$4" >&2; exit 2 ;;
   "# stuck") exit 3 ;;
+  "# by seed") case $2 in *3) exit 3 ;; *5) exit 7 ;; 42) echo "lockrun: no memory" >&2; exit 6 ;; esac ;;
 esac
 exit 0'
 
@@ -81,7 +83,7 @@ for word in --help -h help; do
   expect "$word has status 0" 'status 0' "$(said "$top/lockrun" $word | tail -n 1)"
 done
 expect '--help names the limits' 2 "$("$top/lockrun" --help | grep -c -e '64 clients on up to 16 nodes' -e '256 clients on up to 64')"
-for word in 'sim first' 'sim SEED' run check 'make NODES CLIENTS COMMANDS SEED' 'soak SEED' order; do
+for word in 'sim first' 'sim SEED' 'seeds FROM TO' run check 'make NODES CLIENTS COMMANDS SEED' 'soak SEED' order; do
   expect "--help names $word" 1 "$("$top/lockrun" --help | grep -c "^  ./lockrun $word  ")"
 done
 expect '--version' "lockrun $(sed -n 's/^version=//p' "$here/lockrun")
@@ -102,6 +104,10 @@ no_command make 2 3 8
 no_command make 2 3 eight 7
 no_command run now
 no_command order first
+no_command seeds 1
+no_command seeds 1 x
+no_command seeds 1 -2
+no_command seeds 1 2 3
 for words in 'sim 99999999999999999999' 'make 17 1 1 1' 'soak 007' 'check' 'order'; do
   # shellcheck disable=SC2086 # a call may be more words
   expect "a command, or the program says why not: $words" "$(printf '<%s>' $words)
@@ -120,6 +126,44 @@ status 3' "$(echo '# stuck' | said "$top/lockrun" sim first)"
 mkdir "$room/only-cat" && ln -s "$(command -v cat)" "$room/only-cat/cat"
 expect 'no search before the program' '<make><1><1><1><1>
 status 0' "$(PATH=$room/only-cat && said "$top/lockrun" make 1 1 1 1 </dev/null)"
+
+# Many seeds: how many runs ended how, and the first that got stuck.
+expect 'seeds, all done' 'status         runs
+0, done           2
+3, stuck          0
+7, cut            0
+status 0' "$(echo x | said "$top/lockrun" seeds 008 9)"
+expect 'seeds, some stuck' 'status         runs
+0, done          18
+3, stuck          3   first: 3
+7, cut            2   first: 5
+
+To see the first that gets stuck:
+  ./lockrun sim 3 < SCRIPT > stuck.journal
+  tools/journal-state SCRIPT stuck.journal
+  tools/journal-picture --waits SCRIPT stuck.journal > stuck.svg
+status 3' "$(echo '# by seed' | said "$top/lockrun" seeds 1 23)"
+expect 'seeds, one cut' 'status 7' "$(echo '# by seed' | said "$top/lockrun" seeds 4 6 | tail -n 1)"
+expect 'seeds, another end' 'lockrun: seed 42
+lockrun: no memory
+status 6' "$(echo '# by seed' | said "$top/lockrun" seeds 40 99)"
+expect 'seeds of a script with a fault' 'lockrun: line 5: S10
+status 2' "$(echo '# refuse 5 10' | said "$top/lockrun" seeds 1 99)"
+expect 'no seed' 'lockrun: there is no seed from 2 to 1
+status 1' "$(said "$top/lockrun" seeds 2 1 </dev/null)"
+expect 'too long a seed' 'lockrun: seeds of at most 18 digits
+status 1' "$(said "$top/lockrun" seeds 1 9999999999999999999 </dev/null)"
+expect 'seeds of a folder' 'lockrun: read fault
+status 4' "$(said "$top/lockrun" seeds 1 2 </)"
+expect 'seeds on a full disk' 'lockrun: write fault
+status 5' "$(echo x | said sh -c "'$top/lockrun' seeds 1 2 >/dev/full")"
+expect 'seeds, unproved' 'lockrun: not proved: no program is built from these sources (./build proves and builds it)
+status 3' "$(echo '# stuck' | (PATH=$with_rt && said "$room/bare/lockrun" seeds 1 2) | grep -e '^lockrun' -e '^status [0-9]')"
+expect 'seeds, no toolchain' 'status 127' "$( (PATH=$room/no-rt && said "$room/bare/lockrun" seeds 1 2 </dev/null) | tail -n 1)"
+yes | "$top/lockrun" seeds 1 1 >/dev/null
+expect 'seeds of an endless input' 1048577 "$(wc -c <"$top/crates/lockrun/out/lockrun.input")"
+expect 'seeds, no folder can be made' 'lockrun: no folder can be made for what is kept while it runs
+status 125' "$(echo x | (TMPDIR=$room/none && export TMPDIR && said "$top/lockrun" seeds 1 2))"
 
 # The wrapper may be called by links, from anywhere, and with CDPATH.
 ln -s "$top/lockrun" "$room/link" && ln -s link "$room/second" && ln -s "$top" "$room/folder"
@@ -177,6 +221,51 @@ sleep 0.02 && touch "$top/crates.txt" && is_stale 'crates.txt was edited'
 rm "$top/crates/lockrun/out/sources" && is_stale 'the list of sources is gone'
 mkdir -p "$top/crates/lockrun/must-fail" && touch "$top/crates/lockrun/must-fail/x.edit"
 expect 'what no program is made from' '<run>' "$(said "$top/lockrun" run </dev/null | head -n 1)"
+
+# The build: how far it is, what it leaves, and what it can't do. Its stand-in for the toolchain has two crates to prove.
+made=$room/made
+make_top "$made" && mkdir -p "$made/crates/lt_low/src" && printf 'lt_low:\nlockrun: lt_low\n' >"$made/crates.txt"
+printf 'run\nnow\n' >"$made/crates/lockrun/args" && : >"$made/crates/lockrun/stdin"
+mkdir "$room/with-build" && printf '%s\n' '#!/bin/sh
+echo "fn low: proved" >&2
+echo "library lt_low: modules loaded=1" >&2
+case $(cat ../lt_low/src/refused 2>/dev/null) in refused) exit 1 ;; esac
+mkdir -p out && printf "#!/bin/sh\necho built\n" >out/lockrun && chmod +x out/lockrun
+echo "<$*>"' >"$room/with-build/rt" && chmod +x "$room/with-build/rt"
+with_build=$room/with-build:$PATH
+expect 'the build' "build: from nothing, all together takes about an hour on four processors; what was built here before and didn't change isn't proved again
+build: lockrun is made from 2 crates, and each that isn't proved yet is proved first
+fn low: proved
+library lt_low: modules loaded=1
+build: lockrun: 1 of at most 2 crates proved
+build: lockrun is proved and linked: $made/crates/lockrun/out/lockrun
+status 0" "$(PATH=$with_build && said "$made/build" lockrun)"
+expect 'what was built runs' 'built
+status 0' "$(cd / && said "$made/lockrun" run </dev/null)"
+ln -s "$made/build" "$room/link-to-build"
+expect 'the build called by a link' 'status 0' "$(cd / && PATH=$with_build && said "$room/link-to-build" lockrun | tail -n 1)"
+expect 'the build of all programs' 1 "$(PATH=$with_build && said "$made/build" | grep -c 'is proved and linked')"
+expect 'the build of no program' 'build: there is no program lockrum
+status 1' "$(PATH=$with_build && said "$made/build" lockrum)"
+echo refused >"$made/crates/lt_low/src/refused"
+expect "a build that isn't proved" "build: lockrun isn't built
+status 1" "$(PATH=$with_build && said "$made/build" lockrun | tail -n 2)"
+expect 'a build with no toolchain' "build: the toolchain's program rt isn't on the PATH: README.md says what it is, under \"What it needs\"
+status 127" "$(PATH=$room/no-rt && said "$made/build" lockrun)"
+expect 'a build with no folder to be made' 'build: no folder can be made for what is kept while it runs
+status 125' "$(PATH=$with_build && TMPDIR=$room/none && export TMPDIR && said "$made/build" lockrun)"
+# A checkout that can't be written is tried as another user, if we are the one who may write everywhere.
+as_nobody=
+if [ -w / ]; then as_nobody='setpriv --reuid 65534 --regid 65534 --clear-groups'; fi
+chmod a+rx "$room" && chmod -R a-w "$made" && chmod -R a+rX "$made" "$room/with-build"
+if $as_nobody true 2>/dev/null; then
+  expect "a build in a checkout that can't be written" "build: nothing can be written below $made/crates
+status 125" "$(PATH=$with_build && said $as_nobody "$made/build" lockrun)"
+  expect "a run in a checkout that can't be written" 'built
+status 0' "$(rm "$made/crates/lt_low/src/refused" && touch "$made/crates/lockrun/out/sources" && said $as_nobody "$made/lockrun" run </dev/null)"
+else
+  echo "tests/wrapper.sh: no other user can be had: no checkout that can't be written is tried"
+fi
 
 # How a refused script is explained: only if standard error is a terminal.
 printf '# refuse 5 10\nnodes 1\nset s\nclient a at 0\na lock s reed\n' >"$room/refused"
