@@ -14,8 +14,8 @@ pub fn law_excluded()
     ensures tries { TriesExcluded }
 {}
 
-/// The parts of the promise that speak of a world, of whole worlds with one fault each; runs by the rules reach none of them.
-/// The parts that no run lacks alone are spelled out (`opens`).
+/// The parts of the promise that speak of a world, of whole worlds with one fault each; runs by the rules reach none of
+/// them. The parts that no run lacks alone are spelled out (`opens`).
 pub fn law_worlds_excluded()
     ensures counts { CountsExcluded }
     ensures standing { StandingExcluded }
