@@ -157,7 +157,7 @@ def cases_of(args):
         Case('make', args.program, ['make', '16', '64', '4096', '7'], b''),
         Case('order', args.program, ['order'], drawn),
         Case('no command', args.program, ['sim', 'last'], b''),
-        Case('nested transactions', args.nest, [], nested),
+        *([Case('nested transactions', args.nest, [], nested)] if Path(args.nest).exists() else []),
     ]
 
 
