@@ -26,7 +26,7 @@ class Answers:
     def __init__(self, args):
         self.run_program, self.nest_program = args.program, args.nest
         self.tried, self.wrong = 0, []
-        make = ['make', '16', '64', '4096', '7']
+        make = ['make', '4', '16', '256', '7']
         self.drawn = self.call(self.run_program, make)[1]
         self.journal = self.call(self.run_program, ['sim', 'first'], self.drawn)[1]
         self.nested = (TOP / 'crates/locknest/stdin').read_bytes()
