@@ -1,0 +1,9 @@
+pub mod Faulty
+pub mod Locks
+pub mod Places
+pub mod Waits
+pub mod Rests
+pub mod Tries
+pub mod Excluded
+pub mod Worlds
+pub mod WorldsExcluded
