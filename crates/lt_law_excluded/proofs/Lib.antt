@@ -5,3 +5,4 @@ pub mod WaitsExcluded
 pub mod RestsExcluded
 pub mod TriesExcluded
 pub mod WorldsExcluded
+pub mod Opened

@@ -7,3 +7,4 @@ pub mod Tries
 pub mod Excluded
 pub mod Worlds
 pub mod WorldsExcluded
+pub mod Opened

@@ -1,4 +1,5 @@
 ghost use Rattle.lt_law_excluded.specs.Excluded.{LocksExcluded, PlacesExcluded, WaitsExcluded, RestsExcluded, TriesExcluded};
+ghost use Rattle.lt_law_excluded.specs.Opened.{PromisedOpens};
 ghost use Rattle.lt_law_excluded.specs.WorldsExcluded.{CountsExcluded, StandingExcluded, TurnsExcluded};
 
 /// Runs with one fault each, none of which is promised.
@@ -14,8 +15,10 @@ pub fn law_excluded()
 {}
 
 /// The parts of the promise that speak of a world, of whole worlds with one fault each; runs by the rules reach none of them.
+/// The parts that no run lacks alone are spelled out (`opens`).
 pub fn law_worlds_excluded()
     ensures counts { CountsExcluded }
     ensures standing { StandingExcluded }
     ensures turns { TurnsExcluded }
+    ensures opens { PromisedOpens }
 {}

@@ -1,3 +1,4 @@
+use Rattle.lt_law_excluded.proofs.Opened.{promised_opens}
 use Rattle.lt_law_excluded.proofs.WorldsExcluded.{counts_excluded, standing_excluded, turns_excluded}
 use Rattle.lt_law_excluded.proofs.laws.law_worlds_excluded.Goals as goal
 
@@ -9,3 +10,6 @@ returns-clause-standing c = standing_excluded
 
 pub returns-clause-turns : goal.returns-clause-turns
 returns-clause-turns c = turns_excluded
+
+pub returns-clause-opens : goal.returns-clause-opens
+returns-clause-opens c = promised_opens
