@@ -103,27 +103,123 @@ const LATE_COPY: &str = "nodes 3\n\
 
 // Inputs, each in its parts, with what `check` says of them.
 const INPUTS: [([&str; 4], Status, &str); 22] = [
-    ([TWO_NODES, TOKEN_MOVES, TWO_NODES_END, ""], Status::Done, "ok 5\n"),
-    ([TWO_NODES, "move 2 0 take 1\ncopy s 1 b read\n", TWO_NODES_END, ""], Status::BadJournal { line: 13 }, ""),
-    ([TWO_NODES, "move 2 0 take 1\n", TWO_NODES_END, ""], Status::BadJournal { line: 13 }, ""),
-    ([TWO_NODES, TOKEN_MOVES, "move 3 0 take 1\n", TWO_NODES_END], Status::BadJournal { line: 14 }, ""),
-    ([TWO_NODES, TOKEN_MOVES, "token s 1 1\n", TWO_NODES_END], Status::BadJournal { line: 14 }, ""),
-    ([TWO_NODES, "move 3 0 take 1\ntoken s 1 1\n", TWO_NODES_END, ""], Status::BadJournal { line: 12 }, ""),
-    ([TWO_NODES, "move 2 0 take 0\ntoken s 1 1\n", TWO_NODES_END, ""], Status::BadJournal { line: 12 }, ""),
-    ([TWO_NODES, "move 02 0 take 1\ntoken s 1 1\n", TWO_NODES_END, ""], Status::BadJournal { line: 12 }, ""),
-    ([TWO_NODES, TOKEN_MOVES, "", ""], Status::BadJournal { line: 14 }, ""),
-    ([TWO_NODES, TOKEN_MOVES, TWO_NODES_END, "end 5\n"], Status::BadJournal { line: 22 }, ""),
+    (
+        [TWO_NODES, TOKEN_MOVES, TWO_NODES_END, ""],
+        Status::Done,
+        "ok 5\n",
+    ),
+    (
+        [
+            TWO_NODES,
+            "move 2 0 take 1\ncopy s 1 b read\n",
+            TWO_NODES_END,
+            "",
+        ],
+        Status::BadJournal { line: 13 },
+        "",
+    ),
+    (
+        [TWO_NODES, "move 2 0 take 1\n", TWO_NODES_END, ""],
+        Status::BadJournal { line: 13 },
+        "",
+    ),
+    (
+        [TWO_NODES, TOKEN_MOVES, "move 3 0 take 1\n", TWO_NODES_END],
+        Status::BadJournal { line: 14 },
+        "",
+    ),
+    (
+        [TWO_NODES, TOKEN_MOVES, "token s 1 1\n", TWO_NODES_END],
+        Status::BadJournal { line: 14 },
+        "",
+    ),
+    (
+        [
+            TWO_NODES,
+            "move 3 0 take 1\ntoken s 1 1\n",
+            TWO_NODES_END,
+            "",
+        ],
+        Status::BadJournal { line: 12 },
+        "",
+    ),
+    (
+        [
+            TWO_NODES,
+            "move 2 0 take 0\ntoken s 1 1\n",
+            TWO_NODES_END,
+            "",
+        ],
+        Status::BadJournal { line: 12 },
+        "",
+    ),
+    (
+        [
+            TWO_NODES,
+            "move 02 0 take 1\ntoken s 1 1\n",
+            TWO_NODES_END,
+            "",
+        ],
+        Status::BadJournal { line: 12 },
+        "",
+    ),
+    (
+        [TWO_NODES, TOKEN_MOVES, "", ""],
+        Status::BadJournal { line: 14 },
+        "",
+    ),
+    (
+        [TWO_NODES, TOKEN_MOVES, TWO_NODES_END, "end 5\n"],
+        Status::BadJournal { line: 22 },
+        "",
+    ),
     ([LATE_COPY, "end 19", "", ""], Status::Done, "ok 19\n"),
-    ([LATE_COPY, "end 1", "", ""], Status::BadJournal { line: 53 }, ""),
-    ([LATE_COPY, "end ", "", ""], Status::BadJournal { line: 53 }, ""),
-    ([LATE_COPY, "end", "", ""], Status::BadJournal { line: 53 }, ""),
-    ([LATE_COPY, "en", "", ""], Status::BadJournal { line: 53 }, ""),
-    ([LATE_COPY, "e", "", ""], Status::BadJournal { line: 53 }, ""),
+    (
+        [LATE_COPY, "end 1", "", ""],
+        Status::BadJournal { line: 53 },
+        "",
+    ),
+    (
+        [LATE_COPY, "end ", "", ""],
+        Status::BadJournal { line: 53 },
+        "",
+    ),
+    (
+        [LATE_COPY, "end", "", ""],
+        Status::BadJournal { line: 53 },
+        "",
+    ),
+    (
+        [LATE_COPY, "en", "", ""],
+        Status::BadJournal { line: 53 },
+        "",
+    ),
+    (
+        [LATE_COPY, "e", "", ""],
+        Status::BadJournal { line: 53 },
+        "",
+    ),
     ([LATE_COPY, "", "", ""], Status::BadJournal { line: 53 }, ""),
-    (["nodes 1\n# journal\njournal\njournal\nend 0\n", "", "", ""], Status::BadJournal { line: 4 }, ""),
-    (["nodes 1\njournal", "", "", ""], Status::BadJournal { line: 3 }, ""),
-    (["nodes 1\njournal\nend 0", "", "", ""], Status::Done, "ok 0\n"),
-    (["nodes 1\n", "", "", ""], Status::BadJournal { line: 2 }, ""),
+    (
+        ["nodes 1\n# journal\njournal\njournal\nend 0\n", "", "", ""],
+        Status::BadJournal { line: 4 },
+        "",
+    ),
+    (
+        ["nodes 1\njournal", "", "", ""],
+        Status::BadJournal { line: 3 },
+        "",
+    ),
+    (
+        ["nodes 1\njournal\nend 0", "", "", ""],
+        Status::Done,
+        "ok 0\n",
+    ),
+    (
+        ["nodes 1\n", "", "", ""],
+        Status::BadJournal { line: 2 },
+        "",
+    ),
     (
         ["nodes 1\njournal x\nend 0\njournal\nend 0\n", "", "", ""],
         Status::Refused(ScriptFault {

@@ -73,6 +73,7 @@ fn a_drawn_script_on_threads(rt: HostRuntime) -> Result<(), Fail> {
         moves: 100_000,
         capacity: 1,
         patience: 0,
+        workers: 2,
     };
     let (_, script) = served(&rt, rt.alloc(), USUAL, "make 16 64 256 7", "")?;
     let script = String::from_utf8(script)?;
