@@ -62,7 +62,7 @@ impl OutLane {
         ensures first { length (ring_given self.new) < producer_capacity self.new.ring → outbox_letters self.new ≡ [] }
         ensures stops { (outbox_letters self.new ≡ []) ⊎ (known_free self.new.ring ≡ 0) }
     {
-        while !self.ring.is_full() {
+        while !self.outbox.is_empty() && !self.ring.is_full() {
             let Some(letter) = self.outbox.pop_front() else {
                 return;
             };
