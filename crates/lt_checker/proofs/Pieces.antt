@@ -1,5 +1,5 @@
 -- A piece of a journal, cut at its line ends.
-use Rattle.std.proofs.Common.{◌≡◌, ◌∙◌, ℕ, zero, suc, ◌+◌, ◌-◌, ◌<◌, ◌≤◌, min, Bool, true, false, cond, List, [], ◌∷◌, ◌++◌, length, take, drop, fold, get_or, Option, Some, None, refl, sym, ap, subst, arith, inl, inr, append_assoc, append-nil, take_all, length-take, length-drop}
+use Rattle.std.proofs.Common.{◌≡◌, ◌∙◌, ℕ, zero, suc, ◌+◌, ◌-◌, ◌<◌, ◌≤◌, min, Bool, true, false, cond, List, [], ◌∷◌, ◌++◌, length, take, drop, fold, get_or, Some, None, refl, sym, ap, arith, inl, inr, append_assoc, append-nil, take_all, length-take, length-drop}
 use Rattle.std.specs.Prelude.{slice_index}
 use Rattle.std.proofs.Math.Seq.{split_at, take-append-add}
 use Rattle.std.proofs.lemmas.Bool.{cases_Bool, cases_lt, eqb-true}
@@ -75,19 +75,19 @@ skipped script reader rest (byte ∷ before) last bad =
     ]
 
 not_true : (b : Bool) → (b ≡ true → ⊥) → b ≡ false
-not_true true no = absurd (no refl)
-not_true false no = refl
+not_true true h = absurd (h refl)
+not_true false h = refl
 
 none_before : (bytes : List ℕ) (k : ℕ) → ((i : ℕ) → i < k → is_line_end (slice_index bytes i) ≡ true → ⊥) → HasNone is_line_end (take k bytes)
-none_before [] zero no = tt
-none_before [] (suc k) no = tt
-none_before (byte ∷ bytes) zero no = tt
-none_before (byte ∷ bytes) (suc k) no =
-    (not_true (is_line_end byte) (no 0 (omega arith)), none_before bytes k (λ i l. no (suc i) (omega (arith, l))))
+none_before [] zero h = tt
+none_before [] (suc k) h = tt
+none_before (byte ∷ bytes) zero h = tt
+none_before (byte ∷ bytes) (suc k) h =
+    (not_true (is_line_end byte) (h 0 (omega arith)), none_before bytes k (λ i l. h (suc i) (omega (arith, l))))
 
 none_in : (bytes : List ℕ) → ((i : ℕ) → i < length bytes → is_line_end (slice_index bytes i) ≡ true → ⊥) → HasNone is_line_end bytes
-none_in [] no = tt
-none_in (byte ∷ bytes) no = (not_true (is_line_end byte) (no 0 (omega arith)), none_in bytes (λ i l. no (suc i) (omega (arith, l))))
+none_in [] h = tt
+none_in (byte ∷ bytes) h = (not_true (is_line_end byte) (h 0 (omega arith)), none_in bytes (λ i l. h (suc i) (omega (arith, l))))
 
 -- the bytes are those before the line end at this place, the line end and those after it
 parts_at : (bytes : List ℕ) (k : ℕ) → k < length bytes → is_line_end (slice_index bytes k) ≡ true → bytes ≡ take k bytes ++ 10 ∷ drop (k + 1) bytes

@@ -1,4 +1,4 @@
-use Rattle.std.proofs.Common.{◌≡◌, ◌++◌, ◌∙◌, List, ℕ, take, ap, sym}
+use Rattle.std.proofs.Common.{◌++◌, ◌∙◌, List, ℕ, take, ap, sym}
 use Rattle.lt_modes.specs.Script.{ScriptData}
 use Rattle.lt_text.specs.Text.{without_return}
 use Rattle.lt_law_checking.specs.Checking.{Reader, read_on}
@@ -15,8 +15,8 @@ loop-end-preserved c =
     ∙ ap (λ (s : ScriptData). read_on s before.reader.reader (without_return (take 201 (before.rest.items ++ line)))) before.invariant.script in
     record {
       script = c.end_line.ensures.script ∙ before.invariant.script;
-      fed = next_line script before.reader.reader c.end_line.new.reader.reader before.rest.items c.end_line.new.rest.items before.left line c.split_at-2.result.1.now c.in-Some.end
-          c.end_line.ensures.few c.in-Some.ensures c.split_at.ensures.front c.split_at-2.ensures.back read c.in_ok-end_line.ensures.empty
+      fed = next_line script before.reader.reader c.end_line.new.reader.reader before.rest.items c.end_line.new.rest.items before.left.now line c.split_at-in-Some.result.1.now c.in-Some.end
+          c.end_line.ensures.few c.in-Some.ensures c.split_at.ensures.front c.split_at-in-Some.ensures.back read c.in_ok-end_line.ensures.empty
           ∙ before.invariant.fed;
     }
 
@@ -27,5 +27,5 @@ pub returns-clause-fed : goal.returns-clause-fed
 returns-clause-fed c =
     let before = c.loop-end in
     ap (kept_with before.reader.reader) c.keep.ensures.kept
-    ∙ (sym (fed_part c.args.reader.now.script before.reader.reader before.rest.items before.left c.keep.ensures.few (none_found before.left c.in-None.ensures))
+    ∙ (sym (fed_part c.args.reader.now.script before.reader.reader before.rest.items before.left.now c.keep.ensures.few (none_found before.left.now c.in_default.ensures))
     ∙ before.invariant.fed)
