@@ -108,7 +108,12 @@ ssize_t write(int fd, const void *bytes, size_t size) {
 /* The program may call it by this name. */
 ssize_t __write(int fd, const void *bytes, size_t size) { return write(fd, bytes, size); }
 
-/* The program ends by this call, and not by a return from main. */
+/* A program without threads ends by a return from main. */
+static void __attribute__((destructor)) at_end(void) {
+  if (begun) tell();
+}
+
+/* One with threads ends by this call. */
 void _exit(int status) {
   tell();
   syscall(SYS_exit_group, status);
