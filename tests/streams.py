@@ -6,6 +6,7 @@ inputs the time and the memory. On Linux."""
 import argparse
 import os
 import resource
+import shutil
 import signal
 import subprocess
 import sys
@@ -268,7 +269,7 @@ def without_threads():
 def threads(found):
     """A machine that gives no thread: a run works on the caller's."""
     control = 'import threading\ntry: threading.Thread(target=print).start()\nexcept RuntimeError: raise SystemExit(9)'
-    alone = subprocess.run([sys.executable, '-c', control], preexec_fn=without_threads, capture_output=True, check=False)
+    alone = subprocess.run([shutil.which('python3', path='/usr/bin:/usr/local/bin') or sys.executable, '-c', control], preexec_fn=without_threads, capture_output=True, check=False)
     if alone.returncode != 9:
         found.say('threads', False, f'a thread can be made here all the same: {alone}')
         return
