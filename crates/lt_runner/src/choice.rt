@@ -54,16 +54,16 @@ fn act_choice(node: &Node) -> Choice
     }
 }
 
+#[tactic(auto, using(crate::proofs::ChoiceLemmas::least_found))]
 fn first_client(node: &Node) -> Option<u16>
     ensures { result ≡ first_client node.now.script node.now.me (state_of node.now) }
 {
-    let mut first = None;
     for client in 0..node.script().clients() {
-        if first.is_none() && can_act(node, client) {
-            first = Some(client);
+        if can_act(node, client) {
+            return Some(client);
         }
     }
-    first
+    None
 }
 
 fn can_act(node: &Node, client: u16) -> bool
