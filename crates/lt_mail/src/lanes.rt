@@ -1,4 +1,4 @@
-ghost use Rattle.std.specs.Prelude.{◌≡◌, ◌+◌, ◌≤◌, ◌<◌, ◌⊎◌, [], ◌∷◌, ◌++◌, length, OnOk, IfSome, IfNone};
+ghost use Rattle.std.specs.Prelude.{◌≡◌, ◌+◌, ◌≤◌, ◌<◌, ◌⊎◌, [], ◌∷◌, ◌++◌, length, OnOk, IfSome, IfNone, MatchBool};
 ghost use Rattle.std.specs.VecDeque.{deque_len, deque_capacity};
 ghost use Rattle.rtrb.specs.Ring.{known_free, producer_capacity, SameProducer, SameConsumer};
 ghost use mathlib.Core.List.{IsPrefix};
@@ -72,6 +72,16 @@ impl OutLane {
 }
 
 impl InLane {
+    /// Whether a letter is in the ring, and then known. It looks again, whatever is known.
+    pub fn has_letter(&mut self) -> bool
+        ensures ring { SameConsumer self.old.ring self.new.ring }
+        ensures taken { taken self.new ≡ taken self.old }
+        ensures known { IsPrefix (known self.old) (known self.new) }
+        ensures value { MatchBool result (0 < length (known self.new)) (known self.new ≡ []) }
+    {
+        self.ring.slots() > 0
+    }
+
     /// Takes the next letter that is in the ring.
     pub fn take(&mut self) -> Option<Letter>
         ensures ring { SameConsumer self.old.ring self.new.ring }
