@@ -82,6 +82,13 @@ impl InLane {
         self.ring.slots() > 0
     }
 
+    /// Whether a letter is known to be in the ring.
+    pub fn knows_letter(&self) -> bool
+        ensures { MatchBool result (0 < length (known self.now)) (known self.now ≡ []) }
+    {
+        self.ring.cached_slots() > 0
+    }
+
     /// Takes the next letter that is in the ring.
     pub fn take(&mut self) -> Option<Letter>
         ensures ring { SameConsumer self.old.ring self.new.ring }

@@ -69,6 +69,15 @@ impl Mail {
         self.has_letter_on(from)
     }
 
+    /// Whether a letter of a node is known to be in its ring.
+    #[tactic(auto, using(crate::proofs::WordLemmas::saw_letter))]
+    pub fn knows_letter(&self, from: u8) -> bool
+        requires peer { from < ins_count self.now }
+        ensures { MatchBool result (0 < length (known_from self.now from)) (known_from self.now from ≡ []) }
+    {
+        self.knows_letter_on(from)
+    }
+
     /// Takes the next letter of a node from its ring. Where none is known there, it looks again.
     #[tactic(auto, using(crate::proofs::WordLemmas::takes_known))]
     pub fn take(&mut self, from: u8) -> Option<Letter>
@@ -169,6 +178,14 @@ impl Mail {
     {
         let lane = &mut self.ins[usize::from(from)];
         lane.has_letter()
+    }
+
+    pub(crate) fn knows_letter_on(&self, from: u8) -> bool
+        requires { from < ins_count self.now }
+        ensures { Saw result (in_at self.now from) }
+    {
+        let lane = &self.ins[usize::from(from)];
+        lane.knows_letter()
     }
 
     pub(crate) fn take_on(&mut self, from: u8) -> Option<Letter>
