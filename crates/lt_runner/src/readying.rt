@@ -151,8 +151,8 @@ fn sender(mail: &mut Mail, me: u8, nodes: u8) -> Option<u8>
     None
 }
 
-// Takes the letter of the node that is known to come.
-fn hold_next(mail: &mut Mail, hand: &mut Option<Hand>, from: u8, _me: u8, _nodes: u8)
+/// Takes the letter of the node that is known to come.
+pub(crate) fn hold_next(mail: &mut Mail, hand: &mut Option<Hand>, from: u8, _me: u8, _nodes: u8)
     requires node { (from < _nodes) × (from ≢ _me) }
     requires count { ins_count mail.old ≡ _nodes }
     requires known { 0 < length (known_from mail.old from) }
