@@ -65,12 +65,10 @@ whole = record {
   owners = owner 1 1 ∷ owner 0 0 ∷ [];
 }
 
--- the script as it is written
-abbrev pub whole_text : List ℕ
-whole_text =
-    codes "version 2\n"
-    ++ codes "nodes 2\n"
-    ++ codes "set s\n"
+-- what the script declares but its nodes, and all its commands but the last
+abbrev pub middle_text : List ℕ
+middle_text =
+    codes "set s\n"
     ++ codes "set t with s\n"
     ++ codes "client a at 0\n"
     ++ codes "client b at 1\n"
@@ -87,6 +85,13 @@ whole_text =
     ++ codes "d lock s upgrade\n"
     ++ codes "a change s intention_write read\n"
     ++ codes "a drop c s\n"
+
+-- the script as it is written
+abbrev pub whole_text : List ℕ
+whole_text =
+    codes "version 2\n"
+    ++ codes "nodes 2\n"
+    ++ middle_text
     ++ codes "d unlock s intention_read\n"
 
 -- the same script with spaces, a tab, a line end of two bytes, an empty line, a comment, and without the last line end
@@ -95,23 +100,7 @@ spread_text =
     codes "  version  2 " ++ 13 ∷ 10 ∷ []
     ++ codes "nodes" ++ 9 ∷ codes "2\n \n"
     ++ codes "# lock s read\n"
-    ++ codes "set s\n"
-    ++ codes "set t with s\n"
-    ++ codes "client a at 0\n"
-    ++ codes "client b at 1\n"
-    ++ codes "client c at 0\n"
-    ++ codes "client d at 1\n"
-    ++ codes "b unlock s read\n"
-    ++ codes "a lock s intention_write\n"
-    ++ codes "b try s intention_write\n"
-    ++ codes "d unlock s read_intention_write\n"
-    ++ codes "b lock t intention_read\n"
-    ++ codes "d lock s intention_read\n"
-    ++ codes "d drop b s\n"
-    ++ codes "a try t write\n"
-    ++ codes "d lock s upgrade\n"
-    ++ codes "a change s intention_write read\n"
-    ++ codes "a drop c s\n"
+    ++ middle_text
     ++ codes "d unlock s intention_read"
 
 -- the journal of the run
