@@ -1,0 +1,31 @@
+use Rattle.std.proofs.Common.{◌++◌, ◌∙◌, List, ℕ, take, ap, sym}
+use Rattle.lt_modes.specs.Script.{ScriptData}
+use Rattle.lt_text.specs.Text.{without_return}
+use Rattle.lt_law_checking.specs.Checking.{Reader, read_on}
+use Rattle.lt_law_checking.specs.Feeding.{Feed}
+use Rattle.lt_checker.proofs.Pieces.{fed_part, none_found, next_line}
+use Rattle.lt_checker.proofs.checker.feed_all.Goals as goal
+
+pub loop-end-preserved : goal.loop-end-preserved
+loop-end-preserved c =
+    let script = c.args.reader.now.script in
+    let before = c.loop-end in
+    let line = c.split_at.result.0.now in
+    let read = c.in_ok-end_line.ensures.read
+    ∙ ap (λ (s : ScriptData). read_on s before.reader.reader (without_return (take 201 (before.rest.items ++ line)))) before.invariant.script in
+    record {
+      script = c.end_line.ensures.script ∙ before.invariant.script;
+      fed = next_line script before.reader.reader c.end_line.new.reader.reader before.rest.items c.end_line.new.rest.items before.left.now line c.split_at-in-Some.result.1.now c.in-Some.end
+          c.end_line.ensures.few c.in-Some.ensures c.split_at.ensures.front c.split_at-in-Some.ensures.back read c.in_ok-end_line.ensures.empty
+          ∙ before.invariant.fed;
+    }
+
+abbrev kept_with : Reader → List ℕ → Feed
+kept_with reader rest = record { reader = reader; rest = rest }
+
+pub returns-clause-fed : goal.returns-clause-fed
+returns-clause-fed c =
+    let before = c.loop-end in
+    ap (kept_with before.reader.reader) c.keep.ensures.kept
+    ∙ (sym (fed_part c.args.reader.now.script before.reader.reader before.rest.items before.left.now c.keep.ensures.few (none_found before.left.now c.in_default.ensures))
+    ∙ before.invariant.fed)
