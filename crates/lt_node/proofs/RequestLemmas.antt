@@ -10,7 +10,7 @@ use Rattle.lt_modes.specs.declared.command.Command.{Command}
 use Rattle.lt_modes.specs.Script.{ScriptData}
 use Rattle.lt_script.specs.Script.{IsScript}
 use Rattle.lt_spec.specs.Families.{command_if, commands_of, home}
-use Rattle.lt_node.specs.Clients.{Progress, HaveFirst, progress_of, no_progress, no_command, one_command_longer, with_request, first_commands}
+use Rattle.lt_node.specs.Clients.{Progress, HaveFirst, progress_of, no_progress, no_command, with_command, with_own_request, first_commands}
 
 no_request : ℕ × Command
 no_request = (0, no_command)
@@ -49,7 +49,7 @@ module _ (script : ScriptData) (q k : ℕ) (clients : List Progress) (request : 
   more client = filter_map (command_if client) (take (k + 1) script.commands)
 
   abbrev longer : Progress
-  longer = one_command_longer (progress_of clients request.0) request.1
+  longer = with_command (progress_of clients request.0) request.1
 
   -- another client has no command more
   unchanged : k < length script.commands → slice_get script.commands k ≡ Some request → HaveFirst script q k clients
@@ -66,7 +66,7 @@ module _ (script : ScriptData) (q k : ℕ) (clients : List Progress) (request : 
       first request.0 known ∙ ap (λ (b : Bool). fresh (if b then among request.0 else [])) mine in
       let after : first_commands script q (k + 1) request.0 ≡ among request.0 ++ request.1 ∷ [] =
       ap (λ (b : Bool). if b then more request.0 else []) mine ∙ (among_more script k request.0 request inside is ∙ one_of request request.0 (among request.0) refl) in
-      ap (λ (p : Progress). one_command_longer p request.1) before ∙ ap fresh (sym after)
+      ap (λ (p : Progress). with_command p request.1) before ∙ ap fresh (sym after)
 
   own_added : k < length script.commands → slice_get script.commands k ≡ Some request → request.0 < length clients → HaveFirst script q k clients → home script request.0 == q ≡ true
       → HaveFirst script q (k + 1) (slice_set clients request.0 longer)
@@ -88,20 +88,20 @@ module _ (script : ScriptData) (q k : ℕ) (clients : List Progress) (request : 
   ]
 
   pub request_added : k < length script.commands → slice_get script.commands k ≡ Some request → request.0 < length clients → HaveFirst script q k clients
-      → HaveFirst script q (k + 1) (with_request script q request clients)
+      → HaveFirst script q (k + 1) (with_own_request script q request clients)
   request_added inside is known first = elim (cases_Bool (home script request.0 == q)) [
     | inl mine ↦ subst (HaveFirst script q (k + 1)) (sym (ap (λ (b : Bool). if b then slice_set clients request.0 longer else clients) mine)) (own_added inside is known first mine)
     | inr theirs ↦ subst (HaveFirst script q (k + 1)) (sym (ap (λ (b : Bool). if b then slice_set clients request.0 longer else clients) theirs)) (other_added inside is first theirs)
   ]
 
-pub count_kept : (script : ScriptData) (q : ℕ) (request : ℕ × Command) (clients : List Progress) → length (with_request script q request clients) ≡ length clients
+pub count_kept : (script : ScriptData) (q : ℕ) (request : ℕ × Command) (clients : List Progress) → length (with_own_request script q request clients) ≡ length clients
 count_kept script q request clients = elim (cases_Bool (home script request.0 == q)) [
   | inl mine ↦ ap (λ (b : Bool). length (if b then slice_set clients request.0 longer else clients)) mine ∙ length-set clients request.0 longer
   | inr theirs ↦ ap (λ (b : Bool). length (if b then slice_set clients request.0 longer else clients)) theirs
 ]
   where
     longer : Progress
-    longer = one_command_longer (progress_of clients request.0) request.1
+    longer = with_command (progress_of clients request.0) request.1
 
 abbrev no_commands : List Command
 no_commands = []

@@ -32,13 +32,13 @@ abbrev pub one_command_more : Progress → Progress
 one_command_more progress = record progress { made = progress.made + 1 }
 
 -- with this command behind the others
-abbrev pub one_command_longer : Progress → Command → Progress
-one_command_longer progress command = record progress { commands = progress.commands ++ command ∷ [] }
+abbrev pub with_command : Progress → Command → Progress
+with_command progress command = record progress { commands = progress.commands ++ command ∷ [] }
 
 -- the clients as node q keeps them, with this command of one of them more
-abbrev pub with_request : ScriptData → ℕ → ℕ × Command → List Progress → List Progress
-with_request script q request clients =
-    if home script request.0 == q then slice_set clients request.0 (one_command_longer (progress_of clients request.0) request.1) else clients
+abbrev pub with_own_request : ScriptData → ℕ → ℕ × Command → List Progress → List Progress
+with_own_request script q request clients =
+    if home script request.0 == q then slice_set clients request.0 (with_command (progress_of clients request.0) request.1) else clients
 
 -- the client's commands among the first ones of all, where the client is one of node q
 abbrev pub first_commands : ScriptData → ℕ → ℕ → ℕ → List Command

@@ -2,7 +2,7 @@ ghost use Rattle.std.specs.Prelude.{◌≡◌, ◌<◌, ◌+◌, ◌==◌, ◌^�
 ghost use Rattle.lt_modes.specs.Script.{ClientData};
 ghost use Rattle.lt_script.specs.Script.{IsScript};
 ghost use Rattle.lt_spec.specs.Families.{commands_of, home};
-ghost use Rattle.lt_node.specs.Clients.{HaveFirst, next_of, one_command_more, one_command_longer, with_request, progress_of, no_progress};
+ghost use Rattle.lt_node.specs.Clients.{HaveFirst, next_of, one_command_more, with_command, with_own_request, progress_of, no_progress};
 
 use lt_modes::Command;
 use lt_script::Script;
@@ -37,7 +37,7 @@ impl Client {
 
     /// Adds a command behind the others.
     pub(crate) fn add(&mut self, command: Command) -> Result<(), AllocError>
-        ensures { OnOk result (self.new ≡ one_command_longer self.old command) }
+        ensures { OnOk result (self.new ≡ with_command self.old command) }
     {
         self.commands.push(command)?;
         Ok(())
@@ -124,7 +124,7 @@ fn add_request(
 ) -> Result<(), AllocError>
     requires client { client < length script.now.clients }
     requires count { length clients.old.items ≡ length script.now.clients }
-    ensures { OnOk result (clients.new.items ≡ with_request script.now node (client, command) clients.old.items) }
+    ensures { OnOk result (clients.new.items ≡ with_own_request script.now node (client, command) clients.old.items) }
 {
     if script.home(client) == node {
         clients[usize::from(client)].add(command)?;
