@@ -15,6 +15,18 @@ use Rattle.lt_node.specs.Clients.{Progress, HaveFirst, progress_of, no_progress,
 no_request : ℕ × Command
 no_request = (0, no_command)
 
+-- the request that stands at a place
+slice_at : (xs : List (ℕ × Command)) (k : ℕ) (r : ℕ × Command) → slice_get xs k ≡ Some r → slice_index_or xs k no_request ≡ r
+slice_at [] k r e = absurd (cc)
+slice_at (x ∷ xs) zero r e = cc
+slice_at (x ∷ xs) (suc k) r e = slice_at xs k r e
+
+-- is that of a client of the script
+pub client_of_request : (script : ScriptData) (k : ℕ) (request : ℕ × Command) → IsScript script → k < length script.commands → slice_get script.commands k ≡ Some request
+    → request.0 < length script.clients
+client_of_request script k request known inside is =
+    subst (λ (r : ℕ × Command). r.0 < length script.clients) (slice_at script.commands k request is) (known.requests k no_request inside).0
+
 -- the commands of a client among one more
 among_more : (script : ScriptData) (k client : ℕ) (request : ℕ × Command) → k < length script.commands → slice_get script.commands k ≡ Some request
     → filter_map (command_if client) (take (k + 1) script.commands) ≡ filter_map (command_if client) (take k script.commands) ++ filter_map (command_if client) (request ∷ [])
@@ -22,11 +34,6 @@ among_more script k client request inside is =
     let here : slice_index_or script.commands k no_request ≡ request = slice_at script.commands k request is in
     ap (filter_map (command_if client)) (take_more script.commands k no_request inside ∙ ap (λ (r : ℕ × Command). take k script.commands ++ r ∷ []) here)
     ∙ filter_map-append (command_if client) (take k script.commands) (request ∷ [])
-  where
-    slice_at : (xs : List (ℕ × Command)) (k : ℕ) (r : ℕ × Command) → slice_get xs k ≡ Some r → slice_index_or xs k no_request ≡ r
-    slice_at [] k r e = absurd (cc)
-    slice_at (x ∷ xs) zero r e = cc
-    slice_at (x ∷ xs) (suc k) r e = slice_at xs k r e
 
 -- one of another client adds nothing
 none_of : (request : ℕ × Command) (client : ℕ) (xs : List Command) → request.0 ≢ client → xs ++ filter_map (command_if client) (request ∷ []) ≡ xs
