@@ -9,6 +9,7 @@ pub mod Acting
 pub mod Taking
 pub mod TakeOrder
 pub mod ActOrder
+mod FirstTurn
 pub mod Counts
 pub mod Rest
 pub mod Picks
