@@ -20,8 +20,8 @@ and_false false = refl
 
 not_less : (a b : ℕ) → b ≤ a → nat_lt a b ≡ false
 not_less a b h = elim (cases_Bool (nat_lt a b)) [
-  | inl yes ↦ absurd (omega (arith, ltb-true a b yes, h))
-  | inr no ↦ no
+  | inl less ↦ absurd (omega (arith, ltb-true a b less, h))
+  | inr other ↦ other
 ]
 
 -- the client can act, and comes after the earlier one

@@ -8,9 +8,9 @@ pub loop-client-preserved : goal.loop-client-preserved
 loop-client-preserved c =
     record {
       first = rw add-one
-          (subst (λ (first : Option ℕ). c.first_with.result.0 ≡ first_with c.args.self.now.script (world_of c.args.self.now) c.args.earlier first c.loop-client.client)
-          c.loop-client.invariant.first c.first_with.ensures.first);
-      least = c.first_with.ensures.least;
+          (subst (λ (first : Option ℕ). c.first_with-next.result.0 ≡ first_with c.args.self.now.script (world_of c.args.self.now) c.args.earlier first c.loop-client.client)
+          c.loop-client.invariant.first c.first_with-next.ensures.first);
+      least = c.first_with-next.ensures.least;
     }
 
 pub returns-clause-runnable : goal.returns-clause-runnable
