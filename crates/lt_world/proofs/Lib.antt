@@ -15,3 +15,4 @@ pub mod Rest
 pub mod Picks
 pub mod MadeLemmas
 pub mod AgainstLemmas
+mod Standing

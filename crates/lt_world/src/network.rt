@@ -10,12 +10,15 @@ ghost use Rattle.lt_world.specs.Mail.{SameLetters, AreDelivered, inbox_at, mail_
 ghost use Rattle.lt_script.specs.Script.{IsScript};
 ghost use Rattle.lt_world.specs.Moving.{IsWithin, CanAct, CanTake};
 ghost use Rattle.lt_world.specs.Network.{IsAfterRun, world_in, run_with};
+ghost use Rattle.lt_world.specs.declared.reserved.Reserved.TheVariants.{Acting, Taking};
+ghost use Rattle.lt_world.specs.Reserved.{IsReserved, step_of};
 ghost use Rattle.lt_world.specs.Fields.{IsNodeOf, OnlyMemory, InboxRoom, node_at};
 
 use crate::choice::Choice;
 use crate::delivery::{deliver, pop_front, put_front, reserve_from};
 use crate::inbox::Inbox;
 use crate::recording::note_events;
+use crate::reserved::Reserved;
 use lt_desk::{Letter, Out};
 use lt_merge::Run;
 use lt_modes::{Move, Stamp, Step};
@@ -49,31 +52,82 @@ impl Network {
         })
     }
 
-    /// Makes the move.
-    pub(crate) fn make(&mut self, script: &Script, choice: Choice) -> Result<(), AllocError>
+    /// Makes room for the move. Where memory is refused, all stand as they did.
+    pub(crate) fn reserve(&mut self, script: &Script, choice: Choice) -> Result<Reserved, AllocError>
         requires holds { IsAfterRun script.now self.old }
         requires enabled { IsTrue (is_enabled script.now (world_in script.now self.old) choice.node choice.step) }
         requires few { length self.old.run.entries + 1 < 2 ^ 32 }
-        ensures holds { IsAfterRun script.now self.new }
-        ensures ok { OnOk result (self.new.run.entries ≡ run_with script.now self.old.run.entries choice.node choice.step) }
-        ensures err { OnErr result (self.new.run.entries ≡ self.old.run.entries) }
+        ensures reserved { IfOk result (IsReserved script.now self.new choice.node) }
+        ensures step { IfOk result (λ reserved. step_of reserved ≡ choice.step) }
+        ensures err { OnErr result (IsAfterRun script.now self.new) }
+        ensures entries { self.new.run.entries ≡ self.old.run.entries }
     {
         match choice.step {
-            Step::Act(client) => self.act(script, choice.node, client),
-            Step::Take(sender) => self.take(script, choice.node, sender),
+            Step::Act(client) => self.reserve_act(script, choice.node, client),
+            Step::Take(sender) => self.reserve_take(script, choice.node, sender),
+        }
+    }
+
+    // Makes room for the next command of a client of this node.
+    fn reserve_act(
+        &mut self,
+        script: &Script,
+        node: u8,
+        client: u16,
+    ) -> Result<Reserved, AllocError>
+        requires holds { IsAfterRun script.now self.old }
+        requires enabled { IsTrue (is_enabled script.now (world_in script.now self.old) node (Act client)) }
+        requires few { length self.old.run.entries + 1 < 2 ^ 32 }
+        ensures reserved { IfOk result (IsReserved script.now self.new node) }
+        ensures step { IfOk result (λ reserved. step_of reserved ≡ Act client) }
+        ensures err { OnErr result (IsAfterRun script.now self.new) }
+        ensures entries { self.new.run.entries ≡ self.old.run.entries }
+    {
+        self.reserve_command(node)?;
+        Ok(Reserved::Acting { client })
+    }
+
+    // Takes the front letter from the sender to this node in hand, and makes room for it.
+    fn reserve_take(
+        &mut self,
+        script: &Script,
+        node: u8,
+        sender: u8,
+    ) -> Result<Reserved, AllocError>
+        requires holds { IsAfterRun script.now self.old }
+        requires enabled { IsTrue (is_enabled script.now (world_in script.now self.old) node (Take sender)) }
+        requires few { length self.old.run.entries + 1 < 2 ^ 32 }
+        ensures reserved { IfOk result (IsReserved script.now self.new node) }
+        ensures step { IfOk result (λ reserved. step_of reserved ≡ Take sender) }
+        ensures err { OnErr result (IsAfterRun script.now self.new) }
+        ensures entries { self.new.run.entries ≡ self.old.run.entries }
+    {
+        let mut letter = pop_front(&mut self.inboxes, sender, node);
+        if let Err(error) = self.reserve_letter(node, &mut letter) {
+            put_front(&mut self.inboxes, sender, node, letter);
+            return Err(error);
+        }
+        Ok(Reserved::Taking { sender, letter })
+    }
+
+    /// Makes the move for which room was made.
+    pub(crate) fn make(&mut self, script: &Script, node: u8, reserved: Reserved)
+        requires { IsReserved script.now self.old node reserved }
+        ensures holds { IsAfterRun script.now self.new }
+        ensures entries { self.new.run.entries ≡ run_with script.now self.old.run.entries node (step_of reserved) }
+    {
+        match reserved {
+            Reserved::Acting { client } => self.act(script, node, client),
+            Reserved::Taking { sender, letter } => self.take(script, node, sender, letter),
         }
     }
 
     // Makes the next command of a client of this node.
-    fn act(&mut self, script: &Script, node: u8, client: u16) -> Result<(), AllocError>
-        requires holds { IsAfterRun script.now self.old }
-        requires enabled { IsTrue (is_enabled script.now (world_in script.now self.old) node (Act client)) }
-        requires few { length self.old.run.entries + 1 < 2 ^ 32 }
+    fn act(&mut self, script: &Script, node: u8, client: u16)
+        requires { IsReserved script.now self.old node (Acting client) }
         ensures holds { IsAfterRun script.now self.new }
-        ensures ok { OnOk result (self.new.run.entries ≡ run_with script.now self.old.run.entries node (Act client)) }
-        ensures err { OnErr result (self.new.run.entries ≡ self.old.run.entries) }
+        ensures entries { self.new.run.entries ≡ run_with script.now self.old.run.entries node (Act client) }
     {
-        self.reserve(node)?;
         let stamp = act_at(&mut self.nodes, node, client, &mut self.out);
         let step = Step::Act(client);
         record_move(
@@ -82,23 +136,14 @@ impl Network {
             Move { stamp, step },
             &mut self.out,
         );
-        Ok(())
     }
 
-    // Takes the front letter from the sender to this node.
-    fn take(&mut self, script: &Script, node: u8, sender: u8) -> Result<(), AllocError>
-        requires holds { IsAfterRun script.now self.old }
-        requires enabled { IsTrue (is_enabled script.now (world_in script.now self.old) node (Take sender)) }
-        requires few { length self.old.run.entries + 1 < 2 ^ 32 }
+    // This node takes the letter of the sender.
+    fn take(&mut self, script: &Script, node: u8, sender: u8, letter: Letter)
+        requires { IsReserved script.now self.old node (Taking sender letter) }
         ensures holds { IsAfterRun script.now self.new }
-        ensures ok { OnOk result (self.new.run.entries ≡ run_with script.now self.old.run.entries node (Take sender)) }
-        ensures err { OnErr result (self.new.run.entries ≡ self.old.run.entries) }
+        ensures entries { self.new.run.entries ≡ run_with script.now self.old.run.entries node (Take sender) }
     {
-        let mut letter = pop_front(&mut self.inboxes, sender, node);
-        if let Err(error) = self.reserve_for(node, &mut letter) {
-            put_front(&mut self.inboxes, sender, node, letter);
-            return Err(error);
-        }
         let stamp = take_at(&mut self.nodes, node, letter, &mut self.out);
         let step = Step::Take(sender);
         record_move(
@@ -107,11 +152,21 @@ impl Network {
             Move { stamp, step },
             &mut self.out,
         );
-        Ok(())
+    }
+
+    /// Leaves a move for which room was made: a letter in hand goes back.
+    pub(crate) fn leave(&mut self, script: &Script, node: u8, reserved: Reserved)
+        requires { IsReserved script.now self.old node reserved }
+        ensures holds { IsAfterRun script.now self.new }
+        ensures entries { self.new.run.entries ≡ self.old.run.entries }
+    {
+        if let Reserved::Taking { sender, letter } = reserved {
+            put_front(&mut self.inboxes, sender, node, letter);
+        }
     }
 
     // Makes room for one command of this node.
-    fn reserve(&mut self, node: u8) -> Result<(), AllocError>
+    fn reserve_command(&mut self, node: u8) -> Result<(), AllocError>
         requires node { node < length self.old.nodes.items }
         requires within { IsWithin (node_at self.old.nodes.items node) }
         requires senders { (q : ℕ) → q < length self.old.inboxes.items → node < length (inbox_at self.old.inboxes.items q) }
@@ -127,7 +182,7 @@ impl Network {
     }
 
     // Makes room for this node to take the letter.
-    fn reserve_for(&mut self, node: u8, letter: &mut Letter) -> Result<(), AllocError>
+    fn reserve_letter(&mut self, node: u8, letter: &mut Letter) -> Result<(), AllocError>
         requires node { node < length self.old.nodes.items }
         requires takes { CanTake (node_at self.old.nodes.items node) (letter_seen letter.old) }
         requires senders { (q : ℕ) → q < length self.old.inboxes.items → node < length (inbox_at self.old.inboxes.items q) }
