@@ -5,7 +5,7 @@ use Rattle.lt_modes.specs.declared.stamp.Stamp.{Stamp}
 use Rattle.lt_modes.specs.declared.moves.Step.TheVariants.{Act}
 use Rattle.lt_modes.specs.Script.{ScriptData}
 use Rattle.lt_spec.specs.Log.{Logged}
-use Rattle.lt_spec.specs.NodeMove.{NodeState, node_act, act_stamp}
+use Rattle.lt_spec.specs.NodeMove.{node_act, act_stamp}
 use Rattle.lt_spec.specs.World.{world_after, is_enabled, node_move, move_stamp}
 use Rattle.lt_desk.specs.OutData.{OutData}
 use Rattle.lt_node.specs.NodeData.{NodeData, NodeDoes, state_of}

@@ -3,7 +3,6 @@ use Rattle.std.proofs.Common.{arith, ◌≡◌, ◌+◌, ◌<◌, ◌≤◌, ℕ
 use Rattle.std.specs.Prelude.{IsTrue, slice_index_or, slice_set}
 use Rattle.lt_modes.specs.declared.moves.Step.{Step}
 use Rattle.lt_modes.specs.Script.{ScriptData}
-use Rattle.lt_script.specs.Script.{IsScript}
 use Rattle.lt_spec.specs.Log.{Logged}
 use Rattle.lt_spec.specs.World.{World, world_after, is_enabled, logged}
 use Rattle.lt_limits.specs.Cut.{moves_of}

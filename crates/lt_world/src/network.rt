@@ -53,7 +53,11 @@ impl Network {
     }
 
     /// Makes room for the move. Where memory is refused, all stand as they did.
-    pub(crate) fn reserve(&mut self, script: &Script, choice: Choice) -> Result<Reserved, AllocError>
+    pub(crate) fn reserve(
+        &mut self,
+        script: &Script,
+        choice: Choice,
+    ) -> Result<Reserved, AllocError>
         requires holds { IsAfterRun script.now self.old }
         requires enabled { IsTrue (is_enabled script.now (world_in script.now self.old) choice.node choice.step) }
         requires few { length self.old.run.entries + 1 < 2 ^ 32 }

@@ -14,14 +14,13 @@ ghost use Rattle.lt_limits.specs.Cut.{moves_of};
 ghost use Rattle.lt_world.specs.Fields.{AreMade, world_of};
 ghost use Rattle.lt_world.specs.Network.{IsAfterRun, world_in};
 
-pub use ready::Ready;
-
 use crate::choice::Choice;
 use crate::network::Network;
 use lt_limits::MAX_MOVES;
 use lt_merge::Run;
 use lt_modes::Step;
 use lt_script::Script;
+pub use ready::Ready;
 use std::alloc::{AllocError, Global};
 use std::marker::Model;
 

@@ -12,15 +12,16 @@ use lt_modes::Step;
 // The order of the enabled moves.
 impl World {
     // The enabled move at place `k`.
+    #[tactic(auto, using(crate::proofs::Picks::takes_before))]
     pub(super) fn turn_at(&self, k: u32) -> Option<Choice>
         ensures { result ≡ option_map choice_of (pick self.now.script (world_of self.now) k) }
     {
-        let takes = self.count_takes();
-        if k < takes {
-            self.take_at(k)
-        } else {
-            self.act_at(k - takes)
+        if let Some(choice) = self.take_at(k) {
+            return Some(choice);
         }
+        // At the first place there is no take to be counted.
+        let takes = if k > 0 { self.count_takes() } else { 0 };
+        self.act_at(k - takes)
     }
 
     // The number of enabled takes.

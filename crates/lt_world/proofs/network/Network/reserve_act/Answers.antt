@@ -1,5 +1,4 @@
-use Rattle.lt_world.proofs.Acting.{within_before, act_opened, act_left}
-use Rattle.lt_world.proofs.Moves.{opened_same}
+use Rattle.lt_world.proofs.Acting.{within_before}
 use Rattle.lt_world.proofs.network.Network.reserve_act.Goals as goal
 
 pub reserve_command-requires-clause-within : goal.reserve_command-requires-clause-within

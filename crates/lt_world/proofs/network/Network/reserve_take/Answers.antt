@@ -45,8 +45,8 @@ returns-clause-reserved c =
       room = (
         did.room,
         front_same c.args.script.now c.args.node c.args.sender letter (letter_seen c.reserve_letter.new.letter) popped new.inboxes.items n.run.entries new.run.entries
-        front did.letters did.letter did.entries,
-        omega (arith, c.pop_front-letter.ensures.place, place, same)
+            front did.letters did.letter did.entries,
+        omega (arith, c.pop_front-letter.ensures.place, place, same),
       );
       send = did.send;
     }
