@@ -136,8 +136,7 @@ impl World {
         ensures ok { OnOk result (self.new ≡ record self.old { run = self.old.run ++ logged self.old.script (world_of self.old) choice.node choice.step ∷ [] }) }
         ensures err { OnErr result (self.new ≡ self.old) }
     {
-        let reserved = self.network.reserve(&self.script, choice)?;
-        self.network.make(&self.script, choice.node, reserved);
+        self.network.step(&self.script, choice)?;
         count_move(&mut self.moves, &mut self.most, choice.node);
         note_made(&mut self.made, &self.script, &self.network, choice);
         Ok(())

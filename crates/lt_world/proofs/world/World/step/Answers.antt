@@ -1,27 +1,25 @@
-use Rattle.std.proofs.Common.{◌<◌, ◌∙◌, List, sym, ap, subst}
+use Rattle.std.proofs.Common.{◌<◌, List, sym, subst}
 use Rattle.std.specs.Prelude.{IsTrue}
 use Rattle.lt_spec.specs.Log.{Logged}
 use Rattle.lt_spec.specs.World.{is_enabled, world_after}
 use Rattle.lt_limits.specs.Cut.{moves_of}
 use Rattle.lt_world.specs.Fields.{WorldData, world_of, AreCounted, AreAtMost, AreMade}
-use Rattle.lt_world.specs.Network.{run_with}
-use Rattle.lt_world.specs.Reserved.{step_of}
 use Rattle.lt_world.proofs.Counts.{few_moves}
 use Rattle.lt_world.proofs.MadeLemmas.{others_made}
 use Rattle.lt_world.proofs.Standing.{Moved, stands_moved}
 use Rattle.lt_world.proofs.world.World.step.Goals as goal
 
-pub reserve-requires-clause-few : goal.reserve-requires-clause-few
-reserve-requires-clause-few c =
+pub step-requires-clause-few : goal.step-requires-clause-few
+step-requires-clause-few c =
     let s = c.self.inside in
     few_moves s.script s.limit s.moves.items s.network.run.entries c.self.invariant.holds.is_script c.self.invariant.counted
 
 pub invariant_of-self : goal.invariant_of-self
 invariant_of-self c =
     let s = c.self.inside in
-    let same = sym c.in_err-reserved.ensures.entries in
+    let same = sym c.in_err-step.ensures.err in
     record {
-      holds = c.in_err-reserved.ensures.err;
+      holds = c.step.ensures.holds;
       counted = subst (AreCounted s.script s.limit s.moves.items) same c.self.invariant.counted;
       at_most = subst (AreAtMost s.script s.most) same c.self.invariant.at_most;
       acts = subst (λ (r : List Logged). AreMade s.script s.made.items (world_after s.script r)) same c.self.invariant.acts;
@@ -31,20 +29,14 @@ pub note_made-requires-clause-others : goal.note_made-requires-clause-others
 note_made-requires-clause-others c =
     let s = c.self.inside in
     let q = c.args.choice.node in
-    let longer = c.make.ensures.entries
-    ∙ (ap (λ (r : List Logged). run_with s.script r q (step_of c.in_ok-reserved.reserved)) c.in_ok-reserved.ensures.entries
-    ∙ ap (run_with s.script s.network.run.entries q) c.in_ok-reserved.ensures.step) in
-    others_made s.script s.network.run.entries c.make.new.self.run.entries q c.args.choice.step s.made.items c.self.invariant.acts longer
+    others_made s.script s.network.run.entries c.step.new.self.run.entries q c.args.choice.step s.made.items c.self.invariant.acts c.in_ok-step.ensures.ok
 
 pub invariant_of-self-2 : goal.invariant_of-self-2
 invariant_of-self-2 c =
     let s = c.self.inside in
-    let n = c.make.new.self in
+    let n = c.step.new.self in
     let q = c.args.choice.node in
     let step = c.args.choice.step in
-    let longer = c.make.ensures.entries
-    ∙ (ap (λ (r : List Logged). run_with s.script r q (step_of c.in_ok-reserved.reserved)) c.in_ok-reserved.ensures.entries
-    ∙ ap (run_with s.script s.network.run.entries q) c.in_ok-reserved.ensures.step) in
     let moved : Moved s.script s.limit s.most c.count_move.new.most s.moves.items c.count_move.new.moves.items s.network.run.entries n.run.entries q step = record {
       counted = c.self.invariant.counted;
       at_most = c.self.invariant.at_most;
@@ -53,7 +45,7 @@ invariant_of-self-2 c =
       counts = c.count_move.ensures.moves;
       own = c.count_move.ensures.own;
       more = c.count_move.ensures.most;
-      longer = longer;
+      longer = c.in_ok-step.ensures.ok;
     } in
     stands_moved s.script s.limit s.most c.count_move.new.most n.nodes.items n.inboxes.items s.moves.items c.count_move.new.moves.items c.note_made.new.made.items n.out
-    s.network.run.entries n.run.entries q step moved c.make.ensures.holds c.note_made.ensures
+    s.network.run.entries n.run.entries q step moved c.step.ensures.holds c.note_made.ensures
