@@ -1,8 +1,8 @@
 -- A piece of a journal, cut at its line ends.
-use Rattle.std.proofs.Common.{◌≡◌, ◌∙◌, ℕ, zero, suc, ◌+◌, ◌-◌, ◌<◌, ◌≤◌, min, Bool, true, false, cond, List, [], ◌∷◌, ◌++◌, length, take, drop, fold, get_or, Some, None, refl, sym, ap, arith, inl, inr, append_assoc, append-nil, take_all, length-take, length-drop}
+use Rattle.std.proofs.Common.{◌≡◌, ◌∙◌, ℕ, zero, suc, ◌+◌, ◌-◌, ◌<◌, ◌≤◌, min, Bool, true, false, cond, List, [], ◌∷◌, ◌++◌, length, take, drop, fold, get_or, Some, None, refl, sym, ap, subst, arith, inl, inr, append_assoc, append-nil, take_all, length-take, length-drop}
 use Rattle.std.specs.Prelude.{slice_index}
 use Rattle.std.proofs.Math.Seq.{split_at, take-append-add}
-use Rattle.std.proofs.lemmas.Bool.{cases_Bool, cases_lt, eqb-true}
+use Rattle.std.proofs.lemmas.Bool.{cases_Bool, cases_lt, eqb-true, false≢true}
 use Rattle.std.proofs.lemmas.List.{take-append-le, get_or-drop}
 use Rattle.std.proofs.lemmas.List.Sums.{fold-append}
 use Rattle.memchr.specs.Find.{IsFirstByte, IsLastByte, is_byte}
@@ -155,4 +155,4 @@ none_later bytes k found none =
 pub one_found : (bytes : List ℕ) (k : ℕ) → IsFirstByte (is_byte 10) bytes (Some k) → HasNone is_line_end bytes → ⊥
 one_found bytes k found none =
     let cut = first_cut bytes k found in
-    false_true (sym ((none_after (take k bytes) (10 ∷ drop (k + 1) bytes) (subst (HasNone is_line_end) cut.parts none)).0))
+    false≢true (sym ((none_after (take k bytes) (10 ∷ drop (k + 1) bytes) (subst (HasNone is_line_end) cut.parts none)).0))

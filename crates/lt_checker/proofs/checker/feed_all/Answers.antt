@@ -1,4 +1,4 @@
-use Rattle.std.proofs.Common.{◌++◌, ◌∙◌, List, ℕ, take, ap, sym}
+use Rattle.std.proofs.Common.{◌++◌, ◌∙◌, List, ℕ, take, ap, subst, sym}
 use Rattle.lt_modes.specs.Script.{ScriptData}
 use Rattle.lt_text.specs.Text.{without_return, is_line_end, HasNone}
 use Rattle.lt_law_checking.specs.Checking.{Reader, read_on}
