@@ -1,8 +1,8 @@
 -- A piece of a journal, cut at its line ends.
-use Rattle.std.proofs.Common.{◌≡◌, ◌∙◌, ℕ, zero, suc, ◌+◌, ◌-◌, ◌<◌, ◌≤◌, min, Bool, true, false, cond, List, [], ◌∷◌, ◌++◌, length, take, drop, fold, get_or, Some, None, refl, sym, ap, arith, inl, inr, append_assoc, append-nil, take_all, length-take, length-drop}
+use Rattle.std.proofs.Common.{◌≡◌, ◌∙◌, ℕ, zero, suc, ◌+◌, ◌-◌, ◌<◌, ◌≤◌, min, Bool, true, false, cond, List, [], ◌∷◌, ◌++◌, length, take, drop, fold, get_or, Some, None, refl, sym, ap, subst, arith, inl, inr, append_assoc, append-nil, take_all, length-take, length-drop}
 use Rattle.std.specs.Prelude.{slice_index}
 use Rattle.std.proofs.Math.Seq.{split_at, take-append-add}
-use Rattle.std.proofs.lemmas.Bool.{cases_Bool, cases_lt, eqb-true}
+use Rattle.std.proofs.lemmas.Bool.{cases_Bool, cases_lt, eqb-true, false≢true}
 use Rattle.std.proofs.lemmas.List.{take-append-le, get_or-drop}
 use Rattle.std.proofs.lemmas.List.Sums.{fold-append}
 use Rattle.memchr.specs.Find.{IsFirstByte, IsLastByte, is_byte}
@@ -140,3 +140,19 @@ next_line script reader next rest after left line later k few found line_is late
     ∙ (ap (λ (r : Reader). fed_piece script (record { reader = r; rest = [] }) tail) read
     ∙ (sym (fed_line script reader rest (take k left) tail few cut.none)
     ∙ sym (ap (fed_piece script (record { reader = reader; rest = rest })) cut.parts))))
+
+-- where no line end is in all bytes, none is in the last ones
+none_after : (first last : List ℕ) → HasNone is_line_end (first ++ last) → HasNone is_line_end last
+none_after [] last none = none
+none_after (byte ∷ first) last none = none_after first last none.1
+
+-- nor in those after this place
+pub none_later : (bytes : List ℕ) (k : ℕ) → IsFirstByte (is_byte 10) bytes (Some k) → HasNone is_line_end bytes → HasNone is_line_end (drop (k + 1) bytes)
+none_later bytes k found none =
+    let cut = first_cut bytes k found in
+    (none_after (take k bytes) (10 ∷ drop (k + 1) bytes) (subst (HasNone is_line_end) cut.parts none)).1
+
+pub one_found : (bytes : List ℕ) (k : ℕ) → IsFirstByte (is_byte 10) bytes (Some k) → HasNone is_line_end bytes → ⊥
+one_found bytes k found none =
+    let cut = first_cut bytes k found in
+    false≢true (sym ((none_after (take k bytes) (10 ∷ drop (k + 1) bytes) (subst (HasNone is_line_end) cut.parts none)).0))

@@ -1,9 +1,9 @@
-ghost use Rattle.std.specs.Prelude.{◌≡◌, [], ◌∷◌, ◌++◌, ◌≤◌, ℕ, List, length, take, Some, None, Err, IsNone, IsErr, IfOk, OnOk, OnErr};
-ghost use Rattle.lt_text.specs.Text.{lines, without_return};
+ghost use Rattle.std.specs.Prelude.{◌≡◌, ◌≢◌, [], ◌∷◌, ◌++◌, ◌≤◌, ℕ, List, length, take, Some, None, Err, IsNone, IsErr, IfOk, IfSome, OnOk, OnErr};
+ghost use Rattle.lt_text.specs.Text.{lines, without_return, is_line_end, HasNone};
 ghost use Rattle.lt_modes.specs.Script.{ScriptData};
 ghost use Rattle.lt_law_checking.specs.Checking.{Reader as AnyReader, checked, read_on};
 ghost use Rattle.lt_law_checking.specs.Feeding.{Feed, new_feed, fed_piece, last_ended, ended};
-ghost use Rattle.lt_checker.specs.Checker.{CheckerData, StandsFor, IsAnswer, with_piece, spent};
+ghost use Rattle.lt_checker.specs.Checker.{CheckerData, StandsFor, IsAnswer, IsMemory, MayReadOn, MayReadLast, with_piece, spent};
 ghost use Rattle.lt_checker.specs.Endings.{IsWorldAnswer};
 
 use crate::error::ReplayError;
@@ -59,6 +59,7 @@ impl Checker {
         ensures ok { OnOk result (self.new ≡ with_piece self.old piece.now) }
         ensures err { OnErr result (self.new ≡ spent self.old) }
         ensures refused { IsNone self.old.feed → IsErr result }
+        ensures cause { IsErr result → IfSome self.old.feed (λ feed. MayReadOn feed piece.now) }
         ensures stands { OnOk result ((bytes : List ℕ) → StandsFor self.old bytes → StandsFor self.new (bytes ++ piece.now)) }
     {
         let Some(reader) = &mut self.reader else {
@@ -78,6 +79,7 @@ impl Checker {
         ensures answers { (bytes : List ℕ) → StandsFor self bytes → IsAnswer (checked self.script (lines bytes)) result }
         ensures ended { (feed : Feed) → self.feed ≡ Some feed → IsAnswer (ended self.script feed) result }
         ensures refused { IsNone self.feed → result ≡ Err ReplayError.Memory }
+        ensures cause { IsMemory result → IfSome self.feed MayReadLast }
     {
         Ok(self.end_world()?.into_run())
     }
@@ -89,6 +91,7 @@ impl Checker {
         ensures ended { (feed : Feed) → self.feed ≡ Some feed
             → IsWorldAnswer self.script (ended self.script feed) result }
         ensures refused { IsNone self.feed → result ≡ Err ReplayError.Memory }
+        ensures cause { IsMemory result → IfSome self.feed MayReadLast }
     {
         let Checker {
             reader,
@@ -107,6 +110,7 @@ fn end_last_line(mut reader: Reader, rest: &mut ArrayVec<u8, 201>) -> Result<Rea
     ensures script { IfOk result (λ after. after.script ≡ reader.script) }
     ensures ended { IfOk result (λ after. after.reader
         ≡ (last_ended reader.script (record { reader = reader.reader; rest = rest.old.items })).reader) }
+    ensures cause { IsErr result → MayReadLast (record { reader = reader.reader; rest = rest.old.items }) }
 {
     if !rest.is_empty() {
         reader.take(trim_return(rest))?;
@@ -123,6 +127,7 @@ fn feed_all(
     ensures script { reader.new.script ≡ reader.old.script }
     ensures fed { OnOk result (record { reader = reader.new.reader; rest = rest.new.items }
         ≡ fed_piece reader.old.script (record { reader = reader.old.reader; rest = rest.old.items }) piece.now) }
+    ensures cause { IsErr result → MayReadOn (record { reader = reader.old.reader; rest = rest.old.items }) piece.now }
 {
     if reader.is_bad() {
         skip_lines(rest, piece);

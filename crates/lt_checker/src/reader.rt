@@ -1,7 +1,7 @@
-ghost use Rattle.std.specs.Prelude.{◌≡◌, None, IfOk, OnOk, IsTrue};
+ghost use Rattle.std.specs.Prelude.{◌≡◌, ◌≢◌, None, IfOk, OnOk, IsTrue, IsFalse, IsErr};
 ghost use Rattle.lt_script.specs.Script.{IsScript};
 ghost use Rattle.lt_law_checking.specs.Checking.{first_reader, read_on, verdict};
-ghost use Rattle.lt_checker.specs.Checker.{IsAnswer};
+ghost use Rattle.lt_checker.specs.Checker.{IsAnswer, IsMemory};
 ghost use Rattle.lt_checker.specs.Endings.{IsWorldAnswer};
 
 use crate::counts::Counts;
@@ -73,7 +73,8 @@ impl Reader {
 
     /// Whether a line was bad.
     pub(crate) fn is_bad(&self) -> bool
-        ensures { IsTrue result → self.now.reader.place ≡ None }
+        ensures bad { IsTrue result → self.now.reader.place ≡ None }
+        ensures good { IsFalse result → self.now.reader.place ≢ None }
     {
         self.bad
     }
@@ -82,6 +83,7 @@ impl Reader {
     pub(crate) fn take(&mut self, line: &[u8]) -> Result<(), AllocError>
         ensures script { self.new.script ≡ self.old.script }
         ensures reader { OnOk result (self.new.reader ≡ read_on self.old.script self.old.reader line.now) }
+        ensures cause { IsErr result → self.old.reader.place ≢ None }
     {
         if self.bad {
             return Ok(());
@@ -118,6 +120,7 @@ impl Reader {
     /// The world in which the run ended, where all its lines are there.
     pub(crate) fn finish_world(self) -> Result<World, ReplayError>
         ensures answers { IsWorldAnswer self.script (verdict self.script self.reader) result }
+        ensures told { ¬ IsMemory result }
         ensures is_script { IsScript self.script }
     {
         if self.bad || !self.due.is_empty() || !self.world.at_rest() {
