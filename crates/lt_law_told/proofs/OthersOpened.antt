@@ -1,10 +1,10 @@
 -- Each field of what is said of the other commands.
-use Rattle.std.proofs.Common.{arith, ◌≡◌, ℕ, List, [], ◌∷◌, ◌++◌, Ok, Option, Some, None, refl, ap, subst, ◌∙◌}
-use Rattle.std.specs.Prelude.{◌&&◌, ◌==◌, not, nat_lt, take, codes}
+use Rattle.std.proofs.Common.{◌≡◌, ℕ, List, [], ◌++◌, Ok, Option, None, refl, ap, subst, ◌∙◌}
+use Rattle.std.specs.Prelude.{◌&&◌, ◌==◌, not, nat_lt, take}
 use Rattle.std.proofs.lemmas.Bool.{and_parts, false≢true}
 use Rattle.lt_modes.specs.Script.{ScriptData}
 use Rattle.lt_spec.specs.Log.{Logged}
-use Rattle.lt_spec.specs.World.{start, is_some_letter}
+use Rattle.lt_spec.specs.World.{is_some_letter}
 use Rattle.lt_text.specs.Text as text
 use Rattle.lt_script.specs.Printing.{print_of}
 use Rattle.lt_script.specs.Reading.{read_of}

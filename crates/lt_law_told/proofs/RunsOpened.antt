@@ -1,6 +1,6 @@
 -- Each field of what is said of a run that was made.
-use Rattle.std.proofs.Common.{arith, ◌≡◌, ℕ, List, [], ◌∷◌, Ok, Option, Some, None, refl, subst}
-use Rattle.std.specs.Prelude.{Result, take}
+use Rattle.std.proofs.Common.{arith, ◌≡◌, ℕ, List, Ok, Option, Some, None, refl, subst}
+use Rattle.std.specs.Prelude.{Result}
 use Rattle.lt_modes.specs.Script.{ScriptData}
 use Rattle.lt_modes.specs.Modes.{conflicts}
 use Rattle.lt_spec.specs.Log.{Logged}
@@ -8,7 +8,6 @@ use Rattle.lt_text.specs.Text as text
 use Rattle.lt_script.specs.declared.fault.ScriptFault.{ScriptFault}
 use Rattle.lt_script.specs.Reading.{read_of}
 use Rattle.lt_script.specs.Reading as reading
-use Rattle.lt_limits.specs.Cut.{full_node}
 use Rattle.lt_words.specs.declared.command.Command.{Command}
 use Rattle.lt_words.specs.declared.command.Command.TheVariants.{Run, SimFirst, Sim}
 use Rattle.lt_serve.specs.declared.status.Status.{Status}

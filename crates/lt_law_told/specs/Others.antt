@@ -1,10 +1,8 @@
 -- What an answer says of a run of the greatest script, of a journal, and of a script that was made.
 use Rattle.std.specs.Prelude.{◌≡◌, ◌≤◌, true, ℕ, List, [], ◌∷◌, ◌++◌, Some, None, codes, count_by}
-use Rattle.lt_modes.specs.declared.moves.Step.TheVariants.{Take}
 use Rattle.lt_modes.specs.Script.{ScriptData}
 use Rattle.lt_spec.specs.Log.{Logged}
 use Rattle.lt_spec.specs.World.{world_after, is_at_rest, is_of_node, IsRun}
-use Rattle.lt_merge.specs.Merging.{AreRising}
 use Rattle.lt_law_examples.specs.Worked.{act, taken_at}
 use Rattle.lt_law_promises.specs.Promised.{Promised}
 use Rattle.lt_summary.specs.Summary.{summary_of, summary_text}
