@@ -34,9 +34,11 @@ for name in "$@"; do
     echo "$name: STANDS"
   elif grep -q 'did not build' "$copy/log"; then
     echo "$name: refused below $law: $(grep 'did not build' "$copy/log")"
+  elif ! grep -q '^logic=not-proved' "$copy/log"; then
+    echo "$name: no verdict: $(tail -n 1 "$copy/log")"
   else
     refused=$((refused + 1))
-    echo "$name: refused by $law: $(sed -n 's/.*error: //p' "$copy/log" | cut -c1-100 | head -n 1)"
+    echo "$name: refused by $law: $(grep -m 1 'error: ' "$copy/log" | cut -c1-120)"
   fi
   patch -s -R -p1 -d "$copy" < "$top/tests/definitions/$name.patch" || exit 1
 done
