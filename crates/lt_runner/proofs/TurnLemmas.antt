@@ -1,5 +1,5 @@
 -- What a turn says after a look.
-use Rattle.std.proofs.Common.{◌≡◌, ◌≢◌, ℕ, ◌+◌, ◌<◌, List, [], ◌∷◌, ◌++◌, Option, Some, None, Bool, true, false, length, refl, sym, ap, subst, arith, ◌∙◌}
+use Rattle.std.proofs.Common.{◌≡◌, ◌≢◌, ℕ, ◌+◌, ◌<◌, inl, inr, List, [], ◌∷◌, ◌++◌, Option, Some, None, Bool, true, false, length, refl, sym, ap, arith, ◌∙◌}
 use Rattle.std.specs.Prelude.{if◌then◌else◌, ◌⊎◌}
 use Rattle.std.proofs.lemmas.List.{append-nil, append_assoc, length_push}
 use Rattle.lt_modes.specs.Script.{ScriptData}
@@ -8,9 +8,8 @@ use Rattle.lt_desk.specs.LetterSeen.{letter_seen}
 use Rattle.lt_spec.specs.Log.{Logged}
 use Rattle.lt_spec.specs.NodeMove.{NodeState}
 use Rattle.lt_node.specs.NodeData.{state_of}
-use Rattle.rtrb.specs.Ring.{known_free}
 use Rattle.lt_mail.specs.Lanes.{outbox_letters}
-use Rattle.lt_mail.specs.Words.{on_out, out_at}
+use Rattle.lt_mail.specs.Words.{on_out, out_at, waiting_to, IsFullTo}
 use Rattle.lt_mail.specs.declared.lane.OutLane.{OutLane}
 use Rattle.lt_runner.specs.declared.choice.Choice.TheVariants.{Nothing, Act, Take}
 use Rattle.lt_runner.specs.declared.turning.Turned.{Turned}
@@ -91,8 +90,11 @@ could_take a b h place e = could_later a b h place (λ none. absurd (cc))
 
 -- the same outboxes and rings are flushed
 pub flushed_later : (a b : Parts) → ((node : ℕ) → out_at b.mail node ≡ out_at a.mail node) → IsFlushed a → IsFlushed b
-flushed_later a b outs h node =
-    subst (λ (o : Option OutLane). (on_out outbox_letters o ≡ []) ⊎ ((lane : OutLane) × (o ≡ Some lane) × (known_free lane.ring ≡ 0))) (sym (outs node)) (h node)
+flushed_later a b outs h node = by_end (h node)
+  where
+    by_end : (waiting_to a.mail node ≡ []) ⊎ IsFullTo a.mail node → (waiting_to b.mail node ≡ []) ⊎ IsFullTo b.mail node
+    by_end (inl none) = inl (ap (λ (o : Option OutLane). on_out outbox_letters o) (outs node) ∙ none)
+    by_end (inr full) = inr (full.0, outs node ∙ full.1, full.2)
 
 -- the log goes on where nothing happened
 pub seen_grew : (a b c : Parts) → Grew a b → AsSeen b c → Grew a c
