@@ -1,6 +1,6 @@
 -- What a turn says after a look.
-use Rattle.std.proofs.Common.{◌≡◌, ◌≢◌, ℕ, ◌+◌, ◌<◌, List, [], ◌∷◌, ◌++◌, Option, Some, None, Bool, true, false, length, refl, sym, ap, arith, ◌∙◌}
-use Rattle.std.specs.Prelude.{if◌then◌else◌}
+use Rattle.std.proofs.Common.{◌≡◌, ◌≢◌, ℕ, ◌+◌, ◌<◌, List, [], ◌∷◌, ◌++◌, Option, Some, None, Bool, true, false, length, refl, sym, ap, subst, arith, ◌∙◌}
+use Rattle.std.specs.Prelude.{if◌then◌else◌, ◌⊎◌}
 use Rattle.std.proofs.lemmas.List.{append-nil, append_assoc, length_push}
 use Rattle.lt_modes.specs.Script.{ScriptData}
 use Rattle.lt_modes.specs.State as rules
@@ -8,6 +8,10 @@ use Rattle.lt_desk.specs.LetterSeen.{letter_seen}
 use Rattle.lt_spec.specs.Log.{Logged}
 use Rattle.lt_spec.specs.NodeMove.{NodeState}
 use Rattle.lt_node.specs.NodeData.{state_of}
+use Rattle.rtrb.specs.Ring.{known_free}
+use Rattle.lt_mail.specs.Lanes.{outbox_letters}
+use Rattle.lt_mail.specs.Words.{on_out, out_at}
+use Rattle.lt_mail.specs.declared.lane.OutLane.{OutLane}
 use Rattle.lt_runner.specs.declared.choice.Choice.TheVariants.{Nothing, Act, Take}
 use Rattle.lt_runner.specs.declared.turning.Turned.{Turned}
 use Rattle.lt_runner.specs.declared.turning.Turned.TheVariants.{Moved, Quiet, Full, NoMemory}
@@ -15,7 +19,7 @@ use Rattle.lt_runner.specs.declared.parts.Hand.{Hand}
 use Rattle.lt_runner.specs.declared.parts.Parts.{Parts}
 use Rattle.lt_runner.specs.Hands.{HandStays}
 use Rattle.lt_runner.specs.Choices.{may_take, act_choice, choice_by, next_choice}
-use Rattle.lt_runner.specs.Kept.{SameRunner, AsSeen, CouldMove, TurnEnds, Grew}
+use Rattle.lt_runner.specs.Kept.{SameRunner, AsSeen, CouldMove, IsFlushed, TurnEnds, Grew}
 use Rattle.lt_runner.proofs.ChoiceLemmas.{act_takes_nothing}
 use Rattle.lt_mail.proofs.MailLemmas.{ends_same}
 use Rattle.lt_runner.proofs.KeptLemmas.{same_join, seen_join}
@@ -84,6 +88,11 @@ could_act a b client h place e = could_later a b h place (λ none. absurd (cc))
 
 pub could_take : (a b : Parts) → AsSeen a b → length a.log.entries < a.limit → next_choice a ≡ Take → CouldMove b
 could_take a b h place e = could_later a b h place (λ none. absurd (cc))
+
+-- the same outboxes and rings are flushed
+pub flushed_later : (a b : Parts) → ((node : ℕ) → out_at b.mail node ≡ out_at a.mail node) → IsFlushed a → IsFlushed b
+flushed_later a b outs h node =
+    subst (λ (o : Option OutLane). (on_out outbox_letters o ≡ []) ⊎ ((lane : OutLane) × (o ≡ Some lane) × (known_free lane.ring ≡ 0))) (sym (outs node)) (h node)
 
 -- the log goes on where nothing happened
 pub seen_grew : (a b c : Parts) → Grew a b → AsSeen b c → Grew a c

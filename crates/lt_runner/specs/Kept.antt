@@ -1,5 +1,5 @@
 -- What a runner keeps, and how a turn ends.
-use Rattle.std.specs.Prelude.{◌≡◌, ◌≢◌, ◌<◌, ◌≤◌, ℕ, List, [], ◌∷◌, ◌++◌, None, length}
+use Rattle.std.specs.Prelude.{◌≡◌, ◌≢◌, ◌<◌, ◌≤◌, ◌⊎◌, ℕ, List, [], ◌∷◌, ◌++◌, None, length}
 use mathlib.Core.List.{IsPrefix}
 use Rattle.lt_modes.specs.State.{Letter}
 use Rattle.lt_spec.specs.Log.{Logged}
@@ -7,8 +7,10 @@ use Rattle.lt_spec.specs.World.{start}
 use Rattle.lt_law_plays.specs.Plays.{Plays}
 use Rattle.lt_law_recipients.specs.Peers.{NodeNames}
 use Rattle.lt_node.specs.NodeData.{state_of}
-use Rattle.lt_mail.specs.Words.{outs_count, ins_count, sent_to, taken_from, known_from, SameEnds}
+use Rattle.lt_mail.specs.Words.{outs_count, ins_count, sent_to, waiting_to, taken_from, known_from, IsFullTo, SameEnds}
 use Rattle.lt_runner.specs.declared.choice.Choice.TheVariants as choices
+use Rattle.lt_runner.specs.declared.turning.Found.{Found}
+use Rattle.lt_runner.specs.declared.turning.Found.TheVariants as found
 use Rattle.lt_runner.specs.declared.turning.Turned.{Turned}
 use Rattle.lt_runner.specs.declared.turning.Turned.TheVariants.{Moved, Quiet, Full, NoMemory}
 use Rattle.lt_runner.specs.declared.turning.Worked.{Worked}
@@ -67,6 +69,16 @@ pub record IsFull (p : Parts) : Type 0 where
 pub record CouldMove (p : Parts) : Type 0 where
   pub place : length p.log.entries < p.limit
   pub choice : next_choice p ≢ choices.Nothing
+
+-- how a look for a move ends
+abbrev pub FindEnds : Found → Parts → Type 0
+FindEnds (found.Move choice) p = (next_choice p ≡ choice) × CouldMove p
+FindEnds found.Quiet p = RunnerIsQuiet p
+FindEnds found.Full p = IsFull p
+
+-- each outbox is empty, or its ring is full
+abbrev pub IsFlushed : Parts → Type 0
+IsFlushed p = (node : ℕ) → (waiting_to p.mail node ≡ []) ⊎ IsFullTo p.mail node
 
 -- one move was made
 abbrev pub MovedOne : Parts → Parts → Type 0

@@ -11,7 +11,7 @@ use lt_desk::Letter;
 use lt_node::Node;
 
 /// The move that a runner shows.
-#[derive(Clone, Copy)]
+#[derive(Clone, Copy, Debug, PartialEq, Eq)]
 pub enum Choice {
     Nothing,
     /// The next command of this client.

@@ -1,13 +1,13 @@
 // What a runner does before a move.
-ghost use Rattle.std.specs.Prelude.{◌≡◌, ◌≢◌, ◌<◌, None, IsTrue, IfSome, IfNone, OnOk, length};
+ghost use Rattle.std.specs.Prelude.{◌≡◌, ◌≢◌, ◌<◌, None, ℕ, IsTrue, IfSome, IfNone, OnOk, length};
 ghost use Rattle.lt_limits.specs.Limits.{node_within};
 ghost use Rattle.lt_node.specs.NodeData.{state_of};
 ghost use Rattle.lt_node.specs.Room.{RoomToAct, RoomToTake};
 ghost use Rattle.lt_runner.specs.declared.choice.Choice.TheVariants as choices;
 ghost use Rattle.lt_runner.specs.Choices.{next_choice};
 ghost use Rattle.lt_runner.specs.Ready.{RunnerCanAct, RunnerCanTake, CanLog, FitsNow};
-ghost use Rattle.lt_runner.specs.Kept.{RunnerInvariant, AsSeen, KnowsNoLetter};
-ghost use Rattle.lt_mail.specs.Words.{ins_count, known_from};
+ghost use Rattle.lt_runner.specs.Kept.{RunnerInvariant, AsSeen, IsFlushed, KnowsNoLetter};
+ghost use Rattle.lt_mail.specs.Words.{out_at, ins_count, known_from};
 ghost use Rattle.lt_runner.specs.Looking.{Knows};
 ghost use Rattle.lt_runner.specs.Polled.{Polled, Finds};
 
@@ -22,6 +22,7 @@ impl Parts {
         ensures kept { RunnerInvariant self.new }
         ensures seen { AsSeen self.old self.new }
         ensures hand { self.new.hand ≡ self.old.hand }
+        ensures flushed { IsFlushed self.new }
     {
         self.mail.flush_all();
     }
@@ -32,6 +33,7 @@ impl Parts {
         requires hand { self.old.hand ≡ None }
         ensures kept { RunnerInvariant self.new }
         ensures seen { AsSeen self.old self.new }
+        ensures outs { (node : ℕ) → out_at self.new.mail node ≡ out_at self.old.mail node }
         ensures rings { KnowsNoLetter self.new }
     {
         poll(
@@ -43,10 +45,12 @@ impl Parts {
     }
 
     /// Gives the rings what waits in the outboxes, and takes a letter where none is in hand.
+    #[tactic(auto, using(crate::proofs::TurnLemmas::flushed_later))]
     pub(crate) fn look(&mut self)
         requires { RunnerInvariant self.old }
         ensures kept { RunnerInvariant self.new }
         ensures seen { AsSeen self.old self.new }
+        ensures flushed { IsFlushed self.new }
         ensures rings { KnowsNoLetter self.new }
     {
         self.flush();

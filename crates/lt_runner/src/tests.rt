@@ -2,7 +2,7 @@ ghost use Rattle.std.specs.Prelude.{◌<◌, ◌≤◌, IfOk};
 ghost use Rattle.lt_limits.specs.declared.moves.TheConstants.{MAX_MOVES};
 ghost use Rattle.lt_runner.specs.Looking.{AreBeside};
 
-use crate::{Gate, Runner, Turned, Worked, all_at_once};
+use crate::{Choice, Found, Gate, Runner, Turned, Worked, all_at_once};
 use lt_limits::MAX_MOVES;
 use lt_mail::open;
 use lt_script::{Script, read};
@@ -126,6 +126,21 @@ fn one_turn_makes_one_move(rt: HostRuntime) -> Result<(), Fail> {
     }
     assert_eq!(rt; (runner.waits(0), runner.waits(1)), (false, true));
     assert_eq!(rt; runner.into_log().len(), 2);
+    Ok(())
+}
+
+#[test]
+fn a_move_is_found_and_made(rt: HostRuntime) -> Result<(), Fail> {
+    let script = script_of(rt.alloc(), ONE_NODE)?;
+    let mut runner = first_runner(rt.alloc(), &script, 1)?;
+    let found = runner.find();
+    assert_eq!(rt; found, Found::Move(Choice::Act(0)));
+    if let Found::Move(choice) = found {
+        runner.reserve(choice)?;
+        runner.make(choice);
+    }
+    assert_eq!(rt; runner.moves(), 1);
+    assert_eq!(rt; runner.find(), Found::Full);
     Ok(())
 }
 
