@@ -45,7 +45,6 @@ impl Parts {
     }
 
     /// Gives the rings what waits in the outboxes, and takes a letter where none is in hand.
-    #[tactic(auto, using(crate::proofs::TurnLemmas::flushed_later))]
     pub(crate) fn look(&mut self)
         requires { RunnerInvariant self.old }
         ensures kept { RunnerInvariant self.new }
