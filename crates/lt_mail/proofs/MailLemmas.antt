@@ -1,6 +1,6 @@
 -- Mails one after the other: the same ends, the same letters, more room.
-use Rattle.std.proofs.Common.{◌≡◌, refl, ap, ℕ, [], ◌+◌, ◌<◌, ◌≤◌, inl, inr, Option, Some, None, sym, subst, arith, ◌∙◌}
-use Rattle.std.specs.Prelude.{◌⊎◌}
+use Rattle.std.proofs.Common.{◌≡◌, refl, ap, ℕ, Bool, true, false, [], ◌+◌, ◌<◌, ◌≤◌, inl, inr, Option, Some, None, sym, subst, arith, ◌∙◌}
+use Rattle.std.specs.Prelude.{◌⊎◌, if◌then◌else◌}
 use Rattle.std.proofs.lemmas.Bool.{cases_eq}
 use Rattle.std.proofs.lemmas.Option.{slice_get_cases}
 use Rattle.lt_mail.specs.declared.lane.OutLane.{OutLane}
@@ -11,6 +11,10 @@ use Rattle.lt_mail.specs.Lanes.{outbox_letters}
 use Rattle.lt_mail.specs.Words.{Both, IsOpenLink, AreLinked, out_at, in_at, on_out, outs_count, given_to, waiting_to, IsFullTo, HasRoomAt, HasRoomFor, Alike, SameOut, SameIn, SameEnds}
 use Rattle.lt_mail.specs.Changes.{OutChanges, Stays, Flushes, KeepsSent, Reserved, Flushed}
 use Rattle.lt_mail.proofs.WordLemmas.{flushes_stop}
+
+-- false is not true
+pub not_true : {P : Type 0} → false ≡ true → P
+not_true e = absurd (subst (λ (b : Bool). if b then ⊥ else Unit {0}) e tt)
 
 alike_out : (a b c : Option OutLane) → Alike SameOut a b → Alike SameOut b c → Alike SameOut a c
 alike_out None None None h k = tt
