@@ -12,10 +12,6 @@ use Rattle.lt_mail.specs.Words.{Both, IsOpenLink, AreLinked, out_at, in_at, on_o
 use Rattle.lt_mail.specs.Changes.{OutChanges, Stays, Flushes, KeepsSent, Reserved, Flushed}
 use Rattle.lt_mail.proofs.WordLemmas.{flushes_stop}
 
--- false is not true
-pub not_true : {P : Type 0} → false ≡ true → P
-not_true e = absurd (subst (λ (b : Bool). if b then ⊥ else Unit {0}) e tt)
-
 alike_out : (a b c : Option OutLane) → Alike SameOut a b → Alike SameOut b c → Alike SameOut a c
 alike_out None None None h k = tt
 alike_out None None (Some z) h k = k
