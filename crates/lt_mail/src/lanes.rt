@@ -1,4 +1,4 @@
-ghost use Rattle.std.specs.Prelude.{◌≡◌, ◌+◌, ◌≤◌, ◌<◌, ◌⊎◌, [], ◌∷◌, ◌++◌, length, OnOk, IfSome, IfNone, MatchBool};
+ghost use Rattle.std.specs.Prelude.{◌≡◌, ◌+◌, ◌≤◌, ◌<◌, ◌⊎◌, [], ◌∷◌, ◌++◌, length, OnOk, OnErr, IfSome, IfNone, MatchBool};
 ghost use Rattle.std.specs.VecDeque.{deque_len, deque_capacity};
 ghost use Rattle.rtrb.specs.Ring.{known_free, producer_capacity, SameProducer, SameConsumer};
 ghost use mathlib.Core.List.{IsPrefix};
@@ -32,6 +32,7 @@ impl OutLane {
         ensures len { deque_len self.new.outbox ≡ deque_len self.old.outbox }
         ensures room { OnOk result (deque_len self.new.outbox + letters ≤ deque_capacity self.new.outbox) }
         ensures kept { deque_capacity self.old.outbox ≤ deque_capacity self.new.outbox }
+        ensures full { OnErr result (deque_capacity self.old.outbox < deque_len self.old.outbox + letters) }
     {
         let letters = letters as usize;
         if self.outbox.is_empty() && self.outbox.capacity() < letters {

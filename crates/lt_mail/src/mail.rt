@@ -1,4 +1,4 @@
-ghost use Rattle.std.specs.Prelude.{◌≡◌, ◌≢◌, ◌+◌, ◌<◌, ◌⊎◌, ℕ, [], ◌∷◌, ◌++◌, length, IfSome, IfNone, OnOk, MatchBool};
+ghost use Rattle.std.specs.Prelude.{◌≡◌, ◌≢◌, ◌+◌, ◌<◌, ◌⊎◌, ℕ, [], ◌∷◌, ◌++◌, length, IfSome, IfNone, IsOk, OnOk, MatchBool};
 ghost use mathlib.Core.List.{IsPrefix};
 ghost use Rattle.lt_desk.specs.LetterSeen.{letter_seen};
 ghost use Rattle.lt_mail.specs.Words.{out_at, in_at, outs_count, ins_count, sent_to, given_to, waiting_to, taken_from, known_from, if_to, if_from, places_to, IsFullTo, HasRoomFor, SameEnds, HasRoomAt};
@@ -117,6 +117,7 @@ impl Mail {
         ensures given { (node : ℕ) → given_to self.new node ≡ given_to self.old node }
         ensures room { OnOk result (HasRoomFor self.new letters) }
         ensures kept { (further : ℕ) → HasRoomFor self.old further → HasRoomFor self.new further }
+        ensures full { HasRoomFor self.old letters → IsOk result }
         ensures ins { (node : ℕ) → in_at self.new node ≡ in_at self.old node }
         ensures ends { SameEnds self.old self.new }
     {
@@ -148,6 +149,7 @@ impl Mail {
         ensures given { (node : ℕ) → given_to self.new node ≡ given_to self.old node }
         ensures kept { KeepsSent self.old self.new }
         ensures room { OnOk result (HasRoomAt letters (out_at self.new to)) }
+        ensures full { HasRoomAt letters (out_at self.old to) → IsOk result }
     {
         let lane = &mut self.outs[to];
         lane.reserve(letters)
