@@ -58,8 +58,10 @@ fn makes_room_before_a_move(rt: HostRuntime) -> Result<(), Fail> {
         assert!(rt; world.full().is_none());
         let ready = world.reserve(choice).map_err(|_| "no memory")?;
         world = ready.leave();
-        assert_eq!(rt; world.pick(0), Some(choice));
-        let ready = world.reserve(choice).map_err(|_| "no memory")?;
+        let again = world.pick(0).ok_or("at rest")?;
+        assert_eq!(rt; again, choice);
+        assert!(rt; world.full().is_none());
+        let ready = world.reserve(again).map_err(|_| "no memory")?;
         world = ready.make();
     }
     assert_eq!(rt; world.run().len(), 4);
