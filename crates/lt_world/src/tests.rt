@@ -53,14 +53,16 @@ fn makes_the_moves_in_their_order(rt: HostRuntime) -> Result<(), Fail> {
 fn makes_room_before_a_move(rt: HostRuntime) -> Result<(), Fail> {
     let script = two_nodes(rt.alloc())?;
     let mut world = World::new(rt.alloc(), &script, 2)?;
-    for _ in 0..4 {
+    for turn in 0..8 {
         let choice = world.pick(0).ok_or("at rest")?;
         assert!(rt; world.full().is_none());
         let ready = world.reserve(choice).map_err(|_| "no memory")?;
-        world = ready.leave();
-        assert_eq!(rt; world.pick(0), Some(choice));
-        let ready = world.reserve(choice).map_err(|_| "no memory")?;
-        world = ready.make();
+        // Each move is left once before it is made.
+        world = if turn % 2 == 0 {
+            ready.leave()
+        } else {
+            ready.make()
+        };
     }
     assert_eq!(rt; world.run().len(), 4);
     assert_eq!(rt; world.full(), Some(1));
