@@ -95,8 +95,8 @@ next_full pushed first place old mid new still seen at before k p from below her
     at_place : slice_get old place ≡ Some p → length p.log.entries ≡ p.limit
     at_place there =
         let same : AsSeen p at.x =
-            subst (λ (o : Option Parts). Alike AsSeen (Some p) o) at.before
-            (subst (λ (o : Option Parts). Alike AsSeen o (slice_get mid place)) there (seen place)) in
+        subst (λ (o : Option Parts). Alike AsSeen (Some p) o) at.before
+        (subst (λ (o : Option Parts). Alike AsSeen o (slice_get mid place)) there (seen place)) in
         let full = still_full pushed at.x at.y still at.one (choice_lasts p at.x same shows) in
         sym (ap (λ (log : List Logged). length log) same.log) ∙ (full ∙ same.same.limit)
 

@@ -13,7 +13,6 @@ use std::alloc::{AllocError, Global};
 /// The logs of all runners, in order of their nodes, as `merge` takes them.
 ///
 /// All that it takes is the list of the logs. Without memory for it all is dropped.
-#[tactic(auto, using(crate::proofs::Logs::crew_logs))]
 pub fn finish(
     alloc: Global,
     script: &Script,

@@ -8,7 +8,7 @@ use lt_script::Script;
 use std::alloc::{AllocError, Global};
 
 /// A runner for each node of the script, in order, with rings of so many places; each makes up to `limit` moves.
-#[tactic(auto, using(crate::proofs::Starts::starting, crate::proofs::Starts::first_crew))]
+#[tactic(auto, using(crate::proofs::Starts::starting))]
 pub fn start_crew(
     alloc: Global,
     script: &Script,

@@ -45,14 +45,7 @@ fn ran<R: Threads + Sync>(rt: &R, alloc: Global, gate: &Meeting) -> Result<Serve
     let words = words_of(alloc, "run")?;
     let mut source = source_of(alloc, TWO_IN_TURN, &[])?;
     let mut sink = sink_of(alloc, 1_000, &[])?;
-    Ok(serve(
-        rt,
-        alloc,
-        words.as_slice(),
-        &mut source,
-        &mut sink,
-        gate,
-    ))
+    Ok(serve(rt, alloc, words.as_slice(), &mut source, &mut sink, gate))
 }
 
 #[test]

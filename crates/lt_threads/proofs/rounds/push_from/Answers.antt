@@ -1,5 +1,5 @@
 -- A turn that came to nothing, a move, want of memory, and all turns that came to nothing.
-use Rattle.std.proofs.Common.{◌≡◌, subst, arith}
+use Rattle.std.proofs.Common.{subst, arith}
 use Rattle.lt_runner.specs.Kept.{AsSeen}
 use Rattle.lt_runner.specs.declared.turning.Turned.{Turned}
 use Rattle.lt_threads.specs.Pushes.{PushedAt}
@@ -23,8 +23,8 @@ pub loop-place-preserved : goal.loop-place-preserved
 loop-place-preserved g c =
     let still : IsStill c.push_at.result = is_still c.push_at.result c.in-Quiet.is in
     let seen =
-        still_seen c.push_at.result c.loop-place.place c.args.runners.now.items c.loop-place.runners.items c.push_at.new.runners.items still
-        c.loop-place.invariant.seen c.push_at.ensures in
+    still_seen c.push_at.result c.loop-place.place c.args.runners.now.items c.loop-place.runners.items c.push_at.new.runners.items still
+    c.loop-place.invariant.seen c.push_at.ensures in
     record {
       seen = seen;
       count = each_len AsSeen c.args.runners.now.items c.push_at.new.runners.items seen;
