@@ -139,5 +139,6 @@ fn begin(
         hand: None,
         limit,
         reached: 0,
+        idle: false,
     })
 }
