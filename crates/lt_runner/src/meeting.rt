@@ -22,7 +22,7 @@ impl Runner {
         ensures taker { LooksFrom self.old.node.me taker.old taker.new }
         ensures met { HasMet self.old.node.me taker.old.node.me self.new taker.new }
     {
-        beside(&mut self.parts.mail, &mut taker.parts.mail);
+        beside(&mut self.parts.as_mut().mail, &mut taker.parts.as_mut().mail);
     }
 
     /// Takes a letter that is known to be in a ring, where none is in hand.
@@ -31,10 +31,11 @@ impl Runner {
         ensures seen { Fetches self.old self.new }
         ensures hand { HasFetched self.new }
     {
-        if self.parts.hand.is_none() {
-            let me = self.parts.mail.node();
-            let nodes = self.parts.node.script().nodes();
-            hold_known(&mut self.parts.mail, &mut self.parts.hand, me, nodes);
+        let parts = self.parts.as_mut();
+        if parts.hand.is_none() {
+            let me = parts.mail.node();
+            let nodes = parts.node.script().nodes();
+            hold_known(&mut parts.mail, &mut parts.hand, me, nodes);
         }
     }
 
@@ -56,7 +57,7 @@ impl Runner {
     pub fn into_log(self) -> Log
         ensures { result.entries ≡ self.log.entries }
     {
-        self.parts.log
+        Box::into_inner(self.parts).log
     }
 }
 

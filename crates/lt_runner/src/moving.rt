@@ -19,7 +19,7 @@ impl Runner {
         ensures ends { FindEnds result self.new }
         ensures shown { next_choice self.old ≢ choices.Nothing → result ≢ finds.Quiet }
     {
-        self.parts.find()
+        self.parts.as_mut().find()
     }
 
     /// Makes room for the move that was found.
@@ -31,7 +31,7 @@ impl Runner {
         ensures could { CouldMove self.new }
         ensures memory { OnOk result (HasMemoryFor choice self.new) }
     {
-        self.parts.reserve(choice)
+        self.parts.as_mut().reserve(choice)
     }
 
     /// Makes the move that was found.
@@ -42,6 +42,6 @@ impl Runner {
         ensures same { SameRunner self.old self.new }
         ensures moved { MovedOne self.old self.new }
     {
-        self.parts.make(choice);
+        self.parts.as_mut().make(choice);
     }
 }
