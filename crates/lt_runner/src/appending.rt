@@ -23,8 +23,9 @@ impl Runner {
         ensures appended { OnOk result (self.new ≡ with_request self.old client command) }
         ensures same { OnErr result (self.new ≡ self.old) }
     {
-        self.parts.node.append(client, command)?;
-        self.parts.idle = false;
+        let parts = self.parts.as_mut();
+        parts.node.append(client, command)?;
+        parts.idle = false;
         Ok(())
     }
 
