@@ -4,6 +4,7 @@ pub mod NodeLemmas
 pub mod TakeLemmas
 pub mod ActLemmas
 pub mod AdvanceLemmas
+pub mod AppendLemmas
 pub mod FamilyLemmas
 pub mod CountLemmas
 pub mod StartLemmas

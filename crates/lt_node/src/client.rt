@@ -12,7 +12,7 @@ use std::marker::Model;
 /// A client's commands, and how many of them it has made.
 #[derive(Drop)]
 pub(crate) struct Client {
-    commands: Vec<Command>,
+    pub(crate) commands: Vec<Command>,
     made: u32,
 }
 
