@@ -1,0 +1,4 @@
+pub mod Replies
+pub mod Words
+pub mod Cursor
+pub mod Seats

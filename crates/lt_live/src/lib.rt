@@ -1,0 +1,11 @@
+//! Sessions and stations: programs submit commands of clients and poll for replies, while nodes are at work beside them.
+#![tactic(auto)]
+
+mod both_ends;
+mod ends;
+mod reply;
+mod seats;
+mod session;
+
+pub use ends::{Seat, Session};
+pub use reply::{Reply, reply_to};
