@@ -101,3 +101,9 @@ pub record LooksBeside (log : List Logged) (s t : Session) (a b : Seat) : Type 0
 pub record IsServed (list : List Command) (lines : List Event) (client : ℕ) (s : Session) : Type 0 where
   pub commands : IsPrefix list (submitted s)
   pub replies : IsPrefix (polled s) (replies_in client lines)
+
+-- so it is at the end; the next command is the one in hand, and all others are still in the ring
+pub record IsSettled (list : List Command) (lines : List Event) (client : ℕ) (s t : Session) (seat : Seat) : Type 0 where
+  pub served : IsServed list lines client t
+  pub all : submitted t ≡ (list ++ in_hand seat.hand) ++ known_commands seat
+  pub same : submitted t ≡ submitted s

@@ -1,9 +1,11 @@
 // Both ends of a session in one thread.
-ghost use Rattle.std.specs.Prelude.{◌≡◌, ◌≤◌, ◌<◌, ◌⊎◌, length};
+ghost use Rattle.std.specs.Prelude.{◌≡◌, ◌≤◌, ◌<◌, ◌⊎◌, List, length};
+ghost use Rattle.lt_modes.specs.declared.command.Command.{Command};
+ghost use Rattle.lt_spec.specs.Holdings.{lines_of};
 ghost use Rattle.rtrb.specs.Ring.{producer_capacity};
 ghost use Rattle.lt_live.specs.Words.{known_replies, IsLink};
 ghost use Rattle.lt_live.specs.Cursor.{IsCursor};
-ghost use Rattle.lt_live.specs.Seats.{AreBeside, LooksBeside};
+ghost use Rattle.lt_live.specs.Seats.{AreBeside, LooksBeside, IsSeat, IsSettled};
 
 use crate::ends::{Seat, Session};
 use lt_merge::Log;
@@ -23,4 +25,15 @@ pub(crate) fn beside(session: &mut Session, seat: &mut Seat, log: &Log)
     seat.replies.slots_beside(&mut session.replies);
     seat.tell(log);
     session.replies.slots_beside(&mut seat.replies);
+}
+
+/// What a caller can be sure of at the end, for each list of commands that the node made the client's.
+#[tactic(auto, using(crate::proofs::Serving::is_settled))]
+pub(crate) fn settle(session: &mut Session, seat: &mut Seat, log: &Log)
+    requires link { IsLink session.old seat.old }
+    requires cursor { IsCursor log.now.entries seat.old.moves seat.old.lines }
+    requires places { 0 < producer_capacity seat.old.replies }
+    ensures { (list : List Command) → IsSeat list log.now.entries seat.old.client seat.old → IsSettled list (lines_of log.now.entries) seat.old.client session.old session.new seat.new }
+{
+    beside(session, seat, log);
 }

@@ -3,9 +3,12 @@
 
 mod both_ends;
 mod ends;
+mod laws;
+mod opening;
 mod reply;
 mod seats;
 mod session;
 
 pub use ends::{Seat, Session};
+pub use laws::law_told;
 pub use reply::{Reply, reply_to};
