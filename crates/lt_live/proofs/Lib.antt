@@ -1,3 +1,4 @@
 pub mod Telling
 pub mod Serving
 pub mod ReplyLemmas
+pub mod AskLemmas

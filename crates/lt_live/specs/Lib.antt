@@ -1,4 +1,5 @@
 pub mod Replies
+pub mod Asking
 pub mod Words
 pub mod Cursor
 pub mod Seats

@@ -1,6 +1,7 @@
 //! Sessions and stations: programs submit commands of clients and poll for replies, while nodes are at work beside them.
 #![tactic(auto)]
 
+mod asking;
 mod both_ends;
 mod ends;
 mod laws;
