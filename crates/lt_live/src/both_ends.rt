@@ -28,7 +28,6 @@ pub(crate) fn beside(session: &mut Session, seat: &mut Seat, log: &Log)
 }
 
 /// What a caller can be sure of at the end, for each list of commands that the node made the client's.
-#[tactic(auto, using(crate::proofs::Serving::is_settled))]
 pub(crate) fn settle(session: &mut Session, seat: &mut Seat, log: &Log)
     requires link { IsLink session.old seat.old }
     requires cursor { IsCursor log.now.entries seat.old.moves seat.old.lines }
