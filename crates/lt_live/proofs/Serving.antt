@@ -11,7 +11,7 @@ use Rattle.lt_live.specs.declared.reply.Reply.{Reply}
 use Rattle.lt_live.specs.declared.ends.Session.{Session}
 use Rattle.lt_live.specs.declared.ends.Seat.{Seat}
 use Rattle.lt_live.specs.Replies.{reply_to, replies_in}
-use Rattle.lt_live.specs.Words.{submitted, polled, taken, known_commands, known_replies, in_hand}
+use Rattle.lt_live.specs.Words.{submitted, polled, known_commands, known_replies, in_hand}
 use Rattle.lt_live.specs.Cursor.{lines_at, lines_before}
 use Rattle.lt_live.specs.Seats.{IsSeat, AreBeside, LooksBeside, IsSettled}
 

@@ -40,8 +40,7 @@ pub(crate) fn may_ask(script: &Script, client: u16, command: Command) -> bool
             gives_up,
             mode,
         } => {
-            has_set(script, set)
-                && (is_of_version(script, gives_up) && is_of_version(script, mode))
+            has_set(script, set) && (is_of_version(script, gives_up) && is_of_version(script, mode))
         }
         Command::DropAll { client: other, set } => {
             has_set(script, set) && is_neighbour(script, client, other)
