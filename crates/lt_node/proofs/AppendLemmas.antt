@@ -13,8 +13,8 @@ use Rattle.lt_script.specs.declared.limits.TheConstants.{MAX_COMMANDS}
 use Rattle.lt_script.proofs.ScriptLemmas.{command_added}
 use Rattle.lt_spec.specs.Families.{commands_of, command_if, home}
 use Rattle.lt_node.specs.NodeData.{NodeData, IsNode}
-use Rattle.lt_node.specs.Clients.{Progress, KnowsClients, no_progress, progress_made}
-use Rattle.lt_node.specs.Appending.{with_request, with_command}
+use Rattle.lt_node.specs.Clients.{Progress, KnowsClients, no_progress, progress_made, with_command}
+use Rattle.lt_node.specs.Appending.{with_request}
 
 -- what the client's list is in the script with the command
 own_more : (script : ScriptData) (client : ℕ) (command : Command) → commands_of (with_request script client command) client ≡ commands_of script client ++ command ∷ []

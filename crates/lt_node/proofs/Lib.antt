@@ -11,3 +11,4 @@ pub mod StartLemmas
 pub mod KeptLemmas
 pub mod DropLemmas
 pub mod AskSearch
+mod RequestLemmas

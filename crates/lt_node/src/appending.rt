@@ -3,7 +3,8 @@ ghost use Rattle.std.specs.Prelude.{◌≡◌, ◌<◌, ◌++◌, ◌∷◌, [],
 ghost use Rattle.lt_script.specs.Script.{HasTargets, HasModesOf};
 ghost use Rattle.lt_script.specs.declared.limits.TheConstants.{MAX_COMMANDS};
 ghost use Rattle.lt_spec.specs.Families.{home};
-ghost use Rattle.lt_node.specs.Appending.{with_request, with_command};
+ghost use Rattle.lt_node.specs.Appending.{with_request};
+ghost use Rattle.lt_node.specs.Clients.{with_command};
 
 use crate::client::Client;
 use crate::node::Node;
@@ -51,45 +52,4 @@ fn append_to(
     script.add_command(client, command)?;
     list.commands.push_reserved(command);
     Ok(())
-}
-
-#[cfg(test)]
-mod tests {
-    use super::*;
-    use lt_modes::Mode;
-    use lt_script::MAX_COMMANDS;
-    use std::alloc::Global;
-    use std::test::Fail;
-
-    // One node with a set and a client, that has no command.
-    fn script(alloc: Global) -> Result<Script, AllocError> {
-        let mut script = Script::new(alloc, 1)?;
-        script.add_set("s".as_bytes(), 0)?;
-        script.add_client("a".as_bytes(), 0)?;
-        Ok(script)
-    }
-
-    // Appends a lock, and tells whether the client can then make a command.
-    fn append_lock(node: &mut Node, script: &Script, client: u16) -> Result<bool, AllocError>
-        requires { node.old.script ≡ script.now }
-    {
-        if script.sets() == 0 || script.commands() >= MAX_COMMANDS {
-            return Ok(false);
-        }
-        if client >= script.clients() || script.home(client) != node.me() {
-            return Ok(false);
-        }
-        let mode = Mode::Write;
-        node.append(client, Command::Lock { set: 0, mode })?;
-        Ok(node.runnable(client))
-    }
-
-    #[test]
-    fn a_client_can_make_a_command_that_came_later(rt: HostRuntime) -> Result<(), Fail> {
-        let script = script(rt.alloc())?;
-        let mut node = Node::new(rt.alloc(), &script, 0)?;
-        assert!(rt; append_lock(&mut node, &script, 0)?);
-        assert_eq!(rt; node.script().commands(), 1);
-        Ok(())
-    }
 }
