@@ -63,6 +63,11 @@ pub record IsFull (p : Parts) : Type 0 where
   pub log : length p.log.entries ≡ p.limit
   pub choice : next_choice p ≢ choices.Nothing
 
+-- a move is there to be made, and the log has a place left for it
+pub record CouldMove (p : Parts) : Type 0 where
+  pub place : length p.log.entries < p.limit
+  pub choice : next_choice p ≢ choices.Nothing
+
 -- one move was made
 abbrev pub MovedOne : Parts → Parts → Type 0
 MovedOne a b = (entry : Logged) × (b.log.entries ≡ a.log.entries ++ entry ∷ [])
@@ -72,7 +77,7 @@ abbrev pub TurnEnds : Turned → Parts → Parts → Type 0
 TurnEnds Moved a b = MovedOne a b × (length a.log.entries < a.limit)
 TurnEnds Quiet a b = AsSeen a b × RunnerIsQuiet b
 TurnEnds Full a b = AsSeen a b × IsFull b
-TurnEnds NoMemory a b = AsSeen a b
+TurnEnds NoMemory a b = AsSeen a b × CouldMove b
 
 -- the runner is the same, and its log goes on from what it was
 pub record Grew (a b : Parts) : Type 0 where
@@ -83,4 +88,4 @@ pub record Grew (a b : Parts) : Type 0 where
 abbrev pub WorkEnds : Worked → ℕ → Parts → Type 0
 WorkEnds worked.Idle patience p = 0 < patience → RunnerIsQuiet p
 WorkEnds worked.Full patience p = IsFull p
-WorkEnds worked.NoMemory patience p = Unit {0}
+WorkEnds worked.NoMemory patience p = CouldMove p

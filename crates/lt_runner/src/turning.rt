@@ -18,6 +18,7 @@ pub enum Turned {
     Quiet,
     /// A move was found, and the log is full.
     Full,
+    /// A move was found, and the log has a place left.
     NoMemory,
 }
 
@@ -27,6 +28,7 @@ pub enum Worked {
     Idle,
     /// The log is full, and a move more is there to be made.
     Full,
+    /// A move is there to be made, and the log has a place left.
     NoMemory,
 }
 
@@ -61,7 +63,7 @@ impl Parts {
         }
     }
 
-    #[tactic(auto, using(crate::proofs::TurnLemmas::choice_stays, crate::proofs::TurnLemmas::same_later, crate::proofs::TurnLemmas::turn_later))]
+    #[tactic(auto, using(crate::proofs::TurnLemmas::choice_stays, crate::proofs::TurnLemmas::could_act, crate::proofs::TurnLemmas::same_later, crate::proofs::TurnLemmas::turn_later))]
     fn turn_act<G: Gate>(&mut self, client: u16, gate: &G) -> Turned
         requires kept { RunnerInvariant self.old }
         requires chosen { next_choice self.old ≡ choices.Act client }
@@ -79,7 +81,7 @@ impl Parts {
         Turned::Moved
     }
 
-    #[tactic(auto, using(crate::proofs::TurnLemmas::take_lasts, crate::proofs::TurnLemmas::same_later, crate::proofs::TurnLemmas::turn_later))]
+    #[tactic(auto, using(crate::proofs::TurnLemmas::take_lasts, crate::proofs::TurnLemmas::could_take, crate::proofs::TurnLemmas::same_later, crate::proofs::TurnLemmas::turn_later))]
     fn turn_take<G: Gate>(&mut self, gate: &G) -> Turned
         requires kept { RunnerInvariant self.old }
         requires chosen { next_choice self.old ≡ choices.Take }
