@@ -4,3 +4,4 @@ pub mod Words
 pub mod Cursor
 pub mod Seats
 pub mod ReplyLaws
+pub mod Stations

@@ -1,5 +1,5 @@
 -- What a station keeps of a session, and what it does with it.
-use Rattle.std.specs.Prelude.{◌≡◌, ◌≤◌, ◌+◌, ◌⊎◌, Bool, true, false, ℕ, List, [], ◌∷◌, ◌++◌, None, length, take}
+use Rattle.std.specs.Prelude.{◌≡◌, ◌≤◌, ◌+◌, ◌⊎◌, Bool, true, false, ℕ, List, [], ◌∷◌, ◌++◌, Some, None, length, take}
 use mathlib.Core.List.{IsPrefix}
 use Rattle.rtrb.specs.Ring.{known_free}
 use Rattle.lt_modes.specs.declared.command.Command.{Command}
@@ -27,6 +27,7 @@ pub record TakesIn (a b : Seat) : Type 0 where
   pub cursor : (b.moves ≡ a.moves) × (b.lines ≡ a.lines)
   pub taken : (list : List Command) → taken a ≡ list ++ in_hand a.hand → taken b ≡ list ++ in_hand b.hand
   pub none : a.hand ≡ None → b.hand ≡ None → known_commands a ≡ []
+  pub stays : (command : Command) → a.hand ≡ Some command → b ≡ a
 
 -- the reply that the line says to the client went into the ring
 pub record HasTold (line : Event) (a b : Seat) : Type 0 where

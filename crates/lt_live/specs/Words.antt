@@ -45,6 +45,7 @@ IsLink s seat = (seat.client ≡ s.client) × IsPair s.commands seat.commands ×
 pub record SameSession (a b : Session) : Type 0 where
   pub script : b.script ≡ a.script
   pub client : b.client ≡ a.client
+  pub place : b.place ≡ a.place
   pub share : b.share ≡ a.share
   pub commands : SameProducer a.commands b.commands
   pub replies : SameConsumer a.replies b.replies

@@ -11,6 +11,8 @@ use rtrb::{Consumer, Producer};
 pub struct Session {
     pub(crate) script: Script,
     pub(crate) client: u16,
+    // Where its other end is among those of its station.
+    pub(crate) place: usize,
     pub(crate) share: u32,
     // How many commands of the share are left.
     pub(crate) left: u32,

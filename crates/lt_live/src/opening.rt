@@ -9,16 +9,17 @@ use lt_script::Script;
 use rtrb::RingBuffer;
 use std::alloc::{AllocError, Global};
 
-/// The two ends of a new session, with rings of so many places.
+/// The two ends of a new session, with rings of so many places; the seat is at this place among those of its station.
 pub(crate) fn new_session(
     alloc: Global,
     script: &Script,
     client: u16,
+    place: usize,
     share: u32,
     capacity: u32,
 ) -> Result<(Session, Seat), AllocError>
     ensures link { IfOk result (λ ends. IsLink ends.0 ends.1) }
-    ensures session { IfOk result (λ ends. (ends.0.script ≡ script.now) × (ends.0.client ≡ client) × (ends.0.left ≡ share) × (ends.0.share ≡ share)) }
+    ensures session { IfOk result (λ ends. (ends.0.script ≡ script.now) × (ends.0.client ≡ client) × (ends.0.place ≡ place) × (ends.0.left ≡ share) × (ends.0.share ≡ share)) }
     ensures fresh { IfOk result (λ ends. (submitted ends.0 ≡ []) × (polled ends.0 ≡ []) × (known_replies ends.0 ≡ []) × (known_commands ends.1 ≡ [])) }
     ensures seat { IfOk result (λ ends. IsSeat [] [] client ends.1) }
     ensures places { IfOk result (λ ends. (places ends.0 ≡ capacity) × (producer_capacity ends.1.replies ≡ capacity)) }
@@ -29,6 +30,7 @@ pub(crate) fn new_session(
     let session = Session {
         script,
         client,
+        place,
         share,
         left: share,
         commands: sender,
