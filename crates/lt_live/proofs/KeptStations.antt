@@ -1,10 +1,9 @@
 -- A station stays one.
-use Rattle.std.proofs.Common.{◌≡◌, ◌≢◌, ◌<◌, ℕ, List, [], ◌∷◌, ◌++◌, length, Some, None, refl, sym, ap, subst, arith, ◌∙◌, inl, inr, true, false, Bool, if◌then◌else◌}
-use Rattle.std.specs.Prelude.{◌==◌, slice_get, slice_set}
+use Rattle.std.proofs.Common.{◌≡◌, ◌≢◌, ◌<◌, ℕ, List, [], ◌∷◌, ◌++◌, length, Some, None, refl, sym, ap, subst, ◌∙◌, inl, inr, Bool, if◌then◌else◌}
+use Rattle.std.specs.Prelude.{slice_get, slice_set}
 use Rattle.std.proofs.lemmas.Bool.{cases_eq, eq-eqb, ne_eqb}
 use Rattle.std.proofs.lemmas.List.{append-nil}
 use Rattle.std.proofs.lemmas.Option.{slice_get_within}
-use mathlib.Core.List.{IsPrefix}
 use Rattle.lt_lists.proofs.AllLemmas.{all_append}
 use Rattle.lt_modes.specs.declared.command.Command.{Command}
 use Rattle.lt_modes.specs.Script.{ScriptData}
@@ -17,7 +16,7 @@ use Rattle.lt_runner.specs.Appended.{with_request}
 use Rattle.lt_live.specs.declared.ends.Seat.{Seat}
 use Rattle.lt_live.specs.Words.{in_hand}
 use Rattle.lt_live.specs.Seats.{TakesIn, Tells}
-use Rattle.lt_live.specs.Stations.{IsSeatOf, IsStation, EachSeat, SeatAt, HandsOver, MayHandOver, HandMayGo}
+use Rattle.lt_live.specs.Stations.{IsSeatOf, IsStation, EachSeat, MayHandOver, HandMayGo}
 use Rattle.lt_live.proofs.SeatLists.{same_seat, set_here, set_other, each_before}
 use Rattle.lt_live.proofs.KeptSeats.{seat_of_grew, seat_of_taken, seat_of_told}
 

@@ -1,10 +1,9 @@
 -- The parts of a turn.
 use Rattle.std.proofs.Common.{◌≡◌, ◌≢◌, ◌<◌, ◌≤◌, ◌+◌, ℕ, List, [], ◌∷◌, ◌++◌, length, Option, Some, None, refl, sym, ap, subst, arith, ◌∙◌, inl, inr, true, false, Bool}
-use Rattle.std.specs.Prelude.{◌&&◌, nat_lt, slice_get, slice_set}
+use Rattle.std.specs.Prelude.{◌&&◌, nat_lt, slice_get}
 use Rattle.std.proofs.lemmas.Bool.{cases_eq, ltb-false, le-ltb}
 use Rattle.std.proofs.lemmas.Option.{slice_get_within}
 use Rattle.std.proofs.lemmas.List.{append-nil, append_assoc, length-append}
-use mathlib.Core.List.{IsPrefix}
 use Rattle.lt_modes.specs.declared.command.Command.{Command}
 use Rattle.lt_modes.specs.declared.command.Command.TheVariants.{Lock, Try, Unlock, Change, DropAll}
 use Rattle.lt_modes.specs.Script.{ScriptData}
@@ -25,7 +24,7 @@ use Rattle.lt_live.specs.declared.ends.Seat.{Seat}
 use Rattle.lt_live.specs.Asking.{may_ask, may_append}
 use Rattle.lt_live.specs.Seats.{TakesIn, Tells}
 use Rattle.lt_live.specs.Stations.{IsStation, EachSeat, SeatAt, OnlyAppends, with_all, CanNotAppend, NoneCanAppend, MayHandOver, HandMayGo, MoveEnds, SeatTurns, StationTurns, HaveCursors}
-use Rattle.lt_live.proofs.SeatLists.{each_before, each_join, same_seat}
+use Rattle.lt_live.proofs.SeatLists.{each_before, each_join}
 
 only_request : (a : Parts) (client : ℕ) (command : Command) → OnlyAppends a (with_request a client command)
 only_request a client command = record { runner = refl; commands = ((client, command) ∷ [], refl) }

@@ -3,8 +3,8 @@ ghost use Rattle.lt_spec.specs.NodeMove.{node_waits};
 ghost use Rattle.lt_node.specs.NodeData.{state_of};
 ghost use Rattle.lt_live.specs.Stations.{IsSeated, SeatLooks, StationTurns};
 
-use crate::looking::beside_at;
 use crate::ends::{Seat, Session};
+use crate::looking::beside_at;
 use crate::turning::turn_of;
 use lt_runner::{Gate, Runner, Turned};
 use lt_script::Script;

@@ -73,6 +73,7 @@ fn append_all(seats: &mut Vec<Seat>, runner: &mut Runner) -> bool
     fits
 }
 
+// Whether memory was found both times.
 fn both(first: bool, second: bool) -> bool
     ensures { result ≡ (first && second) }
 {

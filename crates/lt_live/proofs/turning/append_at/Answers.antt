@@ -1,8 +1,7 @@
 -- One seat may have handed its command over, and the others stay.
-use Rattle.std.proofs.Common.{subst, sym, ap, ◌∙◌, ◌<◌, length}
+use Rattle.std.proofs.Common.{subst, sym, ◌∙◌}
 use Rattle.std.specs.Prelude.{slice_index_or}
 use Rattle.std.proofs.lemmas.Option.{slice_get-get_or}
-use Rattle.lt_spec.specs.Families.{home}
 use Rattle.lt_live.specs.declared.ends.Seat.{Seat}
 use Rattle.lt_live.specs.Stations.{IsSeatOf, MayHandOver, HandMayGo, CanNotAppend}
 use Rattle.lt_live.proofs.SeatLists.{seat_set, set_here, same_seat}

@@ -1,5 +1,5 @@
 -- A turn leaves a station a station.
-use Rattle.std.proofs.Common.{subst, sym, ap}
+use Rattle.std.proofs.Common.{subst, sym}
 use Rattle.lt_merge.specs.Run.{RunData}
 use Rattle.lt_live.specs.Seats.{Tells}
 use Rattle.lt_live.specs.Stations.{EachSeat, HaveCursors}
