@@ -38,7 +38,7 @@ only_handed a b x y (inr still) = subst (λ (p : Parts). OnlyAppends a p) (sym s
 
 pub only_join : (a b c : Parts) → OnlyAppends a b → OnlyAppends b c → OnlyAppends a c
 only_join a b c h k = record {
-  runner = k.runner ∙ ap (λ (p : Parts). with_all p c.node.script.commands) h.runner;
+  runner = k.runner ∙ ap (λ (p : Parts). with_all p c.node.script.commands c.idle) h.runner;
   commands = (
     h.commands.0 ++ k.commands.0,
     sym (append_assoc a.node.script.commands h.commands.0 k.commands.0)
@@ -84,9 +84,9 @@ not_later true false ask goes e = refl
 not_later false u ask goes e = ap (λ (b : Bool). b && ask) (goes refl)
 
 -- what can't be appended can't be once there are more commands
-can_not_with : (a : Parts) (commands : List (ℕ × Command)) (seat : Seat) → length a.node.script.commands ≤ length commands
-    → CanNotAppend a seat → CanNotAppend (with_all a commands) seat
-can_not_with a commands seat more h command hand =
+can_not_with : (a : Parts) (commands : List (ℕ × Command)) (idle : Bool) (seat : Seat) → length a.node.script.commands ≤ length commands
+    → CanNotAppend a seat → CanNotAppend (with_all a commands idle) seat
+can_not_with a commands idle seat more h command hand =
     let ask = may_ask a.node.script seat.client command in
     ap (λ (t : Bool). nat_lt (length commands) MAX_COMMANDS && t) (ask_same a.node.script commands seat.client command)
     ∙ not_later (nat_lt (length a.node.script.commands) MAX_COMMANDS) (nat_lt (length commands) MAX_COMMANDS) ask
@@ -97,7 +97,7 @@ pub can_not_later : (a b : Parts) (seat : Seat) → OnlyAppends a b → CanNotAp
 can_not_later a b seat only h =
     let more : length a.node.script.commands ≤ length b.node.script.commands =
     omega (arith, length-append a.node.script.commands only.commands.0, ap (λ (l : List (ℕ × Command)). length l) only.commands.1) in
-    subst (λ (p : Parts). CanNotAppend p seat) (sym only.runner) (can_not_with a b.node.script.commands seat more h)
+    subst (λ (p : Parts). CanNotAppend p seat) (sym only.runner) (can_not_with a b.node.script.commands b.idle seat more h)
 
 -- none of the first n seats has a command in hand that can be appended
 abbrev pub FirstCanNot : ℕ → Parts → List Seat → Type 0

@@ -1,5 +1,5 @@
 -- What a station keeps, and what a turn of it does.
-use Rattle.std.specs.Prelude.{◌≡◌, ◌≢◌, ◌<◌, ◌⊎◌, false, ℕ, List, Some, None, length, slice_get}
+use Rattle.std.specs.Prelude.{◌≡◌, ◌≢◌, ◌<◌, ◌⊎◌, Bool, false, ℕ, List, Some, None, length, slice_get}
 use mathlib.Core.List.{IsPrefix}
 use Rattle.rtrb.specs.Ring.{producer_capacity}
 use Rattle.lt_modes.specs.declared.command.Command.{Command}
@@ -61,13 +61,13 @@ HasCursorAt log seats k = (seat : Seat) → slice_get seats k ≡ Some seat → 
 abbrev pub HaveCursors : List Logged → List Seat → Type 0
 HaveCursors log seats = (k : ℕ) → HasCursorAt log seats k
 
--- the runner with other commands in its script
-abbrev pub with_all : Parts → List (ℕ × Command) → Parts
-with_all p commands = record p { node = record p.node { script = with_commands p.node.script commands } }
+-- the runner with other commands in its script, of whose clients it may know less
+abbrev pub with_all : Parts → List (ℕ × Command) → Bool → Parts
+with_all p commands idle = record p { node = record p.node { script = with_commands p.node.script commands }; idle = idle }
 
 -- nothing happened but that commands were appended
 pub record OnlyAppends (a b : Parts) : Type 0 where
-  pub runner : b ≡ with_all a b.node.script.commands
+  pub runner : b ≡ with_all a b.node.script.commands b.idle
   pub commands : IsPrefix a.node.script.commands b.node.script.commands
 
 -- the command in hand, if there is one, can't be appended
