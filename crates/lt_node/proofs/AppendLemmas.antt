@@ -1,5 +1,5 @@
 -- A command more leaves a node a node.
-use Rattle.std.proofs.Common.{◌≡◌, ◌+◌, ◌<◌, ◌++◌, ℕ, List, [], ◌∷◌, Bool, Some, None, length, map, arith, refl, sym, ap, subst, ◌∙◌, slice_index_or, slice_set, if◌then◌else◌, inl, inr}
+use Rattle.std.proofs.Common.{◌≡◌, ◌<◌, ◌++◌, ℕ, List, [], ◌∷◌, Bool, Some, None, length, map, arith, refl, sym, ap, subst, ◌∙◌, slice_index_or, slice_set, if◌then◌else◌, inl, inr}
 use Rattle.std.specs.List.{cons_option}
 use Rattle.std.proofs.lemmas.Bool.{cases_eq, eq-eqb, ne_eqb}
 use Rattle.std.proofs.lemmas.List.{append-nil, get_or-set_other, length-set, length-map, get_or_default}

@@ -20,7 +20,8 @@ impl Node {
         requires targets { HasTargets self.old.script.sets self.old.script.clients client command }
         requires modes { HasModesOf self.old.script.version command }
         requires room { length self.old.script.commands < MAX_COMMANDS }
-        ensures appended { OnOk result (self.new ≡ record self.old { script = with_request self.old.script client command }) }
+        ensures appended { OnOk result
+            (self.new ≡ record self.old { script = with_request self.old.script client command }) }
         ensures same { OnErr result (self.new ≡ self.old) }
     {
         append_to(

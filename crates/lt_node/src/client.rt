@@ -2,7 +2,8 @@ ghost use Rattle.std.specs.Prelude.{◌≡◌, ◌<◌, ◌+◌, ◌==◌, ◌^�
 ghost use Rattle.lt_modes.specs.Script.{ClientData};
 ghost use Rattle.lt_script.specs.Script.{IsScript};
 ghost use Rattle.lt_spec.specs.Families.{commands_of, home};
-ghost use Rattle.lt_node.specs.Clients.{HaveFirst, next_of, one_command_more, with_command, with_own_request, progress_of, no_progress};
+ghost use Rattle.lt_node.specs.Clients.{HaveFirst, with_own_request, progress_of, no_progress};
+ghost use Rattle.lt_node.specs.Clients.{next_of, one_command_more, with_command};
 
 use lt_modes::Command;
 use lt_script::Script;
@@ -79,7 +80,8 @@ pub(crate) fn clients_of(
 ) -> Result<Vec<Client>, AllocError>
     requires { IsScript script.now }
     ensures count { IfOk result (λ clients. length clients.items ≡ length script.now.clients) }
-    ensures each { IfOk result (λ clients. (c : ℕ) → c < length clients.items → slice_index_or clients.items c no_progress ≡ record { commands = if home script.now c == node then commands_of script.now c else []; made = 0 }) }
+    ensures each { IfOk result (λ clients. (c : ℕ) → c < length clients.items → slice_index_or clients.items c no_progress
+        ≡ record { commands = if home script.now c == node then commands_of script.now c else []; made = 0 }) }
 {
     let mut clients = idle_clients(alloc, script)?;
     add_requests(&mut clients, script, node)?;

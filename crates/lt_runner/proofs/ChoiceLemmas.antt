@@ -78,6 +78,19 @@ act_takes_nothing script me n e = by_may (may_act script n) e
     by_may false e = absurd (cc)
     by_may true e = by_client (first_client script me n) e
 
+-- where no move is shown no client can act
+pub nothing_acts : (p : Parts) → next_choice p ≡ Nothing → act_choice p.node.script p.node.me (state_of p.node) ≡ Nothing
+nothing_acts p e = by_hand p.hand e
+  where
+    by_may : (b : Bool) → (if b then Take else act_choice p.node.script p.node.me (state_of p.node)) ≡ Nothing
+        → act_choice p.node.script p.node.me (state_of p.node) ≡ Nothing
+    by_may true e = absurd (cc)
+    by_may false e = e
+
+    by_hand : (o : Option Hand) → choice_by p.node.script p.node.me (state_of p.node) o ≡ Nothing → act_choice p.node.script p.node.me (state_of p.node) ≡ Nothing
+    by_hand None e = e
+    by_hand (Some hand) e = by_may (may_take p.node.script p.node.me (state_of p.node) (letter_seen hand.letter)) e
+
 pub chose_act : (p : Parts) (client : ℕ) → next_choice p ≡ Act client → ChoseAct p.node.script p.node.me (state_of p.node) client
 chose_act p client e = by_hand p.hand e
   where

@@ -1,5 +1,5 @@
 -- What a runner keeps, and how a turn ends.
-use Rattle.std.specs.Prelude.{◌≡◌, ◌≢◌, ◌<◌, ◌≤◌, ◌⊎◌, ℕ, List, [], ◌∷◌, ◌++◌, None, length}
+use Rattle.std.specs.Prelude.{◌≡◌, ◌≢◌, ◌<◌, ◌≤◌, ◌⊎◌, ℕ, List, [], ◌∷◌, ◌++◌, None, IsTrue, length}
 use mathlib.Core.List.{IsPrefix}
 use Rattle.lt_modes.specs.State.{Letter}
 use Rattle.lt_spec.specs.Log.{Logged}
@@ -17,7 +17,7 @@ use Rattle.lt_runner.specs.declared.turning.Worked.{Worked}
 use Rattle.lt_runner.specs.declared.turning.Worked.TheVariants as worked
 use Rattle.lt_runner.specs.declared.parts.Parts.{Parts}
 use Rattle.lt_runner.specs.Hands.{in_hand, IsFromPeer, HandStays}
-use Rattle.lt_runner.specs.Choices.{next_choice}
+use Rattle.lt_runner.specs.Choices.{act_choice, next_choice}
 
 -- the node's state and the letters that it sent are what the rules make of its log with the letters that it used, which
 -- are those that it took but the one in hand
@@ -34,6 +34,7 @@ pub record RunnerInvariant (p : Parts) : Type 0 where
   pub bounded : length p.log.entries ≤ p.limit
   pub posts : p.out.posts ≡ []
   pub events : p.out.events ≡ []
+  pub idle : IsTrue p.idle → act_choice p.node.script p.node.me (state_of p.node) ≡ choices.Nothing
 
 -- the runner of the same node, with the same ends of rings and the same limit
 pub record SameRunner (a b : Parts) : Type 0 where

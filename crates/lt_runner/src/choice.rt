@@ -3,6 +3,7 @@ ghost use Rattle.std.specs.Prelude.{◌≡◌, ◌<◌, length};
 ghost use Rattle.lt_law_plays.specs.Plays.{can_act};
 ghost use Rattle.lt_node.specs.NodeData.{state_of};
 ghost use Rattle.lt_runner.specs.Choices.{may_move, may_act, may_take, first_client, act_choice, next_choice};
+ghost use Rattle.lt_runner.specs.Kept.{RunnerInvariant};
 ghost use Rattle.lt_desk.specs.LetterSeen.{letter_seen};
 
 use crate::parts::Parts;
@@ -22,10 +23,12 @@ pub enum Choice {
 
 /// The move that this runner shows: the letter in hand, or where there is none or it doesn't fit, a client's command.
 pub(crate) fn choose(parts: &Parts) -> Choice
+    requires { RunnerInvariant parts.now }
     ensures { result ≡ next_choice parts.now }
 {
     match &parts.hand {
         Some(hand) if may_take(&parts.node, &hand.letter) => Choice::Take,
+        _ if parts.idle => Choice::Nothing,
         _ => act_choice(&parts.node),
     }
 }

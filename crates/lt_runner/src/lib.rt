@@ -1,6 +1,7 @@
 //! What runs a node on a thread: its state, its mail and its log, and its moves one after the other.
 #![tactic(auto)]
 
+mod appending;
 mod at_once;
 mod choice;
 mod gate;

@@ -143,5 +143,6 @@ fn begin(
         hand: None,
         limit,
         reached: 0,
+        idle: false,
     })
 }

@@ -47,7 +47,7 @@ pub enum Worked {
 
 impl Parts {
     /// Gives the rings what waits in the outboxes, and looks for a letter and then for a client that can act.
-    #[tactic(auto, using(crate::proofs::TurnLemmas::choice_lasts))]
+    #[tactic(auto, using(crate::proofs::TurnLemmas::choice_lasts, crate::proofs::KeptLemmas::kept_resting, crate::proofs::KeptLemmas::seen_resting))]
     pub fn find(&mut self) -> Found
         requires { RunnerInvariant self.old }
         ensures kept { RunnerInvariant self.new }
@@ -58,7 +58,10 @@ impl Parts {
     {
         self.look();
         match choose(self) {
-            Choice::Nothing => Found::Quiet,
+            Choice::Nothing => {
+                self.idle = true;
+                Found::Quiet
+            }
             _ if self.log.len() >= self.limit => Found::Full,
             choice => Found::Move(choice),
         }

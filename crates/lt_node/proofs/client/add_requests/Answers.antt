@@ -1,4 +1,4 @@
-use Rattle.std.proofs.Common.{◌≡◌, ◌+◌, ◌<◌, ◌∙◌, ℕ, List, length, arith, ap, sym, subst}
+use Rattle.std.proofs.Common.{◌+◌, ◌<◌, ◌∙◌, List, length, arith, ap, sym, subst}
 use Rattle.lt_node.specs.Clients.{Progress, HaveFirst}
 use Rattle.lt_node.proofs.RequestLemmas.{request_added, count_kept, client_of_request}
 use Rattle.lt_node.proofs.client.add_requests.Goals as goal
