@@ -22,7 +22,10 @@ impl Runner {
         ensures taker { LooksFrom self.old.node.me taker.old taker.new }
         ensures met { HasMet self.old.node.me taker.old.node.me self.new taker.new }
     {
-        beside(&mut self.parts.as_mut().mail, &mut taker.parts.as_mut().mail);
+        beside(
+            &mut self.parts.as_mut().mail,
+            &mut taker.parts.as_mut().mail,
+        );
     }
 
     /// Takes a letter that is known to be in a ring, where none is in hand.
