@@ -1,52 +1,85 @@
 #!/bin/sh
-# Prints how long `run` takes for a script of 16 nodes, 64 clients and 4,096 commands with 1, 2 and 4 processors, and how
-# long `sim first` takes for the same script: milliseconds, the least of several times, with the moves made. Then the
-# most memory that `run` takes for a script of version 2 with 64 nodes, 256 clients and 4,096 commands. A program may be
-# named as one word, in place of the one that ./build makes.
+# Prints the processor time, user and system together, that `run` and `sim first` take with 1, 2 and 4 processors, for a
+# script of 16 nodes and 64 clients and for one of version 2 with 64 nodes and 256 clients, of 4,096 commands each. Beside
+# it stands that of another program of the same rules, such as the plain one of bench/plain. It is the least of 30 runs,
+# in turn, in milliseconds; with it stand the moves made, and what is left of the time if that of the shortest script is
+# taken off, and at the end what is left of the other program's by what is left of this one's. There is also the time of
+# `soak`. Then it prints the threads that one run starts, which strace counts, and the rounds that these are, since each
+# round starts one less than there are workers; and the most memory that `run` takes with 64 nodes and 256 clients.
+# usage: bench/run.sh OTHER [PROGRAM [TIMES]]: the programs are one word each; PROGRAM is the one that ./build makes, if
+# none is named.
 top=$(CDPATH='' cd -- "$(dirname -- "$0")/.." && pwd) || exit 1
-program=${1:-$top/crates/lockrun/out/lockrun}
-times=${2:-9}
-command -v "${program%% *}" >/dev/null || { echo "bench: run ./build first" >&2; exit 1; }
+other=${1:?the other program is the first word}
+program=${2:-$top/crates/lockrun/out/lockrun}
+times=${3:-30}
+for name in "$other" "$program"; do
+  command -v "$name" >/dev/null || { echo "bench: $name isn't there: run ./build first, or rustc" >&2; exit 1; }
+done
 room=$(mktemp -d) || exit 1
 trap 'rm -rf "$room"' EXIT
-python3 "$top/tests/drawing.py" 16 64 4096 1 >"$room/script" || exit 1
+printf 'nodes 1\nset s\n' >"$room/short"
+python3 "$top/tests/drawing.py" 16 64 4096 1 >"$room/16 nodes" || exit 1
+python3 "$top/tests/drawing.py" 64 256 4096 1 2 >"$room/64 nodes" || exit 1
+python3 - "$program" "$other" "$room" "$times" <<'END_OF_SCRIPT'
+import os, shutil, subprocess, sys
+program, other, room, times = sys.argv[1:4] + [int(sys.argv[4])]
+WORKERS = 8
 
-# Prints the line of some words on the processors from 0 to $1.
-measure() {
-  last=$1
-  shift
-  least=
-  moves=
-  for _ in $(seq "$times"); do
-    start=$(date +%s%N)
-    # shellcheck disable=SC2086 # the program may be a command with words
-    taskset -c "0-$last" $program "$@" <"$room/script" >"$room/journal"
-    status=$?
-    end=$(date +%s%N)
-    if [ $status -ne 0 ]; then
-      echo "bench: $* ended with status $status" >&2
-      exit 1
-    fi
-    taken=$(((end - start) / 1000))
-    moves=$(grep -c '^move ' "$room/journal")
-    if [ -z "$least" ] || [ $taken -lt "$least" ]; then least=$taken; fi
-  done
-  printf '%10d  %-9s  %8d.%03d  %7d\n' $((last + 1)) "$*" $((least / 1000)) $((least % 1000)) "$moves"
-}
+def run(command, script):
+    """The processor time of a run in milliseconds, its memory in KiB, and its moves."""
+    answer = os.open(f'{room}/answer', os.O_RDWR | os.O_CREAT | os.O_TRUNC)
+    source = os.open(f'{room}/{script}', os.O_RDONLY)
+    streams = [(os.POSIX_SPAWN_DUP2, source, 0), (os.POSIX_SPAWN_DUP2, answer, 1)]
+    child = os.posix_spawnp(command[0], command, os.environ, file_actions=streams)
+    _, status, usage = os.wait4(child, 0)
+    os.close(source)
+    os.close(answer)
+    if status:
+        sys.exit(f'bench: {" ".join(command)} ended with status {os.waitstatus_to_exitcode(status)}')
+    with open(f'{room}/answer', 'rb') as journal:
+        moves = sum(line.startswith(b'move ') for line in journal)
+    return 1000 * (usage.ru_utime + usage.ru_stime), usage.ru_maxrss, moves
 
-echo "processors  words      milliseconds    moves"
-for last in 0 1 3; do
-  if [ $last -lt "$(nproc)" ]; then
-    measure "$last" sim first
-    measure "$last" run
-  fi
-done
+def least(commands, script):
+    """The least processor time of each of the commands, which are run in turn, with its last moves."""
+    runs = [[run(command, script) for command in commands] for _ in range(times)]
+    return [(min(one[k][0] for one in runs), runs[-1][k][2]) for k in range(len(commands))]
 
-python3 "$top/tests/drawing.py" 64 256 4096 1 2 >"$room/script" || exit 1
-# shellcheck disable=SC2086 # the program may be a command with words
-python3 -c '
-import resource, subprocess, sys
-done = subprocess.run(sys.argv[1:], stdout=subprocess.DEVNULL)
-most = resource.getrusage(resource.RUSAGE_CHILDREN).ru_maxrss
-print(f"64 nodes, 256 clients: run takes at most {most} KiB of memory")
-sys.exit(done.returncode)' $program run <"$room/script"
+def threads(command, script):
+    """How many threads a run starts, by the system calls for it; none where strace isn't there."""
+    if not shutil.which('strace'):
+        return None
+    with open(f'{room}/{script}', 'rb') as source:
+        subprocess.run(['strace', '-f', '-o', f'{room}/calls', '-e', 'trace=clone,clone3'] + command, stdin=source,
+                       stdout=subprocess.DEVNULL, check=True)
+    with open(f'{room}/calls') as calls:
+        return sum('clone' in line and ' = ' in line and not ' = -' in line or 'resumed' in line for line in calls)
+
+ROW = '{:9} {:>10}  {:9}' + 2 * '  {:>5} {:>8} {:>8}' + '  {}'
+
+def row(*words):
+    """Prints a line of the table."""
+    print(ROW.format(*[f'{word:.2f}' if isinstance(word, float) else word for word in words]))
+
+processors = sorted(os.sched_getaffinity(0))
+print(f'{31 * " "}  {os.path.basename(program)[:23]:23}  {os.path.basename(other)[:23]}')
+row('script', 'processors', 'words', *2 * ('moves', 'ms', 'less'), 'ms less the start: the other by this')
+for count in [count for count in (1, 2, 4) if count <= len(processors)]:
+    os.sched_setaffinity(0, processors[:count])
+    (start, _), (its_start, _) = least([[program, 'sim', 'first'], [other, 'sim', 'first']], 'short')
+    row('the start', count, 'sim first', '', start, '', '', its_start, '', '')
+    for script in ('16 nodes', '64 nodes'):
+        for words in (['sim', 'first'], ['run']):
+            (ours, moves), (its, its_moves) = least([[program] + words, [other] + words], script)
+            a, b = ours - start, its - its_start
+            row(script, count, ' '.join(words), moves, ours, a, its_moves, its, b, b / a)
+    [(ours, _)] = least([[program, 'soak', '7']], 'short')
+    row('no script', count, 'soak 7', '', ours, ours - start, '', '', '', '')
+os.sched_setaffinity(0, processors)
+for script in ('16 nodes', '64 nodes'):
+    for name in (program, other):
+        started = threads([name, 'run'], script)
+        told = 'strace is missing' if started is None else f'{started} threads, {started / (WORKERS - 1):.0f} rounds'
+        print(f'{script}, {os.path.basename(name)} run: {told}')
+print(f'64 nodes: run takes at most {run([program, "run"], "64 nodes")[1]} KiB of memory')
+END_OF_SCRIPT

@@ -1,36 +1,50 @@
 //! Whether a journal is one of its script.
-use crate::journal::Journal;
-use crate::script::{self, Names, client_of};
+use crate::out::Words;
+use crate::script::{self, Names};
 use crate::world::{Step, World};
 
+const BETWEEN: &[u8] = b"\njournal\n";
+
 /// How many moves the journal has, as a line; or the first line that is wrong.
-pub fn check(text: &str) -> Result<Vec<u8>, String> {
-    let (script, journal) = text.split_once("\njournal\n").ok_or("no journal")?;
-    let first = script.lines().count() + 2;
-    let (script, names) = script::read(script).ok_or("the script has a fault")?;
-    let mut world = World::new(&script);
-    let mut expected = Journal::new(&script);
-    let mut moves = 0;
-    let mut rest = journal.as_bytes();
+pub fn check(text: &[u8]) -> Result<Vec<u8>, String> {
+    let end = place_of_journal(text).ok_or("no journal")?;
+    let (script, journal) = (&text[..end + 1], &text[end + BETWEEN.len()..]);
+    let script = script::read(script).ok_or("the script has a fault")?;
+    let words = Words::new(&script);
+    let mut world = World::new(&script, &words, 4096);
     let fault = |rest: &[u8]| {
-        let before = &journal.as_bytes()[..journal.len() - rest.len()];
-        format!("line {}", first + before.iter().filter(|byte| **byte == b'\n').count())
+        let before = &text[..text.len() - rest.len()];
+        format!("line {}", 1 + before.iter().filter(|byte| **byte == b'\n').count())
     };
+    let mut rest = journal;
+    if script.version == 2 {
+        rest = after(rest, b"version 2\n").map_err(fault)?;
+    }
     while rest.starts_with(b"move ") {
-        let (node, step) = step_of(&names, rest).ok_or_else(|| fault(rest))?;
-        if node >= script.nodes || !world.is_enabled(node, step) {
+        let (node, step) = step_of(&script.names, rest).ok_or_else(|| fault(rest))?;
+        if !world.is_enabled(node, step) {
             return Err(fault(rest));
         }
-        expected.text.clear();
-        let (made, events) = world.step(node, step);
-        expected.add(&made, events);
-        moves += 1;
-        rest = after(rest, &expected.text).map_err(fault)?;
+        world.out.text.clear();
+        world.step(node, step);
+        rest = after(rest, world.out.text.bytes()).map_err(fault)?;
     }
-    expected.text.clear();
-    expected.close();
-    rest = after(rest, &expected.text).map_err(fault)?;
+    world.out.text.clear();
+    let moves = world.close();
+    rest = after(rest, world.out.text.bytes()).map_err(fault)?;
     if rest.is_empty() { Ok(format!("ok {moves}\n").into_bytes()) } else { Err(fault(rest)) }
+}
+
+// Where the line before the journal's begins; that is looked for line by line.
+fn place_of_journal(text: &[u8]) -> Option<usize> {
+    let mut start = 0;
+    loop {
+        let end = start + text[start..].iter().position(|byte| *byte == b'\n')?;
+        if text[end..].starts_with(BETWEEN) {
+            return Some(end);
+        }
+        start = end + 1;
+    }
 }
 
 // What follows the expected lines; or where the first other line begins.
@@ -43,16 +57,35 @@ fn after<'a>(rest: &'a [u8], expected: &[u8]) -> Result<&'a [u8], &'a [u8]> {
     Err(&rest[line..])
 }
 
-// The node and the step of the line that begins here.
+// The node and the step of the line that begins here with `move `. Its other words needn't be right: it is compared.
 fn step_of(names: &Names<'_>, rest: &[u8]) -> Option<(u8, Step)> {
-    let end = rest.iter().position(|byte| *byte == b'\n')?;
-    let line = str::from_utf8(&rest[..end]).ok()?;
-    let mut words = line.split(' ').skip(2);
-    let node = words.next()?.parse().ok()?;
-    let step = match words.next()? {
-        "act" => Step::Act(client_of(names, words.next()?)?),
-        "take" => Step::Take(words.next()?.parse().ok().filter(|sender| *sender < 16)?),
+    let mut at = 5;
+    while *rest.get(at)? != b' ' {
+        at += 1;
+    }
+    at += 1;
+    let node = number(rest, &mut at, b' ')?;
+    let step = match rest.get(at..at + 5)? {
+        b"take " => Step::Take(number(rest, &mut (at + 5), b'\n')?),
+        [b'a', b'c', b't', b' ', _] => {
+            let name = &rest[at + 4..];
+            Step::Act(names.client(&name[..name.iter().position(|byte| *byte == b'\n')?])?)
+        }
         _ => return None,
     };
     Some((node, step))
+}
+
+// The number below 64 at this place, which ends with this byte.
+fn number(rest: &[u8], at: &mut usize, end: u8) -> Option<u8> {
+    let mut number = 0;
+    while *rest.get(*at)? != end {
+        number = 10 * number + rest[*at].wrapping_sub(b'0');
+        if number > 63 {
+            return None;
+        }
+        *at += 1;
+    }
+    *at += 1;
+    Some(number)
 }

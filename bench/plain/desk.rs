@@ -1,123 +1,127 @@
-//! Modes, asks, and the desk that the token carries.
-use crate::script::Mode;
-
-pub type Stamp = (u64, u8);
-
-// The modes that conflict with each mode, as bits.
-const BARS: [u8; 5] = [16, 24, 28, 22, 31];
-
-// Of each set of modes, those that conflict with one of them.
-const BARRED: [u8; 32] = {
-    let mut all = [0; 32];
-    let mut modes = 1;
-    while modes < 32 {
-        let lowest = (modes as u32).trailing_zeros() as usize;
-        all[modes] = all[modes & (modes - 1)] | BARS[lowest];
-        modes += 1;
-    }
-    all
-};
-
-pub fn bars(modes: u8) -> u8 {
-    BARRED[usize::from(modes & 31)]
-}
-
-pub fn conflicts(a: Mode, b: Mode) -> bool {
-    BARS[usize::from(a)] >> b & 1 == 1
-}
-
-pub fn barred(modes: u8, mode: Mode) -> bool {
-    bars(modes) >> mode & 1 == 1
-}
-
-pub fn covers(modes: u8, mode: Mode) -> bool {
-    BARS[usize::from(mode)] & !bars(modes) == 0
-}
-
-pub fn is_taking(mode: Mode) -> bool {
-    conflicts(mode, mode)
-}
-
-#[derive(Clone, Copy)]
-pub struct Ask {
-    pub client: u16,
-    pub node: u8,
-    pub mode: Mode,
-    pub gives_up: Option<Mode>,
-    pub holder: bool,
-    pub stamp: Stamp,
-}
-
-pub struct Tell {
-    pub node: u8,
-    pub modes: u8,
-    pub pending: Vec<Stamp>,
-    pub stamp: Stamp,
-}
-
-/// An ask or a tell on its way to the desk.
-pub enum Parked {
-    Ask(Ask),
-    Tell(Tell),
-}
+//! The desk that the token carries.
+use crate::letter::{Ask, Parked, Stamp, Tell};
+use crate::modes::{Mode, Tally, bars};
 
 /// What the desk knows of a node.
 #[derive(Clone, Default)]
 pub struct Entry {
     pub reported: u8,
-    pub owed: Vec<(Stamp, Mode)>,
-    pub told_at: Stamp,
     pub frozen: u8,
     /// The reported modes and those of the owed asks.
     pub record: u8,
+    pub told_at: Stamp,
+    pub owed: Vec<(Stamp, Mode)>,
 }
 
 impl Entry {
     /// Keeps these of the owed asks, with new reported modes.
     pub fn settle(&mut self, reported: u8, told_at: Stamp, mut keeps: impl FnMut(Stamp) -> bool) {
         self.reported = reported;
-        self.owed.retain(|copy| keeps(copy.0));
         self.told_at = told_at;
-        self.record = self.owed.iter().fold(reported, |modes, copy| modes | 1 << copy.1);
+        self.record = reported;
+        if !self.owed.is_empty() {
+            self.owed.retain(|copy| keeps(copy.0));
+            self.record = self.owed.iter().fold(reported, |modes, copy| modes | 1 << copy.1);
+        }
     }
 }
 
 pub struct Desk {
-    pub epoch: u64,
-    pub number: u64,
+    pub epoch: u32,
+    pub number: u32,
+    /// Holders' asks stand before all others.
     pub queue: Vec<Ask>,
+    holders: usize,
+    asked: Tally,
+    /// The node that has it.
+    pub at: u8,
     pub entries: Vec<Entry>,
-    /// The modes of the last freezes, and whether a record has got modes since.
+    /// The records of all nodes but the one that has the desk.
+    pub records: Tally,
+    /// The modes of the last freezes, and whether a node with a record may not have been told them.
     pub told: u8,
     pub is_stale: bool,
 }
 
 impl Desk {
-    pub fn new(nodes: u8) -> Desk {
-        Desk { epoch: 0, number: 0, queue: Vec::new(), entries: vec![Entry::default(); usize::from(nodes)], told: 0, is_stale: false }
+    pub fn new(nodes: usize) -> Desk {
+        Desk {
+            epoch: 0,
+            number: 0,
+            queue: Vec::new(),
+            holders: 0,
+            asked: Tally::default(),
+            at: 0,
+            entries: vec![Entry::default(); nodes],
+            records: Tally::default(),
+            told: 0,
+            is_stale: false,
+        }
     }
 
-    /// Where a new ask stands in the queue.
-    pub fn place(&self, holder: bool) -> usize {
-        if holder { self.queue.iter().rposition(|ask| ask.holder).map_or(0, |k| k + 1) } else { self.queue.len() }
+    /// The modes of the asks before a new one.
+    pub fn before(&self, holder: bool) -> u8 {
+        if holder {
+            self.queue[..self.holders].iter().fold(0, |modes, ask| modes | 1 << ask.mode)
+        } else {
+            self.asked.one
+        }
     }
 
-    pub fn deal(&mut self, item: Parked) {
+    fn enter(&mut self, ask: Ask) {
+        self.asked.add(ask.mode);
+        if ask.holder {
+            self.queue.insert(self.holders, ask);
+            self.holders += 1;
+        } else {
+            self.queue.push(ask);
+        }
+    }
+
+    pub fn remove(&mut self, place: usize) -> Ask {
+        let ask = self.queue.remove(place);
+        self.holders -= usize::from(ask.holder);
+        self.asked.remove(ask.mode);
+        ask
+    }
+
+    pub fn deal(&mut self, item: &Parked) {
         match item {
-            Parked::Ask(ask) => self.queue.insert(self.place(ask.holder), ask),
-            Parked::Tell(tell) => {
-                let entry = &mut self.entries[usize::from(tell.node)];
-                if tell.stamp > entry.told_at {
-                    let Tell { modes, pending, stamp, .. } = tell;
-                    entry.settle(modes, stamp, |owed| pending.contains(&owed) || owed > stamp);
-                    self.is_stale = true;
-                }
+            Parked::Ask(ask) => self.enter(*ask),
+            Parked::Tell(tell) => self.apply(tell),
+        }
+    }
+
+    fn apply(&mut self, tell: &Tell) {
+        let entry = &mut self.entries[usize::from(tell.node)];
+        if tell.stamp > entry.told_at {
+            let before = entry.record;
+            entry.settle(tell.modes, tell.stamp, |owed| tell.is_pending(owed) || owed > tell.stamp);
+            if tell.node != self.at {
+                self.records.exchange(before, entry.record);
+                self.is_stale |= entry.record != 0 && entry.frozen != self.told;
             }
         }
     }
 
+    /// The ask was sent a copy.
+    pub fn owe(&mut self, ask: &Ask) {
+        let entry = &mut self.entries[usize::from(ask.node)];
+        entry.owed.push((ask.stamp, ask.mode));
+        self.records.exchange(entry.record, entry.record | 1 << ask.mode);
+        entry.record |= 1 << ask.mode;
+        self.is_stale |= entry.frozen != self.told;
+    }
+
+    /// The desk is at another node now, whose record is no longer counted; this one's is.
+    pub fn move_to(&mut self, node: u8) {
+        self.records.exchange(0, self.entries[usize::from(self.at)].record);
+        self.at = node;
+        self.records.exchange(self.entries[usize::from(node)].record, 0);
+    }
+
     /// The modes that conflict with a waiting ask.
     pub fn frozen(&self) -> u8 {
-        self.queue.iter().fold(0, |modes, ask| modes | BARS[usize::from(ask.mode)])
+        bars(self.asked.one)
     }
 }

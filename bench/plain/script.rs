@@ -1,12 +1,9 @@
 //! Scripts, and how they are read.
-use std::collections::HashMap;
-use std::hash::{BuildHasherDefault, Hasher};
+use crate::modes::{self, Mode};
 
-pub type Mode = u8;
+pub const MODES: [&[u8]; modes::COUNT] =
+    [b"intention_read", b"read", b"upgrade", b"intention_write", b"read_intention_write", b"write"];
 
-pub const WORDS: [&str; 5] = ["intention_read", "read", "upgrade", "intention_write", "write"];
-
-const MAX_COMMANDS: usize = 4096;
 const MAX_LINE: usize = 200;
 const MAX_WORDS: usize = 6;
 
@@ -19,143 +16,195 @@ pub enum Command {
     Drop(u16, u8),
 }
 
+pub struct Set<'a> {
+    pub name: &'a [u8],
+    /// The first set of its family.
+    pub family: u8,
+}
+
+pub struct Client<'a> {
+    pub name: &'a [u8],
+    pub node: u8,
+    /// Its place among the clients of its node.
+    pub slot: u8,
+    pub commands: Vec<Command>,
+}
+
 #[derive(Default)]
-pub struct Script {
+pub struct Script<'a> {
+    pub version: u8,
     pub nodes: u8,
-    /// Names, and the first set of the family.
-    pub sets: Vec<(String, u8)>,
-    /// Names and nodes.
-    pub clients: Vec<(String, u8)>,
-    /// The commands of each client.
-    pub commands: Vec<Vec<Command>>,
+    pub sets: Vec<Set<'a>>,
+    pub clients: Vec<Client<'a>>,
+    /// The clients of each node.
+    pub of_node: Vec<Vec<u16>>,
+    pub names: Names<'a>,
 }
 
-impl Script {
-    /// The sets of a set's family, in order.
-    pub fn family(&self, set: u8) -> impl Iterator<Item = usize> {
-        let first = self.sets[usize::from(set)].1;
-        self.sets.iter().enumerate().filter(move |(_, other)| other.1 == first).map(|(k, _)| k)
-    }
+/// Numbers of names, in a table by a hash: of a client as it is, of a set with 256 more.
+#[derive(Default)]
+pub struct Names<'a> {
+    places: Vec<(&'a [u8], u16)>,
 }
 
-/// Hashes names by the function of Fowler, Noll and Vo.
-#[derive(Clone)]
-pub struct Fnv(u64);
+const PLACES: usize = 1024;
+const SET: u16 = 256;
+const FREE: u16 = u16::MAX;
 
-impl Default for Fnv {
-    fn default() -> Fnv {
-        Fnv(0xcbf2_9ce4_8422_2325)
-    }
+// The function of Fowler, Noll and Vo, with a last step.
+fn hash(name: &[u8]) -> usize {
+    let hash = name.iter().fold(0x811c_9dc5_u32, |hash, byte| (hash ^ u32::from(*byte)).wrapping_mul(0x0100_0193));
+    (hash ^ hash >> 15) as usize % PLACES
 }
 
-impl Hasher for Fnv {
-    fn finish(&self) -> u64 {
-        self.0
-    }
-
-    fn write(&mut self, bytes: &[u8]) {
-        self.0 = bytes.iter().fold(self.0, |hash, byte| (hash ^ u64::from(*byte)).wrapping_mul(0x100_0000_01b3));
-    }
-}
-
-/// What a name is of.
-#[derive(Clone, Copy)]
-pub enum Name {
-    Set(u8),
-    Client(u16),
-}
-
-pub type Names<'a> = HashMap<&'a str, Name, BuildHasherDefault<Fnv>>;
-
-/// Reads a script, with its names; `None` if a line has a fault.
-pub fn read(text: &str) -> Option<(Script, Names<'_>)> {
-    let mut script = Script::default();
-    let mut names = Names::default();
-    let mut count = 0;
-    for line in text.split_terminator('\n') {
-        let mut words = [""; MAX_WORDS];
-        let found = split(line, &mut words)?;
-        match words[..found] {
-            [] => {}
-            ["nodes", nodes] => script.nodes = nodes.parse().ok()?,
-            ["set", name] => {
-                let number = script.sets.len() as u8;
-                names.insert(name, Name::Set(number)).is_none().then_some(())?;
-                script.sets.push((name.into(), number));
+impl<'a> Names<'a> {
+    fn add(&mut self, name: &'a [u8], number: u16) -> Option<()> {
+        if self.places.is_empty() {
+            self.places = vec![(&[], FREE); PLACES];
+        }
+        let mut place = hash(name);
+        while self.places[place].1 != FREE {
+            if self.places[place].0 == name {
+                return None;
             }
-            ["set", name, "with", other] => {
-                let family = script.sets[usize::from(set_of(&names, other)?)].1;
-                names.insert(name, Name::Set(script.sets.len() as u8)).is_none().then_some(())?;
-                script.sets.push((name.into(), family));
+            place = (place + 1) % PLACES;
+        }
+        self.places[place] = (name, number);
+        Some(())
+    }
+
+    fn number(&self, name: &[u8]) -> Option<u16> {
+        if self.places.is_empty() {
+            return None;
+        }
+        let mut place = hash(name);
+        loop {
+            let (other, number) = self.places[place];
+            if number == FREE {
+                return None;
             }
-            ["client", name, "at", node] => {
-                names.insert(name, Name::Client(script.clients.len() as u16)).is_none().then_some(())?;
-                script.clients.push((name.into(), node.parse().ok()?));
-                script.commands.push(Vec::new());
+            if other == name {
+                return Some(number);
             }
-            [client, verb, ref rest @ ..] => {
-                let command = command_of(&names, verb, rest)?;
-                script.commands[usize::from(client_of(&names, client)?)].push(command);
-                count += 1;
-            }
-            _ => return None,
+            place = (place + 1) % PLACES;
         }
     }
-    (count <= MAX_COMMANDS).then_some((script, names))
+
+    /// The client of this name.
+    pub fn client(&self, name: &[u8]) -> Option<u16> {
+        self.number(name).filter(|number| *number < SET)
+    }
+
+    fn set(&self, name: &[u8]) -> Option<u8> {
+        self.number(name)?.checked_sub(SET).map(|number| number as u8)
+    }
 }
 
-// The words of a line, and how many there are; none of a comment.
-fn split<'a>(line: &'a str, words: &mut [&'a str; MAX_WORDS]) -> Option<usize> {
-    if line.len() > MAX_LINE {
-        return None;
-    }
-    let (mut found, mut first) = (0, None);
-    for (k, byte) in line.bytes().enumerate() {
-        match byte {
-            b' ' | b'\t' => {
-                if let Some(first) = first.take() {
-                    *words.get_mut(found)? = &line[first..k];
-                    found += 1;
-                }
-            }
-            b'#' if found == 0 && first.is_none() => return Some(0),
-            b'!'..=b'~' => first = first.or(Some(k)),
-            _ => return None,
+/// Reads a script; `None` if a line has a fault. Limits aren't looked at.
+pub fn read(text: &[u8]) -> Option<Script<'_>> {
+    let mut script = Script { version: 1, ..Script::default() };
+    let mut rest = text;
+    while !rest.is_empty() {
+        let mut words = [&rest[..0]; MAX_WORDS];
+        let found = split(&mut rest, &mut words)?;
+        if found > 0 {
+            read_line(&mut script, &words[..found])?;
         }
     }
-    if let Some(first) = first {
-        *words.get_mut(found)? = &line[first..];
-        found += 1;
-    }
-    Some(found)
+    Some(script)
 }
 
-fn command_of(names: &Names<'_>, verb: &str, rest: &[&str]) -> Option<Command> {
+// The words of the first line, and how many there are; none of a comment. The line goes.
+fn split<'a>(rest: &mut &'a [u8], words: &mut [&'a [u8]; MAX_WORDS]) -> Option<usize> {
+    let text = *rest;
+    let (mut found, mut k) = (0, 0);
+    loop {
+        while k < text.len() && matches!(text[k], b' ' | b'\t') {
+            k += 1;
+        }
+        let first = k;
+        while k < text.len() && matches!(text[k], b'!'..=b'~') {
+            k += 1;
+        }
+        if k > first {
+            if found == 0 && text[first] == b'#' {
+                k += text[k..].iter().position(|byte| *byte == b'\n').unwrap_or(text.len() - k);
+            } else {
+                *words.get_mut(found)? = &text[first..k];
+                found += 1;
+            }
+        }
+        if k == text.len() || text[k] == b'\n' {
+            *rest = &text[(k + 1).min(text.len())..];
+            return (found == 0 || k <= MAX_LINE).then_some(found);
+        }
+        if !matches!(text[k], b' ' | b'\t') {
+            return None;
+        }
+    }
+}
+
+fn read_line<'a>(script: &mut Script<'a>, words: &[&'a [u8]]) -> Option<()> {
+    match *words {
+        [b"version", b"2"] => script.version = 2,
+        [b"nodes", nodes] => {
+            script.nodes = number(nodes)?;
+            script.of_node = vec![Vec::new(); usize::from(script.nodes)];
+        }
+        [b"set", name] => add_set(script, name, script.sets.len() as u8)?,
+        [b"set", name, b"with", other] => {
+            let family = script.sets[usize::from(script.names.set(other)?)].family;
+            add_set(script, name, family)?;
+        }
+        [b"client", name, b"at", node] => {
+            let client = script.clients.len() as u16;
+            let node: u8 = number(node)?;
+            script.names.add(name, client)?;
+            let others = script.of_node.get_mut(usize::from(node))?;
+            script.clients.push(Client { name, node, slot: others.len() as u8, commands: Vec::new() });
+            others.push(client);
+        }
+        [client, verb, ref rest @ ..] => {
+            let client = script.names.client(client)?;
+            let command = command_of(&script.names, verb, rest)?;
+            script.clients[usize::from(client)].commands.push(command);
+        }
+        _ => return None,
+    }
+    Some(())
+}
+
+fn number(word: &[u8]) -> Option<u8> {
+    str::from_utf8(word).ok()?.parse().ok()
+}
+
+fn add_set<'a>(script: &mut Script<'a>, name: &'a [u8], family: u8) -> Option<()> {
+    script.names.add(name, script.sets.len() as u16 + SET)?;
+    script.sets.push(Set { name, family });
+    Some(())
+}
+
+fn command_of(names: &Names<'_>, verb: &[u8], rest: &[&[u8]]) -> Option<Command> {
     Some(match (verb, rest) {
-        ("lock", [set, mode]) => Command::Lock(set_of(names, set)?, mode_of(mode)?),
-        ("try", [set, mode]) => Command::Try(set_of(names, set)?, mode_of(mode)?),
-        ("unlock", [set, mode]) => Command::Unlock(set_of(names, set)?, mode_of(mode)?),
-        ("change", [set, from, to]) => Command::Change(set_of(names, set)?, mode_of(from)?, mode_of(to)?),
-        ("drop", [client, set]) => Command::Drop(client_of(names, client)?, set_of(names, set)?),
+        (b"lock", [set, mode]) => Command::Lock(names.set(set)?, mode_of(mode)?),
+        (b"try", [set, mode]) => Command::Try(names.set(set)?, mode_of(mode)?),
+        (b"unlock", [set, mode]) => Command::Unlock(names.set(set)?, mode_of(mode)?),
+        (b"change", [set, from, to]) => Command::Change(names.set(set)?, mode_of(from)?, mode_of(to)?),
+        (b"drop", [client, set]) => Command::Drop(names.client(client)?, names.set(set)?),
         _ => return None,
     })
 }
 
-fn mode_of(word: &str) -> Option<Mode> {
-    WORDS.iter().position(|&other| other == word).map(|mode| mode as Mode)
-}
-
-fn set_of(names: &Names<'_>, name: &str) -> Option<u8> {
-    match names.get(name) {
-        Some(Name::Set(set)) => Some(*set),
-        _ => None,
-    }
-}
-
-/// The client of this name.
-pub fn client_of(names: &Names<'_>, name: &str) -> Option<u16> {
-    match names.get(name) {
-        Some(Name::Client(client)) => Some(*client),
-        _ => None,
-    }
+// No two modes have names of the same length.
+fn mode_of(word: &[u8]) -> Option<Mode> {
+    let mode = match word.len() {
+        14 => 0,
+        4 => 1,
+        7 => 2,
+        15 => 3,
+        20 => 4,
+        5 => 5,
+        _ => return None,
+    };
+    (MODES[usize::from(mode)] == word).then_some(mode)
 }

@@ -1,6 +1,6 @@
 -- What is told of the bytes of an input is told of its source.
-use Rattle.std.proofs.Common.{◌≡◌, ◌∙◌, ℕ, ◌+◌, ◌≤◌, List, ◌++◌, Option, Some, None, Result, Ok, Err, length, take, drop, refl, sym, ap, subst, inl, inr, arith, length-append, append-nil}
-use Rattle.std.specs.Prelude.{◌⊎◌, ◌≢◌, IfOk, IfErr}
+use Rattle.std.proofs.Common.{◌≡◌, ◌∙◌, ℕ, ◌≤◌, List, ◌++◌, Option, Some, None, Result, length, drop, refl, sym, ap, subst, inl, inr, arith, length-append, append-nil}
+use Rattle.std.specs.Prelude.{◌⊎◌, ◌≢◌}
 use Rattle.std.specs.Io.KnownBytes.{Consumes, IsAtEnd}
 use Rattle.lt_io.specs.Source.{SourceState}
 use Rattle.lt_io.specs.Reading.{ReadsOut, FailsBy}

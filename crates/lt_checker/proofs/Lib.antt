@@ -1,4 +1,4 @@
-mod Keeping
+mod Pieces
 mod Moving
 mod DueLines
 mod LeftLines

@@ -1,7 +1,8 @@
 -- What contracts see of a checker, and what it answers.
-use Rattle.std.specs.Prelude.{◌≡◌, ℕ, List, Option, Some, None, Result, Ok, Err}
+use Rattle.std.specs.Prelude.{◌≡◌, ◌≢◌, ℕ, List, [], Option, Some, None, Result, Ok, Err}
 use Rattle.std.specs.Option.{option_map}
 use Rattle.lt_modes.specs.Script.{ScriptData}
+use Rattle.lt_text.specs.Text.{is_line_end, HasNone}
 use Rattle.lt_spec.specs.Log.{Logged}
 use Rattle.lt_merge.specs.Run.{RunData}
 use Rattle.lt_law_checking.specs.Feeding.{Feed, new_feed, fed_piece}
@@ -41,3 +42,19 @@ abbrev pub IsAnswer : Result (List Logged) ℕ → Result RunData ReplayError �
 IsAnswer told (Ok run) = told ≡ Ok run.entries
 IsAnswer told (Err Memory) = Unit {0}
 IsAnswer told (Err (Bad line)) = told ≡ Err line
+
+-- the answer is that memory was refused
+abbrev pub IsMemory : {T : Type 0} → Result T ReplayError → Type 0
+IsMemory (Ok told) = ⊥
+IsMemory (Err Memory) = Unit {0}
+IsMemory (Err (Bad line)) = ⊥
+
+-- a line is read, which may take memory: no line was bad, and the piece ends one
+pub record MayReadOn (feed : Feed) (piece : List ℕ) : Type 0 where
+  pub good : feed.reader.place ≢ None
+  pub ends : ¬ HasNone is_line_end piece
+
+-- the last line is read: no line was bad, and bytes of one are kept
+pub record MayReadLast (feed : Feed) : Type 0 where
+  pub good : feed.reader.place ≢ None
+  pub kept : feed.rest ≢ []

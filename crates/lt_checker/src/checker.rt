@@ -1,8 +1,9 @@
-ghost use Rattle.std.specs.Prelude.{◌≡◌, [], ◌∷◌, ◌++◌, ℕ, List, take, Some, None, Err, IsNone, IsErr, IfOk, OnOk, OnErr};
-ghost use Rattle.lt_text.specs.Text.{lines, without_return};
-ghost use Rattle.lt_law_checking.specs.Checking.{checked, read_on};
+ghost use Rattle.std.specs.Prelude.{◌≡◌, ◌≢◌, [], ◌∷◌, ◌++◌, ◌≤◌, ℕ, List, length, take, Some, None, Err, IsNone, IsErr, IfOk, IfSome, OnOk, OnErr};
+ghost use Rattle.lt_text.specs.Text.{lines, without_return, is_line_end, HasNone};
+ghost use Rattle.lt_modes.specs.Script.{ScriptData};
+ghost use Rattle.lt_law_checking.specs.Checking.{Reader as AnyReader, checked, read_on};
 ghost use Rattle.lt_law_checking.specs.Feeding.{Feed, new_feed, fed_piece, last_ended, ended};
-ghost use Rattle.lt_checker.specs.Checker.{CheckerData, StandsFor, IsAnswer, with_piece, spent};
+ghost use Rattle.lt_checker.specs.Checker.{CheckerData, StandsFor, IsAnswer, IsMemory, MayReadOn, MayReadLast, with_piece, spent};
 ghost use Rattle.lt_checker.specs.Endings.{IsWorldAnswer};
 
 use crate::error::ReplayError;
@@ -12,6 +13,7 @@ use lt_merge::Run;
 use lt_script::Script;
 use lt_text::trim_return;
 use lt_world::World;
+use memchr::{memchr, memrchr};
 use std::alloc::{AllocError, Global};
 use std::marker::Model;
 
@@ -57,14 +59,19 @@ impl Checker {
         ensures ok { OnOk result (self.new ≡ with_piece self.old piece.now) }
         ensures err { OnErr result (self.new ≡ spent self.old) }
         ensures refused { IsNone self.old.feed → IsErr result }
+        ensures cause { IsErr result → IfSome self.old.feed (λ feed. MayReadOn feed piece.now) }
         ensures stands { OnOk result ((bytes : List ℕ) → StandsFor self.old bytes → StandsFor self.new (bytes ++ piece.now)) }
     {
-        let Some(reader) = self.reader.take() else {
+        let Some(reader) = &mut self.reader else {
             return Err(AllocError);
         };
-        let reader = feed_all(reader, &mut self.rest, piece)?;
-        self.reader = Some(reader);
-        Ok(())
+        match feed_all(reader, &mut self.rest, piece) {
+            Ok(()) => Ok(()),
+            Err(error) => {
+                self.reader = None;
+                Err(error)
+            }
+        }
     }
 
     /// The run whose journal the bytes are, or the first bad line.
@@ -72,6 +79,7 @@ impl Checker {
         ensures answers { (bytes : List ℕ) → StandsFor self bytes → IsAnswer (checked self.script (lines bytes)) result }
         ensures ended { (feed : Feed) → self.feed ≡ Some feed → IsAnswer (ended self.script feed) result }
         ensures refused { IsNone self.feed → result ≡ Err ReplayError.Memory }
+        ensures cause { IsMemory result → IfSome self.feed MayReadLast }
     {
         Ok(self.end_world()?.into_run())
     }
@@ -83,6 +91,7 @@ impl Checker {
         ensures ended { (feed : Feed) → self.feed ≡ Some feed
             → IsWorldAnswer self.script (ended self.script feed) result }
         ensures refused { IsNone self.feed → result ≡ Err ReplayError.Memory }
+        ensures cause { IsMemory result → IfSome self.feed MayReadLast }
     {
         let Checker {
             reader,
@@ -97,53 +106,91 @@ impl Checker {
 }
 
 // Ends a last line that has no line end.
-fn end_last_line(reader: Reader, rest: &mut ArrayVec<u8, 201>) -> Result<Reader, AllocError>
+fn end_last_line(mut reader: Reader, rest: &mut ArrayVec<u8, 201>) -> Result<Reader, AllocError>
     ensures script { IfOk result (λ after. after.script ≡ reader.script) }
     ensures ended { IfOk result (λ after. after.reader
         ≡ (last_ended reader.script (record { reader = reader.reader; rest = rest.old.items })).reader) }
+    ensures cause { IsErr result → MayReadLast (record { reader = reader.reader; rest = rest.old.items }) }
 {
-    if rest.is_empty() {
-        return Ok(reader);
-    }
-    end_line(reader, rest)
-}
-
-// Takes the bytes one by one.
-fn feed_all(
-    mut reader: Reader,
-    rest: &mut ArrayVec<u8, 201>,
-    piece: &[u8],
-) -> Result<Reader, AllocError>
-    ensures script { IfOk result (λ after. after.script ≡ reader.script) }
-    ensures fed { IfOk result (λ after. record { reader = after.reader; rest = rest.new.items }
-        ≡ fed_piece reader.script (record { reader = reader.reader; rest = rest.old.items }) piece.now) }
-{
-    for byte in piece {
-        if *byte == b'\n' {
-            reader = end_line(reader, rest)?;
-        } else {
-            keep(rest, *byte);
-        }
+    if !rest.is_empty() {
+        reader.take(trim_return(rest))?;
     }
     Ok(reader)
 }
 
-// The line is whole.
-fn end_line(reader: Reader, rest: &mut ArrayVec<u8, 201>) -> Result<Reader, AllocError>
-    ensures script { IfOk result (λ after. after.script ≡ reader.script) }
-    ensures read { IfOk result (λ after. after.reader ≡ read_on reader.script reader.reader (without_return rest.old.items)) }
-    ensures empty { rest.new.items ≡ [] }
+// Takes the bytes line by line.
+fn feed_all(
+    reader: &mut Reader,
+    rest: &mut ArrayVec<u8, 201>,
+    piece: &[u8],
+) -> Result<(), AllocError>
+    ensures script { reader.new.script ≡ reader.old.script }
+    ensures fed { OnOk result (record { reader = reader.new.reader; rest = rest.new.items }
+        ≡ fed_piece reader.old.script (record { reader = reader.old.reader; rest = rest.old.items }) piece.now) }
+    ensures cause { IsErr result → MayReadOn (record { reader = reader.old.reader; rest = rest.old.items }) piece.now }
 {
-    let reader = reader.take(trim_return(rest));
-    rest.clear();
-    reader
+    if reader.is_bad() {
+        skip_lines(rest, piece);
+        return Ok(());
+    }
+    let mut left = piece;
+    while let Some(end) = memchr(b'\n', left) {
+        let (line, _) = left.split_at(end);
+        end_line(reader, rest, line)?;
+        let (_, later) = left.split_at(end + 1);
+        left = later;
+    }
+    keep(rest, left);
+    Ok(())
 }
 
-// Keeps one byte more of a line that isn't whole, where there is room.
-fn keep(rest: &mut ArrayVec<u8, 201>, byte: u8)
-    ensures { rest.new.items ≡ take 201 (rest.old.items ++ byte ∷ []) }
+// The line whose last bytes these are is whole.
+fn end_line(
+    reader: &mut Reader,
+    rest: &mut ArrayVec<u8, 201>,
+    last: &[u8],
+) -> Result<(), AllocError>
+    ensures script { reader.new.script ≡ reader.old.script }
+    ensures read { OnOk result (reader.new.reader
+        ≡ read_on reader.old.script reader.old.reader (without_return (take 201 (rest.old.items ++ last.now)))) }
+    ensures empty { OnOk result (rest.new.items ≡ []) }
+    ensures few { length rest.old.items ≤ 201 }
 {
-    if !rest.is_full() {
-        rest.push(byte);
+    if rest.is_empty() {
+        let (line, _) = last.split_at(last.len().min(201));
+        reader.take(trim_return(line))?;
+        return Ok(());
+    }
+    keep(rest, last);
+    reader.take(trim_return(rest))?;
+    rest.clear();
+    Ok(())
+}
+
+// After a bad line no line counts: only the bytes after the last line end are kept.
+fn skip_lines(rest: &mut ArrayVec<u8, 201>, piece: &[u8])
+    ensures { (script : ScriptData) (reader : AnyReader) → reader.place ≡ None
+        → record { reader = reader; rest = rest.new.items } ≡ fed_piece script (record { reader = reader; rest = rest.old.items }) piece.now }
+{
+    match memrchr(b'\n', piece) {
+        Some(end) => {
+            rest.clear();
+            let (_, last) = piece.split_at(end + 1);
+            keep(rest, last);
+        }
+        None => keep(rest, piece),
+    }
+}
+
+// Keeps more bytes of a line that isn't whole, as far as there is room.
+fn keep(rest: &mut ArrayVec<u8, 201>, bytes: &[u8])
+    ensures kept { rest.new.items ≡ take 201 (rest.old.items ++ bytes.now) }
+    ensures few { length rest.old.items ≤ 201 }
+{
+    let room = 201 - rest.len();
+    let (kept, _) = bytes.split_at(bytes.len().min(room));
+    match rest.try_extend_from_slice(kept) {
+        Ok(()) => {}
+        Err(_) => unreachable!(),
     }
 }

@@ -1,7 +1,7 @@
-ghost use Rattle.std.specs.Prelude.{◌≡◌, IfOk};
+ghost use Rattle.std.specs.Prelude.{◌≡◌, ◌≢◌, None, IfOk, OnOk, IsTrue, IsFalse, IsErr};
 ghost use Rattle.lt_script.specs.Script.{IsScript};
 ghost use Rattle.lt_law_checking.specs.Checking.{first_reader, read_on, verdict};
-ghost use Rattle.lt_checker.specs.Checker.{IsAnswer};
+ghost use Rattle.lt_checker.specs.Checker.{IsAnswer, IsMemory};
 ghost use Rattle.lt_checker.specs.Endings.{IsWorldAnswer};
 
 use crate::counts::Counts;
@@ -71,46 +71,42 @@ impl Reader {
         })
     }
 
+    /// Whether a line was bad.
+    pub(crate) fn is_bad(&self) -> bool
+        ensures bad { IsTrue result → self.now.reader.place ≡ None }
+        ensures good { IsFalse result → self.now.reader.place ≢ None }
+    {
+        self.bad
+    }
+
     /// Takes one line. It also fails where the count of lines would pass the largest number.
-    pub(crate) fn take(self, line: &[u8]) -> Result<Reader, AllocError>
-        ensures script { IfOk result (λ reader. reader.script ≡ self.script) }
-        ensures reader { IfOk result (λ reader. reader.reader ≡ read_on self.script self.reader line.now) }
+    pub(crate) fn take(&mut self, line: &[u8]) -> Result<(), AllocError>
+        ensures script { self.new.script ≡ self.old.script }
+        ensures reader { OnOk result (self.new.reader ≡ read_on self.old.script self.old.reader line.now) }
+        ensures cause { IsErr result → self.old.reader.place ≢ None }
     {
         if self.bad {
-            return Ok(self);
+            return Ok(());
         }
-        let Reader {
-            alloc,
-            script,
-            mut world,
-            mut counts,
-            mut due,
-            mut words,
-            good,
-            ..
-        } = self;
+        // Where memory is refused, nothing is known of what is kept.
+        self.bad = true;
         let is_good = follow(
-            alloc,
-            &script,
-            &mut world,
-            &mut counts,
-            &mut due,
-            &mut words,
+            self.alloc,
+            &self.script,
+            &mut self.world,
+            &mut self.counts,
+            &mut self.due,
+            &mut self.words,
             line,
         )?;
-        if good == u32::MAX - 1 {
+        if self.good == u32::MAX - 1 {
             return Err(AllocError);
         }
-        Ok(Reader {
-            alloc,
-            script,
-            world,
-            counts,
-            due,
-            words,
-            good: if is_good { good + 1 } else { good },
-            bad: !is_good,
-        })
+        if is_good {
+            self.good += 1;
+            self.bad = false;
+        }
+        Ok(())
     }
 
     /// The run, where all its lines are there.
@@ -124,6 +120,7 @@ impl Reader {
     /// The world in which the run ended, where all its lines are there.
     pub(crate) fn finish_world(self) -> Result<World, ReplayError>
         ensures answers { IsWorldAnswer self.script (verdict self.script self.reader) result }
+        ensures told { ¬ IsMemory result }
         ensures is_script { IsScript self.script }
     {
         if self.bad || !self.due.is_empty() || !self.world.at_rest() {

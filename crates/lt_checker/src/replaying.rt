@@ -28,7 +28,7 @@ fn read_all(alloc: Global, script: &Script, journal: &Journal) -> Result<Reader,
     let mut reader = Reader::new(alloc, script)?;
     for k in 0..journal.len() {
         let line = write_line(alloc, script, journal.line(k))?;
-        reader = reader.take(&line)?;
+        reader.take(&line)?;
     }
     Ok(reader)
 }

@@ -1,4 +1,4 @@
-ghost use Rattle.std.specs.Prelude.{◌≡◌, ◌+◌, ◌≤◌, ◌<◌, ◌^◌, length, map, filter_map, IfOk, OnOk, is_some};
+ghost use Rattle.std.specs.Prelude.{◌≡◌, ◌+◌, ◌≤◌, ◌<◌, ◌^◌, length, map, filter_map, IfOk, IsOk, OnOk, is_some};
 ghost use Rattle.lt_modes.specs.State.{first_state};
 ghost use Rattle.lt_modes.specs.Held.{locks_of};
 ghost use Rattle.lt_modes.specs.Serving.{queue_of, waits};
@@ -103,6 +103,7 @@ impl Core {
         ensures place { (self.new.node ≡ self.old.node) × (self.new.set ≡ self.old.set) }
         ensures room { OnOk result (HasMemory 0 self.new) }
         ensures kept { KeepsRoom self.old self.new }
+        ensures full { HasMemory 0 self.old → IsOk result }
     {
         self.reserve_with(0)
     }
@@ -117,6 +118,8 @@ impl Core {
         ensures desk { OnOk result (RoomIn (waiting_here self.new.state + asks_in letter.new.body + 2) letter.new.body) }
         ensures kept { KeepsRoom self.old self.new }
         ensures desk_kept { (places_in letter.old.body ≤ places_in letter.new.body) × (body_spare letter.old.body ≤ body_spare letter.new.body) }
+        ensures full { HasMemory (asks_in letter.old.body) self.old
+            → RoomIn (waiting_here self.old.state + asks_in letter.old.body + 2) letter.old.body → IsOk result }
     {
         let brought = letter.asks();
         let asks = self.waiting() + brought + 2;
@@ -132,6 +135,7 @@ impl Core {
         ensures place { (self.new.node ≡ self.old.node) × (self.new.set ≡ self.old.set) }
         ensures room { OnOk result (HasMemory brought self.new) }
         ensures kept { KeepsRoom self.old self.new }
+        ensures full { HasMemory brought self.old → IsOk result }
     {
         let asks = self.waiting() + brought + 2;
         self.held.reserve(asks)?;

@@ -1,4 +1,4 @@
-ghost use Rattle.std.specs.Prelude.{◌≡◌, ◌≤◌, OnOk};
+ghost use Rattle.std.specs.Prelude.{◌≡◌, ◌≤◌, IsOk, OnOk};
 ghost use Rattle.lt_desk.specs.LetterSeen.{letter_seen};
 ghost use Rattle.lt_desk.specs.Hands.{asks_in, RoomIn, places_in, body_spare};
 
@@ -61,6 +61,7 @@ impl Letter {
         ensures asks { asks_in self.new.body ≡ asks_in self.old.body }
         ensures room { OnOk result (RoomIn asks self.new.body) }
         ensures kept { (places_in self.old.body ≤ places_in self.new.body) × (body_spare self.old.body ≤ body_spare self.new.body) }
+        ensures full { RoomIn asks self.old.body → IsOk result }
     {
         match &mut self.body {
             Body::Token(desk) => desk.reserve_for(asks),

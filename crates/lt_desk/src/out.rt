@@ -1,4 +1,4 @@
-ghost use Rattle.std.specs.Prelude.{◌≡◌, ◌+◌, ◌≤◌, ◌<◌, [], ◌∷◌, ◌++◌, length, OnOk, MatchOption};
+ghost use Rattle.std.specs.Prelude.{◌≡◌, ◌+◌, ◌≤◌, ◌<◌, [], ◌∷◌, ◌++◌, length, IsOk, OnOk, MatchOption};
 ghost use Rattle.lt_desk.specs.LetterSeen.{post_seen};
 
 use crate::letter::Post;
@@ -47,9 +47,11 @@ impl Out {
         ensures post_room { OnOk result (length self.old.posts + letters ≤ self.new.post_room) }
         ensures event_room { OnOk result (length self.old.events + events ≤ self.new.event_room) }
         ensures kept { (self.old.post_room ≤ self.new.post_room) × (self.old.event_room ≤ self.new.event_room) }
+        ensures full { length self.old.posts + letters ≤ self.old.post_room → length self.old.events + events ≤ self.old.event_room → IsOk result }
     {
         self.posts.reserve(letters as usize)?;
-        self.events.reserve(events as usize)
+        self.events.reserve(events as usize)?;
+        Ok(())
     }
 
     /// How many letters it has room for in all.

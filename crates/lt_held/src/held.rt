@@ -43,6 +43,7 @@ impl Held {
         ensures rows { self.new.rows ≡ self.old.rows }
         ensures spare { OnOk result (rows ≤ self.new.spare) }
         ensures spare_kept { self.old.spare ≤ self.new.spare }
+        ensures full { OnErr result (self.old.spare < rows) }
         ensures unchanged { OnErr result (self.new ≡ self.old) }
     {
         self.rows.reserve(rows as usize)

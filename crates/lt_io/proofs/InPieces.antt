@@ -5,6 +5,7 @@ use Rattle.std.specs.Io.KnownBytes.{Consumes}
 use Rattle.std.proofs.KnownBytes.{Consumes-nil, Consumes-trans}
 use Rattle.lt_io.specs.declared.whole.ReadFailure.{ReadFailure}
 use Rattle.lt_io.specs.declared.whole.ReadFailure.TheVariants.{Memory}
+use Rattle.lt_io.specs.FaultCounts.{Rose}
 use Rattle.lt_io.specs.Source.{SourceState}
 use Rattle.lt_io.specs.Reading.{ReadsOn, ReadsOut, FailsBy}
 
@@ -84,3 +85,6 @@ gives_up a limit x y within first = record {
   part_taken = (a, first.consumed);
   no_end = first.no_end;
 }
+
+pub some_given : (bytes : List ℕ) (x y : SourceState) → 0 < length bytes → ReadsOn bytes x y → Rose x.given y.given
+some_given bytes x y some read = omega (arith, some, read.all_counted, read.none_uncounted, read.none_made_up)

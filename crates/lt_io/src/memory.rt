@@ -1,7 +1,8 @@
-ghost use Rattle.std.specs.Prelude.{◌≡◌, ◌-◌, ◌↔◌, Some, min, length, IsErr, IfOk, Contains};
+ghost use Rattle.std.specs.Prelude.{◌≡◌, ◌-◌, ◌↔◌, Some, min, length, IsTrue, IsFalse, IsErr, IfOk, Contains};
 ghost use Rattle.std.specs.Io.{ReadsAtMost};
 ghost use Rattle.std.specs.Io.KnownBytes.{ReadConsumes, WriteAppends};
 ghost use Rattle.lt_io.specs.FaultCounts.{count_after, HasCause};
+ghost use Rattle.lt_io.specs.Memory.{StopsWrite, RefusesWrite};
 ghost use Rattle.lt_io.specs.Source.{Ends, Gives};
 ghost use Rattle.lt_io.specs.Sink.{TakesSome, KeepsPace};
 
@@ -75,8 +76,8 @@ impl Sink for MemorySink {
 
     fn write(&mut self, piece: &[u8]) -> Result<usize, Failed>
         ensures called { self.new.calls ≡ count_after self.old.calls 1 }
-        // Any other failure is counted too, but what memory allows is left open.
         ensures listed { Contains self.old.fails.items self.new.calls → IsErr result }
+        ensures failed { IsErr result → RefusesWrite self.old self.new.calls (length piece.now) }
         ensures took { IfOk result (λ n. n ≡ min self.old.per_write (length piece.now)) }
         ensures kept { (self.new.per_write ≡ self.old.per_write) × (self.new.fails ≡ self.old.fails) }
 
@@ -88,11 +89,20 @@ impl Sink for MemorySink {
     {
         self.calls = self.calls.saturating_add(1);
         let count = piece.len().min(self.per_write);
-        let refused = self.fails.contains(&self.calls) || (count == 0 && !piece.is_empty());
-        if refused || self.bytes.extend_from_slice(&piece[..count]).is_err() {
+        if self.is_stopped(piece.len()) || self.bytes.extend_from_slice(&piece[..count]).is_err() {
             self.faults = self.faults.saturating_add(1);
             return Err(Failed);
         }
         Ok(count)
+    }
+}
+
+impl MemorySink {
+    // Whether a write of a piece of this length fails, whatever memory there is.
+    fn is_stopped(&self, size: usize) -> bool
+        ensures stopped { IsTrue result → StopsWrite self.now self.now.calls size }
+        ensures goes_on { IsFalse result → ¬ StopsWrite self.now self.now.calls size }
+    {
+        self.fails.contains(&self.calls) || (self.per_write == 0 && size > 0)
     }
 }

@@ -1,7 +1,7 @@
 ghost use Rattle.std.specs.Prelude.{◌≡◌, ◌≤◌, length, vec_len, IfOk, IfErr, OnOk, OnErr};
 ghost use Rattle.std.specs.Io.KnownBytes.{Appends};
 ghost use Rattle.lt_io.specs.declared.whole.ReadFailure.TheVariants as failure;
-ghost use Rattle.lt_io.specs.FaultCounts.{HasCause};
+ghost use Rattle.lt_io.specs.FaultCounts.{Rose, HasCause};
 ghost use Rattle.lt_io.specs.Reading.{ReadsOut, FailsBy};
 ghost use Rattle.lt_io.specs.Sink.{AppendsPart, WritesByFewest, StopsByFewest};
 
@@ -56,8 +56,8 @@ impl From<AllocError> for ReadFailure {
     }
 }
 
-/// Reads a source to its end. Of a source with more bytes than the limit one more than the limit is
-/// read. Nothing is promised of when memory is wanting.
+/// Reads a source to its end. Of a source with more bytes than the limit one more than the limit is read. Memory is
+/// taken only for bytes that came.
 pub fn read_all<S: Source>(
     alloc: Global,
     source: &mut S,
@@ -66,6 +66,7 @@ pub fn read_all<S: Source>(
     ensures out { IfOk result (λ bytes. ReadsOut bytes.items (S.state source.old) (S.state source.new)) }
     ensures within { IfOk result (λ bytes. vec_len bytes ≤ limit) }
     ensures err { IfErr result (λ why. FailsBy why limit (S.state source.old) (S.state source.new)) }
+    ensures memory { IfErr result (λ why. why ≡ failure.Memory → Rose (S.state source.old).given (S.state source.new).given) }
 {
     let mut bytes = Vec::new(alloc);
     let mut buf = [0; MAX_PIECE];

@@ -1,4 +1,4 @@
-ghost use Rattle.std.specs.Prelude.{◌≡◌, [], ◌∷◌, ◌++◌, OnOk};
+ghost use Rattle.std.specs.Prelude.{◌≡◌, ◌<◌, [], ◌∷◌, ◌++◌, OnOk};
 ghost use Rattle.std.specs.Fmt.{decimal};
 ghost use Rattle.lt_text.specs.Text.{after_space};
 
@@ -48,8 +48,27 @@ impl Text {
     pub fn number(&mut self, number: u64) -> Result<(), AllocError>
         ensures { OnOk result (self.new ≡ self.old ++ after_space (decimal number)) }
     {
+        if number < 100 {
+            return self.short_number(number);
+        }
         let mut digits = Buffer::new();
         self.word(digits.format(number).as_bytes())
+    }
+
+    // Writes a number of one or two digits as a later word of a line.
+    #[tactic(auto, using(crate::proofs::Digits::one_digit, crate::proofs::Digits::two_digits))]
+    fn short_number(&mut self, number: u64) -> Result<(), AllocError>
+        requires { number < 100 }
+        ensures { OnOk result (self.new ≡ self.old ++ after_space (decimal number)) }
+    {
+        self.bytes.push(b' ')?;
+        if number < 10 {
+            self.bytes.push(b'0' + number as u8)?;
+            return Ok(());
+        }
+        self.bytes.push(b'0' + (number / 10) as u8)?;
+        self.bytes.push(b'0' + (number % 10) as u8)?;
+        Ok(())
     }
 
     pub fn end_line(&mut self) -> Result<(), AllocError>

@@ -1,7 +1,7 @@
 -- What a change of one lane says of the letters that it has.
-use Rattle.std.proofs.Common.{◌≡◌, ℕ, inl, inr, List, [], ◌∷◌, Option, Some, None, refl, sym, ap, ◌∙◌}
-use Rattle.std.specs.Prelude.{◌⊎◌}
-use Rattle.std.proofs.lemmas.List.{map-append}
+use Rattle.std.proofs.Common.{◌≡◌, ◌<◌, ℕ, inl, inr, List, [], ◌∷◌, Option, Some, None, Bool, true, false, refl, sym, ap, subst, ◌∙◌}
+use Rattle.std.specs.Prelude.{◌⊎◌, length, MatchBool}
+use Rattle.std.proofs.lemmas.List.{map-append, length-map}
 use mathlib.Core.List.{IsPrefix}
 use Rattle.lt_desk.specs.declared.letter.Letter.{Letter}
 use Rattle.lt_desk.specs.LetterSeen.{letter_seen}
@@ -11,7 +11,7 @@ use Rattle.lt_mail.specs.declared.lane.InLane.{InLane}
 use Rattle.lt_mail.specs.declared.mail.Mail.{Mail}
 use Rattle.lt_mail.specs.Lanes.{ring_given, outbox_letters, known}
 use Rattle.lt_mail.specs.Words.{seen, out_at, in_at, on_out, on_in, given_to, waiting_to, known_from, IsFullTo, Both}
-use Rattle.lt_mail.specs.Changes.{OutChanges, InChanges, Flushes, Takes}
+use Rattle.lt_mail.specs.Changes.{OutChanges, InChanges, Flushes, Takes, Saw}
 use Rattle.lt_mail.specs.Both.{LaneGives, Sees}
 
 pub prefix_seen : (xs ys : List Letter) → IsPrefix xs ys → IsPrefix (seen xs) (seen ys)
@@ -60,3 +60,12 @@ sees_known a b from h = here (in_at a from) (in_at b from) h.lane
     here None y q = absurd q
     here (Some x) None q = absurd q
     here (Some x) (Some y) q = prefix_seen (known x) (known y) q.learnt
+
+pub saw_letter : (b : Mail) (from : ℕ) (answer : Bool) → Saw answer (in_at b from)
+    → MatchBool answer (0 < length (known_from b from)) (known_from b from ≡ [])
+saw_letter b from answer h = here (in_at b from) answer h
+  where
+    here : (y : Option InLane) (answer : Bool) → Saw answer y → MatchBool answer (0 < length (on_in known y)) (on_in known y ≡ [])
+    here None answer q = absurd q
+    here (Some y) true q = subst (λ (n : ℕ). 0 < n) (sym (length-map (known y) letter_seen)) q
+    here (Some y) false q = ap seen q

@@ -1,5 +1,5 @@
 -- What one lane of a mail did, and that no other did anything.
-use Rattle.std.specs.Prelude.{◌≡◌, ◌≢◌, ◌+◌, ◌≤◌, ◌<◌, ◌⊎◌, ℕ, [], ◌∷◌, ◌++◌, length}
+use Rattle.std.specs.Prelude.{◌≡◌, ◌≢◌, ◌+◌, ◌≤◌, ◌<◌, ◌⊎◌, Bool, ℕ, [], ◌∷◌, ◌++◌, Option, Some, None, MatchBool, length}
 use Rattle.std.specs.VecDeque.{deque_len, deque_capacity}
 use mathlib.Core.List.{IsPrefix}
 use Rattle.rtrb.specs.Ring.{producer_capacity, known_free}
@@ -73,6 +73,11 @@ pub record TakesNone (x y : InLane) : Type 0 where
 pub record KnowsNone (x y : InLane) : Type 0 where
   pub same : y ≡ x
   pub empty : known x ≡ []
+
+-- the answer to whether a letter is in the ring
+abbrev pub Saw : Bool → Option InLane → Type 0
+Saw answer None = ⊥
+Saw answer (Some lane) = MatchBool answer (0 < length (known lane)) (known lane ≡ [])
 
 -- what was sent stays, and so does all that is taken
 pub record KeepsSent (a b : Mail) : Type 0 where

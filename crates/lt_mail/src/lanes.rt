@@ -1,4 +1,4 @@
-ghost use Rattle.std.specs.Prelude.{◌≡◌, ◌+◌, ◌≤◌, ◌<◌, ◌⊎◌, [], ◌∷◌, ◌++◌, length, OnOk, IfSome, IfNone};
+ghost use Rattle.std.specs.Prelude.{◌≡◌, ◌+◌, ◌≤◌, ◌<◌, ◌⊎◌, [], ◌∷◌, ◌++◌, length, OnOk, OnErr, IfSome, IfNone, MatchBool};
 ghost use Rattle.std.specs.VecDeque.{deque_len, deque_capacity};
 ghost use Rattle.rtrb.specs.Ring.{known_free, producer_capacity, SameProducer, SameConsumer};
 ghost use mathlib.Core.List.{IsPrefix};
@@ -32,6 +32,7 @@ impl OutLane {
         ensures len { deque_len self.new.outbox ≡ deque_len self.old.outbox }
         ensures room { OnOk result (deque_len self.new.outbox + letters ≤ deque_capacity self.new.outbox) }
         ensures kept { deque_capacity self.old.outbox ≤ deque_capacity self.new.outbox }
+        ensures full { OnErr result (deque_capacity self.old.outbox < deque_len self.old.outbox + letters) }
     {
         let letters = letters as usize;
         if self.outbox.is_empty() && self.outbox.capacity() < letters {
@@ -62,7 +63,7 @@ impl OutLane {
         ensures first { length (ring_given self.new) < producer_capacity self.new.ring → outbox_letters self.new ≡ [] }
         ensures stops { (outbox_letters self.new ≡ []) ⊎ (known_free self.new.ring ≡ 0) }
     {
-        while !self.ring.is_full() {
+        while !self.outbox.is_empty() && !self.ring.is_full() {
             let Some(letter) = self.outbox.pop_front() else {
                 return;
             };
@@ -72,6 +73,23 @@ impl OutLane {
 }
 
 impl InLane {
+    /// Whether a letter is in the ring, and then known. It looks again, whatever is known.
+    pub fn has_letter(&mut self) -> bool
+        ensures ring { SameConsumer self.old.ring self.new.ring }
+        ensures taken { taken self.new ≡ taken self.old }
+        ensures known { IsPrefix (known self.old) (known self.new) }
+        ensures value { MatchBool result (0 < length (known self.new)) (known self.new ≡ []) }
+    {
+        self.ring.slots() > 0
+    }
+
+    /// Whether a letter is known to be in the ring.
+    pub fn knows_letter(&self) -> bool
+        ensures { MatchBool result (0 < length (known self.now)) (known self.now ≡ []) }
+    {
+        self.ring.cached_slots() > 0
+    }
+
     /// Takes the next letter that is in the ring.
     pub fn take(&mut self) -> Option<Letter>
         ensures ring { SameConsumer self.old.ring self.new.ring }

@@ -1,9 +1,10 @@
-ghost use Rattle.std.specs.Prelude.{◌≡◌, ◌≢◌, ◌+◌, ◌<◌, ◌⊎◌, ℕ, [], ◌∷◌, ◌++◌, length, IfSome, IfNone, OnOk};
+ghost use Rattle.std.specs.Prelude.{◌≡◌, ◌≢◌, ◌+◌, ◌<◌, ◌⊎◌, ℕ, [], ◌∷◌, ◌++◌, length, IfSome, IfNone, IsOk, OnOk, MatchBool};
 ghost use mathlib.Core.List.{IsPrefix};
 ghost use Rattle.lt_desk.specs.LetterSeen.{letter_seen};
 ghost use Rattle.lt_mail.specs.Words.{out_at, in_at, outs_count, ins_count, sent_to, given_to, waiting_to, taken_from, known_from, if_to, if_from, places_to, IsFullTo, HasRoomFor, SameEnds, HasRoomAt};
 ghost use Rattle.std.specs.VecDeque.{deque_len, deque_capacity};
-ghost use Rattle.lt_mail.specs.Changes.{KeepsSent, OutChanges, InChanges, Puts, Flushes, Stays, Takes, TakesKnown, TakesNone, KnowsNone};
+ghost use Rattle.lt_mail.specs.Both.{Sees};
+ghost use Rattle.lt_mail.specs.Changes.{KeepsSent, OutChanges, InChanges, Puts, Flushes, Stays, Takes, TakesKnown, TakesNone, KnowsNone, Saw};
 
 use crate::lane::{InLane, OutLane};
 use lt_desk::Letter;
@@ -54,6 +55,29 @@ impl Mail {
         self.flush_on(usize::from(to));
     }
 
+    /// Whether a letter of a node is in its ring, and then known. It looks again, whatever is known.
+    #[tactic(auto, using(crate::proofs::WordLemmas::sees_known, crate::proofs::WordLemmas::saw_letter))]
+    pub fn has_letter(&mut self, from: u8) -> bool
+        requires peer { from < ins_count self.old }
+        ensures value { MatchBool result (0 < length (known_from self.new from)) (known_from self.new from ≡ []) }
+        ensures taken { (node : ℕ) → taken_from self.new node ≡ taken_from self.old node }
+        ensures known { IsPrefix (known_from self.old from) (known_from self.new from) }
+        ensures ins { (node : ℕ) → node ≢ from → in_at self.new node ≡ in_at self.old node }
+        ensures outs { (node : ℕ) → out_at self.new node ≡ out_at self.old node }
+        ensures ends { SameEnds self.old self.new }
+    {
+        self.has_letter_on(from)
+    }
+
+    /// Whether a letter of a node is known to be in its ring.
+    #[tactic(auto, using(crate::proofs::WordLemmas::saw_letter))]
+    pub fn knows_letter(&self, from: u8) -> bool
+        requires peer { from < ins_count self.now }
+        ensures { MatchBool result (0 < length (known_from self.now from)) (known_from self.now from ≡ []) }
+    {
+        self.knows_letter_on(from)
+    }
+
     /// Takes the next letter of a node from its ring. Where none is known there, it looks again.
     #[tactic(auto, using(crate::proofs::WordLemmas::takes_known))]
     pub fn take(&mut self, from: u8) -> Option<Letter>
@@ -93,6 +117,7 @@ impl Mail {
         ensures given { (node : ℕ) → given_to self.new node ≡ given_to self.old node }
         ensures room { OnOk result (HasRoomFor self.new letters) }
         ensures kept { (further : ℕ) → HasRoomFor self.old further → HasRoomFor self.new further }
+        ensures full { HasRoomFor self.old letters → IsOk result }
         ensures ins { (node : ℕ) → in_at self.new node ≡ in_at self.old node }
         ensures ends { SameEnds self.old self.new }
     {
@@ -124,6 +149,7 @@ impl Mail {
         ensures given { (node : ℕ) → given_to self.new node ≡ given_to self.old node }
         ensures kept { KeepsSent self.old self.new }
         ensures room { OnOk result (HasRoomAt letters (out_at self.new to)) }
+        ensures full { HasRoomAt letters (out_at self.old to) → IsOk result }
     {
         let lane = &mut self.outs[to];
         lane.reserve(letters)
@@ -145,6 +171,23 @@ impl Mail {
     {
         let lane = &mut self.outs[to];
         lane.flush();
+    }
+
+    pub(crate) fn has_letter_on(&mut self, from: u8) -> bool
+        requires { from < ins_count self.old }
+        ensures lane { InChanges Sees self.old self.new from }
+        ensures value { Saw result (in_at self.new from) }
+    {
+        let lane = &mut self.ins[usize::from(from)];
+        lane.has_letter()
+    }
+
+    pub(crate) fn knows_letter_on(&self, from: u8) -> bool
+        requires { from < ins_count self.now }
+        ensures { Saw result (in_at self.now from) }
+    {
+        let lane = &self.ins[usize::from(from)];
+        lane.knows_letter()
     }
 
     pub(crate) fn take_on(&mut self, from: u8) -> Option<Letter>

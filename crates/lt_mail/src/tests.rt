@@ -69,6 +69,11 @@ impl Two {
         self.taker.take_known(0).map(|letter| letter.stamp.clock)
     }
 
+    // Whether a letter is in the ring, and whether one is then known.
+    fn has_letter(&mut self) -> (bool, bool) {
+        (self.taker.has_letter(0), self.taker.knows_letter(0))
+    }
+
     fn meet(&mut self) {
         beside(&mut self.sender, &mut self.taker);
     }
@@ -87,7 +92,9 @@ fn three_letters_in_a_ring_for_one(rt: HostRuntime) -> Result<(), Fail> {
     assert_eq!(rt; two.take_known(), None);
     assert_eq!(rt; two.take(), Some(5));
     assert_eq!(rt; two.take(), None);
+    assert_eq!(rt; two.has_letter(), (false, false));
     two.flush_all();
+    assert_eq!(rt; two.has_letter(), (true, true));
     assert_eq!(rt; two.take(), Some(6));
     two.meet();
     assert_eq!(rt; two.take_known(), Some(7));

@@ -1,4 +1,4 @@
-ghost use Rattle.std.specs.Prelude.{◌≡◌, ◌+◌, ◌<◌, ◌≤◌, ◌^◌, [], ◌∷◌, ◌++◌, Some, length, take, drop, OnOk};
+ghost use Rattle.std.specs.Prelude.{◌≡◌, ◌+◌, ◌<◌, ◌≤◌, ◌^◌, [], ◌∷◌, ◌++◌, Some, length, take, drop, IsOk, OnOk};
 ghost use Rattle.lt_merge.specs.Run.{just_made, with_event, made_at, events_at};
 ghost use Rattle.lt_merge.specs.Marks.{entries_of, IsLaid, events_bounds};
 
@@ -58,9 +58,11 @@ impl Run {
         ensures room { OnOk result (events ≤ self.new.room) }
         ensures spare_kept { self.old.spare ≤ self.new.spare }
         ensures room_kept { self.old.room ≤ self.new.room }
+        ensures full { 1 ≤ self.old.spare → events ≤ self.old.room → IsOk result }
     {
         self.moves.reserve(1)?;
-        self.events.reserve(events as usize)
+        self.events.reserve(events as usize)?;
+        Ok(())
     }
 
     /// Adds a move that has no events yet.

@@ -4,3 +4,4 @@ pub mod Answers
 pub mod Clients
 pub mod Family
 pub mod Asks
+pub mod Appending

@@ -1,8 +1,9 @@
-ghost use Rattle.std.specs.Prelude.{◌≡◌, ◌<◌, ◌+◌, ◌==◌, ◌^◌, [], ℕ, length, map, nat_lt, IfOk, slice_index_or, if◌then◌else◌};
+ghost use Rattle.std.specs.Prelude.{◌≡◌, ◌<◌, ◌+◌, ◌==◌, ◌^◌, [], ℕ, length, map, nat_lt, IfOk, OnOk, slice_index_or, if◌then◌else◌};
 ghost use Rattle.lt_modes.specs.Script.{ClientData};
 ghost use Rattle.lt_script.specs.Script.{IsScript};
 ghost use Rattle.lt_spec.specs.Families.{commands_of, home};
-ghost use Rattle.lt_node.specs.Clients.{next_of, one_command_more, no_progress};
+ghost use Rattle.lt_node.specs.Clients.{HaveFirst, with_own_request, progress_of, no_progress};
+ghost use Rattle.lt_node.specs.Clients.{next_of, one_command_more, with_command};
 
 use lt_modes::Command;
 use lt_script::Script;
@@ -12,7 +13,7 @@ use std::marker::Model;
 /// A client's commands, and how many of them it has made.
 #[derive(Drop)]
 pub(crate) struct Client {
-    commands: Vec<Command>,
+    pub(crate) commands: Vec<Command>,
     made: u32,
 }
 
@@ -25,11 +26,22 @@ impl Model for Client {
 }
 
 impl Client {
-    /// A client that has made no command yet.
-    pub(crate) fn new(commands: Vec<Command>) -> Client
-        ensures { result ≡ record { commands = commands.items; made = 0 } }
+    /// A client with no command.
+    pub(crate) fn new(alloc: Global) -> Client
+        ensures { result ≡ no_progress }
     {
-        Client { commands, made: 0 }
+        Client {
+            commands: Vec::new(alloc),
+            made: 0,
+        }
+    }
+
+    /// Adds a command behind the others.
+    pub(crate) fn add(&mut self, command: Command) -> Result<(), AllocError>
+        ensures { OnOk result (self.new ≡ with_command self.old command) }
+    {
+        self.commands.push(command)?;
+        Ok(())
     }
 
     /// How many commands the client has made.
@@ -59,48 +71,67 @@ impl Client {
     }
 }
 
-// The commands of one client, in order.
-fn commands_of(alloc: Global, script: &Script, client: u16) -> Result<Vec<Command>, AllocError>
-    ensures { IfOk result (λ commands. commands.items ≡ commands_of script.now client) }
-{
-    script
-        .requests()
-        .iter()
-        .filter_map(|request| if request.0 == client {
-            Some(request.1)
-        } else {
-            None
-        })
-        .collect(alloc)
-}
-
-// The client before its first command; the commands of another node's client stay with that node.
-fn client_of(alloc: Global, script: &Script, node: u8, client: u16) -> Result<Client, AllocError>
-    requires { client < length script.now.clients }
-    ensures { IfOk result (λ made. made ≡ record { commands = if home script.now client == node then commands_of script.now client else []; made = 0 }) }
-{
-    let commands = if script.home(client) == node {
-        commands_of(alloc, script, client)?
-    } else {
-        Vec::new(alloc)
-    };
-    Ok(Client::new(commands))
-}
-
-/// The clients before their first command, as the node keeps them.
+/// The clients before their first command, as the node keeps them: the commands of another node's client stay with
+/// that node.
 pub(crate) fn clients_of(
     alloc: Global,
     script: &Script,
     node: u8,
 ) -> Result<Vec<Client>, AllocError>
+    requires { IsScript script.now }
     ensures count { IfOk result (λ clients. length clients.items ≡ length script.now.clients) }
-    ensures each { IfOk result (λ clients. (c : ℕ) → c < length clients.items → slice_index_or clients.items c no_progress ≡ record { commands = if home script.now c == node then commands_of script.now c else []; made = 0 }) }
+    ensures each { IfOk result (λ clients. (c : ℕ) → c < length clients.items → slice_index_or clients.items c no_progress
+        ≡ record { commands = if home script.now c == node then commands_of script.now c else []; made = 0 }) }
+{
+    let mut clients = idle_clients(alloc, script)?;
+    add_requests(&mut clients, script, node)?;
+    Ok(clients)
+}
+
+// A client with no command for each one of the script.
+fn idle_clients(alloc: Global, script: &Script) -> Result<Vec<Client>, AllocError>
+    ensures count { IfOk result (λ clients. length clients.items ≡ length script.now.clients) }
+    ensures idle { IfOk result (λ clients. (c : ℕ) → progress_of clients.items c ≡ no_progress) }
 {
     let mut clients = Vec::new(alloc);
-    for client in 0..script.clients() {
-        clients.push(client_of(alloc, script, node, client)?)?;
+    for _ in 0..script.clients() {
+        clients.push(Client::new(alloc))?;
     }
     Ok(clients)
+}
+
+// The clients of the node get their commands, in order.
+#[tactic(auto, using(crate::proofs::RequestLemmas::none_yet))]
+fn add_requests(clients: &mut Vec<Client>, script: &Script, node: u8) -> Result<(), AllocError>
+    requires script { IsScript script.now }
+    requires count { length clients.old.items ≡ length script.now.clients }
+    requires idle { (c : ℕ) → progress_of clients.old.items c ≡ no_progress }
+    ensures count { OnOk result (length clients.new.items ≡ length script.now.clients) }
+    ensures each { OnOk result (HaveFirst script.now node (length script.now.commands) clients.new.items) }
+{
+    for place in 0..script.commands() {
+        let (client, command) = script.command(place);
+        add_request(clients, script, node, client, command)?;
+    }
+    Ok(())
+}
+
+// The command goes to its client, where that is one of the node's.
+fn add_request(
+    clients: &mut Vec<Client>,
+    script: &Script,
+    node: u8,
+    client: u16,
+    command: Command,
+) -> Result<(), AllocError>
+    requires client { client < length script.now.clients }
+    requires count { length clients.old.items ≡ length script.now.clients }
+    ensures { OnOk result (clients.new.items ≡ with_own_request script.now node (client, command) clients.old.items) }
+{
+    if script.home(client) == node {
+        clients[usize::from(client)].add(command)?;
+    }
+    Ok(())
 }
 
 /// The node of each client.

@@ -2,6 +2,7 @@
 #![tactic(auto)]
 
 mod acting;
+mod appending;
 mod client;
 mod family;
 mod limits;

@@ -45,6 +45,7 @@ impl Queue {
         ensures asks { self.new.asks ≡ self.old.asks }
         ensures room { OnOk result (asks ≤ self.new.room) }
         ensures kept { self.old.room ≤ self.new.room }
+        ensures full { OnErr result (self.old.room < asks) }
         ensures unchanged { OnErr result (self.new ≡ self.old) }
     {
         let more = asks.saturating_sub(self.len());

@@ -1,7 +1,7 @@
 -- What the move that a runner shows says of its state.
-use Rattle.std.proofs.Common.{◌≡◌, ◌≢◌, ℕ, zero, suc, Option, Some, None, Bool, true, false, refl, ap, subst, ◌∙◌}
+use Rattle.std.proofs.Common.{◌≡◌, ◌≢◌, ◌<◌, ℕ, inl, inr, arith, zero, suc, Option, Some, None, Bool, true, false, refl, ap, subst, ◌∙◌}
 use Rattle.std.specs.Prelude.{nat_lt, if◌then◌else◌, IsTrue, IfSome, length}
-use Rattle.std.proofs.lemmas.Bool.{and_parts}
+use Rattle.std.proofs.lemmas.Bool.{and_parts, cases_eq}
 use Rattle.lt_modes.specs.Script.{ScriptData}
 use Rattle.lt_modes.specs.Fits.{fits, numbers_of}
 use Rattle.lt_desk.specs.LetterSeen.{letter_seen}
@@ -31,6 +31,17 @@ least_passes (suc n) test least e = before (λ was. least_passes n test least wa
     before : (least_below n test ≡ Some least → IsTrue (test least)) → (o : Option ℕ) → least_below n test ≡ o → or_this o test n ≡ Some least → IsTrue (test least)
     before again None was e = here (test n) refl e
     before again (Some k) was e = again (was ∙ e)
+
+-- where no number below passes, the number that passes is the least one
+pub least_found : (n k : ℕ) (test : ℕ → Bool) → k < n → least_below k test ≡ None → IsTrue (test k) → least_below n test ≡ Some k
+least_found zero k test below none passes = absurd (omega (arith, below))
+least_found (suc m) k test below none passes = elim (cases_eq k m) [
+  | inl last ↦ subst (λ (i : ℕ). or_this (least_below i test) test i ≡ Some k) last (here none passes)
+  | inr other ↦ ap (λ (o : Option ℕ). or_this o test m) (least_found m k test (omega (arith, below, other)) none passes)
+]
+  where
+    here : least_below k test ≡ None → IsTrue (test k) → or_this (least_below k test) test k ≡ Some k
+    here e t = ap (λ (o : Option ℕ). or_this o test k) e ∙ ap (λ (b : Bool). if b then Some k else None) t
 
 -- the client can act, and there is room for it
 pub record ChoseAct (script : ScriptData) (me : ℕ) (n : NodeState) (client : ℕ) : Type 0 where
@@ -66,6 +77,19 @@ act_takes_nothing script me n e = by_may (may_act script n) e
     by_may : (b : Bool) → (if b then act_of (first_client script me n) else Nothing) ≢ Take
     by_may false e = absurd (cc)
     by_may true e = by_client (first_client script me n) e
+
+-- where no move is shown no client can act
+pub nothing_acts : (p : Parts) → next_choice p ≡ Nothing → act_choice p.node.script p.node.me (state_of p.node) ≡ Nothing
+nothing_acts p e = by_hand p.hand e
+  where
+    by_may : (b : Bool) → (if b then Take else act_choice p.node.script p.node.me (state_of p.node)) ≡ Nothing
+        → act_choice p.node.script p.node.me (state_of p.node) ≡ Nothing
+    by_may true e = absurd (cc)
+    by_may false e = e
+
+    by_hand : (o : Option Hand) → choice_by p.node.script p.node.me (state_of p.node) o ≡ Nothing → act_choice p.node.script p.node.me (state_of p.node) ≡ Nothing
+    by_hand None e = e
+    by_hand (Some hand) e = by_may (may_take p.node.script p.node.me (state_of p.node) (letter_seen hand.letter)) e
 
 pub chose_act : (p : Parts) (client : ℕ) → next_choice p ≡ Act client → ChoseAct p.node.script p.node.me (state_of p.node) client
 chose_act p client e = by_hand p.hand e

@@ -6,15 +6,27 @@ use Rattle.lt_modes.specs.State.{Letter}
 use Rattle.lt_mail.specs.declared.mail.Mail.{Mail}
 use Rattle.lt_mail.specs.Lanes.{sent_by, known}
 use Rattle.lt_mail.specs.Words.{out_at, in_at, on_out, on_in, taken_from, known_from, Both, IsOpenLink, AreLinked}
+use Rattle.lt_mail.proofs.MailLemmas.{ends_same}
 use Rattle.lt_runner.specs.declared.parts.Hand.{Hand}
 use Rattle.lt_runner.specs.declared.parts.Parts.{Parts}
 use Rattle.lt_runner.specs.Hands.{in_hand, HandStays}
 use Rattle.lt_runner.specs.Kept.{RunnerInvariant}
-use Rattle.lt_runner.specs.Looking.{AreBeside, Knows, Fetches, HasFetched}
+use Rattle.lt_runner.specs.Looking.{AreBeside, Knows, NoneKnown, Fetches, HasFetched}
 
 -- what node p knows after the look is what the runner then has
 abbrev pub KnowsOf : Parts → Mail → Option Hand → Type 0
 KnowsOf a m hand = Knows a.node.script.nodes a.mail.me a.node.script.nodes a.mail m hand
+
+-- no letter is known, and the hand stays empty
+pub knows_nothing : (nodes me : ℕ) (m : Mail) (hand : Option Hand) → hand ≡ None → NoneKnown nodes me m → Knows nodes me nodes m m hand
+knows_nothing nodes me m hand e h = subst (λ (o : Option Hand). Knows nodes me nodes m m o) (sym e) (record {
+  ends = ends_same m;
+  outs = λ node. refl;
+  taken = λ node. sym (append-nil (taken_from m node));
+  known = λ node. refl;
+  from = tt;
+  none = λ none. h;
+})
 
 pub fetched : (a b : Parts) (m : Mail) (hand : Option Hand) → a.hand ≡ None → KnowsOf a m hand → b ≡ record a { mail = m; hand = hand } → Fetches a b
 fetched a b m hand empty k e = subst (λ (p : Parts). Fetches a p) (sym e) (record {

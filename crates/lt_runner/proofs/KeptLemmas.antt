@@ -1,6 +1,7 @@
 -- What a runner keeps, through a look and through a move.
-use Rattle.std.proofs.Common.{◌≡◌, ℕ, ◌+◌, ◌<◌, List, [], ◌∷◌, ◌++◌, Option, Some, None, length, refl, sym, ap, subst, arith, ◌∙◌, append_assoc}
+use Rattle.std.proofs.Common.{◌≡◌, ℕ, ◌+◌, ◌<◌, List, [], ◌∷◌, ◌++◌, Option, Some, None, true, false, length, refl, sym, ap, subst, arith, ◌∙◌, append_assoc}
 use Rattle.std.specs.Prelude.{IsTrue}
+use Rattle.std.proofs.lemmas.Bool.{true≢false}
 use Rattle.std.proofs.lemmas.List.{length_push}
 use Rattle.lt_modes.specs.Script.{ScriptData}
 use Rattle.lt_modes.specs.State.{Letter}
@@ -15,8 +16,11 @@ use Rattle.lt_mail.specs.Words.{outs_count, ins_count, sent_to, taken_from}
 use Rattle.lt_mail.proofs.MailLemmas.{ends_join, ends_same}
 use Rattle.lt_runner.specs.declared.parts.Hand.{Hand}
 use Rattle.lt_runner.specs.declared.parts.Parts.{Parts}
+use Rattle.lt_runner.specs.declared.choice.Choice.TheVariants as choices
+use Rattle.lt_runner.specs.Choices.{act_choice, next_choice}
 use Rattle.lt_runner.specs.Hands.{in_hand, IsFromPeer, HandStays}
 use Rattle.lt_runner.specs.Kept.{RunnerInvariant, SameRunner, AsSeen}
+use Rattle.lt_runner.proofs.ChoiceLemmas.{nothing_acts}
 
 plays_as : (script new_script : ScriptData) (me new_me : ℕ) (log new_log : List Logged) (used sent new_sent : ℕ → List Letter) (n new_n : NodeState)
     → new_script ≡ script → new_me ≡ me → new_log ≡ log → ((b : ℕ) → new_sent b ≡ sent b) → new_n ≡ n
@@ -45,9 +49,16 @@ names_as a b n s h =
 below_as : (a b : Parts) → SameRunner a b → a.node.me < a.node.script.nodes → b.node.me < b.node.script.nodes
 below_as a b s h = subst (λ (script : ScriptData). b.node.me < script.nodes) (sym s.script) (subst (λ (me : ℕ). me < a.node.script.nodes) (sym s.me) h)
 
+-- the command of the first client that can act is one of script, node and state
+act_as : (a b : Parts) → AsSeen a b → act_choice b.node.script b.node.me (state_of b.node) ≡ act_choice a.node.script a.node.me (state_of a.node)
+act_as a b h =
+    ap (λ (script : ScriptData). act_choice script b.node.me (state_of b.node)) h.same.script
+    ∙ (ap (λ (me : ℕ). act_choice a.node.script me (state_of b.node)) h.same.me
+    ∙ ap (λ (n : NodeState). act_choice a.node.script a.node.me n) h.state)
+
 -- nothing happened but that letters went on, and one may have come into the hand
-pub kept_still : (a b : Parts) → RunnerInvariant a → AsSeen a b → IsFromPeer a.node.script.nodes a.node.me b.hand → b.out.posts ≡ [] → b.out.events ≡ [] → RunnerInvariant b
-kept_still a b h s from posts events = record {
+pub kept_still : (a b : Parts) → RunnerInvariant a → AsSeen a b → IsFromPeer a.node.script.nodes a.node.me b.hand → b.out.posts ≡ [] → b.out.events ≡ [] → b.idle ≡ a.idle → RunnerInvariant b
+kept_still a b h s from posts events same = record {
   used = h.used;
   me = s.same.ends.me ∙ (h.me ∙ sym s.same.me);
   below = below_as a b s.same h.below;
@@ -61,6 +72,7 @@ kept_still a b h s from posts events = record {
   bounded = omega (arith, h.bounded, ap (λ (l : List Logged). length l) s.log, s.same.limit);
   posts = posts;
   events = events;
+  idle = λ idle. act_as a b s ∙ h.idle (sym same ∙ idle);
 }
 
 -- one move was made
@@ -77,6 +89,7 @@ pub record Moves (a b : Parts) (cause : Cause) : Type 0 where
   pub place : length a.log.entries < a.limit
   pub posts : b.out.posts ≡ []
   pub events : b.out.events ≡ []
+  pub idle : b.idle ≡ false
 
 pub kept_moved : (a b : Parts) (cause : Cause) → RunnerInvariant a → Moves a b cause → RunnerInvariant b
 kept_moved a b cause h m = record {
@@ -94,6 +107,7 @@ kept_moved a b cause h m = record {
   bounded = omega (arith, m.place, ap (λ (l : List Logged). length l) m.log, m.same.limit, one_longer a.log.entries (logged_of a.node.script a.node.me (state_of a.node) cause));
   posts = m.posts;
   events = m.events;
+  idle = λ idle. absurd (true≢false (sym idle ∙ m.idle));
 }
   where
     grown : Plays a.node.script a.node.me ((start a.node.script).node a.node.me) (a.log.entries ++ logged_of a.node.script a.node.me (state_of a.node) cause ∷ [])
@@ -146,7 +160,12 @@ kept_asked p h = record {
   bounded = h.bounded;
   posts = h.posts;
   events = h.events;
+  idle = h.idle;
 }
+
+holds_same : (x : Option Hand) → HandStays x x
+holds_same None = tt
+holds_same (Some x) = (refl, refl)
 
 pub seen_asked : (p : Parts) → AsSeen p (asked p)
 seen_asked p = record {
@@ -157,7 +176,34 @@ seen_asked p = record {
   used = λ node letters e. e;
   hand = holds_same p.hand;
 }
-  where
-    holds_same : (x : Option Hand) → HandStays x x
-    holds_same None = tt
-    holds_same (Some x) = (refl, refl)
+
+-- nothing happened but that no client was found that can act
+abbrev pub resting : Parts → Parts
+resting p = record p { idle = true }
+
+pub kept_resting : (p : Parts) → RunnerInvariant p → next_choice p ≡ choices.Nothing → RunnerInvariant (resting p)
+kept_resting p h e = record {
+  used = h.used;
+  me = h.me;
+  below = h.below;
+  outs = h.outs;
+  ins = h.ins;
+  plays = h.plays;
+  taken = h.taken;
+  hand = h.hand;
+  names = h.names;
+  bounded = h.bounded;
+  posts = h.posts;
+  events = h.events;
+  idle = λ idle. nothing_acts p e;
+}
+
+pub seen_resting : (a p : Parts) → AsSeen a p → AsSeen a (resting p)
+seen_resting a p h = record {
+  same = record { script = h.same.script; me = h.same.me; limit = h.same.limit; ends = h.same.ends };
+  state = h.state;
+  log = h.log;
+  sent = h.sent;
+  used = h.used;
+  hand = h.hand;
+}

@@ -1,3 +1,4 @@
+pub mod AppendLemmas
 pub mod PostLemmas
 pub mod PollLemmas
 pub mod ChoiceLemmas

@@ -1,5 +1,5 @@
 -- A move of the node, its log entry and its letters are a move of the runner.
-use Rattle.std.proofs.Common.{◌≡◌, ◌≢◌, ℕ, ◌+◌, ◌<◌, ◌^◌, List, [], ◌∷◌, ◌++◌, Option, Some, None, length, refl, sym, ap, subst, ◌∙◌}
+use Rattle.std.proofs.Common.{◌≡◌, ◌≢◌, ℕ, ◌+◌, ◌<◌, ◌^◌, List, [], ◌∷◌, ◌++◌, Option, Some, None, false, length, refl, sym, ap, subst, ◌∙◌}
 use Rattle.std.specs.Prelude.{◌&&◌, ◌==◌, nat_lt, nat_le, not, IsTrue, All}
 use Rattle.std.proofs.lemmas.List.{append-nil}
 use Rattle.std.proofs.lemmas.Bool.{and_parts, ltb-true, lt-ltb, ne_eqb, eqb-true}
@@ -39,7 +39,7 @@ events_made made old new had out none d = ap (λ (o : OutData). o.events) d.sent
 
 -- the parts once the node made the move
 abbrev pub moved_node : Parts → NodeData → OutData → Option Hand → Parts
-moved_node a node out hand = record a { node = node; out = out; hand = hand }
+moved_node a node out hand = record a { node = node; out = out; hand = hand; idle = false }
 
 -- the runner made the move with this cause
 pub finished : (a f : Parts) (node : NodeData) (out : OutData) (hand : Option Hand) (cause : Cause)
@@ -47,8 +47,8 @@ pub finished : (a f : Parts) (node : NodeData) (out : OutData) (hand : Option Ha
     → ReachesPeers a.node.script.nodes a.node.me (made_of a.node.script a.node.me (state_of a.node) cause)
     → NodeDoes (made_of a.node.script a.node.me (state_of a.node) cause) a.node a.out node out
     → Finished (logged_of a.node.script a.node.me (state_of a.node) cause).made (moved_node a node out hand) f
-    → ((k : ℕ) → in_hand k a.hand ≡ used_by cause k ++ in_hand k hand) → IsFromPeer a.node.script.nodes a.node.me hand → length a.log.entries < a.limit → Moves a f cause
-finished a f node out hand cause h can reaches d e hands peer place = record {
+    → ((k : ℕ) → in_hand k a.hand ≡ used_by cause k ++ in_hand k hand) → IsFromPeer a.node.script.nodes a.node.me hand → length a.log.entries < a.limit → f.idle ≡ false → Moves a f cause
+finished a f node out hand cause h can reaches d e hands peer place idle = record {
   same = record {
     script = ap (λ (n : NodeData). n.script) e.node ∙ d.script;
     me = ap (λ (n : NodeData). n.me) e.node ∙ d.me;
@@ -68,6 +68,7 @@ finished a f node out hand cause h can reaches d e hands peer place = record {
   place = place;
   posts = e.posts;
   events = e.events;
+  idle = idle;
 }
 
 -- where the node is that of the script, its letters go to other nodes
@@ -124,10 +125,10 @@ acts_now a client h e =
 pub acted : (a f : Parts) (node : NodeData) (out : OutData) (client : ℕ) → RunnerInvariant a → next_choice a ≡ choices.Act client
     → NodeDoes (node_act a.node.script a.node.me client (state_of a.node)) a.node a.out node out
     → Finished (record { stamp = act_stamp a.node.me (state_of a.node); step = Act client }) (moved_node a node out a.hand) f
-    → length a.log.entries < a.limit → Moves a f (OfClient client)
-acted a f node out client h e d fin place =
+    → length a.log.entries < a.limit → f.idle ≡ false → Moves a f (OfClient client)
+acted a f node out client h e d fin place idle =
     finished a f node out a.hand (OfClient client) h (acts_now a client h e).chosen.can (acts_now a client h e).reaches d fin
-    (λ k. refl) h.hand place
+    (λ k. refl) h.hand place idle
 
 -- what the letter that was in hand sends goes to other nodes
 pub take_reaches : (a : Parts) (hand : Hand) → RunnerInvariant a → FitsNow a.node.script a.node.me (state_of a.node) hand
@@ -140,11 +141,11 @@ pub took : (a f : Parts) (node : NodeData) (out : OutData) (hand : Hand) (left :
     → FitsNow a.node.script a.node.me (state_of a.node) hand
     → NodeDoes (node_take a.node.me (letter_seen hand.letter) (state_of a.node)) a.node a.out node out
     → Finished (record { stamp = take_stamp a.node.me (state_of a.node) (letter_seen hand.letter); step = Take hand.from }) (moved_node a node out left) f
-    → length a.log.entries < a.limit → Moves a f (OfLetter hand.from (letter_seen hand.letter))
-took a f node out hand left h there none fit d fin place =
+    → length a.log.entries < a.limit → f.idle ≡ false → Moves a f (OfLetter hand.from (letter_seen hand.letter))
+took a f node out hand left h there none fit d fin place idle =
     finished a f node out left (OfLetter hand.from (letter_seen hand.letter)) h
     (can_take a hand h.below (subst (λ (o : Option Hand). IsFromPeer a.node.script.nodes a.node.me o) there h.hand))
-    (take_reaches a hand h fit) d fin hands (subst (λ (o : Option Hand). IsFromPeer a.node.script.nodes a.node.me o) (sym none) tt) place
+    (take_reaches a hand h fit) d fin hands (subst (λ (o : Option Hand). IsFromPeer a.node.script.nodes a.node.me o) (sym none) tt) place idle
   where
     hands : (k : ℕ) → in_hand k a.hand ≡ used_by (OfLetter hand.from (letter_seen hand.letter)) k ++ in_hand k left
     hands k =

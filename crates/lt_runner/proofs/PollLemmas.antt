@@ -1,24 +1,23 @@
 -- The rings that are polled one after the other.
-use Rattle.std.proofs.Common.{◌≡◌, ◌≢◌, ℕ, ◌+◌, ◌<◌, inl, inr, List, [], ◌++◌, Option, Some, None, refl, sym, ap, subst, arith, ◌∙◌, append-nil}
+use Rattle.std.proofs.Common.{◌≡◌, ◌≢◌, ℕ, ◌+◌, ◌<◌, inl, inr, List, [], ◌++◌, Option, None, refl, sym, ap, subst, arith, ◌∙◌, append-nil}
+use Rattle.std.specs.Prelude.{length}
 use Rattle.std.proofs.lemmas.Bool.{cases_eq}
 use Rattle.lt_modes.specs.State as rules
-use Rattle.lt_desk.specs.LetterSeen.{letter_seen}
 use Rattle.lt_mail.specs.declared.lane.InLane.{InLane}
 use Rattle.lt_mail.specs.declared.mail.Mail.{Mail}
 use Rattle.lt_mail.specs.Lanes.{known}
-use Rattle.lt_mail.specs.Words.{on_in, on_out, out_at, in_at, taken_from, known_from, if_from, SameEnds}
-use Rattle.lt_mail.specs.Lanes.{sent_by}
-use Rattle.lt_mail.specs.declared.lane.OutLane.{OutLane}
+use Rattle.lt_mail.specs.Words.{on_in, out_at, in_at, taken_from, known_from, SameEnds}
 use Rattle.lt_mail.proofs.MailLemmas.{ends_join, ends_same}
 use Rattle.lt_runner.specs.declared.parts.Hand.{Hand}
 use Rattle.lt_runner.specs.Hands.{in_hand}
-use Rattle.lt_runner.specs.Polled.{Polled}
+use Rattle.lt_runner.specs.Looking.{Knows}
+use Rattle.lt_runner.specs.Polled.{Polled, Finds}
 
 -- no ring is polled yet
 pub poll_starts : (nodes me : ℕ) (m : Mail) → Polled nodes me 0 m m None
 poll_starts nodes me m = record {
   ends = ends_same m;
-  sent = λ node. refl;
+  outs = λ node. refl;
   taken = λ node. sym (append-nil (taken_from m node));
   from = tt;
   none = λ e node below. absurd (omega (arith, below));
@@ -28,7 +27,7 @@ poll_starts nodes me m = record {
 pub poll_skips : (nodes me first : ℕ) (a b : Mail) → first ≡ me → Polled nodes me first a b None → Polled nodes me (first + 1) a b None
 poll_skips nodes me first a b own h = record {
   ends = h.ends;
-  sent = h.sent;
+  outs = h.outs;
   taken = h.taken;
   from = tt;
   none = λ e node below apart. h.none refl node (omega (arith, below, own, apart)) apart;
@@ -40,7 +39,7 @@ pub poll_goes_on : (nodes me first : ℕ) (a b c : Mail) → Polled nodes me fir
     → ((node : ℕ) → taken_from c node ≡ taken_from b node) → known_from c first ≡ [] → Polled nodes me (first + 1) a c None
 poll_goes_on nodes me first a b c h ends outs ins taken empty = record {
   ends = ends_join a b c h.ends ends;
-  sent = λ node. ap (λ (o : Option OutLane). on_out sent_by o) (outs node) ∙ h.sent node;
+  outs = λ node. outs node ∙ h.outs node;
   taken = λ node. taken node ∙ h.taken node;
   from = tt;
   none = λ e. empty_below;
@@ -52,18 +51,30 @@ poll_goes_on nodes me first a b c h ends outs ins taken empty = record {
       | inr other ↦ ap (λ (o : Option InLane). on_in known o) (ins node other) ∙ h.none refl node (omega (arith, below, other)) apart
     ]
 
--- a letter was taken
-pub poll_ends : (nodes me first : ℕ) (a b c : Mail) (hand : Hand) → Polled nodes me first a b None → SameEnds b c
-    → ((node : ℕ) → out_at c node ≡ out_at b node)
-    → ((node : ℕ) → taken_from c node ≡ taken_from b node ++ if_from hand.from (letter_seen hand.letter) node)
-    → hand.from < nodes → hand.from ≢ me → Polled nodes me nodes a c (Some hand)
-poll_ends nodes me first a b c hand h ends outs taken below apart = record {
+-- one ring more has a letter
+pub poll_finds : (nodes me from : ℕ) (a b c : Mail) → Polled nodes me from a b None → SameEnds b c
+    → ((node : ℕ) → out_at c node ≡ out_at b node) → ((node : ℕ) → taken_from c node ≡ taken_from b node)
+    → from < nodes → from ≢ me → 0 < length (known_from c from) → Finds nodes me a c from
+poll_finds nodes me from a b c h ends outs taken below apart known = record {
   ends = ends_join a b c h.ends ends;
-  sent = λ node. ap (λ (o : Option OutLane). on_out sent_by o) (outs node) ∙ h.sent node;
-  taken = λ node. taken node ∙ ap (λ (letters : List rules.Letter). letters ++ in_hand node (Some hand)) (h.taken node ∙ append-nil (taken_from a node));
-  from = (below, apart);
-  none = λ e. absurd (some_is_none hand e);
+  outs = λ node. outs node ∙ h.outs node;
+  taken = λ node. taken node ∙ h.taken node ∙ append-nil (taken_from a node);
+  below = below;
+  apart = apart;
+  known = known;
 }
-  where
-    some_is_none : (hand : Hand) → Some hand ≡ None → ⊥
-    some_is_none hand e = absurd (cc)
+
+-- that letter was taken
+pub poll_ends : (nodes me from : ℕ) (a b c : Mail) (hand : Option Hand) → Finds nodes me a b from → Knows nodes me nodes b c hand
+    → Polled nodes me nodes a c hand
+poll_ends nodes me from a b c hand h k = record {
+  ends = ends_join a b c h.ends k.ends;
+  outs = λ node. k.outs node ∙ h.outs node;
+  taken = λ node. k.taken node ∙ ap (λ (letters : List rules.Letter). letters ++ in_hand node hand) (h.taken node);
+  from = k.from;
+  none = k.none;
+}
+
+-- no ring had a letter, and the hand stays empty
+pub poll_empty : (nodes me : ℕ) (a b : Mail) (hand : Option Hand) → hand ≡ None → Polled nodes me nodes a b None → Polled nodes me nodes a b hand
+poll_empty nodes me a b hand e h = subst (λ (o : Option Hand). Polled nodes me nodes a b o) (sym e) h

@@ -1,5 +1,6 @@
 -- What a runner keeps at its start.
-use Rattle.std.proofs.Common.{◌≡◌, ℕ, ◌<◌, List, [], Option, None, refl, sym, subst, arith, ◌∙◌, length, ap}
+use Rattle.std.proofs.Common.{◌≡◌, ℕ, ◌<◌, List, [], Option, None, false, refl, sym, subst, arith, ◌∙◌, length, ap}
+use Rattle.std.proofs.lemmas.Bool.{true≢false}
 use Rattle.lt_modes.specs.Script.{ScriptData}
 use Rattle.lt_spec.specs.Log.{Logged}
 use Rattle.lt_spec.specs.NodeMove.{NodeState}
@@ -17,8 +18,8 @@ use Rattle.lt_runner.specs.Kept.{RunnerInvariant}
 
 pub kept_at_start : (p : Parts) (script : ScriptData) (node : ℕ) → p.node.script ≡ script → p.node.me ≡ node
     → state_of p.node ≡ (start script).node node → node < script.nodes → IsFresh script.nodes node p.mail → p.log.entries ≡ [] → p.hand ≡ None
-    → p.out.posts ≡ [] → p.out.events ≡ [] → RunnerInvariant p
-kept_at_start p script node is me state below fresh log hand posts events = record {
+    → p.out.posts ≡ [] → p.out.events ≡ [] → p.idle ≡ false → RunnerInvariant p
+kept_at_start p script node is me state below fresh log hand posts events idle = record {
   used = λ a. [];
   me = fresh.me ∙ sym me;
   below = subst (λ (s : ScriptData). p.node.me < s.nodes) (sym is) (subst (λ (x : ℕ). x < script.nodes) (sym me) below);
@@ -34,6 +35,7 @@ kept_at_start p script node is me state below fresh log hand posts events = reco
   bounded = omega (arith, ap (λ (l : List Logged). length l) log);
   posts = posts;
   events = events;
+  idle = λ found. absurd (true≢false (sym found ∙ idle));
 }
   where
     begins : (start p.node.script).node p.node.me ≡ state_of p.node

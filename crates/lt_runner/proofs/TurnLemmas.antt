@@ -1,6 +1,6 @@
 -- What a turn says after a look.
-use Rattle.std.proofs.Common.{◌≡◌, ◌≢◌, ℕ, ◌+◌, ◌<◌, List, [], ◌∷◌, ◌++◌, Option, Some, None, Bool, true, false, length, refl, sym, ap, arith, ◌∙◌}
-use Rattle.std.specs.Prelude.{if◌then◌else◌}
+use Rattle.std.proofs.Common.{◌≡◌, ◌≢◌, ℕ, ◌+◌, ◌<◌, inl, inr, List, [], ◌∷◌, ◌++◌, Option, Some, None, Bool, true, false, length, refl, sym, ap, arith, ◌∙◌}
+use Rattle.std.specs.Prelude.{if◌then◌else◌, ◌⊎◌}
 use Rattle.std.proofs.lemmas.List.{append-nil, append_assoc, length_push}
 use Rattle.lt_modes.specs.Script.{ScriptData}
 use Rattle.lt_modes.specs.State as rules
@@ -8,14 +8,17 @@ use Rattle.lt_desk.specs.LetterSeen.{letter_seen}
 use Rattle.lt_spec.specs.Log.{Logged}
 use Rattle.lt_spec.specs.NodeMove.{NodeState}
 use Rattle.lt_node.specs.NodeData.{state_of}
-use Rattle.lt_runner.specs.declared.choice.Choice.TheVariants.{Nothing, Take}
+use Rattle.lt_mail.specs.Lanes.{outbox_letters}
+use Rattle.lt_mail.specs.Words.{on_out, out_at, waiting_to, IsFullTo}
+use Rattle.lt_mail.specs.declared.lane.OutLane.{OutLane}
+use Rattle.lt_runner.specs.declared.choice.Choice.TheVariants.{Nothing, Act, Take}
 use Rattle.lt_runner.specs.declared.turning.Turned.{Turned}
 use Rattle.lt_runner.specs.declared.turning.Turned.TheVariants.{Moved, Quiet, Full, NoMemory}
 use Rattle.lt_runner.specs.declared.parts.Hand.{Hand}
 use Rattle.lt_runner.specs.declared.parts.Parts.{Parts}
 use Rattle.lt_runner.specs.Hands.{HandStays}
 use Rattle.lt_runner.specs.Choices.{may_take, act_choice, choice_by, next_choice}
-use Rattle.lt_runner.specs.Kept.{SameRunner, AsSeen, TurnEnds, Grew}
+use Rattle.lt_runner.specs.Kept.{SameRunner, AsSeen, CouldMove, IsFlushed, TurnEnds, Grew}
 use Rattle.lt_runner.proofs.ChoiceLemmas.{act_takes_nothing}
 use Rattle.lt_mail.proofs.MailLemmas.{ends_same}
 use Rattle.lt_runner.proofs.KeptLemmas.{same_join, seen_join}
@@ -30,7 +33,7 @@ turn_later Moved a b c h k = (
 )
 turn_later Quiet a b c h k = (seen_join a b c h k.0, k.1)
 turn_later Full a b c h k = (seen_join a b c h k.0, k.1)
-turn_later NoMemory a b c h k = seen_join a b c h k
+turn_later NoMemory a b c h k = (seen_join a b c h k.0, k.1)
 
 -- the choice is one of script, node and state
 choice_as : (a b : Parts) (hand : Option Hand) → AsSeen a b
@@ -72,6 +75,31 @@ take_lasts a b h takes = choice_as a b b.hand h ∙ by_hands a.hand b.hand h.han
     by_hands (Some x) None holds e = absurd holds
     by_hands (Some x) (Some y) holds e = held_choice a.node.script a.node.me (state_of a.node) x y holds ∙ e
 
+-- a move that is there to be made stays so
+pub could_later : (a b : Parts) → AsSeen a b → length a.log.entries < a.limit → next_choice a ≢ Nothing → CouldMove b
+could_later a b h place some = record {
+  place = omega (arith, place, ap (λ (log : List Logged). length log) h.log, h.same.limit);
+  choice = choice_lasts a b h some;
+}
+
+pub could_act : (a b : Parts) (client : ℕ) → AsSeen a b → length a.log.entries < a.limit → next_choice a ≡ Act client → CouldMove b
+could_act a b client h place e = could_later a b h place (λ none. absurd (cc))
+
+pub could_take : (a b : Parts) → AsSeen a b → length a.log.entries < a.limit → next_choice a ≡ Take → CouldMove b
+could_take a b h place e = could_later a b h place (λ none. absurd (cc))
+
+-- the same outboxes and rings are flushed
+pub flushed_later : (a b : Parts) → ((node : ℕ) → out_at b.mail node ≡ out_at a.mail node) → IsFlushed a → IsFlushed b
+flushed_later a b outs h node = by_end (h node)
+  where
+    by_end : (waiting_to a.mail node ≡ []) ⊎ IsFullTo a.mail node → (waiting_to b.mail node ≡ []) ⊎ IsFullTo b.mail node
+    by_end (inl none) = inl (ap (λ (o : Option OutLane). on_out outbox_letters o) (outs node) ∙ none)
+    by_end (inr full) = inr (full.0, outs node ∙ full.1, full.2)
+
+-- the log goes on where nothing happened
+pub seen_grew : (a b c : Parts) → Grew a b → AsSeen b c → Grew a c
+seen_grew a b c h k = record { same = same_join a b c h.same k.same; log = (h.log.0, h.log.1 ∙ sym k.log) }
+
 -- the log goes on through a turn
 pub turn_grew : (r : Turned) (a b c : Parts) → Grew a b → SameRunner b c → TurnEnds r b c → Grew a c
 turn_grew Moved a b c h s k = record {
@@ -80,7 +108,7 @@ turn_grew Moved a b c h s k = record {
 }
 turn_grew Quiet a b c h s k = record { same = same_join a b c h.same s; log = (h.log.0, h.log.1 ∙ sym k.0.log) }
 turn_grew Full a b c h s k = record { same = same_join a b c h.same s; log = (h.log.0, h.log.1 ∙ sym k.0.log) }
-turn_grew NoMemory a b c h s k = record { same = same_join a b c h.same s; log = (h.log.0, h.log.1 ∙ sym k.log) }
+turn_grew NoMemory a b c h s k = record { same = same_join a b c h.same s; log = (h.log.0, h.log.1 ∙ sym k.0.log) }
 
 pub same_self : (a : Parts) → SameRunner a a
 same_self a = record { script = refl; me = refl; limit = refl; ends = ends_same a.mail }

@@ -1,5 +1,5 @@
 -- What a runner keeps, and how a turn ends.
-use Rattle.std.specs.Prelude.{◌≡◌, ◌≢◌, ◌<◌, ◌≤◌, ℕ, List, [], ◌∷◌, ◌++◌, None, length}
+use Rattle.std.specs.Prelude.{◌≡◌, ◌≢◌, ◌<◌, ◌≤◌, ◌⊎◌, ℕ, List, [], ◌∷◌, ◌++◌, None, IsTrue, length}
 use mathlib.Core.List.{IsPrefix}
 use Rattle.lt_modes.specs.State.{Letter}
 use Rattle.lt_spec.specs.Log.{Logged}
@@ -7,15 +7,17 @@ use Rattle.lt_spec.specs.World.{start}
 use Rattle.lt_law_plays.specs.Plays.{Plays}
 use Rattle.lt_law_recipients.specs.Peers.{NodeNames}
 use Rattle.lt_node.specs.NodeData.{state_of}
-use Rattle.lt_mail.specs.Words.{outs_count, ins_count, sent_to, taken_from, known_from, SameEnds}
+use Rattle.lt_mail.specs.Words.{outs_count, ins_count, sent_to, waiting_to, taken_from, known_from, IsFullTo, SameEnds}
 use Rattle.lt_runner.specs.declared.choice.Choice.TheVariants as choices
+use Rattle.lt_runner.specs.declared.turning.Found.{Found}
+use Rattle.lt_runner.specs.declared.turning.Found.TheVariants as found
 use Rattle.lt_runner.specs.declared.turning.Turned.{Turned}
 use Rattle.lt_runner.specs.declared.turning.Turned.TheVariants.{Moved, Quiet, Full, NoMemory}
 use Rattle.lt_runner.specs.declared.turning.Worked.{Worked}
 use Rattle.lt_runner.specs.declared.turning.Worked.TheVariants as worked
 use Rattle.lt_runner.specs.declared.parts.Parts.{Parts}
 use Rattle.lt_runner.specs.Hands.{in_hand, IsFromPeer, HandStays}
-use Rattle.lt_runner.specs.Choices.{next_choice}
+use Rattle.lt_runner.specs.Choices.{act_choice, next_choice}
 
 -- the node's state and the letters that it sent are what the rules make of its log with the letters that it used, which
 -- are those that it took but the one in hand
@@ -32,6 +34,7 @@ pub record RunnerInvariant (p : Parts) : Type 0 where
   pub bounded : length p.log.entries ≤ p.limit
   pub posts : p.out.posts ≡ []
   pub events : p.out.events ≡ []
+  pub idle : IsTrue p.idle → act_choice p.node.script p.node.me (state_of p.node) ≡ choices.Nothing
 
 -- the runner of the same node, with the same ends of rings and the same limit
 pub record SameRunner (a b : Parts) : Type 0 where
@@ -63,6 +66,21 @@ pub record IsFull (p : Parts) : Type 0 where
   pub log : length p.log.entries ≡ p.limit
   pub choice : next_choice p ≢ choices.Nothing
 
+-- a move is there to be made, and the log has a place left for it
+pub record CouldMove (p : Parts) : Type 0 where
+  pub place : length p.log.entries < p.limit
+  pub choice : next_choice p ≢ choices.Nothing
+
+-- how a look for a move ends
+abbrev pub FindEnds : Found → Parts → Type 0
+FindEnds (found.Move choice) p = (next_choice p ≡ choice) × CouldMove p
+FindEnds found.Quiet p = RunnerIsQuiet p
+FindEnds found.Full p = IsFull p
+
+-- each outbox is empty, or its ring is full
+abbrev pub IsFlushed : Parts → Type 0
+IsFlushed p = (node : ℕ) → (waiting_to p.mail node ≡ []) ⊎ IsFullTo p.mail node
+
 -- one move was made
 abbrev pub MovedOne : Parts → Parts → Type 0
 MovedOne a b = (entry : Logged) × (b.log.entries ≡ a.log.entries ++ entry ∷ [])
@@ -72,7 +90,7 @@ abbrev pub TurnEnds : Turned → Parts → Parts → Type 0
 TurnEnds Moved a b = MovedOne a b × (length a.log.entries < a.limit)
 TurnEnds Quiet a b = AsSeen a b × RunnerIsQuiet b
 TurnEnds Full a b = AsSeen a b × IsFull b
-TurnEnds NoMemory a b = AsSeen a b
+TurnEnds NoMemory a b = AsSeen a b × CouldMove b
 
 -- the runner is the same, and its log goes on from what it was
 pub record Grew (a b : Parts) : Type 0 where
@@ -83,4 +101,4 @@ pub record Grew (a b : Parts) : Type 0 where
 abbrev pub WorkEnds : Worked → ℕ → Parts → Type 0
 WorkEnds worked.Idle patience p = 0 < patience → RunnerIsQuiet p
 WorkEnds worked.Full patience p = IsFull p
-WorkEnds worked.NoMemory patience p = Unit {0}
+WorkEnds worked.NoMemory patience p = CouldMove p

@@ -7,3 +7,4 @@ pub mod Posting
 pub mod Starts
 pub mod Looking
 pub mod Same
+pub mod Appended

@@ -58,3 +58,7 @@ pub record Knows (nodes me first : ℕ) (a b : Mail) (hand : Option Hand) : Type
   pub known : (node : ℕ) → known_from a node ≡ in_hand node hand ++ known_from b node
   pub from : IsFromPeer nodes me hand
   pub none : hand ≡ None → (node : ℕ) → node < first → node ≢ me → known_from b node ≡ []
+
+-- no letter of the first of the other nodes is known
+abbrev pub NoneKnown : ℕ → ℕ → Mail → Type 0
+NoneKnown first me m = (node : ℕ) → node < first → node ≢ me → known_from m node ≡ []

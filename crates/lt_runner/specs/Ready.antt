@@ -8,6 +8,8 @@ use Rattle.lt_spec.specs.NodeMove.{NodeState}
 use Rattle.lt_core.specs.declared.fits.TheConstants.{LAST_CLOCK}
 use Rattle.lt_node.specs.Room.{RoomToAct, RoomToTake}
 use Rattle.lt_mail.specs.Words.{HasRoomFor}
+use Rattle.lt_runner.specs.declared.choice.Choice.{Choice}
+use Rattle.lt_runner.specs.declared.choice.Choice.TheVariants.{Nothing, Act, Take}
 use Rattle.lt_runner.specs.declared.parts.Hand.{Hand}
 use Rattle.lt_runner.specs.declared.parts.Parts.{Parts}
 
@@ -26,6 +28,12 @@ pub record RunnerCanAct (p : Parts) : Type 0 where
 pub record RunnerCanTake (p : Parts) : Type 0 where
   pub log : CanLog p
   pub node : IfSome p.hand (λ (hand : Hand). RoomToTake p.node hand.letter p.out)
+
+-- there is memory for the move
+abbrev pub HasMemoryFor : Choice → Parts → Type 0
+HasMemoryFor Nothing p = Unit {0}
+HasMemoryFor (Act client) p = RunnerCanAct p
+HasMemoryFor Take p = RunnerCanTake p
 
 -- the letter fits, and there is room for it
 pub record FitsNow (script : ScriptData) (me : ℕ) (n : NodeState) (hand : Hand) : Type 0 where

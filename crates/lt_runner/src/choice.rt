@@ -2,7 +2,8 @@
 ghost use Rattle.std.specs.Prelude.{◌≡◌, ◌<◌, length};
 ghost use Rattle.lt_law_plays.specs.Plays.{can_act};
 ghost use Rattle.lt_node.specs.NodeData.{state_of};
-ghost use Rattle.lt_runner.specs.Choices.{may_move, may_take, first_client, act_choice, next_choice};
+ghost use Rattle.lt_runner.specs.Choices.{may_move, may_act, may_take, first_client, act_choice, next_choice};
+ghost use Rattle.lt_runner.specs.Kept.{RunnerInvariant};
 ghost use Rattle.lt_desk.specs.LetterSeen.{letter_seen};
 
 use crate::parts::Parts;
@@ -11,7 +12,7 @@ use lt_desk::Letter;
 use lt_node::Node;
 
 /// The move that a runner shows.
-#[derive(Clone, Copy)]
+#[derive(Clone, Copy, Debug, PartialEq, Eq)]
 pub enum Choice {
     Nothing,
     /// The next command of this client.
@@ -22,10 +23,12 @@ pub enum Choice {
 
 /// The move that this runner shows: the letter in hand, or where there is none or it doesn't fit, a client's command.
 pub(crate) fn choose(parts: &Parts) -> Choice
+    requires { RunnerInvariant parts.now }
     ensures { result ≡ next_choice parts.now }
 {
     match &parts.hand {
         Some(hand) if may_take(&parts.node, &hand.letter) => Choice::Take,
+        _ if parts.idle => Choice::Nothing,
         _ => act_choice(&parts.node),
     }
 }
@@ -42,28 +45,32 @@ fn may_take(node: &Node, letter: &Letter) -> bool
     may_move(node) && node.fits(letter)
 }
 
+fn may_act(node: &Node) -> bool
+    ensures { result ≡ may_act node.now.script (state_of node.now) }
+{
+    may_move(node) && node.leaves_asks()
+}
+
+// Most often no client can act, and then nothing else is asked.
 fn act_choice(node: &Node) -> Choice
     ensures { result ≡ act_choice node.now.script node.now.me (state_of node.now) }
 {
-    if !(may_move(node) && node.leaves_asks()) {
-        return Choice::Nothing;
-    }
     match first_client(node) {
-        Some(client) => Choice::Act(client),
-        None => Choice::Nothing,
+        Some(client) if may_act(node) => Choice::Act(client),
+        _ => Choice::Nothing,
     }
 }
 
+#[tactic(auto, using(crate::proofs::ChoiceLemmas::least_found))]
 fn first_client(node: &Node) -> Option<u16>
     ensures { result ≡ first_client node.now.script node.now.me (state_of node.now) }
 {
-    let mut first = None;
     for client in 0..node.script().clients() {
-        if first.is_none() && can_act(node, client) {
-            first = Some(client);
+        if can_act(node, client) {
+            return Some(client);
         }
     }
-    first
+    None
 }
 
 fn can_act(node: &Node, client: u16) -> bool

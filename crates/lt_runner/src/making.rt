@@ -28,6 +28,7 @@ impl Parts {
         ensures same { SameRunner self.old self.new }
         ensures moved { MovedOne self.old self.new }
     {
+        self.idle = false;
         let stamp = self.node.stamp_of_act();
         self.node.act(client, &mut self.out);
         self.finish_move(Move {
@@ -63,6 +64,7 @@ impl Parts {
         ensures same { SameRunner self.old self.new }
         ensures moved { MovedOne self.old self.new }
     {
+        self.idle = false;
         let Hand { from, letter } = hand;
         let stamp = self.node.stamp_of_take(&letter);
         self.node.take(letter, &mut self.out);
@@ -78,7 +80,8 @@ impl Parts {
         requires peers { All (IsForPeer self.old.node.script.nodes self.old.node.me) self.old.out.posts }
         requires room { CanLog self.old }
         requires place { length self.old.log.entries < self.old.limit }
-        ensures { Finished made self.old self.new }
+        ensures finished { Finished made self.old self.new }
+        ensures idle { self.new.idle ≡ self.old.idle }
     {
         // There are no more letters and lines than there is room for.
         self.out.post_room();

@@ -1,13 +1,14 @@
 // What runners of one script do together, while none of them is at work.
-ghost use Rattle.std.specs.Prelude.{◌≡◌, None};
-ghost use Rattle.lt_mail.specs.Words.{ins_count};
+ghost use Rattle.std.specs.Prelude.{◌≡◌, ◌≢◌, ◌<◌, None, IfSome, IfNone, length};
+ghost use Rattle.lt_mail.specs.Words.{ins_count, known_from};
 ghost use Rattle.lt_runner.specs.Choices.{next_choice};
-ghost use Rattle.lt_runner.specs.Looking.{AreBeside, HasMet, LooksTo, LooksFrom, HasFetched, Fetches, Knows, is_move};
+ghost use Rattle.lt_runner.specs.Looking.{AreBeside, HasMet, LooksTo, LooksFrom, HasFetched, Fetches, Knows, NoneKnown, is_move};
 ghost use Rattle.lt_spec.specs.NodeMove.{node_waits};
 ghost use Rattle.lt_node.specs.NodeData.{state_of};
 
 use crate::choice::{Choice, choose};
 use crate::parts::Hand;
+use crate::readying::hold_next;
 use crate::runner::Runner;
 use lt_mail::{Mail, beside};
 use lt_merge::Log;
@@ -21,7 +22,10 @@ impl Runner {
         ensures taker { LooksFrom self.old.node.me taker.old taker.new }
         ensures met { HasMet self.old.node.me taker.old.node.me self.new taker.new }
     {
-        beside(&mut self.parts.mail, &mut taker.parts.mail);
+        beside(
+            &mut self.parts.as_mut().mail,
+            &mut taker.parts.as_mut().mail,
+        );
     }
 
     /// Takes a letter that is known to be in a ring, where none is in hand.
@@ -30,11 +34,11 @@ impl Runner {
         ensures seen { Fetches self.old self.new }
         ensures hand { HasFetched self.new }
     {
-        if self.parts.hand.is_none() {
-            let me = self.parts.mail.node();
-            let nodes = self.parts.node.script().nodes();
-            let found = first_known(&mut self.parts.mail, me, nodes);
-            hold(&mut self.parts.hand, found);
+        let parts = self.parts.as_mut();
+        if parts.hand.is_none() {
+            let me = parts.mail.node();
+            let nodes = parts.node.script().nodes();
+            hold_known(&mut parts.mail, &mut parts.hand, me, nodes);
         }
     }
 
@@ -56,27 +60,31 @@ impl Runner {
     pub fn into_log(self) -> Log
         ensures { result.entries ≡ self.log.entries }
     {
-        self.parts.log
+        Box::into_inner(self.parts).log
     }
 }
 
-fn hold(hand: &mut Option<Hand>, found: Option<Hand>)
-    requires { hand.old ≡ None }
-    ensures { hand.new ≡ found }
+// Takes a letter that is known to come from one of the other nodes, the first one that there is.
+#[tactic(auto, using(crate::proofs::Fetched::knows_nothing))]
+fn hold_known(mail: &mut Mail, hand: &mut Option<Hand>, me: u8, nodes: u8)
+    requires count { ins_count mail.old ≡ nodes }
+    requires empty { hand.old ≡ None }
+    ensures { Knows nodes me nodes mail.old mail.new hand.new }
 {
-    *hand = found;
+    if let Some(from) = first_known(mail, me, nodes) {
+        hold_next(mail, hand, from, me, nodes);
+    }
 }
 
-// Takes a letter that is known to come from one of the other nodes, the first one that there is.
-fn first_known(mail: &mut Mail, me: u8, nodes: u8) -> Option<Hand>
-    requires { ins_count mail.old ≡ nodes }
-    ensures { Knows nodes me nodes mail.old mail.new result }
+// The first other node of which a letter is known to come.
+fn first_known(mail: &Mail, me: u8, nodes: u8) -> Option<u8>
+    requires { ins_count mail.now ≡ nodes }
+    ensures some { IfSome result (λ from. (from < nodes) × (from ≢ me) × (0 < length (known_from mail.now from))) }
+    ensures none { IfNone result (NoneKnown nodes me mail.now) }
 {
     for from in 0..nodes {
-        if from != me {
-            if let Some(letter) = mail.take_known(from) {
-                return Some(Hand { from, letter });
-            }
+        if from != me && mail.knows_letter(from) {
+            return Some(from);
         }
     }
     None

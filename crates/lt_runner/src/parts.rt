@@ -17,6 +17,8 @@ pub struct Parts {
     pub(crate) limit: u32,
     // The nodes that letters went to since this was last asked, bit q % 64 for node q.
     pub(crate) reached: u64,
+    // No client can act, as was found when one was last looked for.
+    pub(crate) idle: bool,
 }
 
 /// A letter that was taken from a ring, with the node that sent it.

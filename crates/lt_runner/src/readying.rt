@@ -1,14 +1,15 @@
 // What a runner does before a move.
-ghost use Rattle.std.specs.Prelude.{◌≡◌, None, IsTrue, IfSome, OnOk};
+ghost use Rattle.std.specs.Prelude.{◌≡◌, ◌≢◌, ◌<◌, None, ℕ, IsTrue, IfSome, IfNone, OnOk, length};
 ghost use Rattle.lt_limits.specs.Limits.{node_within};
 ghost use Rattle.lt_node.specs.NodeData.{state_of};
 ghost use Rattle.lt_node.specs.Room.{RoomToAct, RoomToTake};
 ghost use Rattle.lt_runner.specs.declared.choice.Choice.TheVariants as choices;
 ghost use Rattle.lt_runner.specs.Choices.{next_choice};
 ghost use Rattle.lt_runner.specs.Ready.{RunnerCanAct, RunnerCanTake, CanLog, FitsNow};
-ghost use Rattle.lt_runner.specs.Kept.{RunnerInvariant, AsSeen, KnowsNoLetter};
-ghost use Rattle.lt_mail.specs.Words.{ins_count};
-ghost use Rattle.lt_runner.specs.Polled.{Polled};
+ghost use Rattle.lt_runner.specs.Kept.{RunnerInvariant, AsSeen, IsFlushed, KnowsNoLetter};
+ghost use Rattle.lt_mail.specs.Words.{out_at, ins_count, known_from};
+ghost use Rattle.lt_runner.specs.Looking.{Knows};
+ghost use Rattle.lt_runner.specs.Polled.{Polled, Finds};
 
 use crate::parts::{Hand, Parts};
 use lt_mail::Mail;
@@ -21,6 +22,7 @@ impl Parts {
         ensures kept { RunnerInvariant self.new }
         ensures seen { AsSeen self.old self.new }
         ensures hand { self.new.hand ≡ self.old.hand }
+        ensures flushed { IsFlushed self.new }
     {
         self.mail.flush_all();
     }
@@ -31,9 +33,15 @@ impl Parts {
         requires hand { self.old.hand ≡ None }
         ensures kept { RunnerInvariant self.new }
         ensures seen { AsSeen self.old self.new }
+        ensures outs { (node : ℕ) → out_at self.new.mail node ≡ out_at self.old.mail node }
         ensures rings { KnowsNoLetter self.new }
     {
-        self.hand = poll(&mut self.mail, self.node.me(), self.node.script().nodes());
+        poll(
+            &mut self.mail,
+            &mut self.hand,
+            self.node.me(),
+            self.node.script().nodes(),
+        );
     }
 
     /// Gives the rings what waits in the outboxes, and takes a letter where none is in hand.
@@ -41,6 +49,7 @@ impl Parts {
         requires { RunnerInvariant self.old }
         ensures kept { RunnerInvariant self.new }
         ensures seen { AsSeen self.old self.new }
+        ensures flushed { IsFlushed self.new }
         ensures rings { KnowsNoLetter self.new }
     {
         self.flush();
@@ -118,18 +127,42 @@ impl Parts {
     }
 }
 
-/// Takes a letter of the first other node that one comes from.
-#[tactic(auto, using(crate::proofs::PollLemmas::poll_starts, crate::proofs::PollLemmas::poll_skips, crate::proofs::PollLemmas::poll_goes_on, crate::proofs::PollLemmas::poll_ends))]
-pub(crate) fn poll(mail: &mut Mail, me: u8, nodes: u8) -> Option<Hand>
+/// Takes a letter of the first other node that one comes from, where there is one.
+#[tactic(auto, using(crate::proofs::PollLemmas::poll_ends, crate::proofs::PollLemmas::poll_empty))]
+fn poll(mail: &mut Mail, hand: &mut Option<Hand>, me: u8, nodes: u8)
+    requires count { ins_count mail.old ≡ nodes }
+    requires empty { hand.old ≡ None }
+    ensures { Polled nodes me nodes mail.old mail.new hand.new }
+{
+    if let Some(from) = sender(mail, me, nodes) {
+        hold_next(mail, hand, from, me, nodes);
+    }
+}
+
+// The first other node of which a letter is in its ring: then one is known there.
+#[tactic(auto, using(crate::proofs::PollLemmas::poll_starts, crate::proofs::PollLemmas::poll_skips, crate::proofs::PollLemmas::poll_goes_on, crate::proofs::PollLemmas::poll_finds))]
+fn sender(mail: &mut Mail, me: u8, nodes: u8) -> Option<u8>
     requires { ins_count mail.old ≡ nodes }
-    ensures { Polled nodes me nodes mail.old mail.new result }
+    ensures some { IfSome result (Finds nodes me mail.old mail.new) }
+    ensures none { IfNone result (Polled nodes me nodes mail.old mail.new None) }
 {
     for from in 0..nodes {
-        if from != me {
-            if let Some(letter) = mail.take(from) {
-                return Some(Hand { from, letter });
-            }
+        if from != me && mail.has_letter(from) {
+            return Some(from);
         }
     }
     None
+}
+
+/// Takes the letter of the node that is known to come.
+pub(crate) fn hold_next(mail: &mut Mail, hand: &mut Option<Hand>, from: u8, _me: u8, _nodes: u8)
+    requires node { (from < _nodes) × (from ≢ _me) }
+    requires count { ins_count mail.old ≡ _nodes }
+    requires known { 0 < length (known_from mail.old from) }
+    requires empty { hand.old ≡ None }
+    ensures { Knows _nodes _me _nodes mail.old mail.new hand.new }
+{
+    if let Some(letter) = mail.take_known(from) {
+        *hand = Some(Hand { from, letter });
+    }
 }

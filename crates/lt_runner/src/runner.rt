@@ -22,7 +22,8 @@ use std::marker::Model;
 /// What runs a node: its state, its mail and its log.
 #[derive(Drop)]
 pub struct Runner {
-    pub(crate) parts: Parts,
+    // In a box, so that a runner that is claimed or given back is moved as one pointer.
+    pub(crate) parts: Box<Parts>,
 }
 
 impl Model for Runner {
@@ -31,9 +32,9 @@ impl Model for Runner {
 
     ghost Value = { RunnerParts };
 
-    ghost view = { λ r. r.parts };
+    ghost view = { λ r. r.parts.value };
 
-    ghost invariant = { λ r. RunnerInvariant r.parts };
+    ghost invariant = { λ r. RunnerInvariant r.parts.value };
 }
 
 impl Runner {
@@ -53,7 +54,9 @@ impl Runner {
         ensures { IfOk result (StartsWith script.now node mail limit) }
     {
         let parts = begin(alloc, script, node, mail, limit)?;
-        Ok(Runner { parts })
+        Ok(Runner {
+            parts: Box::new(alloc, parts)?,
+        })
     }
 
     /// Makes turns until `patience` of them, one after the other, found no move, or the log is full.
@@ -64,7 +67,7 @@ impl Runner {
         ensures ends { WorkEnds result patience self.new }
         ensures at_once { patience ≡ 0 → (result ≡ answers.Idle) × (self.new ≡ self.old) }
     {
-        self.parts.work(patience, gate)
+        self.parts.as_mut().work(patience, gate)
     }
 
     /// Makes one turn.
@@ -74,7 +77,7 @@ impl Runner {
         ensures ends { TurnEnds result self.old self.new }
         ensures shown { next_choice self.old ≢ choices.Nothing → result ≢ turns.Quiet }
     {
-        self.parts.turn(gate)
+        self.parts.as_mut().turn(gate)
     }
 
     /// Makes turns until one finds no move or a full log, or a letter was sent, and flushes the outboxes.
@@ -82,7 +85,7 @@ impl Runner {
         ensures grew { Grew self.old self.new }
         ensures ends { WorkEnds result 0 self.new }
     {
-        self.parts.work_until_sent(gate)
+        self.parts.as_mut().work_until_sent(gate)
     }
 
     /// The nodes that letters went to since this was last asked, bit q % 64 for node q: a hint where to look for moves.
@@ -90,8 +93,9 @@ impl Runner {
     pub fn reached(&mut self) -> u64
         ensures { AsSeen self.old self.new }
     {
-        let reached = self.parts.reached;
-        self.parts.reached = 0;
+        let parts = self.parts.as_mut();
+        let reached = parts.reached;
+        parts.reached = 0;
         reached
     }
 
@@ -139,5 +143,6 @@ fn begin(
         hand: None,
         limit,
         reached: 0,
+        idle: false,
     })
 }

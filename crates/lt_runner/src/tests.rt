@@ -2,11 +2,12 @@ ghost use Rattle.std.specs.Prelude.{◌<◌, ◌≤◌, IfOk};
 ghost use Rattle.lt_limits.specs.declared.moves.TheConstants.{MAX_MOVES};
 ghost use Rattle.lt_runner.specs.Looking.{AreBeside};
 
-use crate::{Gate, Runner, Turned, Worked, all_at_once};
+use crate::{Choice, Found, Gate, Runner, Turned, Worked, all_at_once};
 use lt_limits::MAX_MOVES;
 use lt_mail::open;
-use lt_script::{Script, read};
-use std::alloc::Global;
+use lt_modes::{Command, Mode};
+use lt_script::{MAX_COMMANDS, Script, read};
+use std::alloc::{AllocError, Global};
 use std::sync::atomic::{AtomicU64, Ordering};
 use std::test::Fail;
 
@@ -126,6 +127,50 @@ fn one_turn_makes_one_move(rt: HostRuntime) -> Result<(), Fail> {
     }
     assert_eq!(rt; (runner.waits(0), runner.waits(1)), (false, true));
     assert_eq!(rt; runner.into_log().len(), 2);
+    Ok(())
+}
+
+#[test]
+fn a_move_is_found_and_made(rt: HostRuntime) -> Result<(), Fail> {
+    let script = script_of(rt.alloc(), ONE_NODE)?;
+    let mut runner = first_runner(rt.alloc(), &script, 1)?;
+    let found = runner.find();
+    assert_eq!(rt; found, Found::Move(Choice::Act(0)));
+    if let Found::Move(choice) = found {
+        runner.reserve(choice)?;
+        runner.make(choice);
+    }
+    assert_eq!(rt; runner.moves(), 1);
+    assert_eq!(rt; runner.find(), Found::Full);
+    Ok(())
+}
+
+// The client of the runner's node is then to unlock what it locks.
+fn append_unlock(runner: &mut Runner, client: u16) -> Result<bool, AllocError> {
+    let (set, mode) = (0, Mode::Write);
+    let script = runner.script();
+    if script.sets() == 0
+        || script.commands() >= MAX_COMMANDS
+        || client >= script.clients()
+        || script.home(client) != runner.parts.node.me()
+    {
+        return Ok(false);
+    }
+    runner.append(client, Command::Unlock { set, mode })?;
+    Ok(true)
+}
+
+#[test]
+fn an_appended_command_is_made(rt: HostRuntime) -> Result<(), Fail> {
+    let script = script_of(rt.alloc(), ONE_NODE)?;
+    let mut runner = first_runner(rt.alloc(), &script, 10)?;
+    let gate = Counter::new();
+    assert_eq!(rt; runner.work(1, &gate), Worked::Idle);
+    assert_eq!(rt; runner.log().len(), 2);
+    assert!(rt; append_unlock(&mut runner, 0)?);
+    assert_eq!(rt; runner.script().commands(), 3);
+    assert_eq!(rt; runner.work(1, &gate), Worked::Idle);
+    assert_eq!(rt; runner.log().len(), 3);
     Ok(())
 }
 

@@ -1,14 +1,27 @@
 // Turns of a runner.
-ghost use Rattle.std.specs.Prelude.{◌≡◌, ◌≢◌, ◌<◌, length};
+ghost use Rattle.std.specs.Prelude.{◌≡◌, ◌≢◌, OnOk, length};
 ghost use Rattle.lt_runner.specs.declared.choice.Choice.TheVariants as choices;
+ghost use Rattle.lt_runner.specs.declared.turning.Found.TheVariants as finds;
 ghost use Rattle.lt_runner.specs.declared.turning.Turned.TheVariants as endings;
 ghost use Rattle.lt_runner.specs.Choices.{next_choice};
-ghost use Rattle.lt_runner.specs.Kept.{RunnerInvariant, SameRunner, TurnEnds, KnowsNoLetter, Grew, WorkEnds};
+ghost use Rattle.lt_runner.specs.Kept.{RunnerInvariant, SameRunner, AsSeen, CouldMove, IsFlushed, FindEnds, MovedOne, TurnEnds, Grew, WorkEnds};
+ghost use Rattle.lt_runner.specs.Ready.{HasMemoryFor};
 ghost use Rattle.lt_runner.specs.declared.turning.Worked.TheVariants as answers;
 
 use crate::choice::{Choice, choose};
 use crate::gate::Gate;
 use crate::parts::Parts;
+use std::alloc::AllocError;
+
+/// What is found where a move is looked for.
+#[derive(Clone, Copy, Debug, PartialEq, Eq)]
+pub enum Found {
+    /// This move is there to be made, and the log has a place left.
+    Move(Choice),
+    Quiet,
+    /// A move is there to be made, and the log is full.
+    Full,
+}
 
 /// How a turn ended.
 #[derive(Clone, Copy, Debug, PartialEq, Eq)]
@@ -18,6 +31,7 @@ pub enum Turned {
     Quiet,
     /// A move was found, and the log is full.
     Full,
+    /// A move was found, and the log has a place left.
     NoMemory,
 }
 
@@ -27,12 +41,70 @@ pub enum Worked {
     Idle,
     /// The log is full, and a move more is there to be made.
     Full,
+    /// A move is there to be made, and the log has a place left.
     NoMemory,
 }
 
 impl Parts {
+    /// Gives the rings what waits in the outboxes, and looks for a letter and then for a client that can act.
+    #[tactic(auto, using(crate::proofs::TurnLemmas::choice_lasts, crate::proofs::KeptLemmas::kept_resting, crate::proofs::KeptLemmas::seen_resting))]
+    pub fn find(&mut self) -> Found
+        requires { RunnerInvariant self.old }
+        ensures kept { RunnerInvariant self.new }
+        ensures seen { AsSeen self.old self.new }
+        ensures flushed { IsFlushed self.new }
+        ensures ends { FindEnds result self.new }
+        ensures shown { next_choice self.old ≢ choices.Nothing → result ≢ finds.Quiet }
+    {
+        self.look();
+        match choose(self) {
+            Choice::Nothing => {
+                self.idle = true;
+                Found::Quiet
+            }
+            _ if self.log.len() >= self.limit => Found::Full,
+            choice => Found::Move(choice),
+        }
+    }
+
+    /// Makes room for the move that was found.
+    #[tactic(auto, using(crate::proofs::TurnLemmas::choice_stays, crate::proofs::TurnLemmas::take_lasts, crate::proofs::TurnLemmas::could_act, crate::proofs::TurnLemmas::could_take))]
+    pub fn reserve(&mut self, choice: Choice) -> Result<(), AllocError>
+        requires kept { RunnerInvariant self.old }
+        requires chosen { next_choice self.old ≡ choice }
+        requires could { CouldMove self.old }
+        ensures kept { RunnerInvariant self.new }
+        ensures seen { AsSeen self.old self.new }
+        ensures chosen { next_choice self.new ≡ choice }
+        ensures could { CouldMove self.new }
+        ensures memory { OnOk result (HasMemoryFor choice self.new) }
+    {
+        match choice {
+            Choice::Nothing => Ok(()),
+            Choice::Act(client) => self.reserve_act(client),
+            Choice::Take => self.reserve_take(),
+        }
+    }
+
+    /// Makes the move that was found.
+    pub fn make(&mut self, choice: Choice)
+        requires kept { RunnerInvariant self.old }
+        requires chosen { next_choice self.old ≡ choice }
+        requires could { CouldMove self.old }
+        requires memory { HasMemoryFor choice self.old }
+        ensures kept { RunnerInvariant self.new }
+        ensures same { SameRunner self.old self.new }
+        ensures moved { MovedOne self.old self.new }
+    {
+        match choice {
+            Choice::Nothing => {}
+            Choice::Act(client) => self.make_act(client),
+            Choice::Take => self.make_take(),
+        }
+    }
+
     /// Sends what waits in the outboxes, looks for a move, and makes it.
-    #[tactic(auto, using(crate::proofs::TurnLemmas::turn_later, crate::proofs::TurnLemmas::same_later, crate::proofs::TurnLemmas::choice_lasts))]
+    #[tactic(auto, using(crate::proofs::TurnLemmas::turn_later, crate::proofs::TurnLemmas::same_later))]
     pub fn turn<G: Gate>(&mut self, gate: &G) -> Turned
         requires { RunnerInvariant self.old }
         ensures kept { RunnerInvariant self.new }
@@ -40,60 +112,29 @@ impl Parts {
         ensures ends { TurnEnds result self.old self.new }
         ensures choice { next_choice self.old ≢ choices.Nothing → result ≢ endings.Quiet }
     {
-        self.look();
-        self.move_on(gate)
-    }
-
-    // Makes the move that is there to be made.
-    fn move_on<G: Gate>(&mut self, gate: &G) -> Turned
-        requires kept { RunnerInvariant self.old }
-        requires rings { KnowsNoLetter self.old }
-        ensures kept { RunnerInvariant self.new }
-        ensures same { SameRunner self.old self.new }
-        ensures ends { TurnEnds result self.old self.new }
-        ensures choice { next_choice self.old ≢ choices.Nothing → result ≢ endings.Quiet }
-    {
-        match choose(self) {
-            Choice::Nothing => Turned::Quiet,
-            _ if self.log.len() >= self.limit => Turned::Full,
-            Choice::Act(client) => self.turn_act(client, gate),
-            Choice::Take => self.turn_take(gate),
+        match self.find() {
+            Found::Quiet => Turned::Quiet,
+            Found::Full => Turned::Full,
+            Found::Move(choice) => self.move_on(choice, gate),
         }
     }
 
-    #[tactic(auto, using(crate::proofs::TurnLemmas::choice_stays, crate::proofs::TurnLemmas::same_later, crate::proofs::TurnLemmas::turn_later))]
-    fn turn_act<G: Gate>(&mut self, client: u16, gate: &G) -> Turned
+    // Makes the move that was found, if there is memory.
+    #[tactic(auto, using(crate::proofs::TurnLemmas::turn_later, crate::proofs::TurnLemmas::same_later))]
+    fn move_on<G: Gate>(&mut self, choice: Choice, gate: &G) -> Turned
         requires kept { RunnerInvariant self.old }
-        requires chosen { next_choice self.old ≡ choices.Act client }
-        requires place { length self.old.log.entries < self.old.limit }
+        requires chosen { next_choice self.old ≡ choice }
+        requires could { CouldMove self.old }
         ensures kept { RunnerInvariant self.new }
         ensures same { SameRunner self.old self.new }
         ensures ends { TurnEnds result self.old self.new }
         ensures choice { result ≢ endings.Quiet }
     {
-        if self.reserve_act(client).is_err() {
+        if self.reserve(choice).is_err() {
             return Turned::NoMemory;
         }
         gate.pass(self.node.me());
-        self.make_act(client);
-        Turned::Moved
-    }
-
-    #[tactic(auto, using(crate::proofs::TurnLemmas::take_lasts, crate::proofs::TurnLemmas::same_later, crate::proofs::TurnLemmas::turn_later))]
-    fn turn_take<G: Gate>(&mut self, gate: &G) -> Turned
-        requires kept { RunnerInvariant self.old }
-        requires chosen { next_choice self.old ≡ choices.Take }
-        requires place { length self.old.log.entries < self.old.limit }
-        ensures kept { RunnerInvariant self.new }
-        ensures same { SameRunner self.old self.new }
-        ensures ends { TurnEnds result self.old self.new }
-        ensures choice { result ≢ endings.Quiet }
-    {
-        if self.reserve_take().is_err() {
-            return Turned::NoMemory;
-        }
-        gate.pass(self.node.me());
-        self.make_take();
+        self.make(choice);
         Turned::Moved
     }
 }

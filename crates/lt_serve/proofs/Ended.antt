@@ -15,6 +15,7 @@ use Rattle.lt_law_promises.specs.Promised.{RunsKeepPromises}
 use Rattle.lt_limits.specs.declared.ending.Ending.{Ending}
 use Rattle.lt_limits.specs.declared.ending.Ending.TheVariants as ending
 use Rattle.lt_limits.specs.Endings.{EndsBy}
+use Rattle.lt_threads.specs.Threads.{StaysWithin}
 use Rattle.lt_law_limits.proofs.Within.{whole}
 use Rattle.lt_words.specs.declared.command.Command.{Command}
 use Rattle.lt_words.specs.declared.command.Command.TheVariants.{Run, SimFirst, Sim, Check, Make, Soak, Order}
@@ -43,9 +44,10 @@ not_stuck moves ending.Stuck script run is_script is_run e finish ordered stuck 
 
 -- a run that ended so
 pub ran_to : (moves : ℕ) (end : Ending) (script : ScriptData) (run : List Logged) → RunsKeepPromises → OrderedFinish
-    → IsScript script → IsRun script run → EndsBy moves end script run → RanTo moves (status_of_end end) script run
-ran_to moves end script run promises finish is_script is_run e = record {
+    → IsScript script → IsRun script run → StaysWithin moves script run → EndsBy moves end script run → RanTo moves (status_of_end end) script run
+ran_to moves end script run promises finish is_script is_run within e = record {
   is_run = is_run;
+  within = within;
   ends = ends_as moves end script run e;
   promised = promises script run (whole script is_script) is_run;
   ordered = not_stuck moves end script run is_script is_run e finish;

@@ -14,15 +14,12 @@ use Rattle.lt_spec.specs.Log.{Logged}
 use Rattle.lt_spec.specs.World.{World, world_after, logged, is_enabled}
 use Rattle.lt_law_checking.proofs.Places.{stamp_node, count_push}
 use Rattle.lt_limits.specs.Cut.{moves_of, can_move, is_full, full_node}
+use Rattle.lt_threads.specs.Threads.{StaysWithin}
 use Rattle.lt_serve.specs.Endings.{StopsInTime}
 
 -- the moves that the nodes may still make
 abbrev pub room_left : ScriptData → ℕ → List Logged → ℕ
 room_left script limit run = sum_below script.nodes (λ q. limit - moves_of q run)
-
--- no node has made more moves than it may
-abbrev pub IsWithin : ℕ → List Logged → Type 0
-IsWithin limit run = (q : ℕ) → moves_of q run ≤ limit
 
 -- a node that makes a move is of the script
 pub mover_within : (script : ScriptData) (w : World) (q : ℕ) (step : Step) → IsScript script
@@ -65,13 +62,13 @@ none_found (suc n) test before e k below =
     ]
 
 -- where no node is full, the node of an enabled move may make it
-pub may_move : (script : ScriptData) (limit : ℕ) (run : List Logged) (q : ℕ) (step : Step) → IsScript script → IsWithin limit run
+pub may_move : (script : ScriptData) (limit : ℕ) (run : List Logged) (q : ℕ) (step : Step) → IsScript script → StaysWithin limit script run
     → full_node script limit run ≡ None → IsTrue (is_enabled script (world_after script run) q step) → moves_of q run < limit
 may_move script limit run q step kept within none e =
     let test = none_found script.nodes (is_full script limit run) nat_lt none q (mover_within script (world_after script run) q step kept e) in
     let other : moves_of q run ≢ limit = λ same.
     false≢true (sym test ∙ (ap₂ ◌&&◌ (eq-eqb (moves_of q run) limit same) (can_make_it script (world_after script run) q step e))) in
-    omega (arith, within q, other)
+    omega (arith, within q (mover_within script (world_after script run) q step kept e), other)
 
 -- the mover has made one move more, and each other node as many as before
 moved_one : (w : World) (script : ScriptData) (run : List Logged) (q : ℕ) (step : Step)
@@ -86,11 +83,11 @@ moved_none w script run q k step apart =
     let there : ((logged script w q step).made.stamp.node == k) ≡ false = ne_eqb _ k (λ e. apart (sym e ∙ stamp_node w q step)) in
     omega (arith, count_push run (logged script w q step) k, ap {B = ℕ} (λ (t : Bool). cond t 1 0) there)
 
-pub stays_within : (script : ScriptData) (limit : ℕ) (run : List Logged) (w : World) (q : ℕ) (step : Step) → IsWithin limit run
-    → moves_of q run < limit → IsWithin limit (run ++ logged script w q step ∷ [])
-stays_within script limit run w q step within room k = elim (cases_eq k q) [
+pub stays_within : (script : ScriptData) (limit : ℕ) (run : List Logged) (w : World) (q : ℕ) (step : Step) → StaysWithin limit script run
+    → moves_of q run < limit → StaysWithin limit script (run ++ logged script w q step ∷ [])
+stays_within script limit run w q step within room k inside = elim (cases_eq k q) [
   | inl same ↦ subst (λ (i : ℕ). moves_of i (run ++ logged script w q step ∷ []) ≤ limit) (sym same) (omega (arith, moved_one w script run q step, room))
-  | inr other ↦ omega (arith, moved_none w script run q k step other, within k)
+  | inr other ↦ omega (arith, moved_none w script run q k step other, within k inside)
 ]
 
 -- a move that is made where no node is full

@@ -9,6 +9,7 @@ use Rattle.lt_limits.specs.declared.ending.Ending.{Ending}
 use Rattle.lt_limits.specs.declared.ending.Ending.TheVariants as ending
 use Rattle.lt_limits.specs.Endings.{EndsBy}
 use Rattle.lt_limits.specs.Cut.{full_node}
+use Rattle.lt_threads.specs.Threads.{StaysWithin}
 use Rattle.lt_serve.specs.declared.status.Status.{Status}
 use Rattle.lt_serve.specs.declared.status.Status.TheVariants.{Done, Stuck, Cut}
 
@@ -39,6 +40,7 @@ status_of_end (ending.Cut node) = Cut node
 -- promised
 pub record RanTo (moves : ℕ) (ending : Status) (script : ScriptData) (run : List Logged) : Type 0 where
   pub is_run : IsRun script run
+  pub within : StaysWithin moves script run
   pub ends : EndsAs moves ending script run
   pub promised : Promised script run
   -- if the script is ordered, no client waits at its end

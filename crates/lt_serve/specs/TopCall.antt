@@ -22,6 +22,7 @@ use Rattle.lt_words.specs.declared.command.Command.{Command}
 use Rattle.lt_words.specs.declared.command.Command.TheVariants.{Run, SimFirst, Sim, Check, Make, Soak, Order}
 use Rattle.lt_serve.specs.declared.status.Status.{Status}
 use Rattle.lt_serve.specs.declared.status.Status.TheVariants.{Done, Stuck, Usage, Refused, TooLong, ReadFault, WriteFault, NoMemory, Cut, BadJournal}
+use Rattle.lt_threads.specs.Threads.{GoesFar}
 use Rattle.lt_serve.specs.Endings.{RanTo, StopsInTime, cut_of}
 use Rattle.lt_serve.specs.declared.schedule.Schedule.{Schedule}
 use Rattle.lt_serve.specs.Schedules.{AreInOrder, AreDrawn}
@@ -61,10 +62,11 @@ pub record JournalsDrawn (seed moves : ℕ) (ending : Status) (left : Option (Li
   pub drawn : AreDrawn seed journals.script run
   pub in_time : StopsInTime moves journals.script run
 
--- the same, its moves in the order of their stamps
+-- the same, its moves in the order of their stamps, and each node that could make a further one has made as many as it may
 pub record JournalsThreads (moves : ℕ) (ending : Status) (left : Option (List ℕ)) (run : List Logged) (text : List ℕ) : Type 0 where
   pub journals : Journals moves ending left run text
   pub rising : AreRising run
+  pub far : GoesFar moves journals.script run
 
 -- the greatest script, made from the seed: 16 nodes, 64 clients and 4,096 commands
 abbrev pub greatest_script : ℕ → ScriptData
@@ -75,10 +77,11 @@ abbrev pub soak_text : ScriptData → List Logged → Option ℕ → List ℕ
 soak_text script run (Some node) = lines_text script (CutLine node ∷ [])
 soak_text script run None = summary_text (summary_of script run)
 
--- a run of the greatest script, which ended so, its moves in the order of their stamps, and what it came to
+-- a run of the greatest script, which ended so and went as far, its moves in the order of their stamps, and what it came to
 pub record Soaks (seed moves : ℕ) (ending : Status) (run : List Logged) (text : List ℕ) : Type 0 where
   pub ran : RanTo moves ending (greatest_script seed) run
   pub rising : AreRising run
+  pub far : GoesFar moves (greatest_script seed) run
   pub told : text ≡ soak_text (greatest_script seed) run (cut_of ending)
 
 -- the script that is made from the seed, and no run

@@ -4,8 +4,9 @@ ghost use Rattle.std.specs.String.{string_bytes};
 ghost use Rattle.lt_limits.specs.declared.moves.TheConstants.{MAX_MOVES};
 ghost use Rattle.lt_words.specs.Words.{command_of};
 ghost use Rattle.lt_serve.specs.Serves.{Serves};
+ghost use Rattle.lt_serve.specs.declared.serving.TheConstants.{USUAL};
 
-use crate::serving::{Served, serve};
+use crate::serving::{Served, USUAL, serve};
 use crate::status::Status;
 use lt_io::{Sink, Source};
 use lt_runner::Gate;
@@ -25,6 +26,7 @@ pub fn program<R: Threads + Sync, S: Source, K: Sink, G: Gate>(
     ensures served { IfOk words.now (λ texts. Serves S.state K.held K.faults MAX_MOVES (command_of (map string_bytes texts.items)) result source.old source.new sink.old sink.new) }
     ensures no_memory { IfErr words.now (λ error. error_kind error ≡ ErrorKind.OutOfMemory → result.status ≡ Status.NoMemory) }
     ensures no_text { IfErr words.now (λ error. error_kind error ≢ ErrorKind.OutOfMemory → result.status ≡ Status.Usage) }
+    ensures setup { result.setup ≡ USUAL }
     ensures no_run { IfErr words.now (λ error. result.run.entries ≡ []) }
     ensures unread { IfErr words.now (λ error. source.new ≡ source.old) }
     ensures unwritten { IfErr words.now (λ error. sink.new ≡ sink.old) }
@@ -32,8 +34,8 @@ pub fn program<R: Threads + Sync, S: Source, K: Sink, G: Gate>(
     match words {
         Ok(words) => serve(rt, alloc, words.as_slice(), source, sink, gate),
         Err(error) if error.kind() == ErrorKind::OutOfMemory => {
-            Served::without_run(alloc, Status::NoMemory)
+            Served::without_run(alloc, USUAL, Status::NoMemory)
         }
-        Err(_) => Served::without_run(alloc, Status::Usage),
+        Err(_) => Served::without_run(alloc, USUAL, Status::Usage),
     }
 }

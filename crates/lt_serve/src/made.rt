@@ -3,7 +3,7 @@ ghost use Rattle.lt_words.specs.declared.command.Command.{Command as AnyCommand}
 ghost use Rattle.lt_serve.specs.Causes.{SaysOfSink, WritesNothing, IsEnding};
 ghost use Rattle.lt_serve.specs.TopCall.{JournalsBy, DidOf};
 
-use crate::serving::Served;
+use crate::serving::{Served, Setup};
 use crate::status::Status;
 use lt_io::{Sink, write_all};
 use lt_merge::Run;
@@ -17,7 +17,7 @@ pub struct Made {
 }
 
 /// Writes the text.
-pub(crate) fn write_made<K: Sink>(sink: &mut K, made: Made) -> Served
+pub(crate) fn write_made<K: Sink>(sink: &mut K, setup: Setup, made: Made) -> Served
     requires ended { IsEnding made.ending }
     ensures did { (moves : ℕ) → (command : AnyCommand) → (left : Option (List ℕ))
         → JournalsBy moves command made.ending left made.run.entries made.text.items
@@ -25,6 +25,7 @@ pub(crate) fn write_made<K: Sink>(sink: &mut K, made: Made) -> Served
     ensures written { IsEnding result.status ⊎ (result.status ≡ Status.WriteFault) }
     ensures writing { SaysOfSink result.status (K.faults sink.old) (K.faults sink.new) }
     ensures unwritten { WritesNothing result.status → sink.new ≡ sink.old }
+    ensures setup { result.setup ≡ setup }
 {
     let status = match write_all(sink, &made.text) {
         Ok(()) => made.ending,
@@ -33,5 +34,6 @@ pub(crate) fn write_made<K: Sink>(sink: &mut K, made: Made) -> Served
     Served {
         status,
         run: made.run,
+        setup,
     }
 }

@@ -7,6 +7,7 @@ ghost use Rattle.lt_threads.specs.declared.sharing.TheConstants.{MAX_WORKERS};
 ghost use Rattle.lt_words.specs.Words.{command_of};
 ghost use Rattle.lt_serve.specs.Causes.{SaysOfSource, IsEnding, IsRefusal, CanBeMade, reads, limit_of};
 ghost use Rattle.lt_serve.specs.Serves.{Serves};
+ghost use Rattle.lt_serve.specs.declared.serving.TheConstants.{USUAL};
 ghost use Rattle.lt_serve.specs.TopCall.{JournalsBy};
 
 use crate::checking::checked;
@@ -48,11 +49,12 @@ pub const USUAL: Setup = Setup {
     workers: 8,
 };
 
-/// What a command came to: its status, and the run that it made.
+/// What a command came to: its status, and the run that it made; and the setup that it was done with.
 #[derive(Drop)]
 pub struct Served {
     pub status: Status,
     pub run: Run,
+    pub setup: Setup,
 }
 
 /// `serve_with` with the usual setup.
@@ -64,7 +66,8 @@ pub fn serve<R: Threads + Sync, S: Source, K: Sink, G: Gate>(
     sink: &mut K,
     gate: &G,
 ) -> Served
-    ensures { Serves S.state K.held K.faults MAX_MOVES (command_of (map string_bytes words.now)) result source.old source.new sink.old sink.new }
+    ensures served { Serves S.state K.held K.faults MAX_MOVES (command_of (map string_bytes words.now)) result source.old source.new sink.old sink.new }
+    ensures setup { result.setup ≡ USUAL }
 {
     serve_with(rt, alloc, USUAL, words, source, sink, gate)
 }
@@ -85,28 +88,31 @@ pub fn serve_with<R: Threads + Sync, S: Source, K: Sink, G: Gate>(
     requires moves { (0 < setup.moves) × (setup.moves ≤ MAX_MOVES) }
     requires capacity { (0 < setup.capacity) × (setup.capacity ≤ MAX_CAPACITY) }
     requires workers { (0 < setup.workers) × (setup.workers ≤ MAX_WORKERS) }
-    ensures { Serves S.state K.held K.faults setup.moves (command_of (map string_bytes words.now)) result source.old source.new sink.old sink.new }
+    ensures served { Serves S.state K.held K.faults setup.moves (command_of (map string_bytes words.now)) result source.old source.new sink.old sink.new }
+    ensures setup { result.setup ≡ setup }
 {
     let command = match Command::from_words(alloc, words) {
         Ok(Some(command)) => command,
-        Ok(None) => return Served::without_run(alloc, Status::Usage),
-        Err(_) => return Served::without_run(alloc, Status::NoMemory),
+        Ok(None) => return Served::without_run(alloc, setup, Status::Usage),
+        Err(_) => return Served::without_run(alloc, setup, Status::NoMemory),
     };
     match make(rt, alloc, setup, command, source, gate) {
-        Ok(made) => write_made(sink, made),
-        Err(status) => Served::without_run(alloc, status),
+        Ok(made) => write_made(sink, setup, made),
+        Err(status) => Served::without_run(alloc, setup, status),
     }
 }
 
 impl Served {
     // No move was made.
-    pub(crate) fn without_run(alloc: Global, status: Status) -> Served
+    pub(crate) fn without_run(alloc: Global, setup: Setup, status: Status) -> Served
         ensures status { result.status ≡ status }
         ensures run { result.run.entries ≡ [] }
+        ensures setup { result.setup ≡ setup }
     {
         Served {
             status,
             run: Run::new(alloc),
+            setup,
         }
     }
 }

@@ -4,6 +4,7 @@ ghost use Rattle.lt_spec.specs.World.{is_at_rest};
 ghost use Rattle.lt_limits.specs.declared.moves.TheConstants.{MAX_MOVES};
 ghost use Rattle.lt_limits.specs.Cut.{full_node};
 ghost use Rattle.lt_world.specs.Fields.{world_of};
+ghost use Rattle.lt_threads.specs.Threads.{StaysWithin};
 ghost use Rattle.lt_serve.specs.Schedules.{AreInOrder};
 ghost use Rattle.lt_serve.specs.Endings.{RanTo, StopsInTime, status_of_end};
 
@@ -46,6 +47,7 @@ fn make_moves(world: &mut World, mut schedule: Schedule) -> Result<(), AllocErro
     ensures script { (world.new.script ≡ world.old.script) × (world.new.limit ≡ world.old.limit) }
     ensures in_order { OnOk result (AreInOrder schedule world.new.script world.new.run) }
     ensures in_time { OnOk result (StopsInTime world.new.limit world.new.script world.new.run) }
+    ensures within { OnOk result (StaysWithin world.new.limit world.new.script world.new.run) }
     ensures over { OnOk result (full_node world.new.script world.new.limit world.new.run ≡ None
         → IsTrue (is_at_rest world.new.script (world_of world.new))) }
 {

@@ -7,6 +7,7 @@ ghost use Rattle.lt_limits.specs.declared.moves.TheConstants.{MAX_MOVES};
 ghost use Rattle.lt_serve.specs.Endings.{RanTo, cut_of, status_of_end};
 ghost use Rattle.lt_mail.specs.declared.opening.TheConstants.{MAX_CAPACITY};
 ghost use Rattle.lt_threads.specs.declared.sharing.TheConstants.{MAX_WORKERS};
+ghost use Rattle.lt_threads.specs.Threads.{GoesFar};
 ghost use Rattle.lt_serve.specs.declared.limits.TheConstants.{MAX_INPUT};
 ghost use Rattle.lt_words.specs.declared.command.Command.TheVariants as command;
 ghost use Rattle.lt_serve.specs.Causes.{SaysOfSource, IsRefusal};
@@ -43,6 +44,7 @@ pub(crate) fn run_nodes<R: Threads + Sync, G: Gate>(
     requires workers { (0 < setup.workers) × (setup.workers ≤ MAX_WORKERS) }
     ensures ran { IfOk result (λ made. RanTo setup.moves (status_of_end made.0) script.now made.1.entries) }
     ensures rising { IfOk result (λ made. AreRising made.1.entries) }
+    ensures far { IfOk result (λ made. GoesFar setup.moves script.now made.1.entries) }
 {
     law_promised();
     law_ordered();
@@ -72,6 +74,7 @@ pub(crate) fn threads_journal<R: Threads + Sync, G: Gate>(
     requires workers { (0 < setup.workers) × (setup.workers ≤ MAX_WORKERS) }
     ensures ran { IfOk result (λ made. RanTo setup.moves made.ending script.now made.run.entries) }
     ensures rising { IfOk result (λ made. AreRising made.run.entries) }
+    ensures far { IfOk result (λ made. GoesFar setup.moves script.now made.run.entries) }
     ensures text { IfOk result (λ made. made.text.items ≡ text_of script.now made.run.entries (cut_of made.ending)) }
 {
     let (end, run) = run_nodes(rt, alloc, script, setup, gate)?;

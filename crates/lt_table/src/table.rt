@@ -1,4 +1,4 @@
-ghost use Rattle.std.specs.Prelude.{◌≡◌, ◌≤◌, ◌<◌, ◌+◌, List, length, map, replicate, IfOk, OnOk, ◌==◌, ◌&&◌, not, nat_lt};
+ghost use Rattle.std.specs.Prelude.{◌≡◌, ◌≤◌, ◌<◌, ◌+◌, List, length, map, replicate, IfOk, OnOk, OnErr, ◌==◌, ◌&&◌, not, nat_lt};
 ghost use Rattle.lt_modes.specs.declared.ask.Ask.{Ask};
 ghost use Rattle.lt_modes.specs.State.{SetState, Desk, first_entry};
 ghost use Rattle.lt_modes.specs.Held.{held_modes};
@@ -62,6 +62,7 @@ impl Table {
         ensures entries { self.new.entries ≡ self.old.entries }
         ensures spare { OnOk result (asks ≤ self.new.spare) }
         ensures kept { self.old.spare ≤ self.new.spare }
+        ensures full { OnErr result (self.old.spare < asks) }
     {
         reserve(&mut self.entries, asks)
     }
@@ -224,6 +225,7 @@ fn reserve(entries: &mut Vec<Entry>, asks: u32) -> Result<(), AllocError>
     ensures length { length entries.new.items ≡ length entries.old.items }
     ensures spare { OnOk result (asks ≤ spare_in entries.new.items) }
     ensures kept { spare_in entries.old.items ≤ spare_in entries.new.items }
+    ensures full { OnErr result (spare_in entries.old.items < asks) }
 {
     for x in 0..entries.len() {
         entries[x].reserve(asks)?;

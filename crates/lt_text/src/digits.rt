@@ -1,8 +1,9 @@
-ghost use Rattle.std.specs.Prelude.{◌≡◌, ◌≤◌, ◌<◌, ◌^◌, ◌++◌, ℕ, true, length, slice_index, OnOk, OnErr, IfSome, IfNone};
+ghost use Rattle.std.specs.Prelude.{◌≡◌, ◌≤◌, ◌<◌, ◌+◌, ◌^◌, ◌++◌, ℕ, true, length, slice_index, vec_len, vec_capacity, OnOk, OnErr, IfSome, IfNone};
 ghost use Rattle.std.specs.Fmt.{decimal};
 ghost use Rattle.std.specs.Str.Parse.{digits_value};
 ghost use Rattle.lt_text.specs.Number.{are_digits, has_leading_zero, number, exact_number};
 
+use itoa::Buffer;
 use std::alloc::AllocError;
 
 /// The number that 1 to 9 decimal digits write.
@@ -34,9 +35,10 @@ pub fn exact_number(word: &[u8]) -> Option<u32>
 pub fn push_number(out: &mut Vec<u8>, number: u32) -> Result<(), AllocError>
     ensures written { OnOk result (out.new.items ≡ out.old.items ++ decimal number) }
     ensures unchanged { OnErr result (out.new.items ≡ out.old.items) }
+    ensures full { OnErr result (vec_capacity out.old < vec_len out.old + length (decimal number)) }
 {
-    let digits = number.to_string(*out.allocator())?;
-    out.extend_from_slice(digits.as_bytes())
+    let mut digits = Buffer::new();
+    out.extend_from_slice(digits.format(number).as_bytes())
 }
 
 // The number that at most 10 digits write.

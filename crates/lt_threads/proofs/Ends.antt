@@ -1,7 +1,7 @@
 -- The run of a crew, and how it ended.
-use Rattle.std.proofs.Common.{◌≡◌, ℕ, zero, suc, ◌+◌, ◌<◌, List, [], ◌∷◌, length, Some, Bool, true, false, refl, sym, ap, subst, arith, ◌∙◌}
+use Rattle.std.proofs.Common.{◌≡◌, ℕ, ◌+◌, List, [], ◌∷◌, length, Some, Bool, true, false, refl, sym, ap, subst, arith, ◌∙◌}
 use Rattle.std.specs.Prelude.{◌==◌, ◌&&◌, if◌then◌else◌, filter, slice_get}
-use Rattle.std.proofs.lemmas.Bool.{eq-eqb, and_from}
+use Rattle.std.proofs.lemmas.Bool.{true≢false, eq-eqb, and_from}
 use Rattle.std.proofs.lemmas.List.Sums.{sum_by-cons}
 use Rattle.lt_modes.specs.Script.{ScriptData}
 use Rattle.lt_spec.specs.Log.{Logged}
@@ -13,16 +13,18 @@ use Rattle.lt_runner.specs.Kept.{SameRunner, AsSeen, Grew}
 use Rattle.lt_limits.specs.Endings.{EndsBy}
 use Rattle.lt_limits.specs.Cut.{moves_of, can_move, full_node}
 use Rattle.lt_limits.proofs.LeastFull.{least_full}
+use Rattle.lt_law_merged.specs.CanMove.{RestIsNoMove}
 use Rattle.lt_threads.specs.Together.{EachIs, IsCrew, crew_run, crew_world}
 use Rattle.lt_threads.specs.Rounds.{IsCrewCut}
 use Rattle.lt_threads.specs.Finished.{AreCrewLogs}
 use Rattle.lt_threads.specs.Starting.{IsFirstCrew}
 use Rattle.lt_threads.proofs.Each.{each_weaker, each_before}
 use Rattle.lt_threads.proofs.Pushing.{same_world}
+use Rattle.lt_threads.proofs.Shown.{runner_at}
 use Rattle.lt_limits.specs.declared.ending.Ending.{Ending}
 use Rattle.lt_limits.specs.declared.ending.Ending.TheVariants.{Done, Stuck, Cut}
 use Rattle.lt_threads.specs.Crews.{CrewEnds, HasLimit}
-use Rattle.lt_threads.specs.Threads.{IsThreadRun}
+use Rattle.lt_threads.specs.Threads.{IsThreadRun, StaysWithin, GoesFar}
 
 -- limits last
 limit_lasts : (limit : ℕ) (old new : List Parts) → EachIs SameRunner old new → HasLimit limit old → HasLimit limit new
@@ -41,6 +43,10 @@ counted q (entry ∷ run) = sum_by-cons (λ (x : Logged). if is_of_node q x then
     by_test true e = omega (arith, e)
     by_test false e = omega (arith, e)
 
+made_by : (script : ScriptData) (rs : List Parts) (logs : List RunData) (run : List Logged) (k : ℕ) (p : Parts) → AreCrewLogs script rs logs → Merges logs run
+    → slice_get rs k ≡ Some p → moves_of k run ≡ length p.log.entries
+made_by script rs logs run k p finished merges here = counted k run ∙ ap (λ (log : List Logged). length log) (finished.moves run merges k p here)
+
 cut_full : (limit k : ℕ) (script : ScriptData) (rs : List Parts) (logs : List RunData) (run : List Logged) → IsCrew script rs → HasLimit limit rs
     → AreCrewLogs script rs logs → Merges logs run → IsCrewCut k script rs → full_node script limit run ≡ Some k
 cut_full limit k script rs logs run crew limits finished merges cut =
@@ -57,18 +63,10 @@ cut_full limit k script rs logs run crew limits finished merges cut =
     no_and true = refl
     no_and false = refl
 
-    runner : (p : Parts) × (slice_get rs k ≡ Some p)
-    runner = at rs k (omega (arith, cut.below, crew.count))
-      where
-        at : (xs : List Parts) (i : ℕ) → i < length xs → (p : Parts) × (slice_get xs i ≡ Some p)
-        at [] i h = absurd (omega (arith, h))
-        at (x ∷ xs) zero h = (x, refl)
-        at (x ∷ xs) (suc i) h = at xs i (omega (arith, h))
-
     made : moves_of k run ≡ limit
     made =
-        let (p, here) = runner in
-        counted k run ∙ (ap (λ (log : List Logged). length log) (finished.moves run merges k p here) ∙ (cut.full p here ∙ limits k p here))
+        let (p, here) = runner_at rs k (omega (arith, cut.below, crew.count)) in
+        made_by script rs logs run k p finished merges here ∙ (cut.full k p here cut.moves ∙ limits k p here)
 
 ends_by : (limit : ℕ) (over : Ending) (script : ScriptData) (rs : List Parts) (logs : List RunData) (run : List Logged) → IsCrew script rs → HasLimit limit rs
     → AreCrewLogs script rs logs → Merges logs run → CrewEnds over script rs → EndsBy limit over script run
@@ -80,14 +78,39 @@ ends_by limit Stuck script rs logs run crew limits finished merges h =
     (sym (finished.is_crew_run run merges)) h
 ends_by limit (Cut k) script rs logs run crew limits finished merges h = cut_full limit k script rs logs run crew limits finished merges h
 
+stays_within : (limit : ℕ) (script : ScriptData) (rs : List Parts) (logs : List RunData) (run : List Logged) → IsCrew script rs → HasLimit limit rs
+    → AreCrewLogs script rs logs → Merges logs run → StaysWithin limit script run
+stays_within limit script rs logs run crew limits finished merges q below =
+    let (p, here) = runner_at rs q (omega (arith, below, crew.count)) in
+    omega (arith, made_by script rs logs run q p finished merges here, finished.within q p here, limits q p here)
+
+goes_far : RestIsNoMove → (limit : ℕ) (over : Ending) (script : ScriptData) (rs : List Parts) (logs : List RunData) (run : List Logged) → IsCrew script rs
+    → HasLimit limit rs → AreCrewLogs script rs logs → Merges logs run → CrewEnds over script rs → GoesFar limit script run
+goes_far rest limit over script rs logs run crew limits finished merges h q below moves = by_end over h
+  where
+    can : can_move script (crew_world script rs) q ≡ true
+    can = subst (λ (made : List Logged). can_move script (world_after script made) q ≡ true) (finished.is_crew_run run merges) moves
+
+    resting : is_at_rest script (crew_world script rs) ≡ true → moves_of q run ≡ limit
+    resting at_rest = absurd (true≢false (sym can ∙ (rest script (crew_world script rs) crew.is_script).0 at_rest q below))
+
+    by_end : (end : Ending) → CrewEnds end script rs → moves_of q run ≡ limit
+    by_end Done e = resting e.0
+    by_end Stuck e = resting e.0
+    by_end (Cut k) e =
+        let (p, here) = runner_at rs q (omega (arith, below, crew.count)) in
+        made_by script rs logs run q p finished merges here ∙ (e.full q p here can ∙ limits q p here)
+
 -- from the first crew to the run
-pub thread_run : (limit : ℕ) (over : Ending) (script : ScriptData) (first worked last : List Parts) (logs : List RunData) (run : List Logged)
-    → IsFirstCrew script limit first → EachIs Grew first worked → EachIs AsSeen worked last → IsCrew script last → CrewEnds over script last
+pub thread_run : RestIsNoMove → (capacity limit : ℕ) (over : Ending) (script : ScriptData) (first worked last : List Parts) (logs : List RunData) (run : List Logged)
+    → IsFirstCrew script capacity limit first → EachIs Grew first worked → EachIs AsSeen worked last → IsCrew script last → CrewEnds over script last
     → AreCrewLogs script last logs → Merges logs run → IsThreadRun limit over script run
-thread_run limit over script first worked last logs run starts grew seen crew ends finished merges = record {
+thread_run rest capacity limit over script first worked last logs run starts grew seen crew ends finished merges = record {
   is_run = finished.is_run run merges;
   rising = merges.order.rising;
   ends = ends_by limit over script last logs run crew limits finished merges ends;
+  within = stays_within limit script last logs run crew limits finished merges;
+  far = goes_far rest limit over script last logs run crew limits finished merges ends;
 }
   where
     limits : HasLimit limit last

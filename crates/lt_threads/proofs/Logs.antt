@@ -58,6 +58,7 @@ crew_logs script old rs logs was seen met kept same =
           (of_parts.runs run merges).is_merged (joined_merges script (map part_of rs) plays).is_merged
           ∙ same_run script old rs (each_weaker AsSeen SameLog (λ a b s. s.log) old rs seen);
       moves = λ run merges k p e. (of_parts.runs run merges).is_merged.parts k ∙ own k p e;
+      within = λ k p e. held k p (slice_get rs k) refl (subst (λ (o : Option Parts). Alike AsSeen o (slice_get rs k)) e (seen k));
     }
   where
     own : (k : ℕ) (p : Parts) → slice_get old k ≡ Some p → (part_at script (map part_of rs) k).log ≡ p.log.entries
@@ -68,6 +69,10 @@ crew_logs script old rs logs was seen met kept same =
         by_place (Some q) f a =
             let seen_too : AsSeen p q = subst (λ (o : Option Parts). Alike AsSeen (Some p) o) f a in
             ap (λ (part : Part). part.log) (part_is script (map part_of rs) k (part_of q) (part_here rs k q f)) ∙ seen_too.log
+
+    held : (k : ℕ) (p : Parts) (o : Option Parts) → slice_get rs k ≡ o → Alike AsSeen (Some p) o → length p.log.entries ≤ p.limit
+    held k p None f a = absurd a
+    held k p (Some q) f a = omega (arith, (kept k q f).bounded, ap (λ (log : List Logged). length log) a.log, a.same.limit)
 
     short : IsCrew script rs → (k : ℕ) (p : Parts) → slice_get rs k ≡ Some p → length p.log.entries ≤ MAX_MOVES
     short crew k p e = let bound = (kept k p e).bounded in let limit = (crew.each k p e).limit in omega (arith, bound, limit)

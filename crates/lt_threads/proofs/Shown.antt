@@ -75,7 +75,7 @@ least_some (suc n) test h = by_test (any_below n test) (test n) refl refl h (lea
     by_test false true e f g again = (n, rw (least_none n test e, f) refl)
     by_test false false e f g again = cc
 
-runner_at : (rs : List Parts) (k : ℕ) → k < length rs → (p : Parts) × (slice_get rs k ≡ Some p)
+pub runner_at : (rs : List Parts) (k : ℕ) → k < length rs → (p : Parts) × (slice_get rs k ≡ Some p)
 runner_at [] k h = absurd (omega (arith, h))
 runner_at (p ∷ rest) zero h = (p, refl)
 runner_at (p ∷ rest) (suc k) h = runner_at rest k (omega (arith, h))

@@ -7,16 +7,16 @@ use Rattle.lt_script.specs.Script.{IsScript}
 use Rattle.lt_lists.proofs.Members.{some_equal}
 use Rattle.lt_limits.specs.declared.moves.TheConstants.{MAX_MOVES}
 use Rattle.lt_mail.specs.declared.mail.Mail.{Mail}
-use Rattle.lt_mail.specs.Words.{out_at, in_at, IsOpenLink, Both}
+use Rattle.lt_mail.specs.declared.lane.OutLane.{OutLane}
+use Rattle.lt_mail.specs.Words.{out_at, in_at, places_of, IsOpenLink, Both}
 use Rattle.lt_mail.specs.Opening.{Opened, IsFresh}
 use Rattle.lt_runner.specs.declared.parts.Parts.{Parts}
 use Rattle.lt_runner.specs.Starts.{StartsWith}
 use Rattle.lt_threads.specs.Starting.{IsFirst, Starting, IsFirstCrew}
 
 -- before the first runner
-pub starting : (script : ScriptData) (capacity limit : ℕ) (mails : List Mail) → Opened script.nodes capacity mails → Starting script limit 0 mails []
+pub starting : (script : ScriptData) (capacity limit : ℕ) (mails : List Mail) → Opened script.nodes capacity mails → Starting script capacity limit 0 mails []
 starting script capacity limit mails opened = record {
-  capacity = capacity;
   all = mails;
   opened = opened;
   left_is = refl;
@@ -27,8 +27,8 @@ starting script capacity limit mails opened = record {
     none : (p : Parts) {A : Type 0} → None ≡ Some p → A
     none p e = cc
 
-pub has_mail : (script : ScriptData) (limit k : ℕ) (left : List Mail) (rs : List Parts) → Starting script limit k left rs → k < script.nodes → 0 < length left
-has_mail script limit k left rs h below =
+pub has_mail : (script : ScriptData) (capacity limit k : ℕ) (left : List Mail) (rs : List Parts) → Starting script capacity limit k left rs → k < script.nodes → 0 < length left
+has_mail script capacity limit k left rs h below =
     omega (arith, below, h.opened.count, ap (λ (ms : List Mail). length ms) h.left_is, length-drop k h.all)
 
 first_left : (k : ℕ) (all : List Mail) (d : Mail) → k < length all → slice_get all k ≡ Some (slice_index_or (drop k all) 0 d)
@@ -45,9 +45,9 @@ rest_left (suc k) (m ∷ ms) h =
     let same : suc (k + 1) ≡ suc k + 1 = omega arith in
     rest_left k ms (omega (arith, h)) ∙ ap (λ (n : ℕ). drop n (m ∷ ms)) same
 
-pub next_fresh : (script : ScriptData) (limit k : ℕ) (left : List Mail) (rs : List Parts) (d : Mail) → Starting script limit k left rs → k < script.nodes
+pub next_fresh : (script : ScriptData) (capacity limit k : ℕ) (left : List Mail) (rs : List Parts) (d : Mail) → Starting script capacity limit k left rs → k < script.nodes
     → IsFresh script.nodes k (slice_index_or left 0 d)
-next_fresh script limit k left rs d h below =
+next_fresh script capacity limit k left rs d h below =
     let here = first_left k h.all d (omega (arith, below, h.opened.count)) in
     rw h.left_is (h.opened.fresh k (slice_index_or (drop k h.all) 0 d) here)
 
@@ -61,10 +61,9 @@ get_push (x ∷ rs) p (suc j) q e = later (get_push rs p j q e)
     later (inl old) = inl old
     later (inr new) = inr (ap suc new.0, new.1)
 
-pub one_more : (script : ScriptData) (limit k : ℕ) (left : List Mail) (rs : List Parts) (d : Mail) (p : Parts) → Starting script limit k left rs → k < script.nodes
-    → StartsWith script k (slice_index_or left 0 d) limit p → Starting script limit (k + 1) (remove left 0) (rs ++ p ∷ [])
-one_more script limit k left rs d p h below starts = record {
-  capacity = h.capacity;
+pub one_more : (script : ScriptData) (capacity limit k : ℕ) (left : List Mail) (rs : List Parts) (d : Mail) (p : Parts) → Starting script capacity limit k left rs → k < script.nodes
+    → StartsWith script k (slice_index_or left 0 d) limit p → Starting script capacity limit (k + 1) (remove left 0) (rs ++ p ∷ [])
+one_more script capacity limit k left rs d p h below starts = record {
   all = h.all;
   opened = h.opened;
   left_is = ap (λ (ms : List Mail). remove ms 0) h.left_is ∙ rest_left k h.all within;
@@ -88,9 +87,16 @@ one_more script limit k left rs d p h below starts = record {
         (subst (λ (i : ℕ). IsFirst script limit i h.all p) (sym at)
         (record { script_is = starts.script_is; me = starts.me; limit_is = starts.limit_is; log = starts.log; mail = mail }))
 
-pub first_crew : (script : ScriptData) (limit : ℕ) (left : List Mail) (rs : List Parts) → IsScript script → limit ≤ MAX_MOVES
-    → Starting script limit script.nodes left rs → IsFirstCrew script limit rs
-first_crew script limit left rs is_script few h = record {
+-- a ring to each node, with these places
+places_at : (capacity : ℕ) (lanes : List OutLane) (other : ℕ) → other < length lanes
+    → ((lane : OutLane) → slice_get lanes other ≡ Some lane → places_of (Some lane) ≡ capacity) → places_of (slice_get lanes other) ≡ capacity
+places_at capacity [] other below h = absurd (omega (arith, below))
+places_at capacity (lane ∷ lanes) zero below h = h lane refl
+places_at capacity (lane ∷ lanes) (suc other) below h = places_at capacity lanes other (omega (arith, below)) h
+
+pub first_crew : (script : ScriptData) (capacity limit : ℕ) (left : List Mail) (rs : List Parts) → IsScript script → limit ≤ MAX_MOVES
+    → Starting script capacity limit script.nodes left rs → IsFirstCrew script capacity limit rs
+first_crew script capacity limit left rs is_script few h = record {
   crew = record {
     is_script = is_script;
     count = h.count;
@@ -106,4 +112,8 @@ first_crew script limit left rs is_script few h = record {
   };
   logs = λ k p e. (h.each k p e).log;
   limits = λ k p e. (h.each k p e).limit_is;
+  places = λ k other p e below.
+      let mail = (h.each k p e).mail in
+      let fresh = h.opened.fresh k p.mail mail in
+      places_at capacity p.mail.outs.items other (omega (arith, fresh.outs, below)) (λ lane there. h.opened.places k other p.mail lane mail there);
 }

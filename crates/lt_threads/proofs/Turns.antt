@@ -40,7 +40,7 @@ turn_ends : (turned : Turned) (a b : Parts) → TurnEnds turned a b → PushedEn
 turn_ends Moved a b h = omega (arith, ap (λ (log : List Logged). length log) h.0.1, length_push a.log.entries h.0.0)
 turn_ends Quiet a b h = h.0
 turn_ends Full a b h = (h.0, h.1.log)
-turn_ends NoMemory a b h = tt
+turn_ends NoMemory a b h = h
 
 pub one_pushed : (turned : Turned) (a b : Parts) → Grew a b → RunnerInvariant b → TurnEnds turned a b → (next_choice a ≢ choices.Nothing → turned ≢ Quiet)
     → OnePushed turned a b

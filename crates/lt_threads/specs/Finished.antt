@@ -1,5 +1,5 @@
 -- The logs of a crew.
-use Rattle.std.specs.Prelude.{◌≡◌, ◌<◌, ◌^◌, ℕ, List, length, Some, filter, slice_get}
+use Rattle.std.specs.Prelude.{◌≡◌, ◌<◌, ◌≤◌, ◌^◌, ℕ, List, length, Some, filter, slice_get}
 use Rattle.lt_modes.specs.Script.{ScriptData}
 use Rattle.lt_spec.specs.Log.{Logged}
 use Rattle.lt_spec.specs.World.{is_of_node, IsRun}
@@ -22,3 +22,4 @@ pub record AreCrewLogs (script : ScriptData) (rs : List Parts) (logs : List RunD
   pub is_crew_run : (run : List Logged) → Merges logs run → run ≡ crew_run script rs
   -- in it each node's moves are those of its runner
   pub moves : (run : List Logged) → Merges logs run → (k : ℕ) (p : Parts) → slice_get rs k ≡ Some p → filter (is_of_node k) run ≡ p.log.entries
+  pub within : (k : ℕ) (p : Parts) → slice_get rs k ≡ Some p → length p.log.entries ≤ p.limit

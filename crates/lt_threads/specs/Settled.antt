@@ -5,6 +5,7 @@ use Rattle.lt_runner.specs.declared.parts.Parts.{Parts}
 use Rattle.lt_runner.specs.declared.turning.Worked.{Worked}
 use Rattle.lt_runner.specs.declared.turning.Worked.TheVariants.{Idle, Full, NoMemory}
 use Rattle.lt_runner.specs.Kept.{WorkEnds}
+use Rattle.lt_threads.specs.Together.{SomeCouldMove}
 
 -- where its log isn't full, it is as work leaves it that ends with Idle
 abbrev pub IsSettled : ℕ → Parts → Type 0
@@ -17,8 +18,8 @@ AreSettled patience rs = (k : ℕ) (p : Parts) → slice_get rs k ≡ Some p →
 abbrev pub some_full : List Parts → Bool
 some_full rs = list_any (λ (p : Parts). length p.log.entries == p.limit) rs
 
--- Full exactly where some log is full, and Idle exactly where none is; of memory that ran out nothing is said
+-- Full exactly where some log is full, and Idle exactly where none is; or memory was wanting for a move of some runner
 abbrev pub CrewWorked : Worked → ℕ → List Parts → Type 0
 CrewWorked Idle patience rs = AreSettled patience rs × (some_full rs ≡ false)
 CrewWorked Full patience rs = AreSettled patience rs × (some_full rs ≡ true)
-CrewWorked NoMemory patience rs = Unit {0}
+CrewWorked NoMemory patience rs = SomeCouldMove rs

@@ -12,7 +12,7 @@ use Rattle.lt_node.specs.NodeData.{state_of}
 use Rattle.lt_mail.specs.Words.{out_at, in_at, sent_to, taken_from, IsOpenLink, Both, Alike}
 use Rattle.lt_runner.specs.declared.parts.Parts.{Parts}
 use Rattle.lt_runner.specs.Hands.{in_hand}
-use Rattle.lt_runner.specs.Kept.{RunnerInvariant}
+use Rattle.lt_runner.specs.Kept.{RunnerInvariant, CouldMove}
 
 -- the letters of the node that were used: those that were taken, but the one in hand
 abbrev pub used_of : Parts → ℕ → List Letter
@@ -46,6 +46,10 @@ pub record IsCrew (script : ScriptData) (rs : List Parts) : Type 0 where
 -- each keeps what a runner keeps
 abbrev pub AreKept : List Parts → Type 0
 AreKept rs = (k : ℕ) (p : Parts) → slice_get rs k ≡ Some p → RunnerInvariant p
+
+-- some runner's log has a place left, and it shows a move: only then memory is told to be wanting
+abbrev pub SomeCouldMove : List Parts → Type 0
+SomeCouldMove rs = (k : ℕ) × (p : Parts) × (slice_get rs k ≡ Some p) × CouldMove p
 
 -- the runners at the same places go together
 abbrev pub EachIs : (Parts → Parts → Type 0) → List Parts → List Parts → Type 0

@@ -1,5 +1,5 @@
 // The logs of all runners.
-ghost use Rattle.std.specs.Prelude.{◌≡◌, [], IfOk, map};
+ghost use Rattle.std.specs.Prelude.{◌≡◌, ◌≤◌, [], IfOk, length, map, vec_capacity};
 ghost use Rattle.lt_threads.specs.Together.{IsCrew};
 ghost use Rattle.lt_threads.specs.Finished.{AreCrewLogs, run_entries, log_of};
 
@@ -10,8 +10,9 @@ use lt_runner::Runner;
 use lt_script::Script;
 use std::alloc::{AllocError, Global};
 
-/// The logs of all runners, in order of their nodes, as `merge` takes them. Without memory all is dropped.
-#[tactic(auto, using(crate::proofs::Logs::crew_logs))]
+/// The logs of all runners, in order of their nodes, as `merge` takes them.
+///
+/// All that it takes is the list of the logs. Without memory for it all is dropped.
 pub fn finish(
     alloc: Global,
     script: &Script,
@@ -20,20 +21,21 @@ pub fn finish(
     requires { IsCrew script.now runners.items }
     ensures { IfOk result (λ logs. AreCrewLogs script.now runners.items logs.items) }
 {
+    let logs = Vec::with_capacity(alloc, usize::from(script.nodes()))?;
     meet_all(&mut runners);
     all_kept(&runners);
-    let logs = Vec::with_capacity(alloc, usize::from(script.nodes()))?;
-    take_logs(runners, logs)
+    Ok(take_logs(runners, logs))
 }
 
 // Adds the logs of the runners.
-fn take_logs(mut runners: Vec<Runner>, mut logs: Vec<Log>) -> Result<Vec<Log>, AllocError>
-    requires { logs.items ≡ [] }
-    ensures { IfOk result (λ all. map run_entries all.items ≡ map log_of runners.items) }
+fn take_logs(mut runners: Vec<Runner>, mut logs: Vec<Log>) -> Vec<Log>
+    requires empty { logs.items ≡ [] }
+    requires room { length runners.items ≤ vec_capacity logs }
+    ensures { map run_entries result.items ≡ map log_of runners.items }
 {
     while !runners.is_empty() {
         let runner = runners.remove(0);
-        logs.push(runner.into_log())?;
+        logs.push_reserved(runner.into_log());
     }
-    Ok(logs)
+    logs
 }

@@ -1,8 +1,8 @@
 // What the caller does itself when the workers have ended.
-ghost use Rattle.std.specs.Prelude.{◌≡◌, ◌≢◌, ◌<◌, ℕ, false, Some, length, slice_get};
-ghost use Rattle.lt_runner.specs.Kept.{Grew};
+ghost use Rattle.std.specs.Prelude.{◌≡◌, ◌≢◌, ◌<◌, ℕ, true, false, Some, length, slice_get};
+ghost use Rattle.lt_runner.specs.Kept.{Grew, CouldMove};
 ghost use Rattle.lt_runner.specs.declared.parts.Parts.{Parts as RunnerParts};
-ghost use Rattle.lt_threads.specs.Together.{EachIs};
+ghost use Rattle.lt_threads.specs.Together.{EachIs, SomeCouldMove};
 ghost use Rattle.lt_threads.specs.Settled.{IsSettled, AreSettled, CrewWorked, some_full};
 
 use lt_runner::{Gate, Runner, Worked};
@@ -29,10 +29,11 @@ fn some_full(runners: &[Runner]) -> bool
     runners.iter().any(|runner| runner.is_full())
 }
 
-// True where memory ran out.
+// True where memory was wanting for a move.
 fn settle_all<G: Gate>(runners: &mut Vec<Runner>, patience: u32, gate: &G) -> bool
     ensures grew { EachIs Grew runners.old.items runners.new.items }
     ensures settled { result ≡ false → AreSettled patience runners.new.items }
+    ensures short { result ≡ true → SomeCouldMove runners.new.items }
 {
     for place in 0..runners.len() {
         if settle_at(runners, place, patience, gate) {
@@ -47,6 +48,7 @@ fn settle_at<G: Gate>(runners: &mut Vec<Runner>, place: usize, patience: u32, ga
     ensures grew { EachIs Grew runners.old.items runners.new.items }
     ensures others { (k : ℕ) → k ≢ place → slice_get runners.new.items k ≡ slice_get runners.old.items k }
     ensures settled { (p : RunnerParts) → result ≡ false → slice_get runners.new.items place ≡ Some p → IsSettled patience p }
+    ensures short { result ≡ true → SomeCouldMove runners.new.items }
 {
     settle_one(&mut runners[place], patience, gate)
 }
@@ -54,6 +56,7 @@ fn settle_at<G: Gate>(runners: &mut Vec<Runner>, place: usize, patience: u32, ga
 fn settle_one<G: Gate>(runner: &mut Runner, patience: u32, gate: &G) -> bool
     ensures grew { Grew runner.old runner.new }
     ensures settled { result ≡ false → IsSettled patience runner.new }
+    ensures short { result ≡ true → CouldMove runner.new }
 {
     if patience == 0 || runner.is_full() {
         return false;

@@ -20,7 +20,8 @@ pub const MAX_WORKERS: u8 = 16;
 
 /// Lets workers share the runners, each on a thread, and then lets each runner work once itself.
 ///
-/// The runners come back in order. Without memory for the crew itself they are dropped.
+/// The runners come back in order. Without memory for the crew itself they are dropped. A worker that finds no memory for
+/// a move ends; whether there is any is told by the caller's turn.
 pub fn crew<R: Threads + Sync, G: Gate>(
     rt: &R,
     alloc: Global,
@@ -34,15 +35,12 @@ pub fn crew<R: Threads + Sync, G: Gate>(
     ensures grew { IfOk result (λ ended. EachIs Grew runners.items ended.0.items) }
     ensures ends { IfOk result (λ ended. CrewWorked ended.1 patience ended.0.items) }
 {
-    let (mut runners, short) = share(rt, alloc, runners, workers, patience, gate)?;
-    if short {
-        return Ok((runners, Worked::NoMemory));
-    }
+    let mut runners = share(rt, alloc, runners, workers, patience, gate)?;
     let worked = settle(&mut runners, patience, gate);
     Ok((runners, worked))
 }
 
-// Lets workers share the runners. True where memory ran out on one of them.
+// Lets workers share the runners.
 fn share<R: Threads + Sync, G: Gate>(
     rt: &R,
     alloc: Global,
@@ -50,18 +48,18 @@ fn share<R: Threads + Sync, G: Gate>(
     workers: u8,
     patience: u32,
     gate: &G,
-) -> Result<(Vec<Runner>, bool), AllocError>
+) -> Result<Vec<Runner>, AllocError>
     requires runners { (0 < length runners.items) × (length runners.items ≤ 64) }
     requires workers { (0 < workers) × (workers ≤ MAX_WORKERS) }
-    ensures { IfOk result (λ ended. EachIs Grew runners.items ended.0.items) }
+    ensures { IfOk result (λ ended. EachIs Grew runners.items ended.items) }
 {
     let count = runners.len() as u8;
     let (pool, mut first) = Pool::new(alloc, runners)?;
     let mut hands = engage(alloc, &pool, &mut first, workers.min(count))?;
     work_all(rt, &pool, hands.as_mut_slice(), count, patience, gate);
-    let short = dismiss(&pool, &mut first, hands);
+    dismiss(&pool, &mut first, hands);
     match pool.close(first) {
-        Ok(runners) => Ok((runners, short)),
+        Ok(runners) => Ok(runners),
         Err(_) => Err(AllocError),
     }
 }
@@ -119,21 +117,14 @@ fn work_all<R: Threads + Sync, G: Gate>(
     );
 }
 
-// Joins all posts into the first one. True where memory ran out on a worker.
-fn dismiss(pool: &Pool<Runner>, first: &mut Post<Runner>, mut hands: Vec<Worker>) -> bool
+// Joins all posts into the first one.
+fn dismiss(pool: &Pool<Runner>, first: &mut Post<Runner>, mut hands: Vec<Worker>)
     requires free { AreFree pool.now hands.items }
     requires first { Leads pool.now (length hands.items) first.old }
     ensures { Leads pool.now 0 first.new }
 {
-    let mut short = false;
     while let Some(hand) = hands.pop() {
-        let Worker {
-            post,
-            short: met,
-            ..
-        } = hand;
+        let Worker { post, .. } = hand;
         pool.join(first, post);
-        short = short || met;
     }
-    short
 }

@@ -8,7 +8,7 @@ use lt_script::Script;
 use std::alloc::{AllocError, Global};
 
 /// A runner for each node of the script, in order, with rings of so many places; each makes up to `limit` moves.
-#[tactic(auto, using(crate::proofs::Starts::starting, crate::proofs::Starts::first_crew))]
+#[tactic(auto, using(crate::proofs::Starts::starting))]
 pub fn start_crew(
     alloc: Global,
     script: &Script,
@@ -17,13 +17,21 @@ pub fn start_crew(
 ) -> Result<Vec<Runner>, AllocError>
     requires capacity { (0 < capacity) × (capacity ≤ MAX_CAPACITY) }
     requires limit { (0 < limit) × (limit ≤ MAX_MOVES) }
-    ensures { IfOk result (λ runners. IsFirstCrew script.now limit runners.items) }
+    ensures { IfOk result (λ runners. IsFirstCrew script.now capacity limit runners.items) }
 {
     let nodes = script.nodes();
     let mut mails = open(alloc, nodes, capacity)?;
     let mut runners = Vec::new(alloc);
     for node in 0..nodes {
-        add_runner(alloc, script, node, limit, &mut mails, &mut runners)?;
+        add_runner(
+            alloc,
+            script,
+            node,
+            capacity,
+            limit,
+            &mut mails,
+            &mut runners,
+        )?;
     }
     Ok(runners)
 }
@@ -34,14 +42,15 @@ fn add_runner(
     alloc: Global,
     script: &Script,
     node: u8,
+    _capacity: u32,
     limit: u32,
     mails: &mut Vec<Mail>,
     runners: &mut Vec<Runner>,
 ) -> Result<(), AllocError>
     requires node { node < script.now.nodes }
     requires limit { (0 < limit) × (limit ≤ MAX_MOVES) }
-    requires starting { Starting script.now limit node mails.old.items runners.old.items }
-    ensures { OnOk result (Starting script.now limit (node + 1) mails.new.items runners.new.items) }
+    requires starting { Starting script.now _capacity limit node mails.old.items runners.old.items }
+    ensures { OnOk result (Starting script.now _capacity limit (node + 1) mails.new.items runners.new.items) }
 {
     let mail = mails.remove(0);
     let runner = Runner::new(alloc, script, node, mail, limit)?;

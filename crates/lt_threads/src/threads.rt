@@ -1,6 +1,6 @@
-ghost use Rattle.std.specs.Prelude.{◌<◌, ◌≤◌, IfOk};
+ghost use Rattle.std.specs.Prelude.{◌<◌, ◌≤◌, IfOk, IfErr};
 ghost use Rattle.lt_limits.specs.declared.moves.TheConstants.{MAX_MOVES};
-ghost use Rattle.lt_threads.specs.Together.{IsCrew, EachIs};
+ghost use Rattle.lt_threads.specs.Together.{IsCrew, EachIs, SomeCouldMove};
 ghost use Rattle.lt_threads.specs.Rounds.{RoundsEnd};
 ghost use Rattle.lt_runner.specs.Kept.{AsSeen};
 ghost use Rattle.lt_threads.specs.Threads.{IsThreadRun};
@@ -11,6 +11,7 @@ use crate::finishing::finish;
 use crate::rounds::{Ended, run_rounds};
 use crate::starting::start_crew;
 use crate::waiting::anyone_waits;
+use lt_law_merged::law_can_move;
 use lt_limits::Ending;
 use lt_mail::MAX_CAPACITY;
 use lt_merge::{Run, merge};
@@ -36,6 +37,7 @@ pub fn run_on_threads<R: Threads + Sync, G: Gate>(
     requires workers { (0 < workers) × (workers ≤ MAX_WORKERS) }
     ensures { IfOk result (λ made. IsThreadRun limit made.0 script.now made.1.entries) }
 {
+    law_can_move();
     let runners = start_crew(alloc, script, capacity, limit)?;
     let (mut runners, ended) = run_rounds(rt, alloc, script, runners, workers, patience, gate)?;
     let ending = end_of(script, &mut runners, ended)?;
@@ -51,6 +53,7 @@ fn end_of(script: &Script, runners: &mut Vec<Runner>, ended: Ended) -> Result<En
     ensures crew { IsCrew script.now runners.new.items }
     ensures seen { EachIs AsSeen runners.old.items runners.new.items }
     ensures ends { IfOk result (λ over. CrewEnds over script.now runners.new.items) }
+    ensures memory { IfErr result (λ error. SomeCouldMove runners.old.items) }
 {
     match ended {
         Ended::NoMemory => Err(AllocError),

@@ -7,7 +7,7 @@ use crate::outlook::Outlook;
 use lt_pool::{Pool, Post};
 use lt_runner::{Gate, Runner, Worked};
 
-/// A worker: what it claims runners with, where it looks next, and whether memory ran out on it.
+/// A worker: what it claims runners with, where it looks next, and whether it found no memory for a move, which ends it.
 #[derive(Drop)]
 pub(crate) struct Worker {
     pub(crate) post: Post<Runner>,

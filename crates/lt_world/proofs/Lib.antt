@@ -9,8 +9,10 @@ pub mod Acting
 pub mod Taking
 pub mod TakeOrder
 pub mod ActOrder
+mod FirstTurn
 pub mod Counts
 pub mod Rest
 pub mod Picks
 pub mod MadeLemmas
 pub mod AgainstLemmas
+mod Standing

@@ -104,3 +104,12 @@ picked script w k = by_turn (pick script w k) refl
       where
         some_none : true ≡ false → ⊥
         some_none e = cc
+
+-- where no take stands at a place, all stand before it
+pub takes_before : (script : ScriptData) (w : World) (k : ℕ) → None ≡ option_map choice_of (slice_get (takes script w) k) → length (takes script w) ≤ k
+takes_before script w k e = behind (takes script w) k e
+  where
+    behind : (ts : List Turn) (k : ℕ) → None ≡ option_map choice_of (slice_get ts k) → length ts ≤ k
+    behind [] k e = omega arith
+    behind (t ∷ ts) zero e = cc
+    behind (t ∷ ts) (suc k) e = omega (arith, behind ts k e)

@@ -1,11 +1,12 @@
 -- What the fields of a world hold, for the moves that were made.
-use Rattle.std.specs.Prelude.{◌≡◌, ◌<◌, ◌≤◌, ℕ, List, [], length, slice_index_or, slice_set, IsTrue}
+use Rattle.std.specs.Prelude.{◌≡◌, ◌<◌, ◌≤◌, ◌+◌, ◌^◌, ℕ, List, [], length, slice_index_or, slice_set, IsTrue}
+use Rattle.lt_modes.specs.declared.moves.Step.{Step}
 use Rattle.lt_modes.specs.Script.{ScriptData}
 use Rattle.lt_lists.specs.Below.{sum_below}
 use Rattle.lt_script.specs.Script.{IsScript}
 use Rattle.lt_spec.specs.Log.{Logged}
 use Rattle.lt_spec.specs.NodeMove.{NodeState}
-use Rattle.lt_spec.specs.World.{World, world_after, made_by, is_runnable, IsRun}
+use Rattle.lt_spec.specs.World.{World, world_after, made_by, is_runnable, is_enabled, opened, IsRun}
 use Rattle.lt_desk.specs.OutData.{OutData}
 use Rattle.lt_node.specs.NodeData.{NodeData, SameNode, state_of}
 use Rattle.lt_merge.specs.Run.{RunData}
@@ -69,6 +70,16 @@ pub record Holds (script : ScriptData) (nodes : List NodeData) (inboxes : List (
   pub no_posts : out.posts ≡ []
   pub no_events : out.events ≡ []
   pub is_run : IsRun script run
+
+-- before an enabled move of node q, once it is prepared: a letter that it takes is on its way no more
+pub record IsOpened (script : ScriptData) (q : ℕ) (step : Step) (nodes : List NodeData) (inboxes : List (List WireData)) (out : OutData) (run : List Logged) : Type 0 where
+  pub is_script : IsScript script
+  pub is_run : IsRun script run
+  pub enabled : IsTrue (is_enabled script (world_after script run) q step)
+  pub few : length run + 1 < 2 ^ 32
+  pub world : IsWorld script nodes inboxes (opened (world_after script run) q step)
+  pub no_posts : out.posts ≡ []
+  pub no_events : out.events ≡ []
 
 -- how many moves each node has made, which are no more than it may make
 pub record AreCounted (script : ScriptData) (limit : ℕ) (moves : List ℕ) (run : List Logged) : Type 0 where

@@ -3,4 +3,6 @@ pub mod Mail
 pub mod Fields
 pub mod Moving
 pub mod Network
+pub mod Reserved
+pub mod Ready
 pub mod Against

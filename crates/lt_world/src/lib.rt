@@ -7,6 +7,7 @@ mod delivery;
 mod inbox;
 mod network;
 mod recording;
+mod reserved;
 mod takes;
 #[cfg(test)]
 mod tests;
@@ -15,4 +16,4 @@ mod world;
 
 pub use choice::Choice;
 pub use lt_limits::MAX_MOVES;
-pub use world::World;
+pub use world::{Ready, World};

@@ -1,3 +1,5 @@
+mod reserving;
+
 ghost use Rattle.std.specs.Prelude.{◌≡◌, ◌<◌, ◌+◌, ◌^◌, ℕ, [], ◌∷◌, ◌++◌, All, length, slice_set, IsTrue, IfOk, OnOk, OnErr};
 ghost use Rattle.lt_modes.specs.Made as rules;
 ghost use Rattle.lt_modes.specs.declared.moves.Step.TheVariants.{Act, Take};
@@ -10,12 +12,15 @@ ghost use Rattle.lt_world.specs.Mail.{SameLetters, AreDelivered, inbox_at, mail_
 ghost use Rattle.lt_script.specs.Script.{IsScript};
 ghost use Rattle.lt_world.specs.Moving.{IsWithin, CanAct, CanTake};
 ghost use Rattle.lt_world.specs.Network.{IsAfterRun, world_in, run_with};
+ghost use Rattle.lt_world.specs.declared.reserved.Reserved.TheVariants.{Acting, Taking};
+ghost use Rattle.lt_world.specs.Reserved.{IsReserved, step_of};
 ghost use Rattle.lt_world.specs.Fields.{IsNodeOf, OnlyMemory, InboxRoom, node_at};
 
 use crate::choice::Choice;
-use crate::delivery::{deliver, pop_front, put_front, reserve_from};
+use crate::delivery::{deliver, pop_front, put_front};
 use crate::inbox::Inbox;
 use crate::recording::note_events;
+use crate::reserved::Reserved;
 use lt_desk::{Letter, Out};
 use lt_merge::Run;
 use lt_modes::{Move, Stamp, Step};
@@ -49,8 +54,8 @@ impl Network {
         })
     }
 
-    /// Makes the move.
-    pub(crate) fn make(&mut self, script: &Script, choice: Choice) -> Result<(), AllocError>
+    /// Makes the move. Where memory is refused, all stand as they did.
+    pub(crate) fn step(&mut self, script: &Script, choice: Choice) -> Result<(), AllocError>
         requires holds { IsAfterRun script.now self.old }
         requires enabled { IsTrue (is_enabled script.now (world_in script.now self.old) choice.node choice.step) }
         requires few { length self.old.run.entries + 1 < 2 ^ 32 }
@@ -59,13 +64,13 @@ impl Network {
         ensures err { OnErr result (self.new.run.entries ≡ self.old.run.entries) }
     {
         match choice.step {
-            Step::Act(client) => self.act(script, choice.node, client),
-            Step::Take(sender) => self.take(script, choice.node, sender),
+            Step::Act(client) => self.step_act(script, choice.node, client),
+            Step::Take(sender) => self.step_take(script, choice.node, sender),
         }
     }
 
     // Makes the next command of a client of this node.
-    fn act(&mut self, script: &Script, node: u8, client: u16) -> Result<(), AllocError>
+    fn step_act(&mut self, script: &Script, node: u8, client: u16) -> Result<(), AllocError>
         requires holds { IsAfterRun script.now self.old }
         requires enabled { IsTrue (is_enabled script.now (world_in script.now self.old) node (Act client)) }
         requires few { length self.old.run.entries + 1 < 2 ^ 32 }
@@ -73,20 +78,13 @@ impl Network {
         ensures ok { OnOk result (self.new.run.entries ≡ run_with script.now self.old.run.entries node (Act client)) }
         ensures err { OnErr result (self.new.run.entries ≡ self.old.run.entries) }
     {
-        self.reserve(node)?;
-        let stamp = act_at(&mut self.nodes, node, client, &mut self.out);
-        let step = Step::Act(client);
-        record_move(
-            &mut self.inboxes,
-            &mut self.run,
-            Move { stamp, step },
-            &mut self.out,
-        );
+        self.reserve_act(script, node, client)?;
+        self.act(script, node, client);
         Ok(())
     }
 
-    // Takes the front letter from the sender to this node.
-    fn take(&mut self, script: &Script, node: u8, sender: u8) -> Result<(), AllocError>
+    // Takes the front letter from the sender to this node. The letter isn't handed out in between, since it is large.
+    fn step_take(&mut self, script: &Script, node: u8, sender: u8) -> Result<(), AllocError>
         requires holds { IsAfterRun script.now self.old }
         requires enabled { IsTrue (is_enabled script.now (world_in script.now self.old) node (Take sender)) }
         requires few { length self.old.run.entries + 1 < 2 ^ 32 }
@@ -95,10 +93,48 @@ impl Network {
         ensures err { OnErr result (self.new.run.entries ≡ self.old.run.entries) }
     {
         let mut letter = pop_front(&mut self.inboxes, sender, node);
-        if let Err(error) = self.reserve_for(node, &mut letter) {
+        if let Err(error) = self.reserve_letter(node, &mut letter) {
             put_front(&mut self.inboxes, sender, node, letter);
             return Err(error);
         }
+        self.take(script, node, sender, letter);
+        Ok(())
+    }
+
+    /// Makes the move for which room was made.
+    pub(crate) fn make(&mut self, script: &Script, node: u8, reserved: Reserved)
+        requires { IsReserved script.now self.old node reserved }
+        ensures holds { IsAfterRun script.now self.new }
+        ensures entries { self.new.run.entries ≡ run_with script.now self.old.run.entries node (step_of reserved) }
+    {
+        match reserved {
+            Reserved::Acting { client } => self.act(script, node, client),
+            Reserved::Taking { sender, letter } => self.take(script, node, sender, letter),
+        }
+    }
+
+    // Makes the next command of a client of this node.
+    fn act(&mut self, script: &Script, node: u8, client: u16)
+        requires { IsReserved script.now self.old node (Acting client) }
+        ensures holds { IsAfterRun script.now self.new }
+        ensures entries { self.new.run.entries ≡ run_with script.now self.old.run.entries node (Act client) }
+    {
+        let stamp = act_at(&mut self.nodes, node, client, &mut self.out);
+        let step = Step::Act(client);
+        record_move(
+            &mut self.inboxes,
+            &mut self.run,
+            Move { stamp, step },
+            &mut self.out,
+        );
+    }
+
+    // This node takes the letter of the sender.
+    fn take(&mut self, script: &Script, node: u8, sender: u8, letter: Letter)
+        requires { IsReserved script.now self.old node (Taking sender letter) }
+        ensures holds { IsAfterRun script.now self.new }
+        ensures entries { self.new.run.entries ≡ run_with script.now self.old.run.entries node (Take sender) }
+    {
         let stamp = take_at(&mut self.nodes, node, letter, &mut self.out);
         let step = Step::Take(sender);
         record_move(
@@ -107,40 +143,6 @@ impl Network {
             Move { stamp, step },
             &mut self.out,
         );
-        Ok(())
-    }
-
-    // Makes room for one command of this node.
-    fn reserve(&mut self, node: u8) -> Result<(), AllocError>
-        requires node { node < length self.old.nodes.items }
-        requires within { IsWithin (node_at self.old.nodes.items node) }
-        requires senders { (q : ℕ) → q < length self.old.inboxes.items → node < length (inbox_at self.old.inboxes.items q) }
-        ensures nodes { OnlyMemory node self.old.nodes.items self.new.nodes.items }
-        ensures letters { SameLetters self.old.inboxes.items self.new.inboxes.items }
-        ensures entries { self.new.run.entries ≡ self.old.run.entries }
-        ensures out { (self.new.out.posts ≡ self.old.out.posts) × (self.new.out.events ≡ self.old.out.events) }
-        ensures room { OnOk result (RoomToAct (node_at self.new.nodes.items node) self.new.out) }
-        ensures send { OnOk result (InboxRoom node self.new.inboxes.items self.new.run self.new.out) }
-    {
-        self.nodes[usize::from(node)].reserve(&mut self.out)?;
-        reserve_all(&mut self.inboxes, &mut self.run, node, &self.out)
-    }
-
-    // Makes room for this node to take the letter.
-    fn reserve_for(&mut self, node: u8, letter: &mut Letter) -> Result<(), AllocError>
-        requires node { node < length self.old.nodes.items }
-        requires takes { CanTake (node_at self.old.nodes.items node) (letter_seen letter.old) }
-        requires senders { (q : ℕ) → q < length self.old.inboxes.items → node < length (inbox_at self.old.inboxes.items q) }
-        ensures nodes { OnlyMemory node self.old.nodes.items self.new.nodes.items }
-        ensures letters { SameLetters self.old.inboxes.items self.new.inboxes.items }
-        ensures entries { self.new.run.entries ≡ self.old.run.entries }
-        ensures out { (self.new.out.posts ≡ self.old.out.posts) × (self.new.out.events ≡ self.old.out.events) }
-        ensures letter { letter_seen letter.new ≡ letter_seen letter.old }
-        ensures room { OnOk result (RoomToTake (node_at self.new.nodes.items node) letter.new self.new.out) }
-        ensures send { OnOk result (InboxRoom node self.new.inboxes.items self.new.run self.new.out) }
-    {
-        self.nodes[usize::from(node)].reserve_for(letter, &mut self.out)?;
-        reserve_all(&mut self.inboxes, &mut self.run, node, &self.out)
     }
 }
 
@@ -198,23 +200,6 @@ fn take_at(nodes: &mut Vec<Node>, node: u8, letter: Letter, out: &mut Out) -> St
     let stamp = mover.stamp_of_take(&letter);
     mover.take(letter, out);
     stamp
-}
-
-// Makes room for what a node sends out, for which `out` has room.
-fn reserve_all(
-    inboxes: &mut Vec<Inbox>,
-    run: &mut Run,
-    sender: u8,
-    out: &Out,
-) -> Result<(), AllocError>
-    requires { (q : ℕ) → q < length inboxes.old.items → sender < length (inbox_at inboxes.old.items q) }
-    ensures letters { SameLetters inboxes.old.items inboxes.new.items }
-    ensures entries { run.new.entries ≡ run.old.entries }
-    ensures send { OnOk result (InboxRoom sender inboxes.new.items run.new out.now) }
-{
-    reserve_from(inboxes, sender, out.post_room())?;
-    let lines = u32::try_from(out.event_room()).map_err(|_| AllocError)?;
-    run.reserve(lines)
 }
 
 // Notes the move that its node made, and sends on what it sent out.

@@ -1,8 +1,9 @@
 mod full;
 mod order;
+mod ready;
 mod waiting;
 
-ghost use Rattle.std.specs.Prelude.{◌≡◌, ◌≢◌, ◌≤◌, ◌<◌, ◌↔◌, ℕ, [], ◌∷◌, ◌++◌, length, IsTrue, IsFalse, IsNone, IfOk, IfSome, OnSome, OnOk, OnErr, option_map, slice_index_or};
+ghost use Rattle.std.specs.Prelude.{◌≡◌, ◌≢◌, ◌≤◌, ◌<◌, ◌+◌, ◌^◌, ◌↔◌, ℕ, [], ◌∷◌, ◌++◌, length, IsTrue, IsFalse, IsNone, IfOk, IfSome, OnSome, OnOk, OnErr, option_map, slice_index_or, slice_set};
 ghost use Rattle.lt_limits.specs.declared.moves.TheConstants.{MAX_MOVES};
 ghost use Rattle.lt_lists.specs.Below.{any_below};
 ghost use Rattle.lt_modes.specs.declared.moves.Step.TheVariants.{Act};
@@ -19,6 +20,7 @@ use lt_limits::MAX_MOVES;
 use lt_merge::Run;
 use lt_modes::Step;
 use lt_script::Script;
+pub use ready::Ready;
 use std::alloc::{AllocError, Global};
 use std::marker::Model;
 
@@ -134,10 +136,8 @@ impl World {
         ensures ok { OnOk result (self.new ≡ record self.old { run = self.old.run ++ logged self.old.script (world_of self.old) choice.node choice.step ∷ [] }) }
         ensures err { OnErr result (self.new ≡ self.old) }
     {
-        self.network.make(&self.script, choice)?;
-        let made = &mut self.moves[usize::from(choice.node)];
-        *made += 1;
-        self.most = self.most.max(*made);
+        self.network.step(&self.script, choice)?;
+        count_move(&mut self.moves, &mut self.most, choice.node);
         note_made(&mut self.made, &self.script, &self.network, choice);
         Ok(())
     }
@@ -210,6 +210,19 @@ fn none_made(alloc: Global, script: &Script) -> Result<Vec<u32>, AllocError>
         made.push(0)?;
     }
     Ok(made)
+}
+
+// Counts a move of the node.
+fn count_move(moves: &mut Vec<u32>, most: &mut u32, node: u8)
+    requires node { node < length moves.old.items }
+    requires few { slice_index_or moves.old.items node 0 + 1 < 2 ^ 32 }
+    ensures moves { moves.new.items ≡ slice_set moves.old.items node (slice_index_or moves.old.items node 0 + 1) }
+    ensures own { slice_index_or moves.old.items node 0 + 1 ≤ most.new }
+    ensures most { most.old ≤ most.new }
+{
+    let made = &mut moves[usize::from(node)];
+    *made += 1;
+    *most = (*most).max(*made);
 }
 
 // Notes how many commands the client of a move has made.

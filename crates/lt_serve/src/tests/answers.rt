@@ -121,23 +121,58 @@ fn answers(rt: HostRuntime) -> Result<(), Fail> {
     Ok(())
 }
 
+const ONE_LOCK: &str = "nodes 1\n\
+    set s\n\
+    client a at 0\n\
+    a lock s write\n\
+    a unlock s write\n";
+
+const ITS_JOURNAL: &[u8] = b"move 1 0 act a\n\
+    grant a s write\n\
+    move 2 0 act a\n\
+    unlock a s write\n\
+    owner s 0 0\n\
+    end 2\n";
+
+// Each write fails in turn, if one takes a byte, and the one after them all.
 #[test]
-fn faults(rt: HostRuntime) -> Result<(), Fail> {
+fn failing_writes(rt: HostRuntime) -> Result<(), Fail> {
     let alloc = rt.alloc();
     let words = words_of(alloc, "sim first")?;
-    let script = "nodes 1\nset s\nclient a at 0\na lock s write\na unlock s write\n";
+    assert_eq!(rt; ITS_JOURNAL.len(), 81);
+    for k in 1..=82_usize {
+        let mut source = source_of(alloc, ONE_LOCK, &[])?;
+        let mut sink = sink_of(alloc, 1, &[k as u64])?;
+        let served = serve(&rt, alloc, words.as_slice(), &mut source, &mut sink, &Open);
+        let status = if k == 82 {
+            Status::Done
+        } else {
+            Status::WriteFault
+        };
+        assert_eq!(rt; served.status, status, "{k}");
+        let (written, _) = ITS_JOURNAL.split_at((k - 1).min(ITS_JOURNAL.len()));
+        assert_eq!(rt; sink.bytes.as_slice(), written, "{k}");
+    }
+    Ok(())
+}
 
-    let mut source = source_of(alloc, script, &[])?;
-    let mut sink = sink_of(alloc, 10, &[3])?;
-    let served = serve(&rt, alloc, words.as_slice(), &mut source, &mut sink, &Open);
-    assert_eq!(rt; served.status, Status::WriteFault);
-    assert_eq!(rt; sink.bytes.as_slice(), b"move 1 0 act a\ngrant".as_slice());
-
-    let mut source = source_of(alloc, script, &[1])?;
-    let mut sink = sink_of(alloc, 10, &[])?;
-    let served = serve(&rt, alloc, words.as_slice(), &mut source, &mut sink, &Open);
-    assert_eq!(rt; served.status, Status::ReadFault);
-    assert!(rt; sink.bytes.is_empty());
+// Each read fails in turn: there are two, the second of which finds the end.
+#[test]
+fn failing_reads(rt: HostRuntime) -> Result<(), Fail> {
+    let alloc = rt.alloc();
+    let words = words_of(alloc, "sim first")?;
+    for k in 1..=3_u64 {
+        let mut source = source_of(alloc, ONE_LOCK, &[k])?;
+        let mut sink = sink_of(alloc, 10, &[])?;
+        let served = serve(&rt, alloc, words.as_slice(), &mut source, &mut sink, &Open);
+        let (status, written) = if k == 3 {
+            (Status::Done, ITS_JOURNAL)
+        } else {
+            (Status::ReadFault, b"".as_slice())
+        };
+        assert_eq!(rt; served.status, status, "{k}");
+        assert_eq!(rt; sink.bytes.as_slice(), written, "{k}");
+    }
     Ok(())
 }
 

@@ -1,6 +1,6 @@
 use super::gates::{Passes, TIMES};
 use super::{sink_of, source_of, words_of};
-use crate::{Served, Setup, Status, serve_with};
+use crate::{Served, Status, serve};
 use lt_merge::Run;
 use lt_runner::Gate;
 use std::alloc::{AllocError, Global};
@@ -16,7 +16,7 @@ a unlock s write\n\
 b lock s write\n\
 b unlock s write\n";
 
-// Before its first move each of two nodes waits until the other one comes to its own.
+// By the usual setup. Before its first move each of two nodes waits until the other one comes to its own.
 #[derive(Drop)]
 struct Meeting {
     passes: Passes,
@@ -41,26 +41,11 @@ fn moves_of(run: &Run, node: u8) -> u64 {
     count
 }
 
-const SETUP: Setup = Setup {
-    moves: 1_000,
-    capacity: 64,
-    patience: 256,
-    workers: 8,
-};
-
 fn ran<R: Threads + Sync>(rt: &R, alloc: Global, gate: &Meeting) -> Result<Served, AllocError> {
     let words = words_of(alloc, "run")?;
     let mut source = source_of(alloc, TWO_IN_TURN, &[])?;
     let mut sink = sink_of(alloc, 1_000, &[])?;
-    Ok(serve_with(
-        rt,
-        alloc,
-        SETUP,
-        words.as_slice(),
-        &mut source,
-        &mut sink,
-        gate,
-    ))
+    Ok(serve(rt, alloc, words.as_slice(), &mut source, &mut sink, gate))
 }
 
 #[test]

@@ -65,3 +65,23 @@ fn cut_on_threads(rt: HostRuntime) -> Result<(), Fail> {
     assert_eq!(rt; journal.as_slice(), CUT);
     Ok(())
 }
+
+// A drawn script with the least setup: all is unlocked at the end, and nobody waits.
+#[test]
+fn a_drawn_script_on_threads(rt: HostRuntime) -> Result<(), Fail> {
+    let setup = Setup {
+        moves: 100_000,
+        capacity: 1,
+        patience: 0,
+        workers: 2,
+    };
+    let (_, script) = served(&rt, rt.alloc(), USUAL, "make 16 64 256 7", "")?;
+    let script = String::from_utf8(script)?;
+    let (status, journal) = served(&rt, rt.alloc(), setup, "run", &script)?;
+    assert_eq!(rt; status, Status::Done);
+    let input = input_of(rt.alloc(), &script, &journal)?;
+    assert!(rt; !input.contains("\nheld ") && !input.contains("\nwaiting "));
+    let (status, _) = served(&rt, rt.alloc(), USUAL, "check", &input)?;
+    assert_eq!(rt; status, Status::Done);
+    Ok(())
+}

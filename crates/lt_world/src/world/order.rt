@@ -1,26 +1,27 @@
-ghost use Rattle.std.specs.Prelude.{◌≡◌, ◌<◌, ◌^◌, length, IfSome, None, slice_get, option_map};
-ghost use Rattle.lt_spec.specs.World.{made_by};
+ghost use Rattle.std.specs.Prelude.{◌≡◌, ◌<◌, ◌+◌, ◌^◌, ◌&&◌, length, IfSome, None, slice_get, option_map};
+ghost use Rattle.lt_spec.specs.World.{made_by, is_runnable};
 ghost use Rattle.lt_spec.specs.FixedOrder.{pick, takes, count_acts, next_act, act_after, act_turn, acts_before, comes_after};
 ghost use Rattle.lt_world.specs.Fields.{IsRunnable, world_of};
-ghost use Rattle.lt_world.specs.Choice.{choice_of, client_of, first_with, IsTurn};
+ghost use Rattle.lt_world.specs.Choice.{choice_of, first_with, IsLeast};
 
 use super::World;
-use crate::choice::{ActTurn, Choice};
+use crate::choice::Choice;
 use crate::takes;
 use lt_modes::Step;
 
 // The order of the enabled moves.
 impl World {
     // The enabled move at place `k`.
+    #[tactic(auto, using(crate::proofs::Picks::takes_before))]
     pub(super) fn turn_at(&self, k: u32) -> Option<Choice>
         ensures { result ≡ option_map choice_of (pick self.now.script (world_of self.now) k) }
     {
-        let takes = self.count_takes();
-        if k < takes {
-            self.take_at(k)
-        } else {
-            self.act_at(k - takes)
+        if let Some(choice) = self.take_at(k) {
+            return Some(choice);
         }
+        // At the first place there is no take to be counted.
+        let takes = if k > 0 { self.count_takes() } else { 0 };
+        self.act_at(k - takes)
     }
 
     // The number of enabled takes.
@@ -87,41 +88,50 @@ impl World {
         ensures next { result ≡ next_act self.now.script (world_of self.now) earlier }
         ensures runnable { IfSome result (IsRunnable self.now) }
     {
-        let mut first: Option<ActTurn> = None;
+        let mut first = None;
+        let mut least = 0;
         for client in 0..self.script.clients() {
-            first = self.first_with(earlier, first, client);
+            let (next, made) = self.first_with(earlier, first, least, client);
+            first = next;
+            least = made;
         }
-        match first {
-            Some(turn) => Some(turn.client),
-            None => None,
-        }
+        first
     }
 
-    // The first of `first` and this client, where it is runnable and comes after the earlier one.
+    // The first of `first` and this client, where it is runnable and comes after the earlier one, and how many commands
+    // that one has made. All clients before this one were looked at.
     fn first_with(
         &self,
         earlier: Option<u16>,
-        first: Option<ActTurn>,
+        first: Option<u16>,
+        least: u32,
         client: u16,
-    ) -> Option<ActTurn>
+    ) -> (Option<u16>, u32)
         requires earlier { IfSome earlier (λ client. client < length self.now.script.clients) }
-        requires first { IfSome first (IsTurn self.now) }
+        requires first { IsLeast self.now client first least }
         requires client { client < length self.now.script.clients }
-        ensures first { option_map client_of result ≡ first_with self.now.script (world_of self.now) earlier (option_map client_of first) client }
-        ensures turn { IfSome result (IsTurn self.now) }
+        ensures first { result.0 ≡ first_with self.now.script (world_of self.now) earlier first client }
+        ensures least { IsLeast self.now (client + 1) result.0 result.1 }
     {
         let made = self.made(client);
-        match first {
-            Some(turn) if !(made < turn.made || made == turn.made && client < turn.client) => {
-                return Some(turn);
-            }
-            _ => {}
+        if first.is_some() && least <= made {
+            return (first, least);
         }
-        if self.comes_after(earlier, client) && self.is_runnable(client) {
-            Some(ActTurn { client, made })
+        if self.may_act(earlier, client) {
+            (Some(client), made)
         } else {
-            first
+            (first, least)
         }
+    }
+
+    // Whether the client can act, and comes after the earlier one.
+    #[tactic(auto, using(crate::proofs::FirstTurn::and_turned))]
+    fn may_act(&self, earlier: Option<u16>, client: u16) -> bool
+        requires earlier { IfSome earlier (λ client. client < length self.now.script.clients) }
+        requires client { client < length self.now.script.clients }
+        ensures { result ≡ (is_runnable self.now.script (world_of self.now) client && comes_after self.now.script (world_of self.now) earlier client) }
+    {
+        self.comes_after(earlier, client) && self.is_runnable(client)
     }
 
     fn comes_after(&self, earlier: Option<u16>, client: u16) -> bool

@@ -1,14 +1,12 @@
-use Rattle.std.proofs.Common.{rules, sym, length, ◌<◌, ◌∙◌}
-use Rattle.std.proofs.lemmas.Bool.{eqb-true}
-use Rattle.lt_checker.proofs.Keeping.{kept_room, kept_full}
+use Rattle.std.proofs.Common.{ℕ, ◌≤◌, ◌-◌, ◌++◌, ◌∙◌, List, length, min, ap, arith}
+use Rattle.lt_checker.proofs.Pieces.{kept_room}
 use Rattle.lt_checker.proofs.checker.keep.Goals as goal
 
-pub returns-then-not-is_full : goal.returns-then-not-is_full
-returns-then-not-is_full c =
-    let room : length c.args.rest.now.items < 201 = search rules in
-    c.push.ensures.items ∙ kept_room c.args.rest.now.items c.args.byte 201 room
-
-pub returns-else-not-is_full : goal.returns-else-not-is_full
-returns-else-not-is_full c =
-    kept_full c.args.rest.now.items c.args.byte 201
-    (eqb-true (length c.args.rest.now.items) 201 (sym c.is_full.ensures.value ∙ c.if-not-is_full.false))
+pub returns-clause-kept : goal.returns-clause-kept
+returns-clause-kept c =
+    let rest = c.args.rest.now.items in
+    let bytes = c.args.bytes.now in
+    let few : length rest ≤ 201 = omega (arith, c.len-room.ensures.value, c.len-room.ensures.fits) in
+    c.in-Ok.ensures.ok
+    ∙ (ap (λ (t : List ℕ). rest ++ t) c.split_at.ensures.front
+    ∙ kept_room rest bytes c.min.result few (c.min.ensures ∙ ap (λ (k : ℕ). min (length bytes) (201 - k)) c.len-room.ensures.value))

@@ -1,4 +1,4 @@
-use Rattle.std.proofs.Common.{◌≡◌, Ok, drop, subst}
+use Rattle.std.proofs.Common.{Ok, drop, subst}
 use Rattle.lt_text.specs.Text.{lines}
 use Rattle.lt_journal.specs.Split.{input_parts}
 use Rattle.lt_law_checking.specs.Checking.{checked}

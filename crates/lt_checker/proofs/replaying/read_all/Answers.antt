@@ -13,10 +13,10 @@ loop-k-preserved c =
     let old = c.loop-k.reader in
     let said = c.line.result in
     let words : c.deref.result.now ≡ written script said = c.deref.ensures.value ∙ c.in_ok-line.ensures in
-    let read : c.in_ok-reader-2.reader.reader ≡ read_on script old.reader (written script said) =
-    c.in_ok-reader-2.ensures.reader ∙ ap₂ (λ (s : ScriptData) (line : List ℕ). read_on s old.reader line) c.loop-k.invariant.script words in
+    let read : c.take.new.self.reader ≡ read_on script old.reader (written script said) =
+    c.in_ok-take.ensures.reader ∙ ap₂ (λ (s : ScriptData) (line : List ℕ). read_on s old.reader line) c.loop-k.invariant.script words in
     record {
-      script = c.in_ok-reader-2.ensures.script ∙ c.loop-k.invariant.script;
+      script = c.take.ensures.script ∙ c.loop-k.invariant.script;
       reader = ap (λ (r : Reader). fold (read_on script) r (map (written script) (drop (k + 1) journal))) read
           ∙ (ap (λ (left : List Line). fold (read_on script) old.reader (map (written script) left)) (sym (drop_get journal k said c.line.ensures))
           ∙ c.loop-k.invariant.reader);

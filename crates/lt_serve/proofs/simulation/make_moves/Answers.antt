@@ -6,10 +6,11 @@ use Rattle.lt_spec.specs.FixedOrder.{count_turns}
 use Rattle.lt_world.specs.Fields.{WorldData, world_of}
 use Rattle.lt_limits.specs.Cut.{full_node}
 use Rattle.lt_serve.specs.declared.schedule.Schedule.{Schedule}
+use Rattle.lt_threads.specs.Threads.{StaysWithin}
 use Rattle.lt_serve.specs.Endings.{StopsInTime}
 use Rattle.lt_serve.specs.Schedules.{IsAt, scheduled, AreInOrder}
 use Rattle.lt_serve.proofs.Ordered.{schedule_after, one_more, schedule_more, picked}
-use Rattle.lt_serve.proofs.Rooms.{IsWithin, room_left, may_move, stays_within, stays_in_time, less_room, mover_within}
+use Rattle.lt_serve.proofs.Rooms.{room_left, may_move, stays_within, stays_in_time, less_room, mover_within}
 use Rattle.lt_serve.proofs.simulation.make_moves.Goals as goal
 
 pub step-requires-clause-room : goal.step-requires-clause-room
@@ -55,7 +56,7 @@ loop-schedule-preserved c =
     record {
       script = ap (λ (v : WorldData). v.script) stepped ∙ c.loop-schedule.invariant.script;
       limit = ap (λ (v : WorldData). v.limit) stepped ∙ c.loop-schedule.invariant.limit;
-      within = subst (λ (v : WorldData). IsWithin v.limit v.run) (sym stepped) (stays_within w.script w.limit w.run (world_of w) choice.node choice.step c.loop-schedule.invariant.within may);
+      within = subst (λ (v : WorldData). StaysWithin v.limit v.script v.run) (sym stepped) (stays_within w.script w.limit w.run (world_of w) choice.node choice.step c.loop-schedule.invariant.within may);
       in_time = subst (λ (v : WorldData). StopsInTime v.limit v.script v.run) (sym stepped) (stays_in_time w.script w.limit w.run entry c.loop-schedule.invariant.in_time none);
       in_order = subst (λ (v : WorldData). AreInOrder c.args.schedule v.script v.run) (sym stepped) in_order;
       schedule = subst (λ (v : WorldData). c.choose.new.self ≡ schedule_after v.script (start v.script) c.args.schedule v.run) (sym stepped) schedule;

@@ -9,4 +9,5 @@ returns-in-Ok-clause-does g c = record {
     journal = c.in-Ok.ensures.text;
   };
   rising = c.in-Ok.ensures.rising;
+  far = c.in-Ok.ensures.far;
 }

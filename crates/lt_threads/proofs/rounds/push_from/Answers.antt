@@ -1,34 +1,38 @@
-use Rattle.std.proofs.Common.{subst, ℕ}
+-- A turn that came to nothing, a move, want of memory, and all turns that came to nothing.
+use Rattle.std.proofs.Common.{subst, arith}
+use Rattle.lt_runner.specs.Kept.{AsSeen}
 use Rattle.lt_runner.specs.declared.turning.Turned.{Turned}
 use Rattle.lt_threads.specs.Pushes.{PushedAt}
+use Rattle.lt_threads.proofs.Each.{each_len}
+use Rattle.lt_threads.proofs.Pushing.{IsStill, is_still, still_seen, next_full, push_moved, push_over, push_cut}
 use Rattle.lt_threads.proofs.rounds.push_from.Goals as goal
-use Rattle.lt_threads.proofs.Pushing.{first_crew, first_full, first_moved_or_over, after_full, first_ends}
 
-pub push_another-requires-clause-crew : goal.push_another-requires-clause-crew
-push_another-requires-clause-crew g c =
-    λ κs outlives. first_crew c.args.node c.args.script.now c.args.runners.now.items c.push_at-pushed.new.runners.items c.requires.crew
-    (subst (λ (pushed : Turned). PushedAt pushed c.args.node c.args.runners.now.items c.push_at-pushed.new.runners.items) c.in-Full.is
-    (subst (λ (k : ℕ). PushedAt c.push_at-pushed.result k c.args.runners.now.items c.push_at-pushed.new.runners.items) c.from.ensures c.push_at-pushed.ensures))
+pub returns-in-Moved : goal.returns-in-Moved
+returns-in-Moved g c =
+    push_moved c.loop-place.place c.args._script.now c.args.runners.now.items c.loop-place.runners.items c.push_at.new.runners.items c.requires.crew
+    c.loop-place.invariant.seen
+    (subst (λ (pushed : Turned). PushedAt pushed c.loop-place.place c.loop-place.runners.items c.push_at.new.runners.items) c.in-Moved.is c.push_at.ensures)
 
-pub push_another-requires-clause-cut : goal.push_another-requires-clause-cut
-push_another-requires-clause-cut g c =
-    λ κs outlives. first_full c.args.node c.args.script.now c.args.runners.now.items c.push_at-pushed.new.runners.items c.requires.enabled
-    (subst (λ (pushed : Turned). PushedAt pushed c.args.node c.args.runners.now.items c.push_at-pushed.new.runners.items) c.in-Full.is
-    (subst (λ (k : ℕ). PushedAt c.push_at-pushed.result k c.args.runners.now.items c.push_at-pushed.new.runners.items) c.from.ensures c.push_at-pushed.ensures))
+pub returns-in-NoMemory : goal.returns-in-NoMemory
+returns-in-NoMemory g c =
+    push_over c.loop-place.place c.args._script.now c.args.runners.now.items c.loop-place.runners.items c.push_at.new.runners.items c.requires.crew
+    c.loop-place.invariant.seen
+    (subst (λ (pushed : Turned). PushedAt pushed c.loop-place.place c.loop-place.runners.items c.push_at.new.runners.items) c.in-NoMemory.is c.push_at.ensures)
 
-pub returns-in-Full : goal.returns-in-Full
-returns-in-Full g c =
-    after_full c.args.node c.push_another.result c.args.script.now c.args.runners.now.items c.push_at-pushed.new.runners.items c.push_another.new.runners.items
-    (subst (λ (pushed : Turned). PushedAt pushed c.args.node c.args.runners.now.items c.push_at-pushed.new.runners.items) c.in-Full.is
-    (subst (λ (k : ℕ). PushedAt c.push_at-pushed.result k c.args.runners.now.items c.push_at-pushed.new.runners.items) c.from.ensures c.push_at-pushed.ensures)) c.push_another.ensures
+pub loop-place-preserved : goal.loop-place-preserved
+loop-place-preserved g c =
+    let still : IsStill c.push_at.result = is_still c.push_at.result c.in-Quiet.is in
+    let seen =
+    still_seen c.push_at.result c.loop-place.place c.args.runners.now.items c.loop-place.runners.items c.push_at.new.runners.items still
+    c.loop-place.invariant.seen c.push_at.ensures in
+    record {
+      seen = seen;
+      count = each_len AsSeen c.args.runners.now.items c.push_at.new.runners.items seen;
+      full = next_full c.push_at.result c.args.node c.loop-place.place c.args.runners.now.items c.loop-place.runners.items c.push_at.new.runners.items still
+          c.loop-place.invariant.seen c.push_at.ensures c.loop-place.invariant.full;
+    }
 
-pub first_end-requires : goal.first_end-requires
-first_end-requires g c =
-    first_moved_or_over c.push_at-pushed.result c.args.node c.args.script.now c.args.runners.now.items c.push_at-pushed.new.runners.items c.in_default.not-Full c.requires.enabled
-    (subst (λ (k : ℕ). PushedAt c.push_at-pushed.result k c.args.runners.now.items c.push_at-pushed.new.runners.items) c.from.ensures c.push_at-pushed.ensures)
-
-pub returns-in_default : goal.returns-in_default
-returns-in_default g c =
-    let at = subst (λ (k : ℕ). PushedAt c.push_at-pushed.result k c.args.runners.now.items c.push_at-pushed.new.runners.items) c.from.ensures c.push_at-pushed.ensures in
-    rw c.first_end.ensures
-    (first_ends c.push_at-pushed.result c.args.node c.args.script.now c.args.runners.now.items c.push_at-pushed.new.runners.items c.in_default.not-Full c.requires.crew c.requires.enabled at)
+pub returns : goal.returns
+returns g c =
+    push_cut c.args.node c.loop-place.place c.args._script.now c.args.runners.now.items c.loop-place.runners.items c.requires.crew c.requires.enabled
+    c.loop-place.invariant.seen (omega (arith, c.loop-place.invariant.count, c.loop-place-test.false)) c.loop-place.invariant.full

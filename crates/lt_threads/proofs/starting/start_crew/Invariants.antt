@@ -3,4 +3,4 @@ use Rattle.lt_threads.specs.Starting.{Starting}
 use Rattle.lt_threads.proofs.starting.start_crew.Given as goal
 
 abbrev pub invariant-loop-node : goal.invariant-loop-node
-invariant-loop-node l = Starting l.script l.fn.limit l.node l.mails.items l.runners.items
+invariant-loop-node l = Starting l.script l.fn.capacity l.fn.limit l.node l.mails.items l.runners.items

@@ -24,4 +24,4 @@ pub returns-clause-kept : goal.returns-clause-kept
 returns-clause-kept c =
     kept_moved c.args.self.now _ (OfClient c.args.client) c.requires.kept
     (acted c.args.self.now _ c.act.new.self c.act.new.out c.args.client c.requires.kept c.requires.chosen c.act.ensures.does
-    (rw (← c.stamp_of_act-stamp.ensures) c.finish_move.ensures) c.requires.place)
+    (rw (← c.stamp_of_act-stamp.ensures) c.finish_move.ensures.finished) c.requires.place c.finish_move.ensures.idle)

@@ -19,4 +19,4 @@ returns-clause-kept c =
     kept_moved (record c.args.self.now { hand = Some c.args.hand }) _ (OfLetter c.args.hand.from (letter_seen c.args.hand.letter)) c.requires.kept
     (took (record c.args.self.now { hand = Some c.args.hand }) _ c.take.new.self c.take.new.out c.args.hand c.args.self.now.hand c.requires.kept refl
     c.requires.empty c.requires.fits c.take.ensures.does
-    (rw (← c.stamp_of_take-stamp.ensures) c.finish_move.ensures) c.requires.place)
+    (rw (← c.stamp_of_take-stamp.ensures) c.finish_move.ensures.finished) c.requires.place c.finish_move.ensures.idle)

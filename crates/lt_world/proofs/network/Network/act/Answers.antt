@@ -1,63 +1,50 @@
+use Rattle.lt_modes.specs.declared.moves.Step.TheVariants.{Act}
 use Rattle.lt_world.specs.Fields.{node_at}
-use Rattle.lt_world.proofs.Acting.{Begun, Acted, within_before, can_act_then, targets, holds_then}
+use Rattle.lt_world.proofs.Acting.{acts_now, acted, act_stamped}
+use Rattle.lt_world.proofs.Moves.{targets, senders, run_moved, holds_moved}
 use Rattle.lt_world.proofs.network.Network.act.Goals as goal
-
-pub reserve-requires-clause-within : goal.reserve-requires-clause-within
-reserve-requires-clause-within c =
-    let old = c.args.self.now in
-    within_before c.args.script.now c.args.node c.args.client old.nodes.items old.inboxes.items old.out old.run.entries c.requires.holds c.requires.enabled
 
 pub act_at-stamp-requires-clause-acts : goal.act_at-stamp-requires-clause-acts
 act_at-stamp-requires-clause-acts c =
-    let old = c.args.self.now in
-    let new = c.reserve.new.self in
-    let begun : Begun c.args.script.now c.args.node c.args.client old.nodes.items new.nodes.items old.inboxes.items new.inboxes.items old.out new.out old.run.entries = record {
-      holds = c.requires.holds;
-      enabled = c.requires.enabled;
-      few = c.requires.few;
-      nodes_same = c.reserve.ensures.nodes;
-      letters_same = c.reserve.ensures.letters;
-      out_same = c.reserve.ensures.out;
-    } in
-    can_act_then c.args.script.now c.args.node c.args.client old.nodes.items new.nodes.items old.inboxes.items new.inboxes.items old.out new.out old.run.entries begun
+    let n = c.args.self.now in
+    acts_now c.args.script.now c.args.node c.args.client n.nodes.items n.inboxes.items n.out n.run.entries c.requires.opened
 
 pub record_move-requires-clause-targets : goal.record_move-requires-clause-targets
 record_move-requires-clause-targets c =
-    let old = c.args.self.now in
-    let new = c.reserve.new.self in
+    let n = c.args.self.now in
     let made = c.act_at-stamp.new in
-    let begun : Begun c.args.script.now c.args.node c.args.client old.nodes.items new.nodes.items old.inboxes.items new.inboxes.items old.out new.out old.run.entries = record {
-      holds = c.requires.holds;
-      enabled = c.requires.enabled;
-      few = c.requires.few;
-      nodes_same = c.reserve.ensures.nodes;
-      letters_same = c.reserve.ensures.letters;
-      out_same = c.reserve.ensures.out;
-    } in
-    let acted : Acted c.args.node c.args.client (node_at new.nodes.items c.args.node) (node_at made.nodes.items c.args.node) new.out made.out c.act_at-stamp.result = record {
-      stamp_is = c.act_at-stamp.ensures.stamp;
-      does = c.act_at-stamp.ensures.does;
-    } in
-    targets c.args.script.now c.args.node c.args.client old.nodes.items new.nodes.items old.inboxes.items new.inboxes.items old.out new.out old.run.entries
-    (node_at made.nodes.items c.args.node) made.out c.act_at-stamp.result begun acted
+    let opened = c.requires.opened in
+    let mover = node_at made.nodes.items c.args.node in
+    let done = acted c.args.script.now c.args.node c.args.client n.nodes.items n.inboxes.items n.out made.out n.run.entries mover opened c.act_at-stamp.ensures.does in
+    targets c.args.script.now c.args.node (Act c.args.client) n.nodes.items n.inboxes.items n.out made.out n.run.entries mover opened done
+
+pub record_move-requires-clause-senders : goal.record_move-requires-clause-senders
+record_move-requires-clause-senders c =
+    let n = c.args.self.now in
+    let opened = c.requires.opened in
+    let at = act_stamped c.args.script.now c.args.node c.args.client n.nodes.items n.inboxes.items n.out n.run.entries c.act_at-stamp.result opened c.act_at-stamp.ensures.stamp in
+    senders c.args.script.now c.args.node (Act c.args.client) n.nodes.items n.inboxes.items n.out n.run.entries c.act_at-stamp.result opened at
 
 pub returns-clause-holds : goal.returns-clause-holds
 returns-clause-holds c =
-    let old = c.args.self.now in
-    let new = c.reserve.new.self in
+    let n = c.args.self.now in
     let made = c.act_at-stamp.new in
-    let begun : Begun c.args.script.now c.args.node c.args.client old.nodes.items new.nodes.items old.inboxes.items new.inboxes.items old.out new.out old.run.entries = record {
-      holds = c.requires.holds;
-      enabled = c.requires.enabled;
-      few = c.requires.few;
-      nodes_same = c.reserve.ensures.nodes;
-      letters_same = c.reserve.ensures.letters;
-      out_same = c.reserve.ensures.out;
-    } in
-    let acted : Acted c.args.node c.args.client (node_at new.nodes.items c.args.node) (node_at made.nodes.items c.args.node) new.out made.out c.act_at-stamp.result = record {
-      stamp_is = c.act_at-stamp.ensures.stamp;
-      does = c.act_at-stamp.ensures.does;
-    } in
-    holds_then c.args.script.now c.args.node c.args.client old.nodes.items new.nodes.items old.inboxes.items new.inboxes.items c.record_move.new.inboxes.items
-    old.out new.out made.out c.record_move.new.out old.run.entries new.run.entries c.record_move.new.run.entries (node_at made.nodes.items c.args.node) made.nodes.items c.act_at-stamp.result
-    begun acted c.act_at-stamp.ensures.others c.record_move.ensures.delivered c.reserve.ensures.entries c.record_move.ensures.entries c.record_move.ensures.out
+    let opened = c.requires.opened in
+    let mover = node_at made.nodes.items c.args.node in
+    let done = acted c.args.script.now c.args.node c.args.client n.nodes.items n.inboxes.items n.out made.out n.run.entries mover opened c.act_at-stamp.ensures.does in
+    let at = act_stamped c.args.script.now c.args.node c.args.client n.nodes.items n.inboxes.items n.out n.run.entries c.act_at-stamp.result opened c.act_at-stamp.ensures.stamp in
+    let longer = run_moved c.args.script.now c.args.node (Act c.args.client) n.nodes.items n.inboxes.items n.out made.out n.run.entries c.record_move.new.run.entries mover c.act_at-stamp.result opened done at
+    c.record_move.ensures.entries in
+    holds_moved c.args.script.now c.args.node (Act c.args.client) n.nodes.items made.nodes.items n.inboxes.items c.record_move.new.inboxes.items n.out made.out c.record_move.new.out
+    n.run.entries c.record_move.new.run.entries mover c.act_at-stamp.result opened done at c.act_at-stamp.ensures.others c.record_move.ensures.delivered longer c.record_move.ensures.out
+
+pub returns-clause-entries : goal.returns-clause-entries
+returns-clause-entries c =
+    let n = c.args.self.now in
+    let made = c.act_at-stamp.new in
+    let opened = c.requires.opened in
+    let mover = node_at made.nodes.items c.args.node in
+    let done = acted c.args.script.now c.args.node c.args.client n.nodes.items n.inboxes.items n.out made.out n.run.entries mover opened c.act_at-stamp.ensures.does in
+    let at = act_stamped c.args.script.now c.args.node c.args.client n.nodes.items n.inboxes.items n.out n.run.entries c.act_at-stamp.result opened c.act_at-stamp.ensures.stamp in
+    run_moved c.args.script.now c.args.node (Act c.args.client) n.nodes.items n.inboxes.items n.out made.out n.run.entries c.record_move.new.run.entries mover c.act_at-stamp.result opened done at
+    c.record_move.ensures.entries

@@ -1,0 +1,2 @@
+pub mod RunsOpened
+pub mod OthersOpened

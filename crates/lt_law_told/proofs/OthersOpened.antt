@@ -1,0 +1,65 @@
+-- Each field of what is said of the other commands.
+use Rattle.std.proofs.Common.{◌≡◌, ℕ, List, [], ◌++◌, Ok, Option, None, refl, ap, subst, ◌∙◌}
+use Rattle.std.specs.Prelude.{◌&&◌, ◌==◌, not, nat_lt, take}
+use Rattle.std.proofs.lemmas.Bool.{and_parts, false≢true}
+use Rattle.lt_modes.specs.Script.{ScriptData}
+use Rattle.lt_spec.specs.Log.{Logged}
+use Rattle.lt_spec.specs.World.{is_some_letter}
+use Rattle.lt_text.specs.Text as text
+use Rattle.lt_script.specs.Printing.{print_of}
+use Rattle.lt_script.specs.Reading.{read_of}
+use Rattle.lt_journal.specs.Split as split
+use Rattle.lt_journal.specs.Split.{input_parts}
+use Rattle.lt_law_checking.specs.Journals.{IsFinished}
+use Rattle.lt_words.specs.declared.command.Command.TheVariants.{Soak}
+use Rattle.lt_serve.specs.declared.status.Status.TheVariants.{Done, Stuck}
+use Rattle.lt_serve.specs.TopCall.{Checks, greatest_script}
+use Rattle.lt_law_texts.proofs.DrawnScript.{drawn_is}
+use Rattle.lt_law_told.specs.Runs.{two_writers, two_writers_script}
+use Rattle.lt_law_told.specs.Others.{SoakTold, CheckedRun, CheckTold, MakeTold, checked_writers, letter_first}
+use Rattle.lt_law_told.proofs.RunsOpened.{opened, same_script, writers_read}
+
+pub soak_told : SoakTold
+soak_told = record {
+  runs = λ seed. opened (Soak seed) None (greatest_script seed) (λ moves ending run text j. j.ran);
+  not_falling = λ seed t. false≢true t.1.rising.0.0;
+  not_crossed = λ seed t. false≢true t.1.rising.0.0;
+  run_not_falling = λ t. false≢true t.1.rising.0.0;
+  run_not_crossed = λ t. false≢true t.1.rising.0.0;
+  done_text = λ seed run old new t. t.2 ∙ ap (λ (text : List ℕ). old ++ text) t.1.told;
+  stuck_text = λ seed run old new t. t.2 ∙ ap (λ (text : List ℕ). old ++ text) t.1.told;
+}
+
+writers_before : take (input_parts checked_writers).script checked_writers ≡ two_writers
+unfolding text.lines text.cut_at text.words split.after_first_line
+writers_before = refl
+
+-- what `check` says of some script
+checked_so : (input : Option (List ℕ)) (run : List Logged) (text : List ℕ) → (k : Checks Done input run text) → CheckedRun k.script run
+checked_so input run text k = record { is_run = k.finished.is_run; rest = k.finished.at_rest; few = k.finished.few; promised = k.promised }
+
+-- no run of a script begins with a letter
+begins_with_letter : (script : ScriptData) → IsFinished script letter_first → ⊥
+begins_with_letter script f =
+    let from = and_parts (nat_lt 1 script.nodes) (nat_lt 0 script.nodes && (not (1 == 0) && is_some_letter [])) f.is_run.0.enabled in
+    let to = and_parts (nat_lt 0 script.nodes) (not (1 == 0) && is_some_letter []) from.1 in
+    false≢true to.1
+
+pub check_told : CheckTold
+check_told = record {
+  run = λ run t.
+      let same = same_script t.1.script two_writers_script (read_of two_writers) (subst (λ (bytes : List ℕ). read_of bytes ≡ Ok t.1.script) writers_before t.1.denoted) writers_read in
+      subst (λ (s : ScriptData). CheckedRun s run) same (checked_so _ run t.0 t.1);
+  unknown = λ run t. (t.1.script, checked_so _ run t.0 t.1);
+  not_letter = λ t. begins_with_letter t.1.script t.1.finished;
+  never_stuck = λ run t. not_done t.1.done;
+}
+  where
+    not_done : Stuck ≡ Done → ⊥
+    not_done e = cc
+
+pub make_told : MakeTold
+make_told = record {
+  text = λ run old new t. t.2 ∙ ap (λ (text : List ℕ). old ++ text) (t.1.2 ∙ (ap print_of drawn_is.script ∙ drawn_is.text));
+  no_run = λ run t. t.1.1;
+}

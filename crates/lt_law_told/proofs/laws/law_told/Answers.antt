@@ -1,0 +1,21 @@
+use Rattle.lt_law_told.proofs.RunsOpened.{words_are, runs_told, times_told}
+use Rattle.lt_law_told.proofs.OthersOpened.{soak_told, check_told, make_told}
+use Rattle.lt_law_told.proofs.laws.law_told.Goals as goal
+
+pub returns-clause-words : goal.returns-clause-words
+returns-clause-words c = words_are
+
+pub returns-clause-runs : goal.returns-clause-runs
+returns-clause-runs c = runs_told
+
+pub returns-clause-times : goal.returns-clause-times
+returns-clause-times c = times_told
+
+pub returns-clause-soak : goal.returns-clause-soak
+returns-clause-soak c = soak_told
+
+pub returns-clause-check : goal.returns-clause-check
+returns-clause-check c = check_told
+
+pub returns-clause-make : goal.returns-clause-make
+returns-clause-make c = make_told

@@ -1,0 +1,15 @@
+ghost use Rattle.lt_law_told.specs.Words.{WordsAre};
+ghost use Rattle.lt_law_told.specs.Runs.{RunsTold, TimesTold};
+ghost use Rattle.lt_law_told.specs.Others.{SoakTold, CheckTold, MakeTold};
+
+/// What an answer says of its run, field by field, for each command; and the words of each command.
+///
+/// Each clause names one field: with that field left out, or made weaker, the clause doesn't follow from the others.
+pub fn law_told()
+    ensures words { WordsAre }
+    ensures runs { RunsTold }
+    ensures times { TimesTold }
+    ensures soak { SoakTold }
+    ensures check { CheckTold }
+    ensures make { MakeTold }
+{}

@@ -1,0 +1,169 @@
+-- A station stays one.
+use Rattle.std.proofs.Common.{◌≡◌, ◌≢◌, ◌<◌, ℕ, List, [], ◌∷◌, ◌++◌, length, Some, None, refl, sym, ap, subst, ◌∙◌, inl, inr, Bool, if◌then◌else◌}
+use Rattle.std.specs.Prelude.{slice_get, slice_set}
+use Rattle.std.proofs.lemmas.Bool.{cases_eq, eq-eqb, ne_eqb}
+use Rattle.std.proofs.lemmas.List.{append-nil}
+use Rattle.std.proofs.lemmas.Option.{slice_get_within}
+use Rattle.lt_lists.proofs.AllLemmas.{all_append}
+use Rattle.lt_modes.specs.declared.command.Command.{Command}
+use Rattle.lt_modes.specs.Script.{ScriptData}
+use Rattle.lt_spec.specs.Families.{commands_of, home}
+use Rattle.lt_law_appended.specs.Commands.{AreAt, appended}
+use Rattle.lt_law_appended.proofs.Appending.{appended_commands}
+use Rattle.lt_runner.specs.declared.parts.Parts.{Parts}
+use Rattle.lt_runner.specs.Kept.{Grew}
+use Rattle.lt_runner.specs.Appended.{with_request}
+use Rattle.lt_live.specs.declared.ends.Seat.{Seat}
+use Rattle.lt_live.specs.Words.{in_hand}
+use Rattle.lt_live.specs.Seats.{TakesIn, Tells}
+use Rattle.lt_live.specs.Stations.{IsSeatOf, IsStation, EachSeat, MayHandOver, HandMayGo}
+use Rattle.lt_live.proofs.SeatLists.{same_seat, set_here, set_other, each_before}
+use Rattle.lt_live.proofs.KeptSeats.{seat_of_grew, seat_of_taken, seat_of_told}
+
+-- the seat at this place was one of the runner's, and is one of a runner's
+pub record Stays (a b : Parts) (old : List Seat) (k : ℕ) (seat : Seat) : Type 0 where
+  pub was : Seat
+  pub here : slice_get old k ≡ Some was
+  pub client : seat.client ≡ was.client
+  pub now : IsSeatOf b seat
+
+pub station_from : (a b : Parts) (old new : List Seat) → IsStation a old → AreAt b.node.script b.node.me b.node.script.commands
+    → ((k : ℕ) (seat : Seat) → slice_get new k ≡ Some seat → Stays a b old k seat) → IsStation b new
+station_from a b old new h own each = record {
+  each = λ k seat e. (each k seat e).now;
+  apart = λ j k x y e f same.
+      let one = each j x e in
+      let two = each k y f in
+      h.apart j k one.was two.was one.here two.here (sym one.client ∙ same ∙ two.client);
+  own = own;
+}
+
+pub station_taken : (p : Parts) (old new : List Seat) → IsStation p old → EachSeat TakesIn old new → IsStation p new
+station_taken p old new h each = station_from p p old new h h.own (λ k seat e.
+    let (was, here, takes) = each_before TakesIn old new each k seat e in
+    record { was = was; here = here; client = takes.same.client; now = seat_of_taken p was seat (h.each k was here) takes })
+
+pub station_told : (p : Parts) (old new : List Seat) → IsStation p old → EachSeat (Tells p.log.entries) old new → IsStation p new
+station_told p old new h each = station_from p p old new h h.own (λ k seat e.
+    let (was, here, tells) = each_before (Tells p.log.entries) old new each k seat e in
+    record { was = was; here = here; client = tells.on.rest.same.client; now = seat_of_told p was seat (h.each k was here) tells })
+
+pub station_grew : (a b : Parts) (seats : List Seat) → IsStation a seats → Grew a b → IsStation b seats
+station_grew a b seats h grew = station_from a b seats seats h own (λ k seat e.
+    record { was = seat; here = e; client = refl; now = seat_of_grew a b seat grew.same.script grew.same.me grew.log (h.each k seat e) })
+  where
+    own : AreAt b.node.script b.node.me b.node.script.commands
+    own =
+        subst (λ (s : ScriptData). AreAt s b.node.me s.commands) (sym grew.same.script)
+        (subst (λ (me : ℕ). AreAt a.node.script me a.node.script.commands) (sym grew.same.me) h.own)
+
+-- the list of the client whose command was appended
+own_list : (script : ScriptData) (client : ℕ) (command : Command) → commands_of (appended script client command) client ≡ commands_of script client ++ command ∷ []
+own_list script client command =
+    appended_commands script client client command
+    ∙ ap (λ (t : Bool). commands_of script client ++ (if t then command ∷ [] else [])) (eq-eqb client client refl)
+
+-- and that of any other one
+other_list : (script : ScriptData) (client other : ℕ) (command : Command) → client ≢ other → commands_of (appended script client command) other ≡ commands_of script other
+other_list script client other command apart =
+    appended_commands script client other command
+    ∙ ap (λ (t : Bool). commands_of script other ++ (if t then command ∷ [] else [])) (ne_eqb client other apart)
+    ∙ append-nil (commands_of script other)
+
+-- the seat whose command was appended
+own_handed : (a : Parts) (x : Seat) (command : Command) → IsSeatOf a x → x.hand ≡ Some command
+    → IsSeatOf (with_request a x.client command) (record x { hand = None })
+own_handed a x command h hand = record {
+  client = h.client;
+  home = h.home;
+  kept = record {
+    client_is = h.kept.client_is;
+    taken = h.kept.taken
+        ∙ ap (λ held. commands_of a.node.script x.client ++ in_hand held) hand
+        ∙ sym (own_list a.node.script x.client command)
+        ∙ sym (append-nil (commands_of (appended a.node.script x.client command) x.client));
+    told = h.kept.told;
+    cursor = h.kept.cursor;
+  };
+  places = h.places;
+}
+
+-- and any other one
+other_handed : (a : Parts) (client : ℕ) (z : Seat) (command : Command) → client ≢ z.client → IsSeatOf a z → IsSeatOf (with_request a client command) z
+other_handed a client z command apart h = record {
+  client = h.client;
+  home = h.home;
+  kept = record {
+    client_is = h.kept.client_is;
+    taken = h.kept.taken ∙ ap (λ (list : List Command). list ++ in_hand z.hand) (sym (other_list a.node.script client z.client command apart));
+    told = h.kept.told;
+    cursor = h.kept.cursor;
+  };
+  places = h.places;
+}
+
+handed : (a : Parts) (seats : List Seat) (place : ℕ) (x : Seat) (command : Command) → IsStation a seats → slice_get seats place ≡ Some x → x.hand ≡ Some command
+    → IsStation (with_request a x.client command) (slice_set seats place (record x { hand = None }))
+handed a seats place x command h here hand =
+    station_from a (with_request a x.client command) seats (slice_set seats place (record x { hand = None })) h own (λ k seat e. by_place k seat e)
+  where
+    inside : place < length seats
+    inside = slice_get_within seats place x here
+
+    own : AreAt (appended a.node.script x.client command) a.node.me (a.node.script.commands ++ (x.client, command) ∷ [])
+    own =
+        all_append (λ (request : ℕ × Command). home a.node.script request.0 ≡ a.node.me) a.node.script.commands ((x.client, command) ∷ []) h.own
+        ((h.each place x here).home, tt)
+
+    by_place : (k : ℕ) (seat : Seat) → slice_get (slice_set seats place (record x { hand = None })) k ≡ Some seat
+        → Stays a (with_request a x.client command) seats k seat
+    by_place k seat e = elim (cases_eq k place) [
+      | inl at ↦
+          let is : record x { hand = None } ≡ seat =
+          same_seat (record x { hand = None }) seat
+          (sym (set_here seats place (record x { hand = None }) inside) ∙ ap (slice_get (slice_set seats place (record x { hand = None }))) (sym at) ∙ e) in
+          record {
+            was = x;
+            here = ap (slice_get seats) at ∙ here;
+            client = ap (λ (s : Seat). s.client) (sym is);
+            now = subst (λ (s : Seat). IsSeatOf (with_request a x.client command) s) is (own_handed a x command (h.each place x here) hand);
+          }
+      | inr other ↦
+          let was : slice_get seats k ≡ Some seat = sym (set_other seats place (record x { hand = None }) k other) ∙ e in
+          record {
+            was = seat;
+            here = was;
+            client = refl;
+            now = other_handed a x.client seat command (λ same. other (sym (h.apart place k x seat here was same))) (h.each k seat was);
+          }
+    ]
+
+-- nothing is written
+set_same : (seats : List Seat) (place : ℕ) (x : Seat) → slice_get seats place ≡ Some x → (k : ℕ) → slice_get (slice_set seats place x) k ≡ slice_get seats k
+set_same seats place x here k = elim (cases_eq k place) [
+  | inl at ↦
+      ap (slice_get (slice_set seats place x)) at
+      ∙ set_here seats place x (slice_get_within seats place x here)
+      ∙ sym (ap (slice_get seats) at ∙ here)
+  | inr other ↦ set_other seats place x k other
+]
+
+unhanded : (a : Parts) (seats : List Seat) (place : ℕ) (x : Seat) → IsStation a seats → slice_get seats place ≡ Some x → IsStation a (slice_set seats place x)
+unhanded a seats place x h here = station_from a a seats (slice_set seats place x) h h.own (λ k seat e.
+    let was : slice_get seats k ≡ Some seat = sym (set_same seats place x here k) ∙ e in
+    record { was = seat; here = was; client = refl; now = h.each k seat was })
+
+-- the seat at this place may have handed its command over
+pub station_handed : (a b : Parts) (seats : List Seat) (place : ℕ) (x y : Seat) → IsStation a seats → slice_get seats place ≡ Some x → MayHandOver x a y b
+    → IsStation b (slice_set seats place y)
+station_handed a b seats place x y h here (inl over) =
+    subst (λ (p : Parts). IsStation p (slice_set seats place y)) (sym over.runner)
+    (subst (λ (s : Seat). IsStation (with_request a x.client over.command) (slice_set seats place s)) (sym over.seat)
+    (handed a seats place x over.command h here over.hand))
+station_handed a b seats place x y h here (inr still) =
+    subst (λ (p : Parts). IsStation p (slice_set seats place y)) (sym still.1)
+    (subst (λ (s : Seat). IsStation a (slice_set seats place s)) (sym still.0) (unhanded a seats place x h here))
+
+pub hand_goes : (a b : Parts) (x y : Seat) → MayHandOver x a y b → HandMayGo x y
+hand_goes a b x y (inl over) = inl over.seat
+hand_goes a b x y (inr still) = inr still.0

@@ -1,0 +1,9 @@
+pub mod Telling
+pub mod Serving
+pub mod ReplyLemmas
+pub mod AskLemmas
+pub mod SeatLists
+pub mod KeptSeats
+pub mod KeptStations
+pub mod LookedSeats
+pub mod TurnParts

@@ -1,0 +1,164 @@
+-- The parts of a turn.
+use Rattle.std.proofs.Common.{◌≡◌, ◌≢◌, ◌<◌, ◌≤◌, ◌+◌, ℕ, List, [], ◌∷◌, ◌++◌, length, Option, Some, None, refl, sym, ap, subst, arith, ◌∙◌, inl, inr, true, false, Bool}
+use Rattle.std.specs.Prelude.{◌&&◌, nat_lt, slice_get}
+use Rattle.std.proofs.lemmas.Bool.{cases_eq, ltb-false, le-ltb}
+use Rattle.std.proofs.lemmas.Option.{slice_get_within}
+use Rattle.std.proofs.lemmas.List.{append-nil, append_assoc, length-append}
+use Rattle.lt_modes.specs.declared.command.Command.{Command}
+use Rattle.lt_modes.specs.declared.command.Command.TheVariants.{Lock, Try, Unlock, Change, DropAll}
+use Rattle.lt_modes.specs.Script.{ScriptData}
+use Rattle.lt_spec.specs.Log.{Logged}
+use Rattle.lt_law_appended.specs.Commands.{with_commands}
+use Rattle.lt_script.specs.declared.limits.TheConstants.{MAX_COMMANDS}
+use Rattle.lt_runner.specs.declared.choice.Choice.TheVariants as choices
+use Rattle.lt_runner.specs.declared.parts.Parts.{Parts}
+use Rattle.lt_runner.specs.declared.turning.Turned.{Turned}
+use Rattle.lt_runner.specs.declared.turning.Turned.TheVariants.{Moved, Quiet, Full, NoMemory}
+use Rattle.lt_runner.specs.Choices.{next_choice}
+use Rattle.lt_runner.specs.declared.parts.Hand.{Hand}
+use Rattle.lt_runner.specs.Hands.{HandStays}
+use Rattle.lt_runner.specs.Kept.{AsSeen, Grew, TurnEnds}
+use Rattle.lt_runner.proofs.TurnLemmas.{same_self}
+use Rattle.lt_runner.specs.Appended.{with_request}
+use Rattle.lt_live.specs.declared.ends.Seat.{Seat}
+use Rattle.lt_live.specs.Asking.{may_ask, may_append}
+use Rattle.lt_live.specs.Seats.{TakesIn, Tells}
+use Rattle.lt_live.specs.Stations.{IsStation, EachSeat, SeatAt, OnlyAppends, with_all, CanNotAppend, NoneCanAppend, MayHandOver, HandMayGo, MoveEnds, SeatTurns, StationTurns, HaveCursors}
+use Rattle.lt_live.proofs.SeatLists.{each_before, each_join}
+
+only_request : (a : Parts) (client : ℕ) (command : Command) → OnlyAppends a (with_request a client command)
+only_request a client command = record { runner = refl; commands = ((client, command) ∷ [], refl) }
+
+pub only_self : (a : Parts) → OnlyAppends a a
+only_self a = record { runner = refl; commands = ([], append-nil a.node.script.commands) }
+
+pub only_handed : (a b : Parts) (x y : Seat) → MayHandOver x a y b → OnlyAppends a b
+only_handed a b x y (inl over) = subst (λ (p : Parts). OnlyAppends a p) (sym over.runner) (only_request a x.client over.command)
+only_handed a b x y (inr still) = subst (λ (p : Parts). OnlyAppends a p) (sym still.1) (only_self a)
+
+pub only_join : (a b c : Parts) → OnlyAppends a b → OnlyAppends b c → OnlyAppends a c
+only_join a b c h k = record {
+  runner = k.runner ∙ ap (λ (p : Parts). with_all p c.node.script.commands c.idle) h.runner;
+  commands = (
+    h.commands.0 ++ k.commands.0,
+    sym (append_assoc a.node.script.commands h.commands.0 k.commands.0)
+        ∙ ap (λ (list : List (ℕ × Command)). list ++ k.commands.0) h.commands.1
+        ∙ k.commands.1,
+  );
+}
+
+-- a turn of the runner
+pub move_ends : (turned : Turned) (a b : Parts) → TurnEnds turned a b → MoveEnds turned a b
+move_ends Moved a b h = h
+move_ends Quiet a b h = h
+move_ends Full a b h = h
+move_ends NoMemory a b h = h.0
+
+-- no turn was made
+pub seen_self : (a : Parts) → AsSeen a a
+seen_self a = record {
+  same = same_self a;
+  state = refl;
+  log = refl;
+  sent = λ node. refl;
+  used = λ node letters e. e;
+  hand = holds a.hand;
+}
+  where
+    holds : (x : Option Hand) → HandStays x x
+    holds None = tt
+    holds (Some x) = (refl, refl)
+
+-- which commands a client may ask for doesn't hang on those that there are
+ask_same : (script : ScriptData) (commands : List (ℕ × Command)) (client : ℕ) (command : Command)
+    → may_ask (with_commands script commands) client command ≡ may_ask script client command
+ask_same script commands client (Lock set mode) = refl
+ask_same script commands client (Try set mode) = refl
+ask_same script commands client (Unlock set mode) = refl
+ask_same script commands client (Change set gives_up mode) = refl
+ask_same script commands client (DropAll other set) = refl
+
+not_later : (t u ask : Bool) → (t ≡ false → u ≡ false) → t && ask ≡ false → u && ask ≡ false
+not_later true true ask goes e = e
+not_later true false ask goes e = refl
+not_later false u ask goes e = ap (λ (b : Bool). b && ask) (goes refl)
+
+-- what can't be appended can't be once there are more commands
+can_not_with : (a : Parts) (commands : List (ℕ × Command)) (idle : Bool) (seat : Seat) → length a.node.script.commands ≤ length commands
+    → CanNotAppend a seat → CanNotAppend (with_all a commands idle) seat
+can_not_with a commands idle seat more h command hand =
+    let ask = may_ask a.node.script seat.client command in
+    ap (λ (t : Bool). nat_lt (length commands) MAX_COMMANDS && t) (ask_same a.node.script commands seat.client command)
+    ∙ not_later (nat_lt (length a.node.script.commands) MAX_COMMANDS) (nat_lt (length commands) MAX_COMMANDS) ask
+    (λ full. let past = ltb-false (length a.node.script.commands) MAX_COMMANDS full in le-ltb (length commands) MAX_COMMANDS (omega (arith, past, more)))
+    (h command hand)
+
+pub can_not_later : (a b : Parts) (seat : Seat) → OnlyAppends a b → CanNotAppend a seat → CanNotAppend b seat
+can_not_later a b seat only h =
+    let more : length a.node.script.commands ≤ length b.node.script.commands =
+    omega (arith, length-append a.node.script.commands only.commands.0, ap (λ (l : List (ℕ × Command)). length l) only.commands.1) in
+    subst (λ (p : Parts). CanNotAppend p seat) (sym only.runner) (can_not_with a b.node.script.commands b.idle seat more h)
+
+-- none of the first n seats has a command in hand that can be appended
+abbrev pub FirstCanNot : ℕ → Parts → List Seat → Type 0
+FirstCanNot n p seats = (k : ℕ) (seat : Seat) → k < n → slice_get seats k ≡ Some seat → CanNotAppend p seat
+
+pub none_first : (p : Parts) (seats : List Seat) → FirstCanNot 0 p seats
+none_first p seats k seat below e = absurd (omega (arith, below))
+
+pub first_on : (n : ℕ) (a b : Parts) (old new : List Seat) → OnlyAppends a b → SeatAt HandMayGo n old new → FirstCanNot n a old
+    → ((seat : Seat) → slice_get new n ≡ Some seat → CanNotAppend b seat) → FirstCanNot (n + 1) b new
+first_on n a b old new only at before here k seat below e = elim (cases_eq k n) [
+  | inl same ↦ here seat (ap (slice_get new) (sym same) ∙ e)
+  | inr apart ↦ can_not_later a b seat only (before k seat (omega (arith, below, apart)) (sym (at.others k apart) ∙ e))
+]
+
+pub first_all : (n : ℕ) (p : Parts) (seats : List Seat) → length seats ≤ n → FirstCanNot n p seats → NoneCanAppend p seats
+first_all n p seats long h k seat e = let inside = slice_get_within seats k seat e in h k seat (omega (arith, inside, long)) e
+
+pub cursors : (p : Parts) (seats : List Seat) → IsStation p seats → HaveCursors p.log.entries seats
+cursors p seats h k seat e = (h.each k seat e).kept.cursor
+
+-- the seat took a command, and then the one in hand may have gone
+record TookAndGave (s t : Seat) : Type 0 where
+  held : Seat
+  takes : TakesIn s held
+  hand : HandMayGo held t
+
+took_and_gave : (a b c : Seat) → TakesIn a b → HandMayGo b c → TookAndGave a c
+took_and_gave a b c takes hand = record { held = b; takes = takes; hand = hand }
+
+seat_turned : (log : List Logged) (a b c : Seat) → TookAndGave a b → Tells log b c → SeatTurns log a c
+seat_turned log a b c h tells = record { held = h.held; left = b; takes = h.takes; hand = h.hand; tells = tells }
+
+-- what a seat that told can't append, it couldn't before
+told_can_not : (a b : Parts) (log : List Logged) (x seat : Seat) → b.node.script ≡ a.node.script → Tells log x seat → CanNotAppend a x → CanNotAppend b seat
+told_can_not a b log x seat same tells h command hand =
+    ap (λ (s : ScriptData). may_append s seat.client command) same
+    ∙ ap (λ (c : ℕ). may_append a.node.script c command) tells.on.rest.same.client
+    ∙ h command (sym tells.on.rest.hand ∙ hand)
+
+none_told : (a b : Parts) (log : List Logged) (two later : List Seat) → b.node.script ≡ a.node.script → EachSeat (Tells log) two later
+    → NoneCanAppend a two → NoneCanAppend b later
+none_told a b log two later same tells none k seat e =
+    let (x, here, told) = each_before (Tells log) two later tells k seat e in
+    told_can_not a b log x seat same told (none k x here)
+
+-- memory didn't run out
+fits_then : (fits : Bool) (turned : Turned) → (fits ≡ false → turned ≡ NoMemory) → turned ≢ NoMemory → fits ≡ true
+fits_then true turned short some = refl
+fits_then false turned short some = absurd (some (short refl))
+
+pub turns : (turned : Turned) (fits : Bool) (a mid b : Parts) (seats one two later : List Seat) → EachSeat TakesIn seats one → OnlyAppends a mid → EachSeat HandMayGo one two
+    → (fits ≡ true → NoneCanAppend mid two) → Grew mid b → MoveEnds turned mid b → (fits ≡ true → next_choice mid ≢ choices.Nothing → turned ≢ Quiet)
+    → (fits ≡ false → turned ≡ NoMemory) → EachSeat (Tells b.log.entries) two later → StationTurns turned a seats b later
+turns turned fits a mid b seats one two later takes only gives none grew ends shown short tells = record {
+  between = mid;
+  appends = only;
+  grew = grew;
+  ends = ends;
+  shown = λ some. shown (fits_then fits turned short some);
+  hands = λ some. none_told mid b b.log.entries two later grew.same.script tells (none (fits_then fits turned short some));
+  each = each_join TookAndGave (Tells b.log.entries) (SeatTurns b.log.entries) (seat_turned b.log.entries) seats two later
+      (each_join TakesIn HandMayGo TookAndGave took_and_gave seats one two takes gives) tells;
+}

@@ -1,0 +1,18 @@
+use Rattle.std.proofs.Common.{length, take, ◌-◌, ◌≡◌, ◌≤◌, ◌++◌, List}
+use Rattle.lt_live.specs.declared.reply.Reply.{Reply}
+use Rattle.lt_live.specs.Replies.{replies_in}
+use Rattle.lt_live.specs.Words.{told_to}
+use Rattle.lt_live.specs.Seats.{OnlyTells}
+use Rattle.lt_live.proofs.ends.Seat.tell_move.Given as goal
+
+abbrev pub invariant-loop-self : goal.invariant-loop-self
+invariant-loop-self l = record {
+  rest : OnlyTells l.initial.self l.self;
+  moves : l.self.moves ≡ l.initial.self.moves;
+  told : (before : List Reply) → told_to l.initial.self ≡ before ++ replies_in l.initial.self.client (take l.initial.self.lines l.lines)
+      → told_to l.self ≡ before ++ replies_in l.initial.self.client (take l.self.lines l.lines);
+  within : l.self.lines ≤ length l.lines;
+}
+
+abbrev pub decreases-loop-self : goal.decreases-loop-self
+decreases-loop-self l = length l.lines - l.self.lines

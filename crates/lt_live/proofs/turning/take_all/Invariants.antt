@@ -1,0 +1,11 @@
+-- The loop over seats.
+use Rattle.std.proofs.Common.{◌≡◌, length}
+use Rattle.lt_live.specs.Seats.{TakesIn}
+use Rattle.lt_live.proofs.SeatLists.{Going}
+use Rattle.lt_live.proofs.turning.take_all.Given as goal
+
+abbrev pub invariant-loop-place : goal.invariant-loop-place
+invariant-loop-place l = record {
+  going : Going TakesIn l.place l.initial.seats.items l.seats.items;
+  count : length l.seats.items ≡ length l.initial.seats.items;
+}

@@ -1,0 +1,19 @@
+use Rattle.std.proofs.Common.{subst, sym}
+use Rattle.std.specs.Prelude.{slice_index_or}
+use Rattle.std.proofs.lemmas.Option.{slice_get-get_or}
+use Rattle.lt_live.specs.declared.ends.Seat.{Seat}
+use Rattle.lt_live.specs.Cursor.{IsCursor}
+use Rattle.lt_live.specs.Seats.{Tells}
+use Rattle.lt_live.proofs.SeatLists.{seat_set}
+use Rattle.lt_live.proofs.turning.tell_at.Goals as goal
+
+pub tell-requires : goal.tell-requires
+tell-requires c =
+    let d = c.index_mut.result.now in
+    subst (λ (s : Seat). IsCursor c.args.log.now.entries s.moves s.lines) (sym c.index_mut.ensures.value)
+    (c.requires.cursor (slice_index_or c.args.seats.now.items c.args.place d) (slice_get-get_or c.args.seats.now.items c.args.place d c.requires.inside))
+
+pub returns : goal.returns
+returns c =
+    seat_set (Tells c.args.log.now.entries) c.args.place c.args.seats.now.items c.index_mut.result.now c.tell.new.self c.requires.inside
+    (subst (λ (s : Seat). Tells c.args.log.now.entries s c.tell.new.self) c.index_mut.ensures.value c.tell.ensures)

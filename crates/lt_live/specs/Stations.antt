@@ -1,0 +1,139 @@
+-- What a station keeps, and what a turn of it does.
+use Rattle.std.specs.Prelude.{◌≡◌, ◌≢◌, ◌<◌, ◌⊎◌, Bool, false, ℕ, List, Some, None, length, slice_get}
+use mathlib.Core.List.{IsPrefix}
+use Rattle.rtrb.specs.Ring.{producer_capacity}
+use Rattle.lt_modes.specs.declared.command.Command.{Command}
+use Rattle.lt_spec.specs.Families.{commands_of, home}
+use Rattle.lt_spec.specs.Log.{Logged}
+use Rattle.lt_law_appended.specs.Commands.{with_commands, AreAt}
+use Rattle.lt_mail.specs.Words.{Alike}
+use Rattle.lt_runner.specs.declared.choice.Choice.TheVariants as choices
+use Rattle.lt_runner.specs.declared.parts.Parts.{Parts}
+use Rattle.lt_runner.specs.declared.turning.Turned.{Turned}
+use Rattle.lt_runner.specs.declared.turning.Turned.TheVariants.{Moved, Quiet, Full, NoMemory}
+use Rattle.lt_runner.specs.Choices.{next_choice}
+use Rattle.lt_runner.specs.Kept.{AsSeen, Grew, TurnEnds}
+use Rattle.lt_runner.specs.Appended.{with_request}
+use Rattle.lt_live.specs.declared.ends.Session.{Session}
+use Rattle.lt_live.specs.declared.ends.Seat.{Seat}
+use Rattle.lt_live.specs.Asking.{may_append}
+use Rattle.lt_live.specs.Cursor.{IsCursor}
+use Rattle.lt_live.specs.Words.{known_replies, IsLink}
+use Rattle.lt_live.specs.Seats.{TakesIn, Tells, IsSeat, AreBeside, LooksBeside}
+
+-- what runs a node, and its ends of the sessions of the node's clients
+pub record StationData : Type 0 where
+  pub runner : Parts
+  pub seats : List Seat
+
+-- the seat of a client of the runner's node: what was taken is the client's list in the runner's script, and then the command
+-- in hand; what was told are its replies in the runner's log so far
+pub record IsSeatOf (p : Parts) (seat : Seat) : Type 0 where
+  pub client : seat.client < length p.node.script.clients
+  pub home : home p.node.script seat.client ≡ p.node.me
+  pub kept : IsSeat (commands_of p.node.script seat.client) p.log.entries seat.client seat
+  pub places : 0 < producer_capacity seat.replies
+
+-- each seat is one of the runner's, no two are of one client, and the script has commands of the runner's clients alone
+pub record IsStation (p : Parts) (seats : List Seat) : Type 0 where
+  pub each : (k : ℕ) (seat : Seat) → slice_get seats k ≡ Some seat → IsSeatOf p seat
+  pub apart : (j k : ℕ) (x y : Seat) → slice_get seats j ≡ Some x → slice_get seats k ≡ Some y → x.client ≡ y.client → j ≡ k
+  pub own : AreAt p.node.script p.node.me p.node.script.commands
+
+-- the seats at the same places go together
+abbrev pub EachSeat : (Seat → Seat → Type 0) → List Seat → List Seat → Type 0
+EachSeat R old new = (k : ℕ) → Alike R (slice_get old k) (slice_get new k)
+
+-- the seat at this place went on so, and the others stay
+pub record SeatAt (R : Seat → Seat → Type 0) (place : ℕ) (old new : List Seat) : Type 0 where
+  pub x : Seat
+  pub y : Seat
+  pub before : slice_get old place ≡ Some x
+  pub now : slice_get new place ≡ Some y
+  pub one : R x y
+  pub count : length new ≡ length old
+  pub others : (k : ℕ) → k ≢ place → slice_get new k ≡ slice_get old k
+
+-- the seat at this place was told of lines that the log has
+abbrev pub HasCursorAt : List Logged → List Seat → ℕ → Type 0
+HasCursorAt log seats k = (seat : Seat) → slice_get seats k ≡ Some seat → IsCursor log seat.moves seat.lines
+
+abbrev pub HaveCursors : List Logged → List Seat → Type 0
+HaveCursors log seats = (k : ℕ) → HasCursorAt log seats k
+
+-- the runner with other commands in its script, of whose clients it may know less
+abbrev pub with_all : Parts → List (ℕ × Command) → Bool → Parts
+with_all p commands idle = record p { node = record p.node { script = with_commands p.node.script commands }; idle = idle }
+
+-- nothing happened but that commands were appended
+pub record OnlyAppends (a b : Parts) : Type 0 where
+  pub runner : b ≡ with_all a b.node.script.commands b.idle
+  pub commands : IsPrefix a.node.script.commands b.node.script.commands
+
+-- the command in hand, if there is one, can't be appended
+abbrev pub CanNotAppend : Parts → Seat → Type 0
+CanNotAppend p seat = (command : Command) → seat.hand ≡ Some command → may_append p.node.script seat.client command ≡ false
+
+abbrev pub NoneCanAppend : Parts → List Seat → Type 0
+NoneCanAppend p seats = (k : ℕ) (seat : Seat) → slice_get seats k ≡ Some seat → CanNotAppend p seat
+
+-- the command in hand became the last one of the client's list
+pub record HandsOver (s : Seat) (a : Parts) (t : Seat) (b : Parts) : Type 0 where
+  pub command : Command
+  pub hand : s.hand ≡ Some command
+  pub seat : t ≡ record s { hand = None }
+  pub runner : b ≡ with_request a s.client command
+
+-- it did, or nothing happened
+abbrev pub MayHandOver : Seat → Parts → Seat → Parts → Type 0
+MayHandOver s a t b = HandsOver s a t b ⊎ ((t ≡ s) × (b ≡ a))
+
+-- the command in hand may be gone
+abbrev pub HandMayGo : Seat → Seat → Type 0
+HandMayGo s t = (t ≡ record s { hand = None }) ⊎ (t ≡ s)
+
+-- how one move of the runner came out; where memory ran out none was made
+abbrev pub MoveEnds : Turned → Parts → Parts → Type 0
+MoveEnds Moved a b = TurnEnds Moved a b
+MoveEnds Quiet a b = TurnEnds Quiet a b
+MoveEnds Full a b = TurnEnds Full a b
+MoveEnds NoMemory a b = AsSeen a b
+
+-- a command was taken into the hand where none was there and one was known; then the one in hand may be gone; and replies
+-- may have gone into the ring, of all lines of the log or until the ring had no place
+pub record SeatTurns (log : List Logged) (s t : Seat) : Type 0 where
+  pub held : Seat
+  pub left : Seat
+  pub takes : TakesIn s held
+  pub hand : HandMayGo held left
+  pub tells : Tells log left t
+
+-- commands were appended, one move was made or none was found, and replies were told; where memory ran out no move was made, and
+-- otherwise no command is in hand that can be appended
+pub record StationTurns (turned : Turned) (a : Parts) (seats : List Seat) (b : Parts) (later : List Seat) : Type 0 where
+  pub between : Parts
+  pub appends : OnlyAppends a between
+  pub grew : Grew between b
+  pub ends : MoveEnds turned between b
+  pub shown : turned ≢ NoMemory → next_choice between ≢ choices.Nothing → turned ≢ Quiet
+  pub hands : turned ≢ NoMemory → NoneCanAppend b later
+  pub each : EachSeat (SeatTurns b.log.entries) seats later
+
+-- the other end of the session is among these, at its place
+pub record IsSeated (s : Session) (seats : List Seat) : Type 0 where
+  pub seat : Seat
+  pub here : slice_get seats s.place ≡ Some seat
+  pub link : IsLink s seat
+
+-- the session and its seat looked at their rings from both ends, and the other seats stay: all replies were told, or the
+-- session knows one
+pub record SeatLooks (log : List Logged) (s t : Session) (old new : List Seat) : Type 0 where
+  pub x : Seat
+  pub y : Seat
+  pub before : slice_get old s.place ≡ Some x
+  pub now : slice_get new s.place ≡ Some y
+  pub link : IsLink t y
+  pub beside : AreBeside t y
+  pub looks : LooksBeside log s t x y
+  pub moves : (y.moves ≡ length log) ⊎ (0 < length (known_replies t))
+  pub others : (k : ℕ) → k ≢ s.place → slice_get new k ≡ slice_get old k

@@ -1,0 +1,38 @@
+// Both ends of a session in one thread.
+ghost use Rattle.std.specs.Prelude.{◌≡◌, ◌≤◌, ◌<◌, ◌⊎◌, List, length};
+ghost use Rattle.lt_modes.specs.declared.command.Command.{Command};
+ghost use Rattle.lt_spec.specs.Holdings.{lines_of};
+ghost use Rattle.rtrb.specs.Ring.{producer_capacity};
+ghost use Rattle.lt_live.specs.Words.{known_replies, IsLink};
+ghost use Rattle.lt_live.specs.Cursor.{IsCursor};
+ghost use Rattle.lt_live.specs.Seats.{AreBeside, LooksBeside, IsSeat, IsSettled};
+
+use crate::ends::{Seat, Session};
+use lt_merge::Log;
+
+/// Looks at both rings from both ends: replies that wait go into their ring as far as it takes them, and then each side
+/// knows all that is in its ring.
+pub(crate) fn beside(session: &mut Session, seat: &mut Seat, log: &Log)
+    requires link { IsLink session.old seat.old }
+    requires cursor { IsCursor log.now.entries seat.old.moves seat.old.lines }
+    requires places { 0 < producer_capacity seat.old.replies }
+    ensures link { IsLink session.new seat.new }
+    ensures beside { AreBeside session.new seat.new }
+    ensures looks { LooksBeside log.now.entries session.old session.new seat.old seat.new }
+    ensures moves { (seat.new.moves ≡ length log.now.entries) ⊎ (0 < length (known_replies session.new)) }
+{
+    seat.commands.slots_beside(&mut session.commands);
+    seat.replies.slots_beside(&mut session.replies);
+    seat.tell(log);
+    session.replies.slots_beside(&mut seat.replies);
+}
+
+/// What a caller can be sure of at the end, for each list of commands that the node made the client's.
+pub(crate) fn settle(session: &mut Session, seat: &mut Seat, log: &Log)
+    requires link { IsLink session.old seat.old }
+    requires cursor { IsCursor log.now.entries seat.old.moves seat.old.lines }
+    requires places { 0 < producer_capacity seat.old.replies }
+    ensures { (list : List Command) → IsSeat list log.now.entries seat.old.client seat.old → IsSettled list (lines_of log.now.entries) seat.old.client session.old session.new seat.new }
+{
+    beside(session, seat, log);
+}

@@ -1,0 +1,37 @@
+ghost use Rattle.std.specs.Prelude.{◌≡◌, ◌+◌, ◌≤◌, length};
+ghost use Rattle.rtrb.specs.Ring.{sent, known_free, producer_capacity};
+
+use crate::reply::Reply;
+use lt_modes::Command;
+use lt_script::Script;
+use rtrb::{Consumer, Producer};
+
+/// A caller's end: it submits the commands of one client, and polls for their replies.
+#[derive(Drop)]
+pub struct Session {
+    pub(crate) script: Script,
+    pub(crate) client: u16,
+    // Where its other end is among those of its station.
+    pub(crate) place: usize,
+    pub(crate) share: u32,
+    // How many commands of the share are left.
+    pub(crate) left: u32,
+    pub(crate) commands: Producer<Command>,
+    pub(crate) replies: Consumer<Reply>,
+    // So many commands at least have found or will find a place.
+    pub(crate) ghost roomy: { producer_capacity commands ≤ known_free commands + length (sent commands) },
+    pub(crate) ghost spent: { length (sent commands) + left ≡ share },
+}
+
+/// A station's end of a session.
+#[derive(Drop)]
+pub struct Seat {
+    pub(crate) client: u16,
+    pub(crate) commands: Consumer<Command>,
+    // A command that was taken and isn't appended yet.
+    pub(crate) hand: Option<Command>,
+    pub(crate) replies: Producer<Reply>,
+    // The client was told of all lines of so many moves, and of so many lines of the next one.
+    pub(crate) moves: u32,
+    pub(crate) lines: usize,
+}

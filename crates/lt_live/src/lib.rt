@@ -1,0 +1,19 @@
+//! Sessions and stations: programs submit commands of clients and poll for replies, while nodes are at work beside them.
+#![tactic(auto)]
+
+mod asking;
+mod both_ends;
+mod ends;
+mod laws;
+mod looking;
+mod opening;
+mod reply;
+mod seats;
+mod session;
+mod station;
+mod turning;
+
+pub use ends::{Seat, Session};
+pub use laws::law_told;
+pub use reply::{Reply, reply_to};
+pub use station::Station;

@@ -1,0 +1,65 @@
+// What a session does on its caller's thread.
+ghost use Rattle.std.specs.Prelude.{◌≡◌, ◌+◌, ◌-◌, ◌≤◌, ◌<◌, ◌++◌, ◌∷◌, [], length, IfSome, IfNone, IfErr, OnOk};
+ghost use mathlib.Core.List.{IsPrefix};
+ghost use Rattle.lt_script.specs.Script.{HasTargets, HasModesOf};
+ghost use Rattle.lt_live.specs.Words.{submitted, polled, known_replies, places, SameSession};
+
+use crate::ends::Session;
+use crate::reply::Reply;
+use lt_modes::Command;
+use lt_script::Script;
+use rtrb::PushError;
+
+impl Session {
+    /// The script without the commands.
+    pub fn script(&self) -> &Script
+        ensures { result.now ≡ self.now.script }
+    {
+        &self.script
+    }
+
+    /// The client whose commands are submitted here.
+    pub fn client(&self) -> u16
+        ensures { result ≡ self.now.client }
+    {
+        self.client
+    }
+
+    /// How many commands may still be submitted here, of those that each session may submit in its life.
+    pub fn left(&self) -> u32
+        ensures left { result ≡ self.now.left }
+        ensures share { length (submitted self.now) + result ≡ self.now.share }
+    {
+        self.left
+    }
+
+    /// Submits the next command of the client. Where the ring has no place for it, it comes back.
+    pub fn submit(&mut self, command: Command) -> Result<(), Command>
+        requires left { 0 < self.old.left }
+        requires targets { HasTargets self.old.script.sets self.old.script.clients self.old.client command }
+        requires modes { HasModesOf self.old.script.version command }
+        ensures ok { OnOk result ((submitted self.new ≡ submitted self.old ++ command ∷ []) × (self.new.left + 1 ≡ self.old.left)) }
+        ensures back { IfErr result (λ back. (back ≡ command) × (submitted self.new ≡ submitted self.old) × (self.new.left ≡ self.old.left)) }
+        ensures full { IfErr result (λ back. places self.old ≤ length (submitted self.old)) }
+        ensures replies { (polled self.new ≡ polled self.old) × (known_replies self.new ≡ known_replies self.old) }
+        ensures same { SameSession self.old self.new }
+    {
+        match self.commands.push(command) {
+            Ok(()) => {
+                self.left -= 1;
+                Ok(())
+            }
+            Err(PushError::Full(back)) => Err(back),
+        }
+    }
+
+    /// The next reply, which is that to the first command that has none yet. None only where none is known here.
+    pub fn poll(&mut self) -> Option<Reply>
+        ensures some { IfSome result (λ reply. (polled self.new ≡ polled self.old ++ reply ∷ []) × IsPrefix (known_replies self.old) (reply ∷ known_replies self.new)) }
+        ensures none { IfNone result ((polled self.new ≡ polled self.old) × (known_replies self.old ≡ []) × (known_replies self.new ≡ [])) }
+        ensures commands { (submitted self.new ≡ submitted self.old) × (self.new.left ≡ self.old.left) }
+        ensures same { SameSession self.old self.new }
+    {
+        self.replies.pop().ok()
+    }
+}

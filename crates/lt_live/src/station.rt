@@ -1,0 +1,64 @@
+ghost use Rattle.std.specs.Prelude.{◌≡◌};
+ghost use Rattle.lt_spec.specs.NodeMove.{node_waits};
+ghost use Rattle.lt_node.specs.NodeData.{state_of};
+ghost use Rattle.lt_live.specs.Stations.{IsSeated, SeatLooks, StationTurns};
+
+use crate::ends::{Seat, Session};
+use crate::looking::beside_at;
+use crate::turning::turn_of;
+use lt_runner::{Gate, Runner, Turned};
+use lt_script::Script;
+use std::marker::Model;
+
+/// What serves the sessions of a node's clients: the node's runner, and its ends of their rings.
+#[derive(Drop)]
+pub struct Station {
+    pub(crate) runner: Runner,
+    pub(crate) seats: Vec<Seat>,
+}
+
+impl Model for Station {
+    ghost use Rattle.lt_live.specs.Stations.{StationData, IsStation};
+
+    ghost Value = { StationData };
+
+    ghost view = { λ s. record { runner = s.runner; seats = s.seats.items } };
+
+    ghost invariant = { λ s. IsStation s.runner s.seats.items };
+}
+
+impl Station {
+    /// Takes at most one command of each client, makes one move, and tells what replies there are.
+    ///
+    /// A command that finds no memory stays in hand, and is appended in a later turn. After `NoMemory` no move was made in
+    /// this turn, and what was appended stays.
+    pub fn turn<G: Gate>(&mut self, gate: &G) -> Turned
+        ensures { StationTurns result self.old.runner self.old.seats self.new.runner self.new.seats }
+    {
+        turn_of(&mut self.seats, &mut self.runner, gate)
+    }
+
+    /// Looks at the rings of a session from both ends. Replies that wait go into their ring as far as it takes them; then
+    /// each side knows all that is in its ring.
+    pub fn beside(&mut self, session: &mut Session)
+        requires { IsSeated session.old self.old.seats }
+        ensures looks { SeatLooks self.old.runner.log.entries session.old session.new self.old.seats self.new.seats }
+        ensures runner { self.new.runner ≡ self.old.runner }
+    {
+        beside_at(&mut self.seats, session, &self.runner);
+    }
+
+    /// The script, with the commands that were appended here.
+    pub fn script(&self) -> &Script
+        ensures { result.now ≡ self.now.runner.node.script }
+    {
+        self.runner.script()
+    }
+
+    /// Whether the client waits at this station's node.
+    pub fn waits(&self, client: u16) -> bool
+        ensures { result ≡ node_waits self.now.runner.node.script (state_of self.now.runner.node) client }
+    {
+        self.runner.waits(client)
+    }
+}

@@ -1,0 +1,131 @@
+// One turn of a station.
+ghost use Rattle.std.specs.Prelude.{◌≡◌, ◌≢◌, ◌<◌, ◌&&◌, ℕ, true, false, Some, length, slice_get};
+ghost use Rattle.lt_spec.specs.Families.{home};
+ghost use Rattle.lt_runner.specs.declared.choice.Choice.TheVariants as choices;
+ghost use Rattle.lt_runner.specs.declared.turning.Turned.TheVariants as turns;
+ghost use Rattle.lt_runner.specs.Choices.{next_choice};
+ghost use Rattle.lt_runner.specs.Kept.{Grew};
+ghost use Rattle.lt_live.specs.declared.ends.Seat.{Seat as SeatEnds};
+ghost use Rattle.lt_live.specs.Seats.{TakesIn, Tells};
+ghost use Rattle.lt_live.specs.Stations.{IsStation, EachSeat, SeatAt, OnlyAppends, HandMayGo, MayHandOver, CanNotAppend, NoneCanAppend, MoveEnds, StationTurns, HasCursorAt, HaveCursors};
+
+use crate::asking::may_append;
+use crate::ends::Seat;
+use lt_merge::Log;
+use lt_runner::{Gate, Runner, Turned};
+
+/// Takes commands in and appends them, makes one move, and tells the replies.
+pub(crate) fn turn_of<G: Gate>(seats: &mut Vec<Seat>, runner: &mut Runner, gate: &G) -> Turned
+    requires { IsStation runner.old seats.old.items }
+    ensures kept { IsStation runner.new seats.new.items }
+    ensures turns { StationTurns result runner.old seats.old.items runner.new seats.new.items }
+{
+    take_all(seats);
+    let fits = append_all(seats, runner);
+    let turned = make_move(runner, fits, gate);
+    tell_all(seats, runner.log());
+    turned
+}
+
+// Makes one move, where memory didn't run out before.
+#[tactic(auto, using(crate::proofs::TurnParts::move_ends, crate::proofs::TurnParts::seen_self, lt_runner::proofs::TurnLemmas::grew_self))]
+fn make_move<G: Gate>(runner: &mut Runner, fits: bool, gate: &G) -> Turned
+    ensures grew { Grew runner.old runner.new }
+    ensures ends { MoveEnds result runner.old runner.new }
+    ensures shown { fits ≡ true → next_choice runner.old ≢ choices.Nothing → result ≢ turns.Quiet }
+    ensures memory { fits ≡ false → result ≡ turns.NoMemory }
+{
+    if fits {
+        runner.turn(gate)
+    } else {
+        Turned::NoMemory
+    }
+}
+
+// Each seat that has no command in hand takes one.
+fn take_all(seats: &mut Vec<Seat>)
+    ensures { EachSeat TakesIn seats.old.items seats.new.items }
+{
+    for place in 0..seats.len() {
+        take_at(seats, place);
+    }
+}
+
+fn take_at(seats: &mut Vec<Seat>, place: usize)
+    requires { place < length seats.old.items }
+    ensures { SeatAt TakesIn place seats.old.items seats.new.items }
+{
+    seats[place].take_in();
+}
+
+// Appends the commands in hand that can be; false where memory ran out for one, which stays in hand.
+fn append_all(seats: &mut Vec<Seat>, runner: &mut Runner) -> bool
+    requires { IsStation runner.old seats.old.items }
+    ensures kept { IsStation runner.new seats.new.items }
+    ensures runner { OnlyAppends runner.old runner.new }
+    ensures seats { EachSeat HandMayGo seats.old.items seats.new.items }
+    ensures hands { result ≡ true → NoneCanAppend runner.new seats.new.items }
+{
+    let mut fits = true;
+    for place in 0..seats.len() {
+        fits = both(append_at(seats, runner, place), fits);
+    }
+    fits
+}
+
+// Whether memory was found both times.
+fn both(first: bool, second: bool) -> bool
+    ensures { result ≡ (first && second) }
+{
+    first && second
+}
+
+fn append_at(seats: &mut Vec<Seat>, runner: &mut Runner, place: usize) -> bool
+    requires inside { place < length seats.old.items }
+    requires kept { IsStation runner.old seats.old.items }
+    ensures kept { IsStation runner.new seats.new.items }
+    ensures runner { OnlyAppends runner.old runner.new }
+    ensures seat { SeatAt HandMayGo place seats.old.items seats.new.items }
+    ensures hand { result ≡ true → (seat : SeatEnds) → slice_get seats.new.items place ≡ Some seat → CanNotAppend runner.new seat }
+{
+    append(&mut seats[place], runner)
+}
+
+// Appends the command in hand, where it can be; false where memory ran out, and then it stays in hand.
+#[tactic(auto, using(crate::proofs::AskLemmas::can_append))]
+fn append(seat: &mut Seat, runner: &mut Runner) -> bool
+    requires client { seat.old.client < length runner.old.node.script.clients }
+    requires home { home runner.old.node.script seat.old.client ≡ runner.old.node.me }
+    ensures hand { MayHandOver seat.old runner.old seat.new runner.new }
+    ensures rest { result ≡ true → CanNotAppend runner.new seat.new }
+{
+    let Some(command) = seat.hand else {
+        return true;
+    };
+    if !may_append(runner.script(), seat.client, command) {
+        return true;
+    }
+    if runner.append(seat.client, command).is_err() {
+        return false;
+    }
+    seat.hand = None;
+    true
+}
+
+// Tells each client its replies, in order, while its ring has places.
+fn tell_all(seats: &mut Vec<Seat>, log: &Log)
+    requires { HaveCursors log.now.entries seats.old.items }
+    ensures { EachSeat (Tells log.now.entries) seats.old.items seats.new.items }
+{
+    for place in 0..seats.len() {
+        tell_at(seats, log, place);
+    }
+}
+
+fn tell_at(seats: &mut Vec<Seat>, log: &Log, place: usize)
+    requires inside { place < length seats.old.items }
+    requires cursor { HasCursorAt log.now.entries seats.old.items place }
+    ensures { SeatAt (Tells log.now.entries) place seats.old.items seats.new.items }
+{
+    seats[place].tell(log);
+}

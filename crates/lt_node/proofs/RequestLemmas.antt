@@ -1,0 +1,127 @@
+-- The clients get their commands one after the other.
+use Rattle.std.proofs.Common.{◌≡◌, ◌≢◌, ◌+◌, ◌<◌, ◌==◌, ◌++◌, ℕ, List, [], ◌∷◌, Some, None, Bool, true, false, length, take, zero, suc, sym, ap, subst, refl, ◌∙◌, arith, slice_get, slice_index_or, slice_set, if◌then◌else◌, inl, inr, append-nil, take_all}
+use Rattle.std.specs.Prelude.{filter_map}
+use Rattle.std.specs.List.{cons_option}
+use Rattle.std.proofs.lemmas.Bool.{cases_eq, cases_Bool, eq-eqb, ne_eqb}
+use Rattle.std.proofs.lemmas.List.{take_more, get_or-set_same, get_or-set_other, length-set}
+use Rattle.std.proofs.lemmas.List.Elements.{filter_map-append}
+use Rattle.lt_modes.specs.declared.command.Command.{Command}
+use Rattle.lt_modes.specs.Script.{ScriptData}
+use Rattle.lt_script.specs.Script.{IsScript}
+use Rattle.lt_spec.specs.Families.{command_if, commands_of, home}
+use Rattle.lt_node.specs.Clients.{Progress, HaveFirst, progress_of, no_progress, no_command, with_command, with_own_request, first_commands}
+
+no_request : ℕ × Command
+no_request = (0, no_command)
+
+-- the request that stands at a place
+slice_at : (xs : List (ℕ × Command)) (k : ℕ) (r : ℕ × Command) → slice_get xs k ≡ Some r → slice_index_or xs k no_request ≡ r
+slice_at [] k r e = absurd (cc)
+slice_at (x ∷ xs) zero r e = cc
+slice_at (x ∷ xs) (suc k) r e = slice_at xs k r e
+
+-- is that of a client of the script
+pub client_of_request : (script : ScriptData) (k : ℕ) (request : ℕ × Command) → IsScript script → k < length script.commands → slice_get script.commands k ≡ Some request
+    → request.0 < length script.clients
+client_of_request script k request known inside is =
+    subst (λ (r : ℕ × Command). r.0 < length script.clients) (slice_at script.commands k request is) (known.requests k no_request inside).0
+
+-- the commands of a client among one more
+among_more : (script : ScriptData) (k client : ℕ) (request : ℕ × Command) → k < length script.commands → slice_get script.commands k ≡ Some request
+    → filter_map (command_if client) (take (k + 1) script.commands) ≡ filter_map (command_if client) (take k script.commands) ++ filter_map (command_if client) (request ∷ [])
+among_more script k client request inside is =
+    let here : slice_index_or script.commands k no_request ≡ request = slice_at script.commands k request is in
+    ap (filter_map (command_if client)) (take_more script.commands k no_request inside ∙ ap (λ (r : ℕ × Command). take k script.commands ++ r ∷ []) here)
+    ∙ filter_map-append (command_if client) (take k script.commands) (request ∷ [])
+
+-- one of another client adds nothing
+none_of : (request : ℕ × Command) (client : ℕ) (xs : List Command) → request.0 ≢ client → xs ++ filter_map (command_if client) (request ∷ []) ≡ xs
+none_of request client xs other =
+    ap (λ (b : Bool). xs ++ cons_option (if b then Some request.1 else None) []) (ne_eqb request.0 client other) ∙ append-nil xs
+
+one_of : (request : ℕ × Command) (client : ℕ) (xs : List Command) → request.0 ≡ client → xs ++ filter_map (command_if client) (request ∷ []) ≡ xs ++ request.1 ∷ []
+one_of request client xs same = ap (λ (b : Bool). xs ++ cons_option (if b then Some request.1 else None) []) (eq-eqb request.0 client same)
+
+-- a client before its first command
+abbrev fresh : List Command → Progress
+fresh commands = record { commands = commands; made = 0 }
+
+-- the clients with one command more
+module _ (script : ScriptData) (q k : ℕ) (clients : List Progress) (request : ℕ × Command) where
+  abbrev among : ℕ → List Command
+  among client = filter_map (command_if client) (take k script.commands)
+
+  abbrev more : ℕ → List Command
+  more client = filter_map (command_if client) (take (k + 1) script.commands)
+
+  abbrev longer : Progress
+  longer = with_command (progress_of clients request.0) request.1
+
+  -- another client has no command more
+  unchanged : k < length script.commands → slice_get script.commands k ≡ Some request → HaveFirst script q k clients
+      → (client : ℕ) → request.0 ≢ client → client < length clients → progress_of clients client ≡ fresh (first_commands script q (k + 1) client)
+  unchanged inside is first client other within =
+      first client within
+      ∙ ap (λ (cs : List Command). fresh (if home script client == q then cs else []))
+      (sym (among_more script k client request inside is ∙ none_of request client (among client) other))
+
+  changed : k < length script.commands → slice_get script.commands k ≡ Some request → request.0 < length clients → HaveFirst script q k clients → home script request.0 == q ≡ true
+      → longer ≡ fresh (first_commands script q (k + 1) request.0)
+  changed inside is known first mine =
+      let before : progress_of clients request.0 ≡ fresh (among request.0) =
+      first request.0 known ∙ ap (λ (b : Bool). fresh (if b then among request.0 else [])) mine in
+      let after : first_commands script q (k + 1) request.0 ≡ among request.0 ++ request.1 ∷ [] =
+      ap (λ (b : Bool). if b then more request.0 else []) mine ∙ (among_more script k request.0 request inside is ∙ one_of request request.0 (among request.0) refl) in
+      ap (λ (p : Progress). with_command p request.1) before ∙ ap fresh (sym after)
+
+  own_added : k < length script.commands → slice_get script.commands k ≡ Some request → request.0 < length clients → HaveFirst script q k clients → home script request.0 == q ≡ true
+      → HaveFirst script q (k + 1) (slice_set clients request.0 longer)
+  own_added inside is known first mine = λ client within. elim (cases_eq request.0 client) [
+    | inl same ↦ subst (λ (c : ℕ). progress_of (slice_set clients request.0 longer) c ≡ fresh (first_commands script q (k + 1) c)) same
+        (get_or-set_same clients request.0 longer no_progress known ∙ changed inside is known first mine)
+    | inr other ↦ get_or-set_other clients request.0 client longer no_progress (λ e. other (sym e))
+        ∙ unchanged inside is first client other (omega (arith, within, length-set clients request.0 longer))
+  ]
+
+  other_added : k < length script.commands → slice_get script.commands k ≡ Some request → HaveFirst script q k clients → home script request.0 == q ≡ false
+      → HaveFirst script q (k + 1) clients
+  other_added inside is first theirs = λ client within. elim (cases_eq request.0 client) [
+    | inl same ↦
+        let none : home script client == q ≡ false = subst (λ (c : ℕ). home script c == q ≡ false) same theirs in
+        first client within
+        ∙ (ap (λ (b : Bool). fresh (if b then among client else [])) none ∙ sym (ap (λ (b : Bool). fresh (if b then more client else [])) none))
+    | inr other ↦ unchanged inside is first client other within
+  ]
+
+  pub request_added : k < length script.commands → slice_get script.commands k ≡ Some request → request.0 < length clients → HaveFirst script q k clients
+      → HaveFirst script q (k + 1) (with_own_request script q request clients)
+  request_added inside is known first = elim (cases_Bool (home script request.0 == q)) [
+    | inl mine ↦ subst (HaveFirst script q (k + 1)) (sym (ap (λ (b : Bool). if b then slice_set clients request.0 longer else clients) mine)) (own_added inside is known first mine)
+    | inr theirs ↦ subst (HaveFirst script q (k + 1)) (sym (ap (λ (b : Bool). if b then slice_set clients request.0 longer else clients) theirs)) (other_added inside is first theirs)
+  ]
+
+pub count_kept : (script : ScriptData) (q : ℕ) (request : ℕ × Command) (clients : List Progress) → length (with_own_request script q request clients) ≡ length clients
+count_kept script q request clients = elim (cases_Bool (home script request.0 == q)) [
+  | inl mine ↦ ap (λ (b : Bool). length (if b then slice_set clients request.0 longer else clients)) mine ∙ length-set clients request.0 longer
+  | inr theirs ↦ ap (λ (b : Bool). length (if b then slice_set clients request.0 longer else clients)) theirs
+]
+  where
+    longer : Progress
+    longer = with_command (progress_of clients request.0) request.1
+
+abbrev no_commands : List Command
+no_commands = []
+
+pub none_yet : (script : ScriptData) (q : ℕ) (clients : List Progress) → ((c : ℕ) → progress_of clients c ≡ no_progress) → HaveFirst script q 0 clients
+none_yet script q clients idle = λ client within. idle client ∙ sym (ap (λ (cs : List Command). record { commands = cs; made = 0 }) (none_of_node (home script client == q)))
+  where
+    none_of_node : (b : Bool) → (if b then no_commands else no_commands) ≡ no_commands
+    none_of_node true = refl
+    none_of_node false = refl
+
+pub all_added : (script : ScriptData) (q : ℕ) (clients : List Progress) → HaveFirst script q (length script.commands) clients
+    → (c : ℕ) → c < length clients → progress_of clients c ≡ record { commands = if home script c == q then commands_of script c else []; made = 0 }
+all_added script q clients first = λ c within.
+    first c within
+    ∙ ap (λ (cs : List (ℕ × Command)). record { commands = if home script c == q then filter_map (command_if c) cs else []; made = 0 })
+    (take_all (length script.commands) script.commands (omega arith))

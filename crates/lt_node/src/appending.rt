@@ -1,0 +1,56 @@
+// Commands that come while the node is at work.
+ghost use Rattle.std.specs.Prelude.{◌≡◌, ◌<◌, ◌++◌, ◌∷◌, [], length, OnOk, OnErr};
+ghost use Rattle.lt_script.specs.Script.{HasTargets, HasModesOf};
+ghost use Rattle.lt_script.specs.declared.limits.TheConstants.{MAX_COMMANDS};
+ghost use Rattle.lt_spec.specs.Families.{home};
+ghost use Rattle.lt_node.specs.Appending.{with_request};
+ghost use Rattle.lt_node.specs.Clients.{with_command};
+
+use crate::client::Client;
+use crate::node::Node;
+use lt_modes::Command;
+use lt_script::Script;
+use std::alloc::AllocError;
+
+impl Node {
+    /// The command becomes the last one of the client's list, in this node's copy of the script.
+    pub fn append(&mut self, client: u16, command: Command) -> Result<(), AllocError>
+        requires client { client < length self.old.script.clients }
+        requires home { home self.old.script client ≡ self.old.me }
+        requires targets { HasTargets self.old.script.sets self.old.script.clients client command }
+        requires modes { HasModesOf self.old.script.version command }
+        requires room { length self.old.script.commands < MAX_COMMANDS }
+        ensures appended { OnOk result
+            (self.new ≡ record self.old { script = with_request self.old.script client command }) }
+        ensures same { OnErr result (self.new ≡ self.old) }
+    {
+        append_to(
+            &mut self.clients[usize::from(client)],
+            &mut self.script,
+            client,
+            command,
+        )?;
+        Ok(())
+    }
+}
+
+// The command becomes the last one of the client, in its own list and in the script.
+fn append_to(
+    list: &mut Client,
+    script: &mut Script,
+    client: u16,
+    command: Command,
+) -> Result<(), AllocError>
+    requires client { client < length script.old.clients }
+    requires targets { HasTargets script.old.sets script.old.clients client command }
+    requires modes { HasModesOf script.old.version command }
+    requires room { length script.old.commands < MAX_COMMANDS }
+    ensures list { OnOk result (list.new ≡ with_command list.old command) }
+    ensures script { OnOk result (script.new ≡ with_request script.old client command) }
+    ensures same { OnErr result ((list.new ≡ list.old) × (script.new ≡ script.old)) }
+{
+    list.commands.reserve(1)?;
+    script.add_command(client, command)?;
+    list.commands.push_reserved(command);
+    Ok(())
+}

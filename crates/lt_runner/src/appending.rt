@@ -1,0 +1,45 @@
+// Commands that come while the runner is at work, and what it shows of its moves.
+ghost use Rattle.std.specs.Prelude.{◌≡◌, ◌<◌, length, OnOk, OnErr};
+ghost use Rattle.lt_script.specs.Script.{HasTargets, HasModesOf};
+ghost use Rattle.lt_script.specs.declared.limits.TheConstants.{MAX_COMMANDS};
+ghost use Rattle.lt_spec.specs.Families.{home};
+ghost use Rattle.lt_runner.specs.Appended.{with_request};
+
+use crate::runner::Runner;
+use lt_merge::Log;
+use lt_modes::Command;
+use lt_script::Script;
+use std::alloc::AllocError;
+
+impl Runner {
+    /// The command becomes the last one of the client's list, in this runner's copy of the script.
+    #[tactic(auto, using(crate::proofs::AppendLemmas::kept_appended))]
+    pub fn append(&mut self, client: u16, command: Command) -> Result<(), AllocError>
+        requires client { client < length self.old.node.script.clients }
+        requires home { home self.old.node.script client ≡ self.old.node.me }
+        requires targets { HasTargets self.old.node.script.sets self.old.node.script.clients client command }
+        requires modes { HasModesOf self.old.node.script.version command }
+        requires room { length self.old.node.script.commands < MAX_COMMANDS }
+        ensures appended { OnOk result (self.new ≡ with_request self.old client command) }
+        ensures same { OnErr result (self.new ≡ self.old) }
+    {
+        let parts = self.parts.as_mut();
+        parts.node.append(client, command)?;
+        parts.idle = false;
+        Ok(())
+    }
+
+    /// The script, with the commands that were appended here.
+    pub fn script(&self) -> &Script
+        ensures { result.now ≡ self.now.node.script }
+    {
+        self.parts.node.script()
+    }
+
+    /// The moves that were made, in order.
+    pub fn log(&self) -> &Log
+        ensures { result.now ≡ self.now.log }
+    {
+        &self.parts.log
+    }
+}

@@ -1,0 +1,149 @@
+ghost use Rattle.std.specs.Prelude.{◌≡◌, ◌<◌, ◌+◌, ◌^◌, ℕ, length, IsTrue, IfOk, OnOk, OnErr};
+ghost use Rattle.lt_modes.specs.declared.moves.Step.TheVariants.{Act, Take};
+ghost use Rattle.lt_spec.specs.World.{is_enabled};
+ghost use Rattle.lt_desk.specs.LetterSeen.{letter_seen};
+ghost use Rattle.lt_node.specs.Room.{RoomToAct, RoomToTake};
+ghost use Rattle.lt_world.specs.Mail.{SameLetters, inbox_at};
+ghost use Rattle.lt_world.specs.Moving.{IsWithin, CanTake};
+ghost use Rattle.lt_world.specs.Network.{IsAfterRun, world_in};
+ghost use Rattle.lt_world.specs.declared.reserved.Reserved.TheVariants.{Acting};
+ghost use Rattle.lt_world.specs.Reserved.{IsReserved, step_of};
+ghost use Rattle.lt_world.specs.Fields.{OnlyMemory, InboxRoom, node_at};
+
+use super::Network;
+use crate::choice::Choice;
+use crate::delivery::{pop_front, put_front, reserve_from};
+use crate::inbox::Inbox;
+use crate::reserved::Reserved;
+use lt_desk::{Letter, Out};
+use lt_merge::Run;
+use lt_modes::Step;
+use lt_script::Script;
+use std::alloc::AllocError;
+
+// Room for one move, before it is made.
+impl Network {
+    /// Makes room for the move. Where memory is refused, all stand as they did.
+    pub(crate) fn reserve(
+        &mut self,
+        script: &Script,
+        choice: Choice,
+    ) -> Result<Reserved, AllocError>
+        requires holds { IsAfterRun script.now self.old }
+        requires enabled { IsTrue (is_enabled script.now (world_in script.now self.old) choice.node choice.step) }
+        requires few { length self.old.run.entries + 1 < 2 ^ 32 }
+        ensures reserved { IfOk result (IsReserved script.now self.new choice.node) }
+        ensures step { IfOk result (λ reserved. step_of reserved ≡ choice.step) }
+        ensures err { OnErr result (IsAfterRun script.now self.new) }
+        ensures entries { self.new.run.entries ≡ self.old.run.entries }
+    {
+        match choice.step {
+            Step::Act(client) => {
+                self.reserve_act(script, choice.node, client)?;
+                Ok(Reserved::Acting { client })
+            }
+            Step::Take(sender) => self.reserve_take(script, choice.node, sender),
+        }
+    }
+
+    // Makes room for the next command of a client of this node.
+    pub(super) fn reserve_act(
+        &mut self,
+        script: &Script,
+        node: u8,
+        client: u16,
+    ) -> Result<(), AllocError>
+        requires holds { IsAfterRun script.now self.old }
+        requires enabled { IsTrue (is_enabled script.now (world_in script.now self.old) node (Act client)) }
+        requires few { length self.old.run.entries + 1 < 2 ^ 32 }
+        ensures reserved { OnOk result (IsReserved script.now self.new node (Acting client)) }
+        ensures err { OnErr result (IsAfterRun script.now self.new) }
+        ensures entries { self.new.run.entries ≡ self.old.run.entries }
+    {
+        self.reserve_command(node)
+    }
+
+    // Takes the front letter from the sender to this node in hand, and makes room for it.
+    fn reserve_take(
+        &mut self,
+        script: &Script,
+        node: u8,
+        sender: u8,
+    ) -> Result<Reserved, AllocError>
+        requires holds { IsAfterRun script.now self.old }
+        requires enabled { IsTrue (is_enabled script.now (world_in script.now self.old) node (Take sender)) }
+        requires few { length self.old.run.entries + 1 < 2 ^ 32 }
+        ensures reserved { IfOk result (IsReserved script.now self.new node) }
+        ensures step { IfOk result (λ reserved. step_of reserved ≡ Take sender) }
+        ensures err { OnErr result (IsAfterRun script.now self.new) }
+        ensures entries { self.new.run.entries ≡ self.old.run.entries }
+    {
+        let mut letter = pop_front(&mut self.inboxes, sender, node);
+        if let Err(error) = self.reserve_letter(node, &mut letter) {
+            put_front(&mut self.inboxes, sender, node, letter);
+            return Err(error);
+        }
+        Ok(Reserved::Taking { sender, letter })
+    }
+
+    /// Leaves a move for which room was made: a letter in hand goes back.
+    pub(crate) fn leave(&mut self, script: &Script, node: u8, reserved: Reserved)
+        requires { IsReserved script.now self.old node reserved }
+        ensures holds { IsAfterRun script.now self.new }
+        ensures entries { self.new.run.entries ≡ self.old.run.entries }
+    {
+        if let Reserved::Taking { sender, letter } = reserved {
+            put_front(&mut self.inboxes, sender, node, letter);
+        }
+    }
+
+    // Makes room for one command of this node.
+    fn reserve_command(&mut self, node: u8) -> Result<(), AllocError>
+        requires node { node < length self.old.nodes.items }
+        requires within { IsWithin (node_at self.old.nodes.items node) }
+        requires senders { (q : ℕ) → q < length self.old.inboxes.items → node < length (inbox_at self.old.inboxes.items q) }
+        ensures nodes { OnlyMemory node self.old.nodes.items self.new.nodes.items }
+        ensures letters { SameLetters self.old.inboxes.items self.new.inboxes.items }
+        ensures entries { self.new.run.entries ≡ self.old.run.entries }
+        ensures out { (self.new.out.posts ≡ self.old.out.posts) × (self.new.out.events ≡ self.old.out.events) }
+        ensures room { OnOk result (RoomToAct (node_at self.new.nodes.items node) self.new.out) }
+        ensures send { OnOk result (InboxRoom node self.new.inboxes.items self.new.run self.new.out) }
+    {
+        self.nodes[usize::from(node)].reserve(&mut self.out)?;
+        reserve_all(&mut self.inboxes, &mut self.run, node, &self.out)
+    }
+
+    // Makes room for this node to take the letter.
+    pub(super) fn reserve_letter(&mut self, node: u8, letter: &mut Letter) -> Result<(), AllocError>
+        requires node { node < length self.old.nodes.items }
+        requires takes { CanTake (node_at self.old.nodes.items node) (letter_seen letter.old) }
+        requires senders { (q : ℕ) → q < length self.old.inboxes.items → node < length (inbox_at self.old.inboxes.items q) }
+        ensures nodes { OnlyMemory node self.old.nodes.items self.new.nodes.items }
+        ensures letters { SameLetters self.old.inboxes.items self.new.inboxes.items }
+        ensures entries { self.new.run.entries ≡ self.old.run.entries }
+        ensures out { (self.new.out.posts ≡ self.old.out.posts) × (self.new.out.events ≡ self.old.out.events) }
+        ensures letter { letter_seen letter.new ≡ letter_seen letter.old }
+        ensures room { OnOk result (RoomToTake (node_at self.new.nodes.items node) letter.new self.new.out) }
+        ensures send { OnOk result (InboxRoom node self.new.inboxes.items self.new.run self.new.out) }
+    {
+        self.nodes[usize::from(node)].reserve_for(letter, &mut self.out)?;
+        reserve_all(&mut self.inboxes, &mut self.run, node, &self.out)
+    }
+}
+
+// Makes room for what a node sends out, for which `out` has room.
+fn reserve_all(
+    inboxes: &mut Vec<Inbox>,
+    run: &mut Run,
+    sender: u8,
+    out: &Out,
+) -> Result<(), AllocError>
+    requires { (q : ℕ) → q < length inboxes.old.items → sender < length (inbox_at inboxes.old.items q) }
+    ensures letters { SameLetters inboxes.old.items inboxes.new.items }
+    ensures entries { run.new.entries ≡ run.old.entries }
+    ensures send { OnOk result (InboxRoom sender inboxes.new.items run.new out.now) }
+{
+    reserve_from(inboxes, sender, out.post_room())?;
+    let lines = u32::try_from(out.event_room()).map_err(|_| AllocError)?;
+    run.reserve(lines)
+}

@@ -1,0 +1,131 @@
+ghost use Rattle.std.specs.Prelude.{◌≡◌, ◌<◌, ◌∷◌, ◌++◌, [], IsTrue, IfOk, IfErr};
+ghost use Rattle.lt_spec.specs.World.{is_enabled, logged};
+ghost use Rattle.lt_limits.specs.Cut.{moves_of};
+ghost use Rattle.lt_world.specs.Fields.{world_of};
+
+use super::{World, count_move, note_made};
+use crate::choice::Choice;
+use crate::network::Network;
+use crate::reserved::Reserved;
+use lt_script::Script;
+use std::marker::Model;
+
+/// A world with room for one move, which therefore can't fail.
+#[derive(Drop)]
+pub struct Ready {
+    script: Script,
+    limit: u32,
+    network: Network,
+    moves: Vec<u32>,
+    made: Vec<u32>,
+    most: u32,
+    choice: Choice,
+    reserved: Reserved,
+}
+
+impl Model for Ready {
+    ghost use Rattle.lt_world.specs.Ready.{ReadyData, IsReady};
+
+    ghost Value = { ReadyData };
+
+    ghost view = { λ r. record {
+      world = record { script = r.script; limit = r.limit; run = r.network.run.entries };
+      choice = r.choice;
+    } };
+
+    ghost invariant = { λ r. IsReady r.script r.limit r.most r.network r.moves.items r.made.items r.choice r.reserved };
+}
+
+impl World {
+    /// Makes room for an enabled move of a node that has made fewer moves than the limit. Where memory is refused, the
+    /// world comes back as it was.
+    pub fn reserve(self, choice: Choice) -> Result<Ready, World>
+        requires enabled { IsTrue (is_enabled self.script (world_of self) choice.node choice.step) }
+        requires room { moves_of choice.node self.run < self.limit }
+        ensures ok { IfOk result (λ ready. ready ≡ record { world = self; choice = choice }) }
+        ensures err { IfErr result (λ world. world ≡ self) }
+    {
+        let World {
+            script,
+            limit,
+            mut network,
+            moves,
+            made,
+            most,
+        } = self;
+        match network.reserve(&script, choice) {
+            Ok(reserved) => Ok(Ready {
+                script,
+                limit,
+                network,
+                moves,
+                made,
+                most,
+                choice,
+                reserved,
+            }),
+            Err(_) => Err(World {
+                script,
+                limit,
+                network,
+                moves,
+                made,
+                most,
+            }),
+        }
+    }
+}
+
+impl Ready {
+    /// Makes the move.
+    pub fn make(self) -> World
+        ensures { result ≡ record self.world { run = self.world.run ++ logged self.world.script (world_of self.world) self.choice.node self.choice.step ∷ [] } }
+    {
+        let Ready {
+            script,
+            limit,
+            mut network,
+            mut moves,
+            mut made,
+            mut most,
+            choice,
+            reserved,
+        } = self;
+        network.make(&script, choice.node, reserved);
+        count_move(&mut moves, &mut most, choice.node);
+        note_made(&mut made, &script, &network, choice);
+        World {
+            script,
+            limit,
+            network,
+            moves,
+            made,
+            most,
+        }
+    }
+
+    /// Leaves the move: the world as it was.
+    pub fn leave(self) -> World
+        ensures { result ≡ self.world }
+    {
+        let Ready {
+            script,
+            limit,
+            mut network,
+            moves,
+            made,
+            most,
+            choice,
+            reserved,
+        } = self;
+        network.leave(&script, choice.node, reserved);
+        World {
+            script,
+            limit,
+            network,
+            moves,
+            made,
+            most,
+        }
+    }
+}
