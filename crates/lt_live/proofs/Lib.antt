@@ -7,3 +7,7 @@ pub mod KeptSeats
 pub mod KeptStations
 pub mod LookedSeats
 pub mod TurnParts
+pub mod StationLists
+pub mod OpenedStations
+pub mod FirstSeats
+pub mod FoundedStations

@@ -10,10 +10,12 @@ mod opening;
 mod reply;
 mod seats;
 mod session;
+mod starting;
 mod station;
 mod turning;
 
 pub use ends::{Seat, Session};
 pub use laws::law_told;
 pub use reply::{Reply, reply_to};
+pub use starting::open;
 pub use station::Station;
