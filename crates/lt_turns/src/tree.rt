@@ -1,0 +1,68 @@
+ghost use Rattle.std.specs.Prelude.{◌≡◌, ◌<◌, ◌*◌, ◌^◌, ◌/◌, ◌+◌, length};
+ghost use Rattle.lt_turns.specs.Turns.{winner_at, earlier, comes_before, AreWon, AreWonBut};
+
+/// A player that can act, and the number of its turn.
+#[derive(Clone, Copy, Debug)]
+pub(crate) struct Turn {
+    pub(crate) number: u32,
+    pub(crate) player: u16,
+}
+
+/// The first turn at or below the node.
+pub(crate) fn winner_at(
+    numbers: &[Option<u32>],
+    winners: &[Option<Turn>],
+    node: usize,
+) -> Option<Turn>
+    requires count { length winners.now ≡ length numbers.now }
+    requires node { node < 2 * length numbers.now }
+    requires few { length numbers.now < 2 ^ 16 }
+    ensures { result ≡ winner_at numbers.now winners.now node }
+{
+    if node < winners.len() {
+        return winners[node];
+    }
+    let player = node - winners.len();
+    match numbers[player] {
+        Some(number) => Some(Turn {
+            number,
+            player: player as u16,
+        }),
+        None => None,
+    }
+}
+
+/// Goes up from the player to the root, and finds the first turn of each node anew.
+pub(crate) fn update(numbers: &[Option<u32>], winners: &mut [Option<Turn>], player: usize)
+    requires count { length winners.old ≡ length numbers.now }
+    requires few { length numbers.now < 2 ^ 16 }
+    requires player { player < length numbers.now }
+    requires won { AreWonBut numbers.now winners.old ((length numbers.now + player) / 2) }
+    ensures count { length winners.new ≡ length numbers.now }
+    ensures won { AreWon numbers.now winners.new }
+{
+    let mut node = (numbers.len() + player) / 2;
+    while node > 0 {
+        let first = winner_at(numbers, winners, 2 * node);
+        let second = winner_at(numbers, winners, 2 * node + 1);
+        winners[node] = earlier(first, second);
+        node /= 2;
+    }
+}
+
+// The first one of two turns, where there are some.
+fn earlier(first: Option<Turn>, second: Option<Turn>) -> Option<Turn>
+    ensures { result ≡ earlier first second }
+{
+    match (first, second) {
+        (Some(a), Some(b)) => Some(if comes_before(b, a) { b } else { a }),
+        (None, second) => second,
+        (first, None) => first,
+    }
+}
+
+fn comes_before(a: Turn, b: Turn) -> bool
+    ensures { result ≡ comes_before a b }
+{
+    a.number < b.number || a.number == b.number && a.player < b.player
+}
