@@ -1,1 +1,2 @@
 mod TreeLemmas
+mod NextLemmas

@@ -5,7 +5,7 @@ use Rattle.std.proofs.lemmas.List.{get_or_past}
 use Rattle.std.proofs.lemmas.List.Sums.{sum_by-set, get_or-le-sum_by, sum_by-cons}
 use Rattle.std.proofs.lemmas.Bool.{cases_eq, cases_lt, cases_order, lt-ltb, ltb-true, le-ltb, eqb-true, eq-eqb, or_cases, or_left, or_right, and_parts, and_from, false≢true}
 use Rattle.lt_turns.specs.declared.tree.Turn.{Turn}
-use Rattle.lt_turns.specs.Turns.{number_of, IsFirst, comes_before, earlier, turn_of, winner_at, AreWon, AreWonBut, IsTree}
+use Rattle.lt_turns.specs.Turns.{number_of, IsFirst, comes_before, earlier, turn_of, winner_at, AreWon, AreWonBut, IsTree, NoneBefore, IsTurn, IsAfter}
 
 -- where no player can act
 none_wins : (numbers : List (Option ℕ)) (winners : List (Option Turn)) (node : ℕ) → ((p : ℕ) → number_of numbers p ≡ None)
@@ -71,16 +71,7 @@ number_changed numbers winners player number count inside h = λ k above below o
           (get_or-set_other numbers player (node - length winners) number None (λ e. omega (arith, e, apart, more, count)))
     ]
 
--- the turn is not after the other one
-abbrev pub NotAfter : Turn → Turn → Type 0
-NotAfter a b = (a.number < b.number) ⊎ ((a.number ≡ b.number) × (a.player ≤ b.player))
-
-abbrev pub NoneAfter : Option Turn → Option Turn → Type 0
-NoneAfter first None = Unit {0}
-NoneAfter None (Some b) = ⊥
-NoneAfter (Some a) (Some b) = NotAfter a b
-
-through : (a b c : Option Turn) → NoneAfter a b → NoneAfter b c → NoneAfter a c
+pub through : (a b c : Option Turn) → NoneBefore a b → NoneBefore b c → NoneBefore a c
 through a b None p q = tt
 through a None (Some c) p q = absurd q
 through None (Some b) (Some c) p q = absurd p
@@ -89,19 +80,30 @@ through (Some a) (Some b) (Some c) p q = elim p [
   | inr same ↦ elim q [ inl less' ↦ inl (omega (arith, same.0, less')) | inr same' ↦ inr (omega (arith, same.0, same'.0), omega (arith, same.1, same'.1)) ]
 ]
 
-itself : (a : Option Turn) → NoneAfter a a
+itself : (a : Option Turn) → NoneBefore a a
 itself None = tt
 itself (Some a) = inr (refl, omega arith)
 
-before : (a b : Turn) → comes_before a b ≡ true → NotAfter a b
-before a b e = elim (or_cases (nat_lt a.number b.number) (a.number == b.number && nat_lt a.player b.player) e) [
+pub after_from : (a b : Turn) → comes_before a b ≡ true → IsAfter a.number a.player b.number b.player
+after_from a b e = elim (or_cases (nat_lt a.number b.number) (a.number == b.number && nat_lt a.player b.player) e) [
   | inl less ↦ inl (ltb-true a.number b.number less)
   | inr same ↦
       let parts = and_parts (a.number == b.number) (nat_lt a.player b.player) same in
-      inr (eqb-true a.number b.number parts.0, omega (arith, ltb-true a.player b.player parts.1))
+      inr (eqb-true a.number b.number parts.0, ltb-true a.player b.player parts.1)
 ]
 
-not_before : (a b : Turn) → comes_before b a ≡ false → NotAfter a b
+pub after_to : (a b : Turn) → IsAfter a.number a.player b.number b.player → comes_before a b ≡ true
+after_to a b (inl less) = or_left (nat_lt a.number b.number) _ (lt-ltb a.number b.number less)
+after_to a b (inr same) =
+    or_right (nat_lt a.number b.number) _ (and_from (a.number == b.number) (nat_lt a.player b.player) (eq-eqb a.number b.number same.0) (lt-ltb a.player b.player same.1))
+
+before : (a b : Turn) → comes_before a b ≡ true → NoneBefore (Some a) (Some b)
+before a b e = elim (after_from a b e) [
+  | inl less ↦ inl less
+  | inr same ↦ inr (same.0, omega (arith, same.1))
+]
+
+not_before : (a b : Turn) → comes_before b a ≡ false → NoneBefore (Some a) (Some b)
 not_before a b e = elim (cases_order a.number b.number) [
   | inl same ↦ elim (cases_lt b.player a.player) [
     | inl less ↦ absurd (false≢true (sym e ∙ or_right (nat_lt b.number a.number) _ (and_from (b.number == a.number) (nat_lt b.player a.player) (eq-eqb b.number a.number (sym same)) (lt-ltb b.player a.player less))))
@@ -113,11 +115,11 @@ not_before a b e = elim (cases_order a.number b.number) [
 
 -- the first of two turns is after neither, and is one of them
 pub record IsEarlier (a b first : Option Turn) : Type 0 where
-  pub left : NoneAfter first a
-  pub right : NoneAfter first b
+  pub left : NoneBefore first a
+  pub right : NoneBefore first b
   pub either : (first ≡ a) ⊎ (first ≡ b)
 
-is_earlier : (a b : Option Turn) → IsEarlier a b (earlier a b)
+pub is_earlier : (a b : Option Turn) → IsEarlier a b (earlier a b)
 is_earlier None b = record { left = tt; right = itself b; either = inr refl }
 is_earlier (Some a) None = record { left = itself (Some a); right = tt; either = inl refl }
 is_earlier (Some a) (Some b) = by_test (comes_before b a) refl
@@ -128,31 +130,26 @@ is_earlier (Some a) (Some b) = by_test (comes_before b a) refl
 
 -- the root's turn is after no other
 leads_node : (numbers : List (Option ℕ)) (winners : List (Option Turn)) → AreWon numbers winners → (fuel k : ℕ) → k ≤ fuel → 0 < k → k < 2 * length numbers
-    → NoneAfter (winner_at numbers winners 1) (winner_at numbers winners k)
+    → NoneBefore (winner_at numbers winners 1) (winner_at numbers winners k)
 leads_node numbers winners h zero k within some below = absurd (omega (arith, within, some))
 leads_node numbers winners h (suc fuel) k within some below = elim (cases_eq k 1) [
-  | inl root ↦ subst (λ (x : ℕ). NoneAfter (winner_at numbers winners 1) (winner_at numbers winners x)) (sym root) (itself (winner_at numbers winners 1))
+  | inl root ↦ subst (λ (x : ℕ). NoneBefore (winner_at numbers winners 1) (winner_at numbers winners x)) (sym root) (itself (winner_at numbers winners 1))
   | inr lower ↦
       let up : ℕ = k / 2 in
       let above = leads_node numbers winners h fuel (k / 2) (omega (arith, within, some)) (omega (arith, some, lower)) (omega (arith, below)) in
       let best = is_earlier (winner_at numbers winners (2 * (k / 2))) (winner_at numbers winners (2 * (k / 2) + 1)) in
       let won = h (k / 2) (omega (arith, some, lower)) (omega (arith, below)) in
       through (winner_at numbers winners 1) (winner_at numbers winners (k / 2)) (winner_at numbers winners k) above
-      (subst (λ (w : Option Turn). NoneAfter w (winner_at numbers winners k)) (sym won)
+      (subst (λ (w : Option Turn). NoneBefore w (winner_at numbers winners k)) (sym won)
       (elim (cases_eq k (2 * (k / 2))) [
-        | inl even ↦ subst (λ (x : ℕ). NoneAfter (earlier (winner_at numbers winners (2 * (k / 2))) (winner_at numbers winners (2 * (k / 2) + 1))) (winner_at numbers winners x)) (sym even) best.left
+        | inl even ↦ subst (λ (x : ℕ). NoneBefore (earlier (winner_at numbers winners (2 * (k / 2))) (winner_at numbers winners (2 * (k / 2) + 1))) (winner_at numbers winners x)) (sym even) best.left
         | inr odd ↦
             let is_odd : 2 * (k / 2) + 1 ≡ k = omega (arith, odd) in
-            subst (λ (x : ℕ). NoneAfter (earlier (winner_at numbers winners (2 * (k / 2))) (winner_at numbers winners (2 * (k / 2) + 1))) (winner_at numbers winners x)) is_odd best.right
+            subst (λ (x : ℕ). NoneBefore (earlier (winner_at numbers winners (2 * (k / 2))) (winner_at numbers winners (2 * (k / 2) + 1))) (winner_at numbers winners x)) is_odd best.right
       ]))
 ]
 
--- the turn is the one that its player has
-abbrev pub IsTurn : List (Option ℕ) → Option Turn → Type 0
-IsTurn numbers None = Unit {0}
-IsTurn numbers (Some turn) = number_of numbers turn.player ≡ Some turn.number
-
-at_player : (numbers : List (Option ℕ)) (player : ℕ) → IsTurn numbers (turn_of numbers player)
+pub at_player : (numbers : List (Option ℕ)) (player : ℕ) → IsTurn numbers (turn_of numbers player)
 at_player numbers player = by_number (number_of numbers player) refl
   where
     by_number : (o : Option ℕ) → number_of numbers player ≡ o → IsTurn numbers (option_map (λ number. record { number = number; player = player }) o)
@@ -185,37 +182,38 @@ player_at numbers winners player =
     ap (λ (t : Bool). if t then slice_index_or winners (length winners + player) None else turn_of numbers (length winners + player - length winners)) (le-ltb (length winners + player) (length winners) past)
     ∙ ap (turn_of numbers) place
 
+-- a player that can act is one of them
+pub outside : (numbers : List (Option ℕ)) (player number : ℕ) → number_of numbers player ≡ Some number → player < length numbers
+outside numbers player number e = elim (cases_lt player (length numbers)) [
+  | inl inside ↦ inside
+  | inr past ↦ absurd (none_some (sym (get_or_past numbers player None past) ∙ e))
+]
+  where
+    none_some : None ≡ Some number → ⊥
+    none_some e = cc
+
 -- the player of the root's turn is the first one
 pub is_first : (numbers : List (Option ℕ)) (winners : List (Option Turn)) (count : ℕ) → IsTree numbers winners count → 0 < length numbers
     → IsFirst numbers (option_map (λ (turn : Turn). turn.player) (winner_at numbers winners 1))
 is_first numbers winners count tree some = by_root (winner_at numbers winners 1) (λ player inside. leads player inside) (is_turn numbers winners tree.nodes tree.won (2 * length numbers) 1 (omega arith) (omega arith) (omega (arith, some)))
   where
-    leads : (player : ℕ) → player < length numbers → NoneAfter (winner_at numbers winners 1) (turn_of numbers player)
+    leads : (player : ℕ) → player < length numbers → NoneBefore (winner_at numbers winners 1) (turn_of numbers player)
     leads player inside =
-        subst (NoneAfter (winner_at numbers winners 1)) (player_at numbers winners player)
+        subst (NoneBefore (winner_at numbers winners 1)) (player_at numbers winners player)
         (leads_node numbers winners tree.won (length winners + player) (length winners + player) (omega arith) (omega (arith, some, tree.nodes)) (omega (arith, inside, tree.nodes)))
 
-    outside : (player : ℕ) (number : ℕ) → number_of numbers player ≡ Some number → player < length numbers
-    outside player number e = elim (cases_lt player (length numbers)) [
-      | inl inside ↦ inside
-      | inr past ↦ absurd (none_some (sym (get_or_past numbers player None past) ∙ e))
-    ]
-      where
-        none_some : None ≡ Some number → ⊥
-        none_some e = cc
-
-    by_root : (root : Option Turn) → ((player : ℕ) → player < length numbers → NoneAfter root (turn_of numbers player)) → IsTurn numbers root
+    by_root : (root : Option Turn) → ((player : ℕ) → player < length numbers → NoneBefore root (turn_of numbers player)) → IsTurn numbers root
         → IsFirst numbers (option_map (λ (turn : Turn). turn.player) root)
     by_root None above is = λ player. by_number player (number_of numbers player) refl
       where
         by_number : (player : ℕ) (o : Option ℕ) → number_of numbers player ≡ o → o ≡ None
         by_number player None e = refl
-        by_number player (Some number) e = absurd (subst (λ (o : Option ℕ). NoneAfter None (option_map (λ number. record { number = number; player = player }) o)) e (above player (outside player number e)))
+        by_number player (Some number) e = absurd (subst (λ (o : Option ℕ). NoneBefore None (option_map (λ number. record { number = number; player = player }) o)) e (above player (outside numbers player number e)))
     by_root (Some turn) above is = (
       turn.number,
       record {
         can_act = is;
-        leads = λ other later e. subst (λ (o : Option ℕ). NoneAfter (Some turn) (option_map (λ number. record { number = number; player = other }) o)) e (above other (outside other later e));
+        leads = λ other later e. subst (λ (o : Option ℕ). NoneBefore (Some turn) (option_map (λ number. record { number = number; player = other }) o)) e (above other (outside numbers other later e));
       },
     )
 

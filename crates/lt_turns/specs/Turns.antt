@@ -16,6 +16,24 @@ abbrev pub IsFirst : List (Option ℕ) → Option ℕ → Type 0
 IsFirst numbers None = (player : ℕ) → number_of numbers player ≡ None
 IsFirst numbers (Some player) = (number : ℕ) × Leads numbers player number
 
+-- the second turn comes after the first one
+abbrev pub IsAfter : ℕ → ℕ → ℕ → ℕ → Type 0
+IsAfter number player later other = (number < later) ⊎ ((number ≡ later) × (player < other))
+
+-- the player comes after this turn, and no other one that does comes before it
+pub record LeadsAfter (numbers : List (Option ℕ)) (number player next later : ℕ) : Type 0 where
+  pub can_act : number_of numbers next ≡ Some later
+  pub after : IsAfter number player later next
+  pub leads : (other last : ℕ) → number_of numbers other ≡ Some last → IsAfter number player last other
+      → (later < last) ⊎ ((later ≡ last) × (next ≤ other))
+
+-- the first player of those that come after this one, where it can act
+abbrev pub IsNext : List (Option ℕ) → ℕ → Option ℕ → Type 0
+IsNext numbers player None =
+    (number other later : ℕ) → number_of numbers player ≡ Some number → number_of numbers other ≡ Some later → ¬ (IsAfter number player later other)
+IsNext numbers player (Some next) =
+    (number later : ℕ) × (number_of numbers player ≡ Some number) × LeadsAfter numbers number player next later
+
 abbrev pub comes_before : Turn → Turn → Bool
 comes_before a b = nat_lt a.number b.number || (a.number == b.number && nat_lt a.player b.player)
 
@@ -28,6 +46,28 @@ earlier (Some a) (Some b) = Some (if comes_before b a then b else a)
 -- the player's turn, where it can act
 abbrev pub turn_of : List (Option ℕ) → ℕ → Option Turn
 turn_of numbers player = option_map (λ number. record { number = number; player = player }) (number_of numbers player)
+
+-- the turn, where it comes after this one
+abbrev pub turn_after : Turn → Option Turn → Option Turn
+turn_after here None = None
+turn_after here (Some later) = if comes_before here later then Some later else None
+
+-- none of the turns is before the first one, where there is one
+abbrev pub NoneBefore : Option Turn → Option Turn → Type 0
+NoneBefore first None = Unit {0}
+NoneBefore None (Some b) = ⊥
+NoneBefore (Some a) (Some b) = (a.number < b.number) ⊎ ((a.number ≡ b.number) × (a.player ≤ b.player))
+
+-- the turn is the one that its player has
+abbrev pub IsTurn : List (Option ℕ) → Option Turn → Type 0
+IsTurn numbers None = Unit {0}
+IsTurn numbers (Some turn) = number_of numbers turn.player ≡ Some turn.number
+
+-- the first turn after this one of the first n players
+pub record IsFirstAfter (numbers : List (Option ℕ)) (here : Turn) (n : ℕ) (first : Option Turn) : Type 0 where
+  pub is_turn : IsTurn numbers first
+  pub is_after : turn_after here first ≡ first
+  pub leads : (player : ℕ) → player < n → NoneBefore first (turn_after here (turn_of numbers player))
 
 -- the first turn at or below the node
 abbrev pub winner_at : List (Option ℕ) → List (Option Turn) → ℕ → Option Turn

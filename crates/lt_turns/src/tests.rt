@@ -10,6 +10,7 @@ fn the_least_number_is_first(rt: HostRuntime) -> Result<(), Fail> {
     assert_eq!(rt; turns.first(), Some(1));
     turns.set(1, None);
     assert_eq!(rt; turns.first(), Some(2));
+    assert_eq!(rt; turns.after(2), Some(0));
     assert_eq!(rt; turns.number(0), Some(4));
     assert_eq!(rt; turns.count(), 2);
     Ok(())

@@ -1,5 +1,5 @@
 ghost use Rattle.std.specs.Prelude.{◌≡◌, ◌<◌, ◌*◌, ◌^◌, ◌/◌, ◌+◌, length};
-ghost use Rattle.lt_turns.specs.Turns.{winner_at, earlier, comes_before, AreWon, AreWonBut};
+ghost use Rattle.lt_turns.specs.Turns.{turn_of, winner_at, earlier, comes_before, turn_after, IsFirstAfter, AreWon, AreWonBut};
 
 /// A player that can act, and the number of its turn.
 #[derive(Clone, Copy, Debug)]
@@ -22,13 +22,43 @@ pub(crate) fn winner_at(
     if node < winners.len() {
         return winners[node];
     }
-    let player = node - winners.len();
+    turn_of(numbers, node - winners.len())
+}
+
+/// The player's turn, where it can act.
+pub(crate) fn turn_of(numbers: &[Option<u32>], player: usize) -> Option<Turn>
+    requires player { player < length numbers.now }
+    requires few { length numbers.now < 2 ^ 16 }
+    ensures { result ≡ turn_of numbers.now player }
+{
     match numbers[player] {
         Some(number) => Some(Turn {
             number,
             player: player as u16,
         }),
         None => None,
+    }
+}
+
+/// The first turn of those that come after this one.
+pub(crate) fn first_after(numbers: &[Option<u32>], here: Turn) -> Option<Turn>
+    requires { length numbers.now < 2 ^ 16 }
+    ensures { IsFirstAfter numbers.now here (length numbers.now) result }
+{
+    let mut first = None;
+    for player in 0..numbers.len() {
+        first = earlier(first, turn_after(here, turn_of(numbers, player)));
+    }
+    first
+}
+
+// The turn, where it comes after this one.
+fn turn_after(here: Turn, turn: Option<Turn>) -> Option<Turn>
+    ensures { result ≡ turn_after here turn }
+{
+    match turn {
+        Some(later) if comes_before(here, later) => Some(later),
+        _ => None,
     }
 }
 

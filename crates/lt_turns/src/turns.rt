@@ -1,7 +1,7 @@
 ghost use Rattle.std.specs.Prelude.{◌≡◌, ◌<◌, None, ℕ, length, count_by, is_some, slice_index_or, slice_set, IfOk, if◌then◌else◌};
-ghost use Rattle.lt_turns.specs.Turns.{IsFirst};
+ghost use Rattle.lt_turns.specs.Turns.{IsFirst, IsNext};
 
-use crate::tree::{Turn, update, winner_at};
+use crate::tree::{Turn, first_after, turn_of, update, winner_at};
 use std::alloc::{AllocError, Global};
 use std::marker::Model;
 
@@ -77,6 +77,15 @@ impl Turns {
             Some(turn) => Some(turn.player),
             None => None,
         }
+    }
+
+    /// The first player of those that come after this one, which can act itself. Goes through all players.
+    pub fn after(&self, player: u16) -> Option<u16>
+        requires { player < length self.now }
+        ensures { IsNext self.now player result }
+    {
+        let here = turn_of(&self.numbers, usize::from(player))?;
+        Some(first_after(&self.numbers, here)?.player)
     }
 
     /// How many players can act.
