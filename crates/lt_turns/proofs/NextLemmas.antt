@@ -1,9 +1,9 @@
 -- The first turn of those that come after another one.
-use Rattle.std.proofs.Common.{◌≡◌, ℕ, ◌+◌, ◌<◌, ◌≤◌, Bool, true, false, List, length, Option, Some, None, inl, inr, refl, sym, ap, ◌∙◌, subst, arith}
+use Rattle.std.proofs.Common.{◌≡◌, ℕ, ◌+◌, Bool, true, false, List, length, Option, Some, None, inl, inr, refl, sym, ap, ◌∙◌, subst, arith}
 use Rattle.std.specs.Prelude.{if◌then◌else◌, option_map, unwrap_or}
 use Rattle.std.proofs.lemmas.Bool.{cases_eq}
 use Rattle.lt_turns.specs.declared.tree.Turn.{Turn}
-use Rattle.lt_turns.specs.Turns.{number_of, IsAfter, LeadsAfter, IsNext, comes_before, earlier, turn_of, turn_after, NoneBefore, IsTurn, IsFirstAfter}
+use Rattle.lt_turns.specs.Turns.{number_of, IsAfter, IsNext, comes_before, earlier, turn_of, turn_after, NoneBefore, IsTurn, IsFirstAfter}
 use Rattle.lt_turns.proofs.TreeLemmas.{after_from, after_to, through, IsEarlier, is_earlier, at_player, outside}
 
 pub none_yet : (numbers : List (Option ℕ)) (here : Turn) → IsFirstAfter numbers here 0 None
@@ -72,9 +72,10 @@ here_is numbers player here e = by_number (number_of numbers player) refl e
     by_number : (o : Option ℕ) → number_of numbers player ≡ o → option_map (λ number. record { number = number; player = player }) o ≡ Some here
         → (here.player ≡ player) × (number_of numbers player ≡ Some here.number)
     by_number None f g = cc
-    by_number (Some number) f g =
-        (sym (ap (λ (o : Option Turn). unwrap_or (option_map (λ (t : Turn). t.player) o) 0) g),
-        f ∙ ap (λ (o : Option Turn). option_map (λ (t : Turn). t.number) o) g)
+    by_number (Some number) f g = (
+      sym (ap (λ (o : Option Turn). unwrap_or (option_map (λ (t : Turn). t.player) o) 0) g),
+      f ∙ ap (λ (o : Option Turn). option_map (λ (t : Turn). t.number) o) g,
+    )
 
 pub is_next : (numbers : List (Option ℕ)) (player : ℕ) (here : Turn) (first : Option Turn) → turn_of numbers player ≡ Some here
     → IsFirstAfter numbers here (length numbers) first → IsNext numbers player (option_map (λ (turn : Turn). turn.player) first)
@@ -84,12 +85,16 @@ is_next numbers player here None e h = λ number other later has can after.
     leads_other numbers here None h other later can
     (subst (λ (p : ℕ). IsAfter here.number p later other) (sym at.0) (subst (λ (n : ℕ). IsAfter n player later other) same after))
 is_next numbers player here (Some next) e h =
-    let at = here_is numbers player here e in
-    (here.number, next.number, at.1, record {
-      can_act = h.is_turn;
-      after = subst (λ (p : ℕ). IsAfter here.number p next.number next.player) at.0 (after_this here next h.is_after);
-      leads = λ other last can after. leads_other numbers here (Some next) h other last can (subst (λ (p : ℕ). IsAfter here.number p last other) (sym at.0) after);
-    })
+    let at = here_is numbers player here e in (
+      here.number,
+      next.number,
+      at.1,
+      record {
+        can_act = h.is_turn;
+        after = subst (λ (p : ℕ). IsAfter here.number p next.number next.player) at.0 (after_this here next h.is_after);
+        leads = λ other last can after. leads_other numbers here (Some next) h other last can (subst (λ (p : ℕ). IsAfter here.number p last other) (sym at.0) after);
+      },
+    )
 
 -- a player that can't act has none after it
 pub no_next : (numbers : List (Option ℕ)) (player : ℕ) → turn_of numbers player ≡ None → IsNext numbers player None

@@ -9,10 +9,11 @@ pub mod Acting
 pub mod Taking
 pub mod TakeOrder
 pub mod ActOrder
-mod FirstTurn
+pub mod TurnOrder
 pub mod Counts
 pub mod Rest
 pub mod Picks
-pub mod MadeLemmas
+pub mod TurnMoves
+mod Noting
 pub mod AgainstLemmas
 mod Standing

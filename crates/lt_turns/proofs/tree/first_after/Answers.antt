@@ -1,5 +1,5 @@
-use Rattle.std.proofs.Common.{◌≡◌, ◌≤◌, ◌∙◌, ℕ, length, sym, ap, subst, arith}
-use Rattle.lt_turns.specs.Turns.{IsFirstAfter, earlier, turn_after}
+use Rattle.std.proofs.Common.{◌∙◌, ap}
+use Rattle.lt_turns.specs.Turns.{earlier, turn_after}
 use Rattle.lt_turns.proofs.NextLemmas.{none_yet, first_more}
 use Rattle.lt_turns.proofs.tree.first_after.Goals as goal
 

@@ -1,5 +1,4 @@
 use Rattle.std.proofs.Common.{◌≡◌, ◌∙◌, ℕ, List, Option, Some, None, length, sym, ap, subst}
-use Rattle.lt_turns.specs.declared.tree.Turn.{Turn}
 use Rattle.lt_turns.specs.Turns.{IsNext, IsFirstAfter, turn_of}
 use Rattle.lt_turns.proofs.NextLemmas.{is_next, no_next}
 use Rattle.lt_turns.proofs.turns.Turns.after.Goals as goal
