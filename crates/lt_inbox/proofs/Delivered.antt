@@ -7,8 +7,8 @@ use Rattle.std.proofs.lemmas.List.Elements.{All-rest}
 use Rattle.lt_modes.specs.State.{Letter}
 use Rattle.lt_modes.specs.Made.{Post}
 use Rattle.lt_spec.specs.World.{put_mail}
-use Rattle.lt_world.specs.Mail.{WireData, inbox_at, wire_between, mail_in, put_wire, longer, letters_of, HasRoomFrom}
-use Rattle.lt_world.proofs.Wires.{wire_put_same, wire_put_other, senders_put, mail_put}
+use Rattle.lt_inbox.specs.Mail.{WireData, inbox_at, wire_between, mail_in, put_wire, longer, letters_of, HasRoomFrom}
+use Rattle.lt_inbox.proofs.Wires.{wire_put_same, wire_put_other, senders_put, mail_put}
 
 -- the letters of these posts are still to be delivered
 pub record LeftToDeliver (p : ℕ) (posts : List Post) (old : List (List WireData)) (left : List Post) (now : List (List WireData)) : Type 0 where
@@ -36,12 +36,11 @@ one_letter mail p post rest a b = elim (cases_eq a p) [
     here = rw (eq-eqb p p refl, eq-eqb post.to post.to refl) (append_assoc (mail p post.to) (post.letter ∷ []) _)
 
 pub delivered_one : (p : ℕ) (posts : List Post) (old now : List (List WireData)) (post : Post) (rest : List Post)
-    → LeftToDeliver p posts old (post ∷ rest) now → ((q : ℕ) → q < length old → p < length (inbox_at old q))
+    → LeftToDeliver p posts old (post ∷ rest) now → p < length (inbox_at now post.to)
     → LeftToDeliver p posts old rest (put_wire now p post.to (longer (wire_between now p post.to) post.letter))
-delivered_one p posts old now post rest h senders =
+delivered_one p posts old now post rest h within =
     let wire = longer (wire_between now p post.to) post.letter in
     let inside : post.to < length now = h.targets 0 post (omega arith) in
-    let within : p < length (inbox_at now post.to) = omega (arith, senders post.to (omega (arith, inside, h.receivers)), h.senders post.to) in
     let same : length (put_wire now p post.to wire) ≡ length now = length-set now post.to _ in
     record {
       receivers = same ∙ h.receivers;

@@ -4,7 +4,7 @@ use Rattle.std.proofs.lemmas.List.{length_push}
 use Rattle.std.specs.Prelude.{if◌then◌else◌, count_by, slice_index_or}
 use Rattle.std.specs.List.{range_with_len}
 use Rattle.std.proofs.lemmas.List.Sums.{count_by-le-length, length-filter, sum_by-cons}
-use Rattle.lt_world.specs.Mail.{WireData, no_wire, wire_from, has_letters, sender_count, senders_in}
+use Rattle.lt_inbox.specs.Mail.{WireData, no_wire, wire_from, has_letters, sender_count, senders_in}
 
 counted_first : (wire : WireData) (rest : List WireData) (t : Bool) → has_letters wire ≡ t → sender_count (wire ∷ rest) ≡ (if t then 1 else 0) + sender_count rest
 counted_first wire rest t e = sum_by-cons (λ (w : WireData). if has_letters w then 1 else 0) wire rest ∙ ap (λ (b : Bool). (if b then 1 else 0) + sender_count rest) e

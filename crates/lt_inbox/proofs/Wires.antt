@@ -1,9 +1,9 @@
 -- One list of letters in place of another.
-use Rattle.std.proofs.Common.{◌≡◌, ◌≢◌, ℕ, ◌<◌, List, [], length, inl, inr, sym, ap, subst, ◌∙◌, length-set, get_or-set_same, get_or-set_other}
+use Rattle.std.proofs.Common.{◌≡◌, ◌≢◌, ℕ, ◌<◌, List, [], length, inl, inr, sym, ap, subst, ◌∙◌, arith, length-set, get_or-set_same, get_or-set_other}
 use Rattle.std.specs.Prelude.{slice_set}
 use Rattle.std.proofs.lemmas.Bool.{cases_eq, eq-eqb, ne_eqb}
 use Rattle.lt_spec.specs.World.{put_mail}
-use Rattle.lt_world.specs.Mail.{WireData, no_wire, wire_from, inbox_at, wire_between, mail_in, put_wire}
+use Rattle.lt_inbox.specs.Mail.{WireData, AreSquare, no_wire, wire_from, inbox_at, wire_between, mail_in, put_wire}
 
 at_receiver : (inboxes : List (List WireData)) (p q : ℕ) (wire : WireData) → q < length inboxes
     → inbox_at (put_wire inboxes p q wire) q ≡ slice_set (inbox_at inboxes q) p wire
@@ -52,3 +52,12 @@ mail_put inboxes p q wire inside within a b = elim (cases_eq a p) [
         rw (eq-eqb a p sender, eq-eqb b q receiver, sender, receiver) (ap (λ (w : WireData). w.letters) (wire_put_same inboxes p q wire inside within))
   ]
 ]
+
+-- a list for each pair still
+pub square_put : (inboxes : List (List WireData)) (p q : ℕ) (wire : WireData) → q < length inboxes → AreSquare inboxes → AreSquare (put_wire inboxes p q wire)
+square_put inboxes p q wire inside square =
+    let same : length (put_wire inboxes p q wire) ≡ length inboxes = length-set inboxes q _ in
+    record {
+      few = omega (arith, square.few, same);
+      senders = λ b below. senders_put inboxes p q wire b inside ∙ (square.senders b (omega (arith, below, same)) ∙ sym same);
+    }

@@ -1,5 +1,5 @@
 -- Letters on their way, as the code keeps them: for each receiver one list for each sender.
-use Rattle.std.specs.Prelude.{◌≡◌, ◌<◌, ◌≤◌, ◌+◌, ℕ, Bool, List, [], ◌∷◌, ◌++◌, if◌then◌else◌, ◌==◌, length, map, filter, flat_map, count_by, slice_index_or, slice_set}
+use Rattle.std.specs.Prelude.{◌≡◌, ◌<◌, ◌≤◌, ◌+◌, ◌^◌, ℕ, Bool, List, [], ◌∷◌, ◌++◌, if◌then◌else◌, ◌==◌, length, map, filter, flat_map, count_by, slice_index_or, slice_set}
 use Rattle.std.specs.List.{range_with_len, filter_map}
 use Rattle.lt_modes.specs.State.{Letter}
 use Rattle.lt_modes.specs.Made.{Post}
@@ -39,6 +39,11 @@ senders_in wires = filter (λ p. has_letters (wire_from wires p)) (range_with_le
 -- the lists of the receiver with this number
 abbrev pub inbox_at : List (List WireData) → ℕ → List WireData
 inbox_at inboxes q = slice_index_or inboxes q []
+
+-- a list for each ordered pair of nodes, whose number a byte holds
+pub record AreSquare (inboxes : List (List WireData)) : Type 0 where
+  pub few : length inboxes < 2 ^ 8
+  pub senders : (q : ℕ) → q < length inboxes → length (inbox_at inboxes q) ≡ length inboxes
 
 -- the list of letters from p to q
 abbrev pub wire_between : List (List WireData) → ℕ → ℕ → WireData

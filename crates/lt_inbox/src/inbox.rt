@@ -1,6 +1,6 @@
 ghost use Rattle.std.specs.Prelude.{◌≡◌, ◌<◌, ◌+◌, ◌≤◌, ◌^◌, ℕ, [], ◌∷◌, ◌++◌, length, slice_get, slice_set, IfOk, OnOk};
 ghost use Rattle.lt_desk.specs.LetterSeen.{letter_seen};
-ghost use Rattle.lt_world.specs.Mail.{has_letters, wire_from, letters_from, sender_count, senders_in};
+ghost use Rattle.lt_inbox.specs.Mail.{has_letters, wire_from, letters_from, sender_count, senders_in};
 
 use crate::wire::Wire;
 use lt_desk::Letter;
@@ -17,7 +17,7 @@ pub(crate) struct Inbox {
 
 impl Model for Inbox {
     ghost use Rattle.std.specs.Prelude.{◌≡◌, ◌<◌, ◌^◌, List, length};
-    ghost use Rattle.lt_world.specs.Mail.{WireData, sender_count};
+    ghost use Rattle.lt_inbox.specs.Mail.{WireData, sender_count};
 
     ghost Value = { List WireData };
 

@@ -1,12 +1,17 @@
 ghost use Rattle.std.specs.Prelude.{◌≡◌, ◌<◌, ◌^◌, length, slice_get, option_map};
-ghost use Rattle.lt_world.specs.Choice.{choice_of};
-ghost use Rattle.lt_world.specs.Mail.{takes_in, takes_of};
+ghost use Rattle.lt_inbox.specs.Mail.{takes_in, takes_of};
+ghost use Rattle.lt_inbox.specs.Takes.{turn_of};
 
-use crate::choice::Choice;
 use crate::inbox::Inbox;
-use lt_modes::Step;
 
-/// The number of takes that are enabled.
+/// The receiver takes the front letter of the sender.
+#[derive(Clone, Copy)]
+pub struct Take {
+    pub receiver: u8,
+    pub sender: u8,
+}
+
+/// The number of takes.
 #[tactic(auto, using(crate::proofs::TakeOrder::takes_more))]
 pub(crate) fn count(inboxes: &[Inbox]) -> u32
     requires { length inboxes.now < 2 ^ 8 }
@@ -22,9 +27,9 @@ pub(crate) fn count(inboxes: &[Inbox]) -> u32
 
 /// The take at place `k`, by receiver and then by sender.
 #[tactic(auto, using(crate::proofs::TakeOrder::take_here, crate::proofs::TakeOrder::take_later))]
-pub(crate) fn at(inboxes: &[Inbox], k: u32) -> Option<Choice>
+pub(crate) fn at(inboxes: &[Inbox], k: u32) -> Option<Take>
     requires { length inboxes.now < 2 ^ 8 }
-    ensures { result ≡ option_map choice_of (slice_get (takes_in inboxes.now) k) }
+    ensures { option_map turn_of result ≡ slice_get (takes_in inboxes.now) k }
 {
     let mut left = k;
     for receiver in 0..inboxes.len() {
@@ -39,12 +44,9 @@ pub(crate) fn at(inboxes: &[Inbox], k: u32) -> Option<Choice>
 }
 
 // The take at place `k` of this receiver.
-fn take_from(inbox: &Inbox, receiver: u8, k: u32) -> Option<Choice>
-    ensures { result ≡ option_map choice_of (slice_get (takes_of receiver inbox.now) k) }
+fn take_from(inbox: &Inbox, receiver: u8, k: u32) -> Option<Take>
+    ensures { option_map turn_of result ≡ slice_get (takes_of receiver inbox.now) k }
 {
     let sender = inbox.sender(k)?;
-    Some(Choice {
-        node: receiver,
-        step: Step::Take(sender),
-    })
+    Some(Take { receiver, sender })
 }

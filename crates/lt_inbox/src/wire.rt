@@ -1,6 +1,6 @@
 ghost use Rattle.std.specs.Prelude.{◌≡◌, ◌<◌, ◌+◌, ◌≤◌, [], ◌∷◌, ◌++◌, length, OnOk, MatchOption, IfSome};
 ghost use Rattle.lt_desk.specs.LetterSeen.{letter_seen};
-ghost use Rattle.lt_world.specs.Mail.{has_letters};
+ghost use Rattle.lt_inbox.specs.Mail.{has_letters};
 
 use lt_desk::Letter;
 use std::alloc::{AllocError, Global};
@@ -17,7 +17,7 @@ impl Model for Wire {
     ghost use Rattle.std.specs.Prelude.{map};
     ghost use Rattle.std.specs.VecDeque.{deque_capacity};
     ghost use Rattle.lt_desk.specs.LetterSeen.{letter_seen};
-    ghost use Rattle.lt_world.specs.Mail.{WireData};
+    ghost use Rattle.lt_inbox.specs.Mail.{WireData};
 
     ghost Value = { WireData };
 

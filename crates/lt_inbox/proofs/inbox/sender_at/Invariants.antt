@@ -1,8 +1,8 @@
 use Rattle.std.proofs.Common.{◌≡◌, ◌-◌, length, filter}
 use Rattle.std.specs.Prelude.{slice_get}
 use Rattle.std.specs.List.{range_with_len}
-use Rattle.lt_world.specs.Mail.{has_letters, wire_from, senders_in}
-use Rattle.lt_world.proofs.inbox.sender_at.Given as goal
+use Rattle.lt_inbox.specs.Mail.{has_letters, wire_from, senders_in}
+use Rattle.lt_inbox.proofs.inbox.sender_at.Given as goal
 
 abbrev pub invariant-loop-sender : goal.invariant-loop-sender
 invariant-loop-sender l =

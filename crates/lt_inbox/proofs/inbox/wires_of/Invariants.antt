@@ -1,6 +1,6 @@
 use Rattle.std.proofs.Common.{◌≡◌, ℕ, [], length}
-use Rattle.lt_world.specs.Mail.{letters_from, sender_count}
-use Rattle.lt_world.proofs.inbox.wires_of.Given as goal
+use Rattle.lt_inbox.specs.Mail.{letters_from, sender_count}
+use Rattle.lt_inbox.proofs.inbox.wires_of.Given as goal
 
 abbrev pub invariant-loop : goal.invariant-loop
 invariant-loop l = record {

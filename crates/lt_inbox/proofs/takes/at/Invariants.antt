@@ -1,7 +1,7 @@
 use Rattle.std.proofs.Common.{◌≡◌, ◌-◌, length}
 use Rattle.std.specs.Prelude.{slice_get}
-use Rattle.lt_world.specs.Mail.{takes_from, takes_in}
-use Rattle.lt_world.proofs.takes.at.Given as goal
+use Rattle.lt_inbox.specs.Mail.{takes_from, takes_in}
+use Rattle.lt_inbox.proofs.takes.at.Given as goal
 
 abbrev pub invariant-loop-receiver : goal.invariant-loop-receiver
 invariant-loop-receiver l =

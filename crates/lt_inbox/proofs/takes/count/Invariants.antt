@@ -1,6 +1,6 @@
 use Rattle.std.proofs.Common.{◌≡◌, ◌≤◌, ◌+◌, ◌-◌, ◌*◌, length}
-use Rattle.lt_world.specs.Mail.{takes_from, takes_in}
-use Rattle.lt_world.proofs.takes.count.Given as goal
+use Rattle.lt_inbox.specs.Mail.{takes_from, takes_in}
+use Rattle.lt_inbox.proofs.takes.count.Given as goal
 
 abbrev pub invariant-loop-receiver : goal.invariant-loop-receiver
 invariant-loop-receiver l = record {

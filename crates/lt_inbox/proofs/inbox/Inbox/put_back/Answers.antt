@@ -1,8 +1,8 @@
 use Rattle.std.proofs.Common.{◌≡◌, ◌<◌, ◌∙◌, false, List, ℕ, length, arith, sym, ap, subst}
 use Rattle.std.proofs.lemmas.List.{get_or_default}
-use Rattle.lt_world.specs.Mail.{WireData, no_wire, wire_from, has_letters}
-use Rattle.lt_world.proofs.Senders.{fewer_senders}
-use Rattle.lt_world.proofs.inbox.Inbox.put_back.Goals as goal
+use Rattle.lt_inbox.specs.Mail.{WireData, no_wire, wire_from, has_letters}
+use Rattle.lt_inbox.proofs.Senders.{fewer_senders}
+use Rattle.lt_inbox.proofs.inbox.Inbox.put_back.Goals as goal
 
 pub overflow_add-self : goal.overflow_add-self
 overflow_add-self c =

@@ -1,10 +1,10 @@
 use Rattle.std.proofs.Common.{◌≡◌, [], length}
-use Rattle.lt_world.proofs.Delivered.{LeftToDeliver}
-use Rattle.lt_world.proofs.delivery.deliver.Given as goal
+use Rattle.lt_inbox.proofs.Delivered.{LeftToDeliver}
+use Rattle.lt_inbox.proofs.inboxes.Inboxes.deliver.Given as goal
 
 abbrev pub invariant-loop-post : goal.invariant-loop-post
 invariant-loop-post l = record {
-  left : LeftToDeliver l.sender l.initial.out.posts l.initial.inboxes.items l.out.posts l.inboxes.items;
+  left : LeftToDeliver l.sender l.initial.out.posts l.initial.self l.out.posts l.self;
   out : record l.out { posts = [] } ≡ record l.initial.out { posts = [] };
 }
 
