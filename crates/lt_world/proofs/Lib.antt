@@ -1,13 +1,10 @@
-pub mod Senders
-pub mod Wires
-pub mod Delivered
 pub mod Bridge
 pub mod Runs
 pub mod Premises
 pub mod Moves
 pub mod Acting
 pub mod Taking
-pub mod TakeOrder
+pub mod WorldTakes
 pub mod ActOrder
 pub mod TurnOrder
 pub mod Counts

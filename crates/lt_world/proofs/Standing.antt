@@ -8,7 +8,7 @@ use Rattle.lt_spec.specs.World.{World, world_after, is_enabled, logged}
 use Rattle.lt_limits.specs.Cut.{moves_of}
 use Rattle.lt_desk.specs.OutData.{OutData}
 use Rattle.lt_node.specs.NodeData.{NodeData}
-use Rattle.lt_world.specs.Mail.{WireData}
+use Rattle.lt_inbox.specs.Mail.{WireData}
 use Rattle.lt_world.specs.Fields.{AreCounted, AreAtMost, AreTurns, Holds, Stands}
 use Rattle.lt_world.specs.Network.{run_with}
 use Rattle.lt_world.proofs.Counts.{counted_moved, at_most_moved, moves_inside}

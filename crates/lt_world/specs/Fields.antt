@@ -12,7 +12,7 @@ use Rattle.lt_node.specs.NodeData.{NodeData, SameNode, state_of}
 use Rattle.lt_merge.specs.Run.{RunData}
 use Rattle.lt_limits.specs.declared.moves.TheConstants.{MAX_MOVES}
 use Rattle.lt_limits.specs.Cut.{moves_of}
-use Rattle.lt_world.specs.Mail.{WireData, inbox_at, mail_in, HasRoomFrom}
+use Rattle.lt_inbox.specs.Mail.{WireData, inbox_at, mail_in, HasRoomFrom}
 
 -- what contracts see of a world: its script, how many moves a node may make, and the run so far
 pub record WorldData : Type 0 where

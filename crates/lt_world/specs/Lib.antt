@@ -1,5 +1,4 @@
 pub mod Choice
-pub mod Mail
 pub mod Fields
 pub mod Turns
 pub mod Moving

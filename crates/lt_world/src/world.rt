@@ -45,7 +45,7 @@ impl Model for World {
 
     ghost view = { λ w. record { script = w.script; limit = w.limit; run = w.network.run.entries } };
 
-    ghost invariant = { λ w. Stands w.script w.limit w.most w.network.nodes.items w.network.inboxes.items w.moves.items w.turns w.network.out w.network.run.entries };
+    ghost invariant = { λ w. Stands w.script w.limit w.most w.network.nodes.items w.network.inboxes w.moves.items w.turns w.network.out w.network.run.entries };
 }
 
 impl World {
@@ -170,8 +170,7 @@ impl World {
         let nodes = self.script.nodes();
         sender < nodes
             && (receiver < nodes
-                && (sender != receiver
-                    && self.network.inboxes[usize::from(receiver)].has_from(sender)))
+                && (sender != receiver && self.network.inboxes.has_mail(sender, receiver)))
     }
 }
 

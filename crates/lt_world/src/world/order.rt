@@ -5,7 +5,6 @@ ghost use Rattle.lt_world.specs.Choice.{choice_of};
 
 use super::World;
 use crate::choice::Choice;
-use crate::takes;
 use lt_modes::Step;
 
 // The order of the enabled moves.
@@ -28,7 +27,7 @@ impl World {
         ensures count { result ≡ length (takes self.now.script (world_of self.now)) }
         ensures few { result < 2 ^ 16 }
     {
-        takes::count(&self.network.inboxes)
+        self.network.inboxes.count_takes()
     }
 
     // The number of clients that can act.
@@ -43,7 +42,11 @@ impl World {
     fn take_at(&self, k: u32) -> Option<Choice>
         ensures { result ≡ option_map choice_of (slice_get (takes self.now.script (world_of self.now)) k) }
     {
-        takes::at(&self.network.inboxes, k)
+        let take = self.network.inboxes.take_at(k)?;
+        Some(Choice {
+            node: take.receiver,
+            step: Step::Take(take.sender),
+        })
     }
 
     // The act at place `k`.

@@ -51,5 +51,5 @@ invariant_of-self-2 c =
       more = c.count_move.ensures.most;
       longer = c.in_ok-step.ensures.ok;
     } in
-    stands_moved s.script s.limit s.most c.count_move.new.most n.nodes.items n.inboxes.items s.moves.items c.count_move.new.moves.items c.note_turns.new.turns n.out
+    stands_moved s.script s.limit s.most c.count_move.new.most n.nodes.items n.inboxes s.moves.items c.count_move.new.moves.items c.note_turns.new.turns n.out
     s.network.run.entries n.run.entries q step moved c.step.ensures.holds c.note_turns.ensures

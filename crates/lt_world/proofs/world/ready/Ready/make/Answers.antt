@@ -30,5 +30,5 @@ invariant_of-result c =
       more = c.count_move.ensures.most;
       longer = longer;
     } in
-    stands_moved s.script s.limit s.most c.count_move.new.most n.nodes.items n.inboxes.items s.moves.items c.count_move.new.moves.items c.note_turns.new.turns n.out
+    stands_moved s.script s.limit s.most c.count_move.new.most n.nodes.items n.inboxes s.moves.items c.count_move.new.moves.items c.note_turns.new.turns n.out
     s.network.run.entries n.run.entries s.choice.node s.choice.step moved c.make.ensures.holds c.note_turns.ensures
