@@ -1,7 +1,7 @@
 -- The first turns of a tree, as one of them changes, and the first turn of all.
 use Rattle.std.proofs.Common.{◌≡◌, ◌≢◌, ℕ, zero, suc, ◌+◌, ◌-◌, ◌*◌, ◌/◌, ◌<◌, ◌≤◌, ◌==◌, ◌&&◌, Bool, true, false, nat_lt, List, [], ◌∷◌, length, Option, Some, None, inl, inr, ◌⊎◌, refl, sym, ap, ap₂, ◌∙◌, subst, arith, length-set, get_or-set_same, get_or-set_other}
 use Rattle.std.specs.Prelude.{if◌then◌else◌, count_by, is_some, option_map, slice_index_or, slice_set}
-use Rattle.std.proofs.lemmas.List.{get_or_past}
+use Rattle.std.proofs.lemmas.List.{get_or_past, get_or_default}
 use Rattle.std.proofs.lemmas.List.Sums.{sum_by-set, get_or-le-sum_by, sum_by-cons}
 use Rattle.std.proofs.lemmas.Bool.{cases_eq, cases_lt, cases_order, lt-ltb, ltb-true, le-ltb, eqb-true, eq-eqb, or_cases, or_left, or_right, and_parts, and_from, false≢true}
 use Rattle.lt_turns.specs.declared.tree.Turn.{Turn}
@@ -49,6 +49,20 @@ won_here numbers winners node turn count some below best h = λ k above inside o
       | inr apart ↦
           put_there numbers winners node k turn apart ∙ (h k above inside apart ∙ sym (ap₂ earlier left right))
     ]
+
+pub inner_at : (numbers : List (Option ℕ)) (winners : List (Option Turn)) (node : ℕ) (d : Option Turn) → node < length winners
+    → winner_at numbers winners node ≡ slice_index_or winners node d
+inner_at numbers winners node d below =
+    ap (λ (t : Bool). if t then slice_index_or winners node None else turn_of numbers (node - length winners)) (lt-ltb node (length winners) below)
+    ∙ get_or_default winners node None d below
+
+-- where the node has it already, all do
+pub won_already : (numbers : List (Option ℕ)) (winners : List (Option Turn)) (node : ℕ) → AreWonBut numbers winners node
+    → winner_at numbers winners node ≡ earlier (winner_at numbers winners (2 * node)) (winner_at numbers winners (2 * node + 1)) → AreWon numbers winners
+won_already numbers winners node h here = λ k above below. elim (cases_eq k node) [
+  | inl same ↦ subst (λ (x : ℕ). winner_at numbers winners x ≡ earlier (winner_at numbers winners (2 * x)) (winner_at numbers winners (2 * x + 1))) (sym same) here
+  | inr apart ↦ h k above below apart
+]
 
 -- where a player's number changes, only the node above the player may not have the first turn of the two below it
 pub number_changed : (numbers : List (Option ℕ)) (winners : List (Option Turn)) (player : ℕ) (number : Option ℕ)

@@ -1,4 +1,4 @@
-ghost use Rattle.std.specs.Prelude.{◌≡◌, ◌<◌, ◌*◌, ◌^◌, ◌/◌, ◌+◌, length};
+ghost use Rattle.std.specs.Prelude.{◌≡◌, ◌<◌, ◌*◌, ◌^◌, ◌/◌, ◌+◌, length, IsTrue};
 ghost use Rattle.lt_turns.specs.Turns.{turn_of, winner_at, earlier, comes_before, turn_after, IsFirstAfter, AreWon, AreWonBut};
 
 /// A player that can act, and the number of its turn.
@@ -62,7 +62,7 @@ fn turn_after(here: Turn, turn: Option<Turn>) -> Option<Turn>
     }
 }
 
-/// Goes up from the player to the root, and finds the first turn of each node anew.
+/// Goes up from the player to the root and finds the first turn of each node anew, until it is the one that was there.
 pub(crate) fn update(numbers: &[Option<u32>], winners: &mut [Option<Turn>], player: usize)
     requires count { length winners.old ≡ length numbers.now }
     requires few { length numbers.now < 2 ^ 16 }
@@ -75,8 +75,22 @@ pub(crate) fn update(numbers: &[Option<u32>], winners: &mut [Option<Turn>], play
     while node > 0 {
         let first = winner_at(numbers, winners, 2 * node);
         let second = winner_at(numbers, winners, 2 * node + 1);
-        winners[node] = earlier(first, second);
+        let winner = earlier(first, second);
+        if is_same(winner, winners[node]) {
+            return;
+        }
+        winners[node] = winner;
         node /= 2;
+    }
+}
+
+fn is_same(a: Option<Turn>, b: Option<Turn>) -> bool
+    ensures { IsTrue result → a ≡ b }
+{
+    match (a, b) {
+        (Some(a), Some(b)) => a.number == b.number && a.player == b.player,
+        (None, None) => true,
+        _ => false,
     }
 }
 

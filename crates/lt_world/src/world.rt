@@ -34,7 +34,7 @@ pub struct World {
     moves: Vec<u32>,
     // The clients that can act, each by the number of commands that it has made.
     turns: Turns,
-    // No node has made more.
+    // No node has made more moves.
     most: u32,
 }
 
