@@ -58,24 +58,3 @@ pub act_enabled : (script : ScriptData) (w : World) (client : ℕ) → client < 
 act_enabled script w client inside runs =
     and_from (nat_lt client (length script.clients)) (home script client == home script client && is_runnable script w client) (lt-ltb client (length script.clients) inside)
     (and_from (home script client == home script client) (is_runnable script w client) (eq-eqb (home script client) (home script client) refl) runs)
-
--- where no number passes, none is counted
-none_found : (n : ℕ) (test : ℕ → Bool) → any_below n test ≡ false → count_below n test ≡ 0
-none_found zero test e = refl
-none_found (suc n) test e =
-    let before : any_below n test ≡ false = false_from_ne_true (any_below n test) (λ t. false≢true (sym e ∙ or_left (any_below n test) (test n) t)) in
-    rw (any_below_none (suc n) test e n (omega arith)) (omega (arith, none_found n test before))
-
--- where no letter is on its way, a world rests exactly where no client can act
-pub rests_without_takes : (script : ScriptData) (w : World) → length (takes script w) ≡ 0
-    → is_at_rest script w ≡ not (any_below (length script.clients) (is_runnable script w))
-rests_without_takes script w none = by_test (any_below (length script.clients) (is_runnable script w)) refl
-  where
-    by_test : (acts : Bool) → any_below (length script.clients) (is_runnable script w) ≡ acts → is_at_rest script w ≡ not acts
-    by_test true e = rw e refl
-    by_test false e =
-        at_rest_where_none script w (omega (arith, none, none_found (length script.clients) (is_runnable script w) e))
-
--- and where one is, it doesn't rest
-pub takes_left : (script : ScriptData) (w : World) → length (takes script w) ≢ 0 → is_at_rest script w ≡ false
-takes_left script w some = rest_counted script w ∙ ne_eqb (count_turns script w) 0 (λ e. some (omega (arith, e)))

@@ -3,11 +3,13 @@ ghost use Rattle.lt_spec.specs.World.{is_enabled, logged};
 ghost use Rattle.lt_limits.specs.Cut.{moves_of};
 ghost use Rattle.lt_world.specs.Fields.{world_of};
 
-use super::{World, count_move, note_made};
+use super::turns::note_turns;
+use super::{World, count_move};
 use crate::choice::Choice;
 use crate::network::Network;
 use crate::reserved::Reserved;
 use lt_script::Script;
+use lt_turns::Turns;
 use std::marker::Model;
 
 /// A world with room for one move, which therefore can't fail.
@@ -17,7 +19,7 @@ pub struct Ready {
     limit: u32,
     network: Network,
     moves: Vec<u32>,
-    made: Vec<u32>,
+    turns: Turns,
     most: u32,
     choice: Choice,
     reserved: Reserved,
@@ -33,7 +35,7 @@ impl Model for Ready {
       choice = r.choice;
     } };
 
-    ghost invariant = { λ r. IsReady r.script r.limit r.most r.network r.moves.items r.made.items r.choice r.reserved };
+    ghost invariant = { λ r. IsReady r.script r.limit r.most r.network r.moves.items r.turns r.choice r.reserved };
 }
 
 impl World {
@@ -50,7 +52,7 @@ impl World {
             limit,
             mut network,
             moves,
-            made,
+            turns,
             most,
         } = self;
         match network.reserve(&script, choice) {
@@ -59,7 +61,7 @@ impl World {
                 limit,
                 network,
                 moves,
-                made,
+                turns,
                 most,
                 choice,
                 reserved,
@@ -69,7 +71,7 @@ impl World {
                 limit,
                 network,
                 moves,
-                made,
+                turns,
                 most,
             }),
         }
@@ -86,20 +88,20 @@ impl Ready {
             limit,
             mut network,
             mut moves,
-            mut made,
+            mut turns,
             mut most,
             choice,
             reserved,
         } = self;
         network.make(&script, choice.node, reserved);
         count_move(&mut moves, &mut most, choice.node);
-        note_made(&mut made, &script, &network, choice);
+        note_turns(&mut turns, &script, &network, choice.step);
         World {
             script,
             limit,
             network,
             moves,
-            made,
+            turns,
             most,
         }
     }
@@ -113,7 +115,7 @@ impl Ready {
             limit,
             mut network,
             moves,
-            made,
+            turns,
             most,
             choice,
             reserved,
@@ -124,7 +126,7 @@ impl Ready {
             limit,
             network,
             moves,
-            made,
+            turns,
             most,
         }
     }

@@ -2,7 +2,7 @@ use Rattle.std.proofs.Common.{◌<◌, List, sym, subst}
 use Rattle.lt_spec.specs.Log.{Logged}
 use Rattle.lt_spec.specs.World.{world_after}
 use Rattle.lt_limits.specs.Cut.{moves_of}
-use Rattle.lt_world.specs.Fields.{WorldData, AreCounted, AreAtMost, AreMade}
+use Rattle.lt_world.specs.Fields.{WorldData, AreCounted, AreAtMost, AreTurns}
 use Rattle.lt_world.proofs.Counts.{few_moves}
 use Rattle.lt_world.proofs.world.World.reserve.Goals as goal
 
@@ -22,7 +22,7 @@ invariant_of-result c =
           (subst (λ (w : WorldData). moves_of c.args.choice.node w.run < w.limit) (sym c.self.view_is) c.requires.room);
       counted = subst (AreCounted s.script s.limit s.moves.items) same c.self.invariant.counted;
       at_most = subst (AreAtMost s.script s.most) same c.self.invariant.at_most;
-      acts = subst (λ (r : List Logged). AreMade s.script s.made.items (world_after s.script r)) same c.self.invariant.acts;
+      acts = subst (λ (r : List Logged). AreTurns s.script s.turns (world_after s.script r)) same c.self.invariant.acts;
     }
 
 pub invariant_of-result-in-Err : goal.invariant_of-result-in-Err
@@ -33,5 +33,5 @@ invariant_of-result-in-Err c =
       holds = c.in-Err.ensures.err;
       counted = subst (AreCounted s.script s.limit s.moves.items) same c.self.invariant.counted;
       at_most = subst (AreAtMost s.script s.most) same c.self.invariant.at_most;
-      acts = subst (λ (r : List Logged). AreMade s.script s.made.items (world_after s.script r)) same c.self.invariant.acts;
+      acts = subst (λ (r : List Logged). AreTurns s.script s.turns (world_after s.script r)) same c.self.invariant.acts;
     }

@@ -3,15 +3,17 @@ use Rattle.lt_modes.specs.declared.moves.Step.{Step}
 use Rattle.std.specs.Prelude.{IsTrue}
 use Rattle.lt_spec.specs.World.{is_enabled, world_after}
 use Rattle.lt_world.specs.Network.{run_with}
-use Rattle.lt_world.proofs.MadeLemmas.{others_made}
+use Rattle.lt_world.proofs.TurnMoves.{others_stand}
 use Rattle.lt_world.proofs.Standing.{Moved, stands_moved}
 use Rattle.lt_world.proofs.world.ready.Ready.make.Goals as goal
 
-pub note_made-requires-clause-others : goal.note_made-requires-clause-others
-note_made-requires-clause-others c =
+pub note_turns-requires-clause-others : goal.note_turns-requires-clause-others
+note_turns-requires-clause-others c =
     let s = c.self.inside in
+    let opened = c.self.invariant.reserved_for.opened in
     let longer = subst (λ (step : Step). c.make.new.self.run.entries ≡ run_with s.script s.network.run.entries s.choice.node step) c.self.invariant.step_is c.make.ensures.entries in
-    others_made s.script s.network.run.entries c.make.new.self.run.entries s.choice.node s.choice.step s.made.items c.self.invariant.acts longer
+    let enabled = subst (λ (step : Step). IsTrue (is_enabled s.script (world_after s.script s.network.run.entries) s.choice.node step)) c.self.invariant.step_is opened.enabled in
+    others_stand s.script s.network.run.entries c.make.new.self.run.entries s.choice.node s.choice.step s.turns opened.is_script opened.is_run enabled opened.few c.self.invariant.acts longer
 
 pub invariant_of-result : goal.invariant_of-result
 invariant_of-result c =
@@ -28,5 +30,5 @@ invariant_of-result c =
       more = c.count_move.ensures.most;
       longer = longer;
     } in
-    stands_moved s.script s.limit s.most c.count_move.new.most n.nodes.items n.inboxes.items s.moves.items c.count_move.new.moves.items c.note_made.new.made.items n.out
-    s.network.run.entries n.run.entries s.choice.node s.choice.step moved c.make.ensures.holds c.note_made.ensures
+    stands_moved s.script s.limit s.most c.count_move.new.most n.nodes.items n.inboxes s.moves.items c.count_move.new.moves.items c.note_turns.new.turns n.out
+    s.network.run.entries n.run.entries s.choice.node s.choice.step moved c.make.ensures.holds c.note_turns.ensures

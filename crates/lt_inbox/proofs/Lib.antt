@@ -1,0 +1,4 @@
+pub mod Senders
+pub mod Wires
+pub mod Delivered
+pub mod TakeOrder
