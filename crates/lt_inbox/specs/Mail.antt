@@ -81,6 +81,11 @@ abbrev pub HasRoomFrom : ℕ → ℕ → List (List WireData) → Type 0
 HasRoomFrom p room inboxes = (q : ℕ) → q < length inboxes
     → length (mail_in inboxes p q) + room ≤ (wire_between inboxes p q).room
 
+-- for each sender a number of letters, for which there is room to each node
+pub record HaveLeast (inboxes : List (List WireData)) (least : List ℕ) : Type 0 where
+  pub count : length least ≡ length inboxes
+  pub room : (p : ℕ) → p < length inboxes → HasRoomFrom p (slice_index_or least p 0) inboxes
+
 -- the letters of these posts that go from p to q
 abbrev pub letters_of : ℕ → List Post → ℕ → ℕ → List Letter
 letters_of p posts a b = if a == p then filter_map (letter_for b) posts else []

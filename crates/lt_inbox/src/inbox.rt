@@ -1,4 +1,4 @@
-ghost use Rattle.std.specs.Prelude.{◌≡◌, ◌<◌, ◌+◌, ◌≤◌, ◌^◌, ℕ, [], ◌∷◌, ◌++◌, length, slice_get, slice_set, IfOk, OnOk};
+ghost use Rattle.std.specs.Prelude.{◌≡◌, ◌<◌, ◌+◌, ◌≤◌, ◌^◌, ℕ, [], ◌∷◌, ◌++◌, length, slice_get, slice_set, IfOk, IsOk, OnOk};
 ghost use Rattle.lt_desk.specs.LetterSeen.{letter_seen};
 ghost use Rattle.lt_inbox.specs.Mail.{has_letters, wire_from, letters_from, sender_count, senders_in};
 
@@ -59,6 +59,14 @@ impl Inbox {
         self.wires[usize::from(sender)].has_letters()
     }
 
+    /// For how many further letters from this sender there is room.
+    pub(crate) fn spare(&self, sender: u8) -> usize
+        requires { sender < length self.now }
+        ensures { length (letters_from self.now sender) + result ≡ (wire_from self.now sender).room }
+    {
+        self.wires[usize::from(sender)].spare()
+    }
+
     /// Makes room for so many further letters from this sender.
     pub(crate) fn reserve(&mut self, sender: u8, letters: usize) -> Result<(), AllocError>
         requires { sender < length self.old }
@@ -66,6 +74,7 @@ impl Inbox {
         ensures letters { (p : ℕ) → letters_from self.new p ≡ letters_from self.old p }
         ensures room { OnOk result (length (letters_from self.old sender) + letters ≤ (wire_from self.new sender).room) }
         ensures room_kept { (p : ℕ) → (wire_from self.old p).room ≤ (wire_from self.new p).room }
+        ensures full { length (letters_from self.old sender) + letters ≤ (wire_from self.old sender).room → IsOk result }
     {
         self.wires[usize::from(sender)].reserve(letters)
     }

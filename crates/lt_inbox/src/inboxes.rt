@@ -1,4 +1,4 @@
-ghost use Rattle.std.specs.Prelude.{◌≡◌, ◌<◌, ◌^◌, ℕ, [], ◌∷◌, All, length, slice_get, option_map, IfOk, OnOk};
+ghost use Rattle.std.specs.Prelude.{◌≡◌, ◌<◌, ◌≤◌, ◌-◌, ◌^◌, ℕ, [], ◌∷◌, All, length, slice_get, slice_index_or, slice_set, option_map, IfOk, IsOk, OnOk};
 ghost use Rattle.lt_modes.specs.Made as rules;
 ghost use Rattle.lt_desk.specs.LetterSeen.{letter_seen};
 ghost use Rattle.lt_inbox.specs.Mail.{has_letters, SameLetters, HasRoomFrom, AreDelivered, inbox_at, wire_between, mail_in, put_wire, longer, takes_in};
@@ -15,17 +15,20 @@ use std::marker::Model;
 pub struct Inboxes {
     // By receiver.
     boxes: Vec<Inbox>,
+    // For each sender, for how many letters more each of its lists has room, or less: so a move that has room looks at
+    // no list.
+    least: Vec<usize>,
 }
 
 impl Model for Inboxes {
     ghost use Rattle.std.specs.Prelude.{List};
-    ghost use Rattle.lt_inbox.specs.Mail.{WireData, AreSquare};
+    ghost use Rattle.lt_inbox.specs.Mail.{WireData, AreSquare, HaveLeast};
 
     ghost Value = { List (List WireData) };
 
     ghost view = { λ i. i.boxes.items };
 
-    ghost invariant = { λ i. AreSquare i.boxes.items };
+    ghost invariant = { λ i. AreSquare i.boxes.items × HaveLeast i.boxes.items i.least.items };
 }
 
 impl Inboxes {
@@ -36,7 +39,8 @@ impl Inboxes {
         ensures empty { IfOk result (λ inboxes. (p q : ℕ) → mail_in inboxes p q ≡ []) }
     {
         let boxes = boxes_of(alloc, nodes)?;
-        Ok(Inboxes { boxes })
+        let least = vec![in alloc; 0; usize::from(nodes)]?;
+        Ok(Inboxes { boxes, least })
     }
 
     /// Whether a letter is on its way from the sender to the receiver.
@@ -52,8 +56,13 @@ impl Inboxes {
         requires { sender < length self.old }
         ensures letters { SameLetters self.old self.new }
         ensures room { OnOk result (HasRoomFrom sender letters self.new) }
+        ensures full { HasRoomFrom sender letters self.old → IsOk result }
     {
-        reserve_in(&mut self.boxes, sender, letters)
+        let place = usize::from(sender);
+        if self.least[place] < letters {
+            self.least[place] = reserve_in(&mut self.boxes, sender, letters)?;
+        }
+        Ok(())
     }
 
     /// Puts the letters that this sender sends out behind those that are on their way.
@@ -78,6 +87,7 @@ impl Inboxes {
         ensures sent { self.new ≡ put_wire self.old sender post.to (longer (wire_between self.old sender post.to) (letter_seen post.letter)) }
     {
         self.boxes[usize::from(post.to)].push(sender, post.letter);
+        lessen(&mut self.least, sender);
     }
 
     /// Takes the front letter from the sender to the receiver.
@@ -98,6 +108,7 @@ impl Inboxes {
         ensures { self.new ≡ put_wire self.old sender receiver (record (wire_between self.old sender receiver) { letters = letter_seen letter ∷ mail_in self.old sender receiver }) }
     {
         self.boxes[usize::from(receiver)].put_back(sender, letter);
+        lessen(&mut self.least, sender);
     }
 
     /// The number of takes.
@@ -129,14 +140,28 @@ fn boxes_of(alloc: Global, nodes: u8) -> Result<Vec<Inbox>, AllocError>
     Ok(boxes)
 }
 
-// Makes room for so many further letters from this sender in each inbox.
-fn reserve_in(boxes: &mut Vec<Inbox>, sender: u8, letters: usize) -> Result<(), AllocError>
+// Makes room for so many further letters from this sender in each inbox. For how many each has room then.
+fn reserve_in(boxes: &mut Vec<Inbox>, sender: u8, letters: usize) -> Result<usize, AllocError>
     requires { (q : ℕ) → q < length boxes.old.items → sender < length (inbox_at boxes.old.items q) }
     ensures letters { SameLetters boxes.old.items boxes.new.items }
-    ensures room { OnOk result (HasRoomFrom sender letters boxes.new.items) }
+    ensures enough { IfOk result (λ least. letters ≤ least) }
+    ensures room { IfOk result (λ least. HasRoomFrom sender least boxes.new.items) }
+    ensures full { HasRoomFrom sender letters boxes.old.items → IsOk result }
 {
+    let mut least = usize::MAX;
     for receiver in 0..boxes.len() {
-        boxes[receiver].reserve(sender, letters)?;
+        let inbox = &mut boxes[receiver];
+        inbox.reserve(sender, letters)?;
+        least = least.min(inbox.spare(sender));
     }
-    Ok(())
+    Ok(least)
+}
+
+// One of this sender's places is taken.
+fn lessen(least: &mut Vec<usize>, sender: u8)
+    requires { sender < length least.old.items }
+    ensures { least.new.items ≡ slice_set least.old.items sender (slice_index_or least.old.items sender 0 - 1) }
+{
+    let own = &mut least[usize::from(sender)];
+    *own = own.saturating_sub(1);
 }

@@ -1,4 +1,4 @@
-ghost use Rattle.std.specs.Prelude.{◌≡◌, ◌<◌, ◌+◌, ◌≤◌, [], ◌∷◌, ◌++◌, length, OnOk, MatchOption, IfSome};
+ghost use Rattle.std.specs.Prelude.{◌≡◌, ◌<◌, ◌+◌, ◌≤◌, [], ◌∷◌, ◌++◌, length, IsOk, OnOk, MatchOption, IfSome};
 ghost use Rattle.lt_desk.specs.LetterSeen.{letter_seen};
 ghost use Rattle.lt_inbox.specs.Mail.{has_letters};
 
@@ -39,22 +39,38 @@ impl Wire {
         !self.letters.is_empty()
     }
 
-    /// Makes room for so many further letters.
+    /// For how many further letters there is room.
+    pub(crate) fn spare(&self) -> usize
+        ensures { length self.now.letters + result ≡ self.now.room }
+    {
+        self.letters.capacity() - self.letters.len()
+    }
+
+    /// Makes room for so many further letters, and for as many again where memory allows it, so that this is rare.
     pub(crate) fn reserve(&mut self, letters: usize) -> Result<(), AllocError>
         ensures letters { self.new.letters ≡ self.old.letters }
         ensures room { OnOk result (length self.old.letters + letters ≤ self.new.room) }
         ensures room_kept { self.old.room ≤ self.new.room }
+        ensures full { length self.old.letters + letters ≤ self.old.room → IsOk result }
     {
-        if !self.letters.is_empty() {
-            return self.letters.reserve(letters);
+        let grown = self.grow(letters.saturating_add(letters));
+        if letters <= self.spare() {
+            return Ok(());
         }
-        if self.letters.capacity() < letters {
-            // A list without letters gets new memory, so that nothing is copied. Twice the room, of which no more is
-            // touched than letters come, makes this rare.
-            let room = letters.saturating_add(letters);
-            self.letters = VecDeque::with_capacity(*self.letters.allocator(), room)?;
+        grown
+    }
+
+    // Grows to room for so many further letters. A list without letters gets new memory, so that nothing is copied; no more
+    // of it is touched than letters come.
+    fn grow(&mut self, letters: usize) -> Result<(), AllocError>
+        ensures letters { self.new.letters ≡ self.old.letters }
+        ensures room { OnOk result (length self.old.letters + letters ≤ self.new.room) }
+        ensures room_kept { self.old.room ≤ self.new.room }
+    {
+        if self.letters.is_empty() && self.letters.capacity() < letters {
+            self.letters = VecDeque::with_capacity(*self.letters.allocator(), letters)?;
         }
-        Ok(())
+        self.letters.reserve(letters)
     }
 
     /// Puts a letter behind the others.

@@ -8,13 +8,13 @@ ghost use Rattle.lt_desk.specs.LetterSeen.{letter_seen};
 ghost use Rattle.lt_spec.specs.NodeMove.{node_act, node_take, act_stamp, take_stamp};
 ghost use Rattle.lt_node.specs.NodeData.{NodeDoes, state_of};
 ghost use Rattle.lt_node.specs.Room.{RoomToAct, RoomToTake};
-ghost use Rattle.lt_inbox.specs.Mail.{SameLetters, AreDelivered};
+ghost use Rattle.lt_inbox.specs.Mail.{AreDelivered};
 ghost use Rattle.lt_script.specs.Script.{IsScript};
-ghost use Rattle.lt_world.specs.Moving.{IsWithin, CanAct, CanTake};
+ghost use Rattle.lt_world.specs.Moving.{CanAct, CanTake};
 ghost use Rattle.lt_world.specs.Network.{IsAfterRun, world_in, run_with};
 ghost use Rattle.lt_world.specs.declared.reserved.Reserved.TheVariants.{Acting, Taking};
 ghost use Rattle.lt_world.specs.Reserved.{IsReserved, step_of};
-ghost use Rattle.lt_world.specs.Fields.{IsNodeOf, OnlyMemory, InboxRoom, node_at};
+ghost use Rattle.lt_world.specs.Fields.{IsNodeOf, InboxRoom, node_at};
 
 use crate::choice::Choice;
 use crate::recording::note_events;
@@ -63,40 +63,15 @@ impl Network {
         ensures err { OnErr result (self.new.run.entries ≡ self.old.run.entries) }
     {
         match choice.step {
-            Step::Act(client) => self.step_act(script, choice.node, client),
-            Step::Take(sender) => self.step_take(script, choice.node, sender),
+            Step::Act(client) => {
+                self.reserve_act(script, choice.node, client)?;
+                self.act(script, choice.node, client);
+            }
+            Step::Take(sender) => {
+                let letter = self.open_take(script, choice.node, sender)?;
+                self.take(script, choice.node, sender, letter);
+            }
         }
-    }
-
-    // Makes the next command of a client of this node.
-    fn step_act(&mut self, script: &Script, node: u8, client: u16) -> Result<(), AllocError>
-        requires holds { IsAfterRun script.now self.old }
-        requires enabled { IsTrue (is_enabled script.now (world_in script.now self.old) node (Act client)) }
-        requires few { length self.old.run.entries + 1 < 2 ^ 32 }
-        ensures holds { IsAfterRun script.now self.new }
-        ensures ok { OnOk result (self.new.run.entries ≡ run_with script.now self.old.run.entries node (Act client)) }
-        ensures err { OnErr result (self.new.run.entries ≡ self.old.run.entries) }
-    {
-        self.reserve_act(script, node, client)?;
-        self.act(script, node, client);
-        Ok(())
-    }
-
-    // Takes the front letter from the sender to this node. The letter isn't handed out in between, since it is large.
-    fn step_take(&mut self, script: &Script, node: u8, sender: u8) -> Result<(), AllocError>
-        requires holds { IsAfterRun script.now self.old }
-        requires enabled { IsTrue (is_enabled script.now (world_in script.now self.old) node (Take sender)) }
-        requires few { length self.old.run.entries + 1 < 2 ^ 32 }
-        ensures holds { IsAfterRun script.now self.new }
-        ensures ok { OnOk result (self.new.run.entries ≡ run_with script.now self.old.run.entries node (Take sender)) }
-        ensures err { OnErr result (self.new.run.entries ≡ self.old.run.entries) }
-    {
-        let mut letter = self.inboxes.pop_front(sender, node);
-        if let Err(error) = self.reserve_letter(node, &mut letter) {
-            self.inboxes.put_front(sender, node, letter);
-            return Err(error);
-        }
-        self.take(script, node, sender, letter);
         Ok(())
     }
 

@@ -1,4 +1,4 @@
-ghost use Rattle.std.specs.Prelude.{◌≡◌, ◌<◌, ◌+◌, ◌^◌, ℕ, length, IsTrue, IfOk, OnOk, OnErr};
+ghost use Rattle.std.specs.Prelude.{◌≡◌, ◌<◌, ◌+◌, ◌^◌, length, IsTrue, IfOk, OnOk, OnErr};
 ghost use Rattle.lt_modes.specs.declared.moves.Step.TheVariants.{Act, Take};
 ghost use Rattle.lt_spec.specs.World.{is_enabled};
 ghost use Rattle.lt_desk.specs.LetterSeen.{letter_seen};
@@ -6,7 +6,7 @@ ghost use Rattle.lt_node.specs.Room.{RoomToAct, RoomToTake};
 ghost use Rattle.lt_inbox.specs.Mail.{SameLetters};
 ghost use Rattle.lt_world.specs.Moving.{IsWithin, CanTake};
 ghost use Rattle.lt_world.specs.Network.{IsAfterRun, world_in};
-ghost use Rattle.lt_world.specs.declared.reserved.Reserved.TheVariants.{Acting};
+ghost use Rattle.lt_world.specs.declared.reserved.Reserved.TheVariants.{Acting, Taking};
 ghost use Rattle.lt_world.specs.Reserved.{IsReserved, step_of};
 ghost use Rattle.lt_world.specs.Fields.{OnlyMemory, InboxRoom, node_at};
 
@@ -41,7 +41,10 @@ impl Network {
                 self.reserve_act(script, choice.node, client)?;
                 Ok(Reserved::Acting { client })
             }
-            Step::Take(sender) => self.reserve_take(script, choice.node, sender),
+            Step::Take(sender) => {
+                let letter = self.open_take(script, choice.node, sender)?;
+                Ok(Reserved::Taking { sender, letter })
+            }
         }
     }
 
@@ -62,18 +65,18 @@ impl Network {
         self.reserve_command(node)
     }
 
-    // Takes the front letter from the sender to this node in hand, and makes room for it.
-    fn reserve_take(
+    // Takes the front letter from the sender to this node in hand, with room for the node to take it. Where memory is
+    // refused, it goes back.
+    pub(super) fn open_take(
         &mut self,
         script: &Script,
         node: u8,
         sender: u8,
-    ) -> Result<Reserved, AllocError>
+    ) -> Result<Letter, AllocError>
         requires holds { IsAfterRun script.now self.old }
         requires enabled { IsTrue (is_enabled script.now (world_in script.now self.old) node (Take sender)) }
         requires few { length self.old.run.entries + 1 < 2 ^ 32 }
-        ensures reserved { IfOk result (IsReserved script.now self.new node) }
-        ensures step { IfOk result (λ reserved. step_of reserved ≡ Take sender) }
+        ensures reserved { IfOk result (λ letter. IsReserved script.now self.new node (Taking sender letter)) }
         ensures err { OnErr result (IsAfterRun script.now self.new) }
         ensures entries { self.new.run.entries ≡ self.old.run.entries }
     {
@@ -82,7 +85,7 @@ impl Network {
             self.inboxes.put_front(sender, node, letter);
             return Err(error);
         }
-        Ok(Reserved::Taking { sender, letter })
+        Ok(letter)
     }
 
     /// Leaves a move for which room was made: a letter in hand goes back.
@@ -113,7 +116,7 @@ impl Network {
     }
 
     // Makes room for this node to take the letter.
-    pub(super) fn reserve_letter(&mut self, node: u8, letter: &mut Letter) -> Result<(), AllocError>
+    fn reserve_letter(&mut self, node: u8, letter: &mut Letter) -> Result<(), AllocError>
         requires node { node < length self.old.nodes.items }
         requires takes { CanTake (node_at self.old.nodes.items node) (letter_seen letter.old) }
         requires sender { node < length self.old.inboxes }

@@ -4,9 +4,9 @@ use Rattle.lt_spec.specs.World.{world_after}
 use Rattle.lt_world.specs.Fields.{AreCounted, AreAtMost, AreTurns}
 use Rattle.lt_world.proofs.world.ready.Ready.leave.Goals as goal
 
-pub invariant_of-result : goal.invariant_of-result
-invariant_of-result c =
-    let s = c.self.inside in
+pub whole-requires : goal.whole-requires
+whole-requires c =
+    let s = c.self.inside.parts in
     let same = sym c.leave.ensures.entries in
     record {
       holds = c.leave.ensures.holds;
