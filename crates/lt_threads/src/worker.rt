@@ -41,7 +41,7 @@ impl Worker {
         }
     }
 
-    // Claims the node's runner, lets it work and gives it back. Or another worker has it, which then may need the processor.
+    // Claims the node's runner, lets it work and gives it back; or another worker has it, which may wait for a processor.
     fn visit<G: Gate>(&mut self, pool: &Pool<Runner>, node: u8, gate: &G)
         requires free { IsFree pool.now self.old.post }
         requires inside { node < length pool.now.firsts }
