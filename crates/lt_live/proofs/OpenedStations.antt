@@ -1,9 +1,10 @@
--- One session more.
-use Rattle.std.proofs.Common.{◌≡◌, ◌≢◌, ◌<◌, ◌+◌, ℕ, List, [], ◌∷◌, ◌++◌, length, map, Some, None, refl, sym, ap, subst, arith, ◌∙◌, inl, inr}
+-- One session more, with its seat.
+use Rattle.std.proofs.Common.{◌≡◌, ◌≢◌, ◌<◌, ◌+◌, ℕ, List, [], ◌∷◌, ◌++◌, length, map, Some, sym, ap, subst, arith, ◌∙◌, inl, inr}
 use Rattle.std.specs.Prelude.{◌⊎◌, slice_get, slice_set, slice_index_or}
+use Rattle.std.specs.Option.{option_map}
 use Rattle.std.proofs.lemmas.Bool.{cases_eq}
-use Rattle.std.proofs.lemmas.List.{length-append}
-use Rattle.std.proofs.lemmas.Option.{same_Some, slice_get-get_or}
+use Rattle.std.proofs.lemmas.List.{length-append, length-map}
+use Rattle.std.proofs.lemmas.Option.{same_Some, slice_get-get_or, slice_get-map}
 use Rattle.std.proofs.Math.Seq.{map-set_same}
 use Rattle.rtrb.specs.Ring.{producer_capacity}
 use Rattle.lt_modes.specs.Script.{ScriptData}
@@ -12,11 +13,13 @@ use Rattle.lt_runner.specs.declared.parts.Parts.{Parts}
 use Rattle.lt_threads.specs.Starting.{IsFirstCrew}
 use Rattle.lt_live.specs.declared.ends.Session.{Session}
 use Rattle.lt_live.specs.declared.ends.Seat.{Seat}
-use Rattle.lt_live.specs.Words.{known_commands, IsLink}
-use Rattle.lt_live.specs.Stations.{StationData, IsSeated}
 use Rattle.lt_live.specs.declared.limits.TheConstants.{LETTER_PLACES}
+use Rattle.lt_live.specs.Words.{known_commands, IsLink}
+use Rattle.lt_live.specs.Seats.{IsSeat}
+use Rattle.lt_live.specs.Stations.{StationData, IsSeatOf, AreOthers, IsSeated}
 use Rattle.lt_live.specs.Opened.{IsNewSession, HasSeat, runner_of, SeatsBefore, Opening}
 use Rattle.lt_live.proofs.Places.{set_here, set_other, pushed, last_here, stays_here}
+use Rattle.lt_live.proofs.FirstRunners.{first_seat}
 
 -- the new session, its seat, and the station that it is put to
 pub record Adds (script : ScriptData) (capacity n place : ℕ) (x y : StationData) (s : Session) (seat : Seat) : Type 0 where
@@ -33,7 +36,7 @@ module _ (script : ScriptData) (limit capacity n place : ℕ) (stations : List S
     (h : Opening script limit capacity n stations sessions) (inside : place < length stations)
     (adds : Adds script capacity n place (slice_index_or stations place d) y s seat) where
 
-  x : StationData
+  abbrev x : StationData
   x = slice_index_or stations place d
 
   was : slice_get stations place ≡ Some x
@@ -111,3 +114,34 @@ module _ (script : ScriptData) (limit capacity n place : ℕ) (stations : List S
     each = λ client t e. each_session client t (pushed sessions s client t e);
     before = seats_before;
   }
+
+-- the station that is found at a place of one
+found_here : (stations : List StationData) (place : ℕ) (d : StationData) → place < length stations → d ≡ slice_index_or stations place d → slice_get stations place ≡ Some d
+found_here stations place d inside is = slice_get-get_or stations place d inside ∙ ap Some (sym is)
+
+-- two that are found there are one
+pub found_once : (stations : List StationData) (place : ℕ) (d e : StationData) → place < length stations → d ≡ slice_index_or stations place d
+    → e ≡ slice_index_or stations place e → d ≡ e
+found_once stations place d e inside one two = same_Some d e (sym (found_here stations place d inside one) ∙ found_here stations place e inside two)
+
+-- no seat there is of the next client
+pub others_there : (script : ScriptData) (limit capacity n place client : ℕ) (stations : List StationData) (sessions : List Session) (d : StationData)
+    → Opening script limit capacity n stations sessions → place < length stations → d ≡ slice_index_or stations place d → client ≡ n → AreOthers client d.seats
+others_there script limit capacity n place client stations sessions d h inside is at k seat here same =
+    let earlier = h.before place d (found_here stations place d inside is) k seat here in
+    absurd (omega (arith, earlier, same, at))
+
+-- the new seat is one of the runner there
+pub seat_there : (script : ScriptData) (limit capacity n place : ℕ) (stations : List StationData) (sessions : List Session) (d : StationData) (seat : Seat)
+    → Opening script limit capacity n stations sessions → place < length stations → d ≡ slice_index_or stations place d → script.commands ≡ []
+    → place ≡ home script n → n < length script.clients → IsSeat [] [] n seat → producer_capacity seat.replies ≡ capacity → 0 < capacity → IsSeatOf d.runner seat
+seat_there script limit capacity n place stations sessions d seat h inside is empty at known kept places some =
+    first_seat script LETTER_PLACES limit capacity place n (map runner_of stations) d.runner seat h.runners empty
+    (slice_get-map runner_of stations place ∙ ap (option_map runner_of) (found_here stations place d inside is)) at known kept places some
+
+-- the station of each node is there
+pub station_there : (script : ScriptData) (limit capacity n place : ℕ) (stations : List StationData) (sessions : List Session)
+    → Opening script limit capacity n stations sessions → n < length script.clients → place ≡ home script n → place < length stations
+station_there script limit capacity n place stations sessions h known at =
+    let below = h.runners.crew.is_script.homes n known in
+    omega (arith, at, below, h.runners.crew.count, length-map stations runner_of)

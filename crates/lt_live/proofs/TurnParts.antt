@@ -140,9 +140,10 @@ none_told a b log two later same tells none k seat e =
 -- a command in hand that can be appended can be once replies were told
 some_told : (p : Parts) (log : List Logged) (two later : List Seat) → EachSeat (Tells log) two later → SomeCanAppend p two → SomeCanAppend p later
 some_told p log two later same some =
-    let (k, x, here, command, hand, may) = some in
+    let (k, x, here, can) = some in
+    let (command, hand, may) = can in
     let (seat, there, told) = each_after (Tells log) two later same k x here in
-    (k, seat, there, command, told.on.rest.hand ∙ hand, ap (λ (c : ℕ). may_append p.node.script c command) told.on.rest.same.client ∙ may)
+    (k, seat, there, (command, told.on.rest.hand ∙ hand, ap (λ (c : ℕ). may_append p.node.script c command) told.on.rest.same.client ∙ may))
 
 -- what is known of a turn of the runner, or that there was none for want of memory
 pub record Moving (fits : Bool) (turned : Turned) (a b : Parts) : Type 0 where

@@ -50,7 +50,6 @@ impl Station {
     }
 
     /// One seat more, of a client that has none here. Without memory the seat is dropped.
-    #[tactic(auto, using(crate::proofs::FirstSeats::station_more))]
     pub(crate) fn add_seat(&mut self, seat: Seat) -> Result<(), AllocError>
         requires seat { IsSeatOf self.old.runner seat }
         requires others { AreOthers seat.client self.old.seats }
@@ -65,7 +64,6 @@ impl Station {
     ///
     /// A command that finds no memory stays in hand, and is appended in a later turn. After `NoMemory` no move was made in
     /// this turn, and what was appended stays.
-    #[tactic(auto, using(crate::proofs::Linked::seats_stay))]
     pub fn turn<G: Gate>(&mut self, gate: &G) -> Turned
         ensures turns { StationTurns result self.old.runner self.old.seats self.new.runner self.new.seats }
         ensures seated { StaySeated self.old.seats self.new.seats }
@@ -75,7 +73,6 @@ impl Station {
 
     /// Looks at the rings of a session from both ends. Replies that wait go into their ring as far as it takes them; then
     /// each side knows all that is in its ring.
-    #[tactic(auto, using(crate::proofs::Linked::looked_stays))]
     pub fn beside(&mut self, session: &mut Session)
         requires { IsSeated session.old self.old.seats }
         ensures looks { SeatLooks self.old.runner.log.entries session.old session.new self.old.seats self.new.seats }

@@ -11,7 +11,7 @@ pub new-requires : goal.new-requires
 new-requires c =
     let gives = c.into_iter-runner-iterator.ensures.into_iter_gives in
     let turn = YieldsList-turn (YieldsList-from_vec {s = c.into_iter-runner-iterator.result} c.args.runners.items gives.0 (gives.1 ∙ c.args.runners.ok.0))
-    c.loop-runner.yielded _ c.loop-runner.yielded_by _ _ c.in-Some.runner c.in-Some.is c.next.ensures.steps in
+    c.loop-runner.yielded _ c.loop-runner.yielded_by c.next.result c.next.new.self c.in-Some.runner c.in-Some.is c.next.ensures.steps in
     no_commands c.args.runners.items (length c.loop-runner.yielded) c.in-Some.runner c.requires turn.0 turn.1
 
 pub loop-runner-preserved : goal.loop-runner-preserved
