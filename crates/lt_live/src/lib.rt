@@ -5,15 +5,21 @@ mod asking;
 mod both_ends;
 mod ends;
 mod laws;
+mod limits;
 mod looking;
 mod opening;
 mod reply;
 mod seats;
 mod session;
+mod starting;
 mod station;
+#[cfg(test)]
+mod tests;
 mod turning;
 
 pub use ends::{Seat, Session};
 pub use laws::law_told;
+pub use limits::LETTER_PLACES;
 pub use reply::{Reply, reply_to};
+pub use starting::open;
 pub use station::Station;
