@@ -35,7 +35,6 @@ pub record Adds (script : ScriptData) (capacity n place : ℕ) (x y : StationDat
 module _ (script : ScriptData) (limit capacity n place : ℕ) (stations : List StationData) (sessions : List Session) (d y : StationData) (s : Session) (seat : Seat)
     (h : Opening script limit capacity n stations sessions) (inside : place < length stations)
     (adds : Adds script capacity n place (slice_index_or stations place d) y s seat) where
-
   abbrev x : StationData
   x = slice_index_or stations place d
 
