@@ -76,7 +76,10 @@ fn a_full_ring_gives_the_command_back(rt: HostRuntime) -> Result<(), Fail> {
     assert_eq!(rt; station.turn(&Open), Turned::Moved);
     assert_eq!(rt; session.poll(), Some(Reply::Unlocked));
     assert_eq!(rt; station.turn(&Open), Turned::Quiet);
-    assert_eq!(rt; (session.left(), station.script().commands()), (MAX_COMMANDS - 2, 2));
+    assert_eq!(rt;
+        (session.left(), station.script().commands()),
+        (MAX_COMMANDS - 2, 2)
+    );
     Ok(())
 }
 
