@@ -1,5 +1,5 @@
 -- The two ends of a session stay the ends of one.
-use Rattle.std.proofs.Common.{◌≡◌, ◌<◌, ℕ, List, Some, None, length, refl, sym, ap, subst, rules, ◌∙◌, inl, inr}
+use Rattle.std.proofs.Common.{List, refl, sym, ap, subst, rules, ◌∙◌, inl, inr}
 use Rattle.std.specs.Prelude.{slice_get}
 use Rattle.lt_spec.specs.Log.{Logged}
 use Rattle.lt_runner.specs.declared.parts.Parts.{Parts}

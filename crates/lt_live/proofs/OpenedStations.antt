@@ -1,5 +1,5 @@
 -- One session more, with its seat.
-use Rattle.std.proofs.Common.{◌≡◌, ◌≢◌, ◌<◌, ◌+◌, ℕ, List, [], ◌∷◌, ◌++◌, length, map, Some, sym, ap, subst, arith, ◌∙◌, inl, inr}
+use Rattle.std.proofs.Common.{◌≡◌, ◌<◌, ◌+◌, ℕ, List, [], ◌∷◌, ◌++◌, length, map, Some, sym, ap, subst, arith, ◌∙◌, inl, inr}
 use Rattle.std.specs.Prelude.{◌⊎◌, slice_get, slice_set, slice_index_or}
 use Rattle.std.specs.Option.{option_map}
 use Rattle.std.proofs.lemmas.Bool.{cases_eq}
@@ -16,7 +16,7 @@ use Rattle.lt_live.specs.declared.ends.Seat.{Seat}
 use Rattle.lt_live.specs.declared.limits.TheConstants.{LETTER_PLACES}
 use Rattle.lt_live.specs.Words.{known_commands, IsLink}
 use Rattle.lt_live.specs.Seats.{IsSeat}
-use Rattle.lt_live.specs.Stations.{StationData, IsSeatOf, AreOthers, IsSeated}
+use Rattle.lt_live.specs.Stations.{StationData, IsSeatOf, AreOthers}
 use Rattle.lt_live.specs.Opened.{IsNewSession, HasSeat, runner_of, SeatsBefore, Opening}
 use Rattle.lt_live.proofs.Places.{set_here, set_other, pushed, last_here, stays_here}
 use Rattle.lt_live.proofs.FirstRunners.{first_seat}

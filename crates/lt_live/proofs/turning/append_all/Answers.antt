@@ -1,7 +1,7 @@
 -- Each seat may have handed its command over, until memory ran out for one.
-use Rattle.std.proofs.Common.{arith, refl, inr}
+use Rattle.std.proofs.Common.{arith, refl}
 use Rattle.lt_live.specs.Stations.{HandMayGo}
-use Rattle.lt_live.proofs.SeatLists.{going_starts, going_on, going_ends, going_stops}
+use Rattle.lt_live.proofs.SeatLists.{going_starts, going_on, going_ends}
 use Rattle.lt_live.proofs.TurnParts.{only_self, only_join, none_first, first_on, first_all}
 use Rattle.lt_live.proofs.turning.append_all.Goals as goal
 
