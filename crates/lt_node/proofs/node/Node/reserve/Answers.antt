@@ -3,13 +3,18 @@ use Rattle.lt_core.specs.CoreData.{CoreData}
 use Rattle.lt_node.specs.NodeData.{NodeData}
 use Rattle.lt_node.specs.Room.{HasFewAsks, most_sent}
 use Rattle.lt_node.proofs.KeptLemmas.{few_asks, few_kept, node_same, same_node, sent_kept}
+use Rattle.lt_node.proofs.MarkLemmas.{waiting_kept}
 use Rattle.lt_node.proofs.node.Node.reserve.Goals as goal
 
 pub reserve_each-requires : goal.reserve_each-requires
 reserve_each-requires c = few_asks _ c.args.self.now c.self.view_is c.self.invariant.0 c.requires
 
 pub invariant_of-self : goal.invariant_of-self
-invariant_of-self c = (node_same _ c.reserve_each.new.cores.items c.self.invariant.0 c.reserve_each.ensures.kept, c.self.invariant.1)
+invariant_of-self c = (
+  node_same _ c.reserve_each.new.cores.items c.self.invariant.0 c.reserve_each.ensures.kept,
+  c.self.invariant.1,
+  waiting_kept _ _ c.reserve_each.new.cores.items c.self.inside.cores.items _ c.reserve_each.ensures.kept c.self.invariant.2,
+)
 
 pub returns-in_err-reserve_each-clause-node : goal.returns-in_err-reserve_each-clause-node
 returns-in_err-reserve_each-clause-node c = same_node _ c.args.self.now c.reserve_each.new.cores.items c.self.view_is c.reserve_each.ensures.kept
@@ -20,7 +25,11 @@ most_sent-sent-requires-clause-asks c =
     (few_kept c.reserve_each.new.cores.items c.self.inside.cores.items c.reserve_each.ensures.kept (few_asks _ c.args.self.now c.self.view_is c.self.invariant.0 c.requires))
 
 pub invariant_of-self-2 : goal.invariant_of-self-2
-invariant_of-self-2 c = (node_same _ c.reserve_each.new.cores.items c.self.invariant.0 c.reserve_each.ensures.kept, c.self.invariant.1)
+invariant_of-self-2 c = (
+  node_same _ c.reserve_each.new.cores.items c.self.invariant.0 c.reserve_each.ensures.kept,
+  c.self.invariant.1,
+  waiting_kept _ _ c.reserve_each.new.cores.items c.self.inside.cores.items _ c.reserve_each.ensures.kept c.self.invariant.2,
+)
 
 pub returns-clause-node : goal.returns-clause-node
 returns-clause-node c = same_node _ c.args.self.now c.reserve_each.new.cores.items c.self.view_is c.reserve_each.ensures.kept
