@@ -9,6 +9,7 @@ use Rattle.std.proofs.lemmas.List.{get_or-set_other, get_or_default, get_or_past
 use Rattle.std.proofs.lemmas.List.Folds.{list_any_more}
 use Rattle.std.proofs.lemmas.Nat.Bits.{bit_at-zero, bit_at_and, bit_at_set_same, bit_at_set_other, bit_at_clear_same, bit_at_clear_other, bit_at_above, same_from_bits}
 use Rattle.lt_modes.specs.declared.ask.Ask.{Ask}
+use Rattle.lt_modes.specs.declared.command.Command.{Command}
 use Rattle.lt_modes.specs.Fits.{has_client}
 use Rattle.lt_modes.specs.Masks.{bit_if}
 use Rattle.lt_modes.specs.Queue.{no_ask}
@@ -19,6 +20,7 @@ use Rattle.lt_lists.specs.Below.{any_below}
 use Rattle.lt_lists.proofs.Searches.{any_below_none}
 use Rattle.lt_core.specs.CoreData.{CoreData}
 use Rattle.lt_node.specs.NodeData.{first_core}
+use Rattle.lt_node.specs.Appending.{with_request}
 use Rattle.lt_node.specs.Family.{sets_in}
 use Rattle.lt_node.specs.Marks.{Marked, Remarked, TellsWaiting}
 use Rattle.lt_node.specs.Room.{kept_of, KeptData}
@@ -180,6 +182,11 @@ waiting_kept script me xs ys masks same tells = record {
       tells.bits client s within
       ∙ ap (λ (k : KeptData). bit_if (waits k.state client) 1) (sym (kept_at xs ys s (first_core script me s) same));
 }
+
+-- and so they do where a command comes
+pub waiting_appended : (script : ScriptData) (me client : ℕ) (command : Command) (cores : List CoreData) (masks : List ℕ) → TellsWaiting script me cores masks
+    → TellsWaiting (with_request script client command) me cores masks
+waiting_appended script me client command cores masks tells = record { count = tells.count; bits = tells.bits }
 
 -- nobody waits at the start
 pub waiting_first : (script : ScriptData) (me : ℕ) (cores : List CoreData) (masks : List ℕ) → length masks ≡ length script.clients

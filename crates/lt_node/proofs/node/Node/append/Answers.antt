@@ -1,6 +1,7 @@
 use Rattle.std.proofs.Common.{refl, subst, sym}
 use Rattle.lt_modes.specs.Script.{ScriptData}
 use Rattle.lt_node.specs.Marks.{TellsWaiting}
+use Rattle.lt_node.proofs.MarkLemmas.{waiting_appended}
 use Rattle.lt_node.proofs.AppendLemmas.{appended_at}
 use Rattle.lt_node.proofs.node.Node.append.Goals as goal
 
@@ -14,7 +15,8 @@ invariant_of-self-2 c =
       appended.holds.node,
       appended.holds.knows,
       subst (λ (script : ScriptData). TellsWaiting script c.self.inside.me c.self.inside.cores.items c.self.inside.waiting.items)
-          (sym c.in_ok-append_to.ensures.script) c.self.invariant.2,
+          (sym c.in_ok-append_to.ensures.script)
+          (waiting_appended c.self.inside.script c.self.inside.me c.args.client c.args.command c.self.inside.cores.items c.self.inside.waiting.items c.self.invariant.2),
     )
 
 pub returns-clause-appended : goal.returns-clause-appended

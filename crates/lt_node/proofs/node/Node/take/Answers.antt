@@ -6,10 +6,10 @@ use Rattle.lt_node.proofs.MarkLemmas.{remarked, waiting_noted}
 use Rattle.lt_node.proofs.TakeLemmas.{IsTakenBy, CanTake, taken_by, can_take, take_does, place_stays}
 use Rattle.lt_node.proofs.node.Node.take.Goals as goal
 
-taken : (c : goal.After-take-arg-1) → IsTakenBy c.args.self.now c.args.letter c.index_mut-core.result.now
+taken : (c : goal.After-take-arg-2-1) → IsTakenBy c.args.self.now c.args.letter c.index_mut-core.result.now
 taken c = taken_by _ c.args.self.now c.from.result c.args.letter c.index_mut-core.result.now c.self.view_is c.self.invariant.0 c.from.ensures c.index_mut-core.ensures.value c.requires.fits c.requires.within
 
-can : (c : goal.After-take-arg-1) → CanTake c.stamp_of_take-stamp.result c.index_mut-core.result.now c.args.letter c.args.out.now
+can : (c : goal.After-take-arg-2-1) → CanTake c.stamp_of_take-stamp.result c.index_mut-core.result.now c.args.letter c.args.out.now
 can c =
     let clock = ap (λ (s : Stamp). s.clock) c.stamp_of_take-stamp.ensures in
     can_take c.args.self.now c.args.letter c.index_mut-core.result.now c.args.out.now c.stamp_of_take-stamp.result (node_is _ c.args.self.now c.self.view_is c.self.invariant.0)
