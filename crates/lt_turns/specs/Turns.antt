@@ -9,7 +9,8 @@ number_of numbers player = slice_index_or numbers player None
 -- the player can act with this number, and no other one that can act comes before it
 pub record Leads (numbers : List (Option ℕ)) (player number : ℕ) : Type 0 where
   pub can_act : number_of numbers player ≡ Some number
-  pub leads : (other later : ℕ) → number_of numbers other ≡ Some later → (number < later) ⊎ ((number ≡ later) × (player ≤ other))
+  pub leads : (other later : ℕ) → number_of numbers other ≡ Some later
+      → (number < later) ⊎ ((number ≡ later) × (player ≤ other))
 
 -- the first player of those that can act
 abbrev pub IsFirst : List (Option ℕ) → Option ℕ → Type 0
@@ -30,7 +31,8 @@ pub record LeadsAfter (numbers : List (Option ℕ)) (number player next later : 
 -- the first player of those that come after this one, where it can act
 abbrev pub IsNext : List (Option ℕ) → ℕ → Option ℕ → Type 0
 IsNext numbers player None =
-    (number other later : ℕ) → number_of numbers player ≡ Some number → number_of numbers other ≡ Some later → ¬ (IsAfter number player later other)
+    (number other later : ℕ) → number_of numbers player ≡ Some number → number_of numbers other ≡ Some later
+    → ¬ (IsAfter number player later other)
 IsNext numbers player (Some next) =
     (number later : ℕ) × (number_of numbers player ≡ Some number) × LeadsAfter numbers number player next later
 

@@ -5,13 +5,13 @@ use crate::tree::{Turn, first_after, turn_of, update, winner_at};
 use std::alloc::{AllocError, Global};
 use std::marker::Model;
 
-/// For each of a fixed number of players the number of its next turn, where it can act. The player with the least number is
-/// the first one, and of two with the same number the lesser player.
+/// For each of a fixed number of players the number of its next turn, where it can act. The player with the least number
+/// is the first one, and of two with the same number the lesser player.
 #[derive(Drop)]
 pub struct Turns {
     numbers: Vec<Option<u32>>,
-    // A tree over the players: node 1 is the root, nodes 2k and 2k + 1 stand below node k, and from the number of players on
-    // each node is a player. Here is the first turn below each node that isn't a player.
+    // A tree over the players: node 1 is the root, nodes 2k and 2k + 1 stand below node k, and from the number of players
+    // on each node is a player. Here is the first turn below each node that isn't a player.
     winners: Vec<Option<Turn>>,
     // How many players can act.
     count: u32,

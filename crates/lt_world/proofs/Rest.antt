@@ -1,12 +1,11 @@
 -- Where a world rests, and what the enabled move at a place is.
-use Rattle.std.proofs.Common.{◌≡◌, ◌≢◌, Bool, true, false, ℕ, zero, suc, ◌<◌, List, [], ◌∷◌, length, Option, Some, None, inl, inr, refl, sym, ap, ◌∙◌, arith}
-use Rattle.std.specs.Prelude.{◌&&◌, ◌==◌, not, nat_lt, IsFalse, is_some}
-use Rattle.std.proofs.lemmas.Bool.{cases_eq, eq-eqb, ne_eqb, lt-ltb, false_from_ne_true, false≢true, and_from, or_left}
+use Rattle.std.proofs.Common.{◌≡◌, true, false, ℕ, ◌<◌, List, [], ◌∷◌, length, Option, Some, None, inl, inr, refl, sym, ap, ◌∙◌, arith}
+use Rattle.std.specs.Prelude.{◌&&◌, ◌==◌, nat_lt, IsFalse, is_some}
+use Rattle.std.proofs.lemmas.Bool.{cases_eq, eq-eqb, ne_eqb, lt-ltb, false_from_ne_true, false≢true, and_from}
 use Rattle.lt_modes.specs.declared.moves.Step.{Step}
 use Rattle.lt_modes.specs.declared.moves.Step.TheVariants.{Act, Take}
 use Rattle.lt_modes.specs.Script.{ScriptData}
-use Rattle.lt_lists.specs.Below.{any_below, count_below}
-use Rattle.lt_lists.proofs.Searches.{none_counted, any_below_at, any_below_none}
+use Rattle.lt_lists.proofs.Searches.{none_counted, any_below_at}
 use Rattle.lt_spec.specs.Families.{home}
 use Rattle.lt_spec.specs.World.{World, is_enabled, is_at_rest, is_runnable}
 use Rattle.lt_spec.specs.FixedOrder.{Turn, takes, count_turns, pick}

@@ -1,9 +1,8 @@
 -- Which clients can act after a move.
-use Rattle.std.proofs.Common.{◌≡◌, ◌≢◌, ℕ, ◌+◌, ◌-◌, ◌<◌, ◌≤◌, ◌^◌, Bool, false, List, [], ◌∷◌, ◌++◌, Option, Some, None, length, inl, inr, refl, sym, ap, ap₂, subst, ◌∙◌, arith}
-use Rattle.std.specs.Prelude.{◌&&◌, not, nat_lt, if◌then◌else◌, slice_index_or, slice_get, option_map, unwrap_or, IsTrue}
+use Rattle.std.proofs.Common.{◌≡◌, ◌≢◌, ℕ, ◌+◌, ◌-◌, ◌<◌, ◌^◌, Bool, false, List, [], ◌∷◌, ◌++◌, Option, Some, None, length, inl, inr, refl, sym, ap, ap₂, subst, ◌∙◌, arith}
+use Rattle.std.specs.Prelude.{◌&&◌, not, nat_lt, if◌then◌else◌, slice_get, option_map, unwrap_or, IsTrue}
 use Rattle.std.proofs.lemmas.Bool.{cases_eq, and_parts}
 use Rattle.std.proofs.lemmas.List.{length_push}
-use Rattle.lt_modes.specs.declared.event.Event.{Event}
 use Rattle.lt_modes.specs.declared.moves.Step.{Step}
 use Rattle.lt_modes.specs.declared.moves.Step.TheVariants.{Act, Take}
 use Rattle.lt_modes.specs.declared.stamp.Stamp.{Stamp}
@@ -21,12 +20,11 @@ use Rattle.lt_spec.specs.World.{World, world_after, after, node_move, take_front
 use Rattle.lt_model.specs.Invariant.{WorldInvariant}
 use Rattle.lt_law_invariant.proofs.KeptRuns.{kept_in_runs}
 use Rattle.lt_law_limits.proofs.Within.{whole}
-use Rattle.lt_law_own_lines.specs.OwnLines.{line_client}
 use Rattle.lt_law_own_lines.specs.WaitingLaws.{AreOfOthers, EachAsksKnown, SameClient}
 use Rattle.lt_law_own_lines.proofs.WaitingMoves.{waiting_in_acts, waiting_in_node_takes, known_where_sound}
 use Rattle.lt_world.specs.Fields.{AreTurns, turn_of}
 use Rattle.lt_world.specs.Network.{run_with}
-use Rattle.lt_world.specs.Turns.{last_lines, NoneNames, OthersStand}
+use Rattle.lt_world.specs.Turns.{last_lines, OthersStand}
 use Rattle.lt_world.proofs.Counts.{moves_inside}
 use Rattle.lt_world.proofs.Premises.{front_fits}
 use Rattle.lt_world.proofs.Runs.{longer_world, whole_run}

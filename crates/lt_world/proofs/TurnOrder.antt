@@ -5,14 +5,14 @@ use Rattle.std.proofs.lemmas.Bool.{cases_eq, cases_lt, and_parts, and_from, or_l
 use Rattle.std.proofs.lemmas.List.{get_or_past}
 use Rattle.std.proofs.lemmas.List.Sums.{sum_by-cons}
 use Rattle.lt_modes.specs.Script.{ScriptData}
-use Rattle.lt_lists.specs.Below.{count_below, first_below}
+use Rattle.lt_lists.specs.Below.{count_below}
 use Rattle.lt_lists.proofs.Members.{some_equal}
-use Rattle.lt_lists.proofs.Searches.{IsStrictOrder, IsFirst as IsFirstBelow, Found, found, any_below_at, none_counted, same_count}
+use Rattle.lt_lists.proofs.Searches.{IsStrictOrder, Found, found, any_below_at, none_counted, same_count}
 use Rattle.lt_spec.specs.World.{World, made_by, is_runnable}
 use Rattle.lt_spec.specs.FixedOrder.{acts_before, next_act}
 use Rattle.lt_law_enabled.proofs.Acts.{after_this, acts_order, by_two}
 use Rattle.lt_turns.specs.Turns.{IsFirst, IsNext, IsAfter}
-use Rattle.lt_world.specs.Fields.{AreTurns, turn_of}
+use Rattle.lt_world.specs.Fields.{AreTurns}
 
 -- a search finds what passes and leads
 found_alone : (n : ℕ) (test : ℕ → Bool) (before : ℕ → ℕ → Bool) (a b : Option ℕ) → IsStrictOrder before → Found n test before a → Found n test before b → a ≡ b

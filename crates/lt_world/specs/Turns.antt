@@ -16,13 +16,15 @@ last_lines run = unwrap_or (events_at run (length run - 1)) []
 
 -- none of the lines from place k on names the client
 abbrev pub NoneNames : ℕ → List Event → ℕ → Type 0
-NoneNames client lines k = (j : ℕ) (d : Event) → k ≤ j → j < length lines → line_client (slice_index_or lines j d) ≢ Some client
+NoneNames client lines k =
+    (j : ℕ) (d : Event) → k ≤ j → j < length lines → line_client (slice_index_or lines j d) ≢ Some client
 
--- each client has its turn in this world, but for the one whose command the step is, and those that the lines from place k on
--- name
+-- each client has its turn in this world, but for the one whose command the step is, and those that the lines from place k
+-- on name
 abbrev pub OthersStand : ScriptData → List (Option ℕ) → World → Step → List Event → ℕ → Type 0
 OthersStand script turns w step lines k =
-    (c : ℕ) → c < length script.clients → step ≢ Act c → NoneNames c lines k → slice_index_or turns c None ≡ turn_of script w c
+    (c : ℕ) → c < length script.clients → step ≢ Act c → NoneNames c lines k
+    → slice_index_or turns c None ≡ turn_of script w c
 
 -- the turns, with that of the client as it is in this world
 abbrev pub with_turn : ScriptData → World → Option ℕ → List (Option ℕ) → List (Option ℕ)

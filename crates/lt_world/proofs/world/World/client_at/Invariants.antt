@@ -1,4 +1,4 @@
-use Rattle.std.proofs.Common.{◌≡◌, ◌<◌, length, None}
+use Rattle.std.proofs.Common.{◌≡◌, None}
 use Rattle.std.specs.Prelude.{IfSome}
 use Rattle.lt_spec.specs.FixedOrder.{act_after}
 use Rattle.lt_world.specs.Fields.{world_of, IsRunnable}

@@ -1,6 +1,4 @@
-use Rattle.std.proofs.Common.{◌∙◌, List, sym, subst, arith}
-use Rattle.lt_spec.specs.Log.{Logged}
-use Rattle.lt_spec.specs.World.{world_after}
+use Rattle.std.proofs.Common.{◌∙◌, sym, subst, arith}
 use Rattle.lt_world.specs.Fields.{AreCounted, AreAtMost}
 use Rattle.lt_world.proofs.Counts.{counted_at_start}
 use Rattle.lt_world.proofs.world.World.new.Goals as goal
