@@ -1,18 +1,15 @@
 -- The masks tell who waits, set by set.
-use Rattle.std.proofs.Common.{◌≡◌, ◌≢◌, ◌+◌, ◌<◌, ◌≤◌, ◌==◌, ◌&&◌, ◌||◌, ◌^◌, ◌*◌, ◌%◌, Bool, true, false, ℕ, zero, suc, List, [], ◌∷◌, length, map, take, inl, inr, refl, sym, ap, subst, arith, ◌∙◌, slice_index_or, slice_set, bit_or, bit_and, w8, if◌then◌else◌}
+use Rattle.std.proofs.Common.{◌≡◌, ◌≢◌, ◌<◌, ◌≤◌, ◌==◌, ◌&&◌, ◌||◌, ◌^◌, ◌*◌, ◌%◌, Bool, true, false, ℕ, zero, suc, List, length, map, inl, inr, refl, sym, ap, subst, arith, ◌∙◌, slice_index_or, slice_set, bit_or, bit_and, w8, if◌then◌else◌}
 use Rattle.std.specs.Prelude.{not}
 use Rattle.std.specs.Int.{bit_at, bit_not}
-use Rattle.std.specs.List.{list_any}
-use Rattle.std.proofs.lemmas.Bool.{cases_eq, cases_lt, eq-eqb, ne_eqb, eqb-true, false≢true}
+use Rattle.std.proofs.lemmas.Bool.{cases_eq, cases_lt, eq-eqb, ne_eqb, false≢true}
 use Rattle.std.proofs.lemmas.Grind.{get_or-set_at}
-use Rattle.std.proofs.lemmas.List.{get_or-set_other, get_or_default, get_or_past, length-set}
-use Rattle.std.proofs.lemmas.List.Folds.{list_any_more}
+use Rattle.std.proofs.lemmas.List.{get_or-set_other, get_or_default, get_or_past}
 use Rattle.std.proofs.lemmas.Nat.Bits.{bit_at-zero, bit_at_and, bit_at_set_same, bit_at_set_other, bit_at_clear_same, bit_at_clear_other, bit_at_above, same_from_bits}
 use Rattle.lt_modes.specs.declared.ask.Ask.{Ask}
 use Rattle.lt_modes.specs.declared.command.Command.{Command}
 use Rattle.lt_modes.specs.Fits.{has_client}
 use Rattle.lt_modes.specs.Masks.{bit_if}
-use Rattle.lt_modes.specs.Queue.{no_ask}
 use Rattle.lt_modes.specs.Script.{ScriptData}
 use Rattle.lt_modes.specs.Serving.{waits}
 use Rattle.lt_modes.specs.State.{SetState}
@@ -49,68 +46,7 @@ bit_cleared mask set few small s = elim (cases_eq s set) [
           omega (arith, both, none)
     ]
 
--- a client's mask is written
-pub bits_written : (masks : List ℕ) (client set mask : ℕ) (waiting : Bool) → client < length masks
-    → ((s : ℕ) → bit_at mask s ≡ (if s == set then bit_if waiting 1 else bit_at (slice_index_or masks client 0) s)) → (other s : ℕ)
-    → bit_at (slice_index_or (slice_set masks client mask) other 0) s
-    ≡ (if s == set && client == other then bit_if waiting 1 else bit_at (slice_index_or masks other 0) s)
-bits_written masks client set mask waiting inside bits other s = elim (cases_eq other client) [
-  | inl e ↦ rw (eq-eqb client other (sym e)) (ap (λ (k : ℕ). bit_at k s) (get_or-set_at masks client other mask 0 e inside) ∙ bits s
-      ∙ same_test (s == set) ∙ ap (λ (k : ℕ). if s == set && true then bit_if waiting 1 else bit_at (slice_index_or masks k 0) s) (sym e))
-  | inr d ↦ rw (ne_eqb client other (λ e. d (sym e))) (ap (λ (k : ℕ). bit_at k s) (get_or-set_other masks client other mask 0 d) ∙ no_test (s == set))
-]
-  where
-    same_test : (b : Bool) → (if b then bit_if waiting 1 else bit_at (slice_index_or masks client 0) s)
-        ≡ (if b && true then bit_if waiting 1 else bit_at (slice_index_or masks client 0) s)
-    same_test true = refl
-    same_test false = refl
-
-    no_test : (b : Bool) → bit_at (slice_index_or masks other 0) s ≡ (if b && false then bit_if waiting 1 else bit_at (slice_index_or masks other 0) s)
-    no_test true = refl
-    no_test false = refl
-
--- a client without a mask
-pub bits_kept : (masks : List ℕ) (client set : ℕ) (waiting : Bool) → length masks ≤ client → (other s : ℕ) → other < length masks
-    → bit_at (slice_index_or masks other 0) s ≡ (if s == set && client == other then bit_if waiting 1 else bit_at (slice_index_or masks other 0) s)
-bits_kept masks client set waiting past other s inside = rw (ne_eqb client other (λ e. omega (arith, past, inside, e))) (no_test (s == set))
-  where
-    no_test : (b : Bool) → bit_at (slice_index_or masks other 0) s ≡ (if b && false then bit_if waiting 1 else bit_at (slice_index_or masks other 0) s)
-    no_test true = refl
-    no_test false = refl
-
--- none of the asks yet, and one more
-pub marked_none : (set : ℕ) (waiting : Bool) (masks : List ℕ) → Marked set waiting [] masks masks
-marked_none set waiting masks = record { count = refl; bits = λ client s inside. no_test (s == set) (bit_at (slice_index_or masks client 0) s) }
-  where
-    no_test : (b : Bool) (k : ℕ) → k ≡ (if b && false then bit_if waiting 1 else k)
-    no_test true k = refl
-    no_test false k = refl
-
-pub marked_more : (set k : ℕ) (waiting : Bool) (asks : List Ask) (ask : Ask) (old mid new : List ℕ) → k < length asks → ask ≡ slice_index_or asks k ask
-    → Marked set waiting (take k asks) old mid → length new ≡ length mid
-    → ((other s : ℕ) → other < length mid → bit_at (slice_index_or new other 0) s
-    ≡ (if s == set && ask.client == other then bit_if waiting 1 else bit_at (slice_index_or mid other 0) s))
-    → Marked set waiting (take (k + 1) asks) old new
-marked_more set k waiting asks ask old mid new inside at marked count bits = record {
-  count = count ∙ marked.count;
-  bits = λ other s within.
-      let more : has_client other (take (k + 1) asks) ≡ (has_client other (take k asks) || ask.client == other) =
-      list_any_more (λ (a : Ask). a.client == other) asks k ask inside
-      ∙ ap (λ (a : Ask). has_client other (take k asks) || a.client == other) (sym at) in
-      bits other s (omega (arith, within, marked.count))
-      ∙ ap (λ (b : ℕ). if s == set && ask.client == other then bit_if waiting 1 else b) (marked.bits other s within)
-      ∙ either (s == set) (has_client other (take k asks)) (ask.client == other) (bit_at (slice_index_or old other 0) s)
-      ∙ ap (λ (b : Bool). if s == set && b then bit_if waiting 1 else bit_at (slice_index_or old other 0) s) (sym more);
-}
-  where
-    either : (here before now : Bool) (b : ℕ) → (if here && now then bit_if waiting 1 else (if here && before then bit_if waiting 1 else b))
-        ≡ (if here && (before || now) then bit_if waiting 1 else b)
-    either false before now b = refl
-    either true true true b = refl
-    either true true false b = refl
-    either true false true b = refl
-    either true false false b = refl
-
+-- what two marks make
 pub remarked : (set : ℕ) (before after : SetState) (first second : List Ask) (old between new : List ℕ) → first ≡ before.pending → second ≡ after.pending
     → Marked set false first old between → Marked set true second between new → Remarked set before after old new
 remarked set before after first second old between new e f gone here = record {

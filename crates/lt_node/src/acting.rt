@@ -128,7 +128,15 @@ impl Node {
     {
         if self.waits(other) {
             out.push_event(Event::Busy { client, other, set });
-            family::end_each(&mut self.cores, &mut self.waiting, &self.script, set, None, stamp, out);
+            family::end_each(
+                &mut self.cores,
+                &mut self.waiting,
+                &self.script,
+                set,
+                None,
+                stamp,
+                out,
+            );
             return Answer::Busy;
         }
         let locks = family::locks(&self.cores, &self.script, set, other);
@@ -138,7 +146,15 @@ impl Node {
             set,
             count: locks,
         });
-        family::end_each(&mut self.cores, &mut self.waiting, &self.script, set, Some(other), stamp, out);
+        family::end_each(
+            &mut self.cores,
+            &mut self.waiting,
+            &self.script,
+            set,
+            Some(other),
+            stamp,
+            out,
+        );
         Answer::Dropped(locks)
     }
 }

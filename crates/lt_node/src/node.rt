@@ -55,7 +55,7 @@ impl Model for Node {
       made = map progress_made n.clients.items;
       cores = n.cores.items;
     }) × KnowsClients n.script n.me n.homes.items n.clients.items
-      × TellsWaiting n.script n.me n.cores.items n.waiting.items };
+        × TellsWaiting n.script n.me n.cores.items n.waiting.items };
 }
 
 impl Node {

@@ -10,8 +10,7 @@ invariant_of-self-2 c =
     let appended = appended_at _ c.args.self.now c.self.inside.homes.items c.self.inside.clients.items c.args.client c.from.result c.index_mut.result.now c.append_to.new.list c.append_to.new.script c.args.command
     c.self.view_is c.self.invariant.0 refl c.self.invariant.1 c.from.ensures c.index_mut.ensures.value
     (record { inside = c.requires.client; here = c.requires.home; targets = c.requires.targets; modes = c.requires.modes; room = c.requires.room })
-    c.in_ok-append_to.ensures.list c.in_ok-append_to.ensures.script in
-    (
+    c.in_ok-append_to.ensures.list c.in_ok-append_to.ensures.script in (
       appended.holds.node,
       appended.holds.knows,
       subst (λ (script : ScriptData). TellsWaiting script c.self.inside.me c.self.inside.cores.items c.self.inside.waiting.items)

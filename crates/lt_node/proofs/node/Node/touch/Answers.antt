@@ -33,8 +33,7 @@ invariant_of-self c =
     let place : IsCoreOf c.self.inside.me c.from.result c.act-answer.new.self = record {
       node = c.act-answer.ensures.does.node ∙ touch.place.node ∙ sym (ap (λ (n : NodeData). n.me) c.self.view_is);
       set = c.act-answer.ensures.does.set ∙ touch.place.set ∙ sym c.from.ensures;
-    } in
-    (
+    } in (
       node_kept _ c.self.inside.clock c.from.result c.act-answer.new.self c.self.invariant.0 place,
       c.self.invariant.1,
       waiting_noted c.self.inside.script c.self.inside.me c.args.set c.from.result c.self.inside.cores.items c.index_mut-core.result.now c.act-answer.new.self
