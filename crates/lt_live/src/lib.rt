@@ -13,8 +13,6 @@ mod seats;
 mod session;
 mod starting;
 mod station;
-#[cfg(test)]
-mod tests;
 mod turning;
 
 pub use ends::{Seat, Session};
