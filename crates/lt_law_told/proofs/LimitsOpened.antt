@@ -32,8 +32,8 @@ of_writers P moves ending run text j p = subst P (same_script j.script two_write
 not_two : 2 ≤ 1 → ⊥
 not_two e = omega (arith, e)
 
-not_one : 0 ≡ 1 → ⊥
-not_one e = cc
+not_one : (made : ℕ) → made ≤ 0 → made ≡ 1 → ⊥
+not_one made none e = omega (arith, none, e)
 
 four_too_many : StaysWithin 1 two_nodes_script four_moves → ⊥
 four_too_many within = not_two (within 1 (omega arith))
@@ -63,10 +63,10 @@ unfolding conflicts
 first_can = refl
 
 second_near : GoesFar 1 two_nodes_script (unlocks 1 0 ∷ []) → ⊥
-second_near far = not_one (far 1 (omega arith) second_can)
+second_near far = not_one 0 (omega arith) (far 1 (omega arith) second_can)
 
 first_near : GoesFar 1 two_nodes_script (unlocks 1 1 ∷ []) → ⊥
-first_near far = not_one (far 0 (omega arith) first_can)
+first_near far = not_one 0 (omega arith) (far 0 (omega arith) first_can)
 
 pub far_told : FarTold
 far_told = record {
