@@ -1,5 +1,5 @@
 -- How far each node went, in runs that go too far or not far enough.
-use Rattle.std.proofs.Common.{arith, ◌≡◌, ◌≤◌, ◌<◌, true, ℕ, List, [], ◌∷◌, Ok, Some, None, refl, subst}
+use Rattle.std.proofs.Common.{arith, ◌≡◌, ◌≤◌, true, ℕ, List, [], ◌∷◌, Ok, Some, refl, subst}
 use Rattle.lt_modes.specs.Script.{ScriptData}
 use Rattle.lt_modes.specs.Modes.{conflicts}
 use Rattle.lt_spec.specs.Log.{Logged}
@@ -7,13 +7,13 @@ use Rattle.lt_spec.specs.World.{world_after}
 use Rattle.lt_text.specs.Text as text
 use Rattle.lt_script.specs.Reading.{read_of}
 use Rattle.lt_script.specs.Reading as reading
-use Rattle.lt_limits.specs.Cut.{can_move, moves_of}
+use Rattle.lt_limits.specs.Cut.{can_move}
 use Rattle.lt_threads.specs.Threads.{StaysWithin, GoesFar}
 use Rattle.lt_serve.specs.declared.status.Status.{Status}
 use Rattle.lt_serve.specs.Endings.{StopsInTime}
 use Rattle.lt_serve.specs.TopCall.{Journals}
 use Rattle.lt_law_told.specs.Runs.{two_writers, two_writers_script, both_moves}
-use Rattle.lt_law_told.specs.Limits.{two_nodes, two_nodes_script, unlocks, four_moves, one_each, one_and_two, last_twice, WithinTold, FarTold, EachTimeTold}
+use Rattle.lt_law_told.specs.Limits.{two_nodes, two_nodes_script, unlocks, four_moves, one_each, one_and_two, WithinTold, FarTold, EachTimeTold}
 use Rattle.lt_law_told.proofs.RunsOpened.{same_script, writers_read, some_none}
 
 nodes_read : read_of two_nodes ≡ Ok two_nodes_script

@@ -9,7 +9,6 @@ use Rattle.lt_spec.specs.World.{world_after, is_of_node}
 use Rattle.lt_law_examples.specs.Worked.{declared_set, declared_client, act}
 use Rattle.lt_limits.specs.Cut.{can_move}
 use Rattle.lt_words.specs.declared.command.Command.TheVariants.{Run, SimFirst, Sim, Soak}
-use Rattle.lt_serve.specs.declared.status.Status.{Status}
 use Rattle.lt_serve.specs.declared.status.Status.TheVariants.{Done, Stuck, Cut}
 use Rattle.lt_serve.specs.TopCall.{greatest_script}
 use Rattle.lt_law_told.specs.Runs.{Tells, IsNeverTold, two_writers, both_moves}
