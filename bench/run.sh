@@ -5,7 +5,7 @@
 # in turn, in milliseconds; with it stand the moves made, and what is left of the time if that of the shortest script is
 # taken off, and at the end what is left of the other program's by what is left of this one's. There is also the time of
 # `soak`. Then it prints the threads that one run starts, which strace counts, and the rounds that these are, since each
-# round starts one less than there are workers; and the most memory that `run` takes with 64 nodes and 256 clients.
+# round starts 2 of them, and one more for each 32 nodes; and the most memory that `run` takes with 64 nodes and 256 clients.
 # usage: bench/run.sh OTHER [PROGRAM [TIMES]]: the programs are one word each; PROGRAM is the one that ./build makes, if
 # none is named.
 top=$(CDPATH='' cd -- "$(dirname -- "$0")/.." && pwd) || exit 1
@@ -23,7 +23,7 @@ python3 "$top/tests/drawing.py" 64 256 4096 1 2 >"$room/64 nodes" || exit 1
 python3 - "$program" "$other" "$room" "$times" <<'END_OF_SCRIPT'
 import os, shutil, subprocess, sys
 program, other, room, times = sys.argv[1:4] + [int(sys.argv[4])]
-WORKERS = 8
+NODES = {'16 nodes': 16, '64 nodes': 64}
 
 def run(command, script):
     """The processor time of a run in milliseconds, its memory in KiB, and its moves."""
@@ -79,7 +79,8 @@ os.sched_setaffinity(0, processors)
 for script in ('16 nodes', '64 nodes'):
     for name in (program, other):
         started = threads([name, 'run'], script)
-        told = 'strace is missing' if started is None else f'{started} threads, {started / (WORKERS - 1):.0f} rounds'
+        a_round = 2 + NODES[script] // 32
+        told = 'strace is missing' if started is None else f'{started} threads, {started / a_round:.0f} rounds'
         print(f'{script}, {os.path.basename(name)} run: {told}')
 print(f'64 nodes: run takes at most {run([program, "run"], "64 nodes")[1]} KiB of memory')
 END_OF_SCRIPT

@@ -1,8 +1,8 @@
 #!/usr/bin/env python3
-"""Refuses the proved programs memory, reads and writes, one call at a time, and sees that each answer is the one
-that the documents say: out of memory with nothing printed, or the usual answer; a read fault with nothing printed; a
-write fault with the first bytes of the usual text; and the usual answer if a read or a write moves one byte. It prints
-how many numbers were tried.
+"""Refuses the proved programs memory, reads, writes and threads, one call at a time, and sees that each answer is the
+one that the documents say: out of memory with nothing printed, or the usual answer; a read fault with nothing printed;
+a write fault with the first bytes of the usual text; and the usual answer if a read or a write moves one byte, or if a
+thread can't be made. It prints how many numbers were tried.
 
 It needs a C compiler, cc, for refusing.c, which stands before the C library. On Linux with glibc."""
 import argparse
@@ -25,6 +25,7 @@ def words_of():
     parser = argparse.ArgumentParser(description=__doc__, formatter_class=argparse.RawDescriptionHelpFormatter)
     parser.add_argument('--program', default=str(TOP / 'crates/lockrun/out/lockrun'), help='the proved lockrun')
     parser.add_argument('--nest', default=str(TOP / 'crates/locknest/out/locknest'), help='the proved locknest')
+    parser.add_argument('--waits', default=str(TOP / 'crates/lockwaits/out/lockwaits'), help='the proved lockwaits')
     parser.add_argument('--most', type=int, default=4000,
                         help='with more calls than these the first half of so many numbers is tried, and then some up to the end')
     parser.add_argument('--only', default='', help='only the cases with this in their name')
@@ -35,7 +36,7 @@ def words_of():
 class Case:
     """A program with its words and its input."""
 
-    def __init__(self, name, program, words, data, drawn=False):
+    def __init__(self, name, program, words, data=b'', drawn=False):
         self.name, self.program, self.words, self.data, self.drawn = name, program, words, data, drawn
         self.usual = None
         self.counts = {}
@@ -146,6 +147,7 @@ def cases_of(args):
     middle = say(['make', '4', '16', '256', '7'])
     late_copy = (TOP / 'examples/late-copy.script').read_bytes()
     nested = (TOP / 'crates/locknest/stdin').read_bytes()
+    ring = b'journal\n'.join((TOP / f'examples/ring-of-three.{part}').read_bytes() for part in ['script', 'journal'])
     return [
         Case('one lock', args.program, ['sim', 'first'], ONE_LOCK),
         Case('run, copies for two nodes', args.program, ['run'], READERS, True),
@@ -156,8 +158,10 @@ def cases_of(args):
         Case('check, a long journal', args.program, ['check'], drawn + b'journal\n' + say(['sim', 'first'], drawn)),
         Case('make', args.program, ['make', '16', '64', '4096', '7'], b''),
         Case('order', args.program, ['order'], drawn),
+        Case('soak', args.program, ['soak', '7']),
         Case('no command', args.program, ['sim', 'last'], b''),
         *([Case('nested transactions', args.nest, [], nested)] if Path(args.nest).exists() else []),
+        *([Case('who waits for whom', args.waits, [], ring)] if Path(args.waits).exists() else []),
     ]
 
 
@@ -174,7 +178,7 @@ def main():
             if not case.counts['growth']:
                 sys.exit(f'tests/growths.py: {case.name}: no growth was counted: is {case.program} linked to the C library?')
             found = []
-            for kind in ['growth', 'read', 'write']:
+            for kind in CALLS if case.counts['thread'] else CALLS[:3]:
                 found += tried(args, library, case, kind)
             found += moved_by_one(args, library, case)
             if case.name == 'one lock':

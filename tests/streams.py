@@ -25,13 +25,14 @@ class Answers:
     """The programs, and what was wrong."""
 
     def __init__(self, args):
-        self.run_program, self.nest_program = args.program, args.nest
+        self.run_program, self.nest_program, self.waits_program = args.program, args.nest, args.waits
         self.tried, self.wrong = 0, []
         make = ['make', '4', '16', '256', '7']
         self.drawn = self.call(self.run_program, make)[1]
         self.journal = self.call(self.run_program, ['sim', 'first'], self.drawn)[1]
         self.nested = (TOP / 'crates/locknest/stdin').read_bytes()
         self.whole = self.drawn + b'journal\n' + self.journal
+        ring = b'journal\n'.join((TOP / f'examples/ring-of-three.{part}').read_bytes() for part in ['script', 'journal'])
         # Names, programs, words, inputs; whether the input is read; whether the moves come in any order.
         self.cases = [
             ('sim first', self.run_program, ['sim', 'first'], self.drawn, True, False),
@@ -41,10 +42,11 @@ class Answers:
             ('order', self.run_program, ['order'], self.drawn, True, False),
             ('make', self.run_program, make, b'', False, False),
         ]
-        if Path(self.nest_program).exists():
-            self.cases.append(('nested', self.nest_program, [], self.nested, True, False))
-        else:
-            print(f'tests/streams.py: {self.nest_program} is not built: its part is left out')
+        for name, program, data in [('nested', self.nest_program, self.nested), ('waits', self.waits_program, ring)]:
+            if Path(program).exists():
+                self.cases.append((name, program, [], data, True, False))
+            else:
+                print(f'tests/streams.py: {program} is not built: its part is left out')
         self.usual = {case[0]: self.call(case[1], case[2], case[3]) for case in self.cases}
 
     @staticmethod
@@ -341,6 +343,9 @@ def long(found):
                 found.say(f'check, {name}, {size} bytes', good, answer)
                 figures.append(f'{size // MIB} MiB {seconds:.2f} s {most // KIB} MiB')
             print(f'check, {name}: {", ".join(figures)}: {answer[2].decode().strip()}', flush=True)
+            if Path(found.waits_program).exists():
+                same, seconds, most = measured(found.waits_program, [], path)
+                found.say(f'waits, {name}', (*same[:2], same[2].replace(b'lockwaits', b'lockrun')) == answer, same)
             filled(path, MOST_JOURNAL + 1, head, body)
             answer, seconds, most = measured(program, ['check'], path)
             found.say(f'check, {name}, a byte more', answer == (2, b'', line(program, 'input too long')), answer)
@@ -357,6 +362,7 @@ def main():
     parser = argparse.ArgumentParser(description=__doc__, formatter_class=argparse.RawDescriptionHelpFormatter)
     parser.add_argument('--program', default=str(TOP / 'crates/lockrun/out/lockrun'), help='the proved lockrun')
     parser.add_argument('--nest', default=str(TOP / 'crates/locknest/out/locknest'), help='the proved locknest')
+    parser.add_argument('--waits', default=str(TOP / 'crates/lockwaits/out/lockwaits'), help='the proved lockwaits')
     parser.add_argument('parts', nargs='*', choices=[[], *PARTS], help='the parts to be tried; all, if none is named')
     args = parser.parse_args()
     found = Answers(args)

@@ -1,14 +1,15 @@
 #!/bin/sh
 # Runs the proved programs under valgrind, which has to find no error, and at the end no memory that wasn't given back: on
-# each example (`sim first`, `sim 7`, `run`, `order`, and `check` of its journal), on inputs that are refused, on the stored
-# inputs, and on each case of the folders that are named. A case is a file NAME, the input, with NAME.args beside it, one
-# word on each line; NAME.nest stands for locknest, any other name for lockrun. NAME.status has the wanted status, if it
-# isn't 0, and NAME.stdout the wanted output, if that is known.
+# each example (`sim first`, `sim 7`, `run`, `order`, `check` of its journal, and who waits for whom), on inputs that are
+# refused, on the stored inputs, and on each case of the folders that are named. A case is a file NAME, the input, with
+# NAME.args beside it, one word on each line; NAME.nest stands for locknest, NAME.waits for lockwaits, any other name for
+# lockrun. NAME.status has the wanted status, if it isn't 0, and NAME.stdout the wanted output, if that is known.
 top=$(CDPATH='' cd -- "$(dirname -- "$0")/.." && pwd) || exit 1
 lockrun=${LOCKRUN:-$top/crates/lockrun/out/lockrun}
 locknest=${LOCKNEST:-$top/crates/locknest/out/locknest}
+lockwaits=${LOCKWAITS:-$top/crates/lockwaits/out/lockwaits}
 command -v valgrind >/dev/null || { echo "tests/valgrind.sh: valgrind isn't on the PATH" >&2; exit 1; }
-for program in "$lockrun" "$locknest"; do
+for program in "$lockrun" "$locknest" "$lockwaits"; do
   [ -x "$program" ] || { echo "tests/valgrind.sh: run ./build first" >&2; exit 1; }
 done
 room=$(mktemp -d) || exit 1
@@ -22,17 +23,17 @@ fail() {
 
 # Runs a program with these words on the file $1, which is called $2, and wants the status $3: x for any.
 under() {
-  input=$1 name=$2 wanted=$3
+  input=$1 label=$2 wanted=$3
   shift 3
   runs=$((runs + 1))
   status=0
   valgrind --quiet --leak-check=full --show-leak-kinds=all --errors-for-leak-kinds=all --error-exitcode=99 \
     --log-file="$room/found" "$@" <"$input" >"$room/printed" 2>"$room/said" || status=$?
   if [ -s "$room/found" ] || [ $status -eq 99 ]; then
-    fail "$name: valgrind found:"
+    fail "$label: valgrind found:"
     cat "$room/found"
   elif [ "$wanted" != x ] && [ $status -ne "$wanted" ]; then
-    fail "$name: status $status, not $wanted"
+    fail "$label: status $status, not $wanted"
   fi
 }
 
@@ -51,8 +52,11 @@ for script in "$top"/examples/*.script; do
   under "$script" "$name, order" 0 "$lockrun" order
   { cat "$script"; echo journal; cat "$journal"; } >"$room/input"
   under "$room/input" "$name, check" 0 "$lockrun" check
+  under "$room/input" "$name, lockwaits" 0 "$lockwaits"
+  if [ -f "$top/examples/$name.waits" ]; then same "$top/examples/$name.waits" "$name, lockwaits"; fi
   sed '$d' "$room/input" >"$room/shorter"
   under "$room/shorter" "$name, check without the last line" 8 "$lockrun" check
+  under "$room/shorter" "$name, lockwaits without the last line" 8 "$lockwaits"
   { cat "$script"; echo x; } >"$room/input"
   under "$room/input" "$name, a line with a fault" 2 "$lockrun" sim first
   head -c 65 "$script" >"$room/input"
@@ -73,11 +77,19 @@ under "$room/input" 'a long input' 2 "$lockrun" run
 under "$room/input" 'a long input, check' 2 "$lockrun" check
 under "$room/input" 'a long input, locknest' 2 "$locknest"
 
+for lines in "$top"/examples/*.lines; do
+  name=$(basename "$lines" .lines)
+  under "$lines" "$name, locknest" 0 "$locknest" && same "$top/examples/$name.answers" "$name, locknest"
+done
+under /dev/null 'a word for lockwaits' 1 "$lockwaits" x
+under /dev/null 'no journal' 2 "$lockwaits"
+under "$room/input" 'a long input, lockwaits' 2 "$lockwaits"
+
 for folder; do
   for args in "$folder"/*.args; do
     case=${args%.args}
     program=$lockrun
-    case $case in *.nest) program=$locknest ;; esac
+    case $case in *.nest) program=$locknest ;; *.waits) program=$lockwaits ;; esac
     set --
     while IFS= read -r word; do set -- "$@" "$word"; done <"$args"
     status=0

@@ -11,7 +11,10 @@ use std::cell::UnsafeCell;
 use std::sync::atomic::{AtomicBool, Ordering};
 use std::thread;
 
+// The most workers, those among few nodes, and for how many nodes there is one more.
 const WORKERS: u32 = 8;
+const FEW_WORKERS: u32 = 3;
+const NODES_PER_WORKER: u32 = 32;
 
 // A move in a node's text: where it ends.
 struct Moved {
@@ -77,6 +80,7 @@ fn work(slots: &[Slot<'_>], at: u32) -> Counts {
         if slot.taken.0.compare_exchange(false, true, Ordering::Acquire, Ordering::Relaxed).is_err() {
             counts.refused += 1;
             outlook.note_refusal(node);
+            thread::yield_now();
             continue;
         }
         let runner = unsafe { &mut *slot.runner.get() };
@@ -93,7 +97,8 @@ fn work(slots: &[Slot<'_>], at: u32) -> Counts {
 
 // Workers share the nodes, each on a thread but for the first.
 fn share(slots: &[Slot<'_>]) -> Counts {
-    let workers = WORKERS.min(slots.len() as u32);
+    let count = slots.len() as u32;
+    let workers = WORKERS.min(count).min(FEW_WORKERS + count / NODES_PER_WORKER);
     thread::scope(|scope| {
         let others: Vec<_> = (1..workers).map(|at| scope.spawn(move || work(slots, at))).collect();
         let mut all = work(slots, 0);

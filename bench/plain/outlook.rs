@@ -1,8 +1,5 @@
 //! What a worker knows of the nodes, and where it looks next.
 
-// Visits in vain for each node after which a worker ends, where its patience isn't less.
-const VAIN_ROUNDS: u32 = 8;
-
 /// The most refused claims, one after the other.
 const PATIENCE: u32 = 256;
 
@@ -32,7 +29,7 @@ impl Outlook {
 
     /// Whether the worker has tried often enough.
     pub fn is_over(&self) -> bool {
-        self.vain >= PATIENCE.min(VAIN_ROUNDS) * self.count && self.owed == 0 || self.refused >= PATIENCE
+        self.vain >= self.count && self.owed == 0 || self.refused >= PATIENCE
     }
 
     /// The next node.

@@ -9,9 +9,12 @@ use Rattle.lt_modes.specs.declared.stamp.Stamp.{Stamp}
 use Rattle.lt_modes.specs.Made.{Made, post_of}
 use Rattle.lt_modes.specs.declared.event.Event.TheVariants.{Freeze}
 use Rattle.lt_modes.specs.Freezing.{freeze, freeze_with}
+use Rattle.lt_modes.specs.Serving.{next_draw}
 use Rattle.lt_modes.specs.Places.{cons_if}
 use Rattle.lt_desk.specs.Freezes.{bits_from}
 use Rattle.lt_desk.specs.OutData.{OutData, FitsOut, out_after}
+use Rattle.lt_desk.proofs.DrawLemmas.{draw_kept}
+use Rattle.lt_core.specs.CoreData.{CoreData, Does}
 use Rattle.lt_core.specs.Notices.{notices, node_if}
 
 -- what is sent to a node that is told or not, and then to the others
@@ -103,3 +106,9 @@ freeze_sent set stamp s after d modes number told nodes had out made same sent =
       events = had.events ++ map (λ x. Freeze set x number modes) (same i);
     })
     ∙ ap (λ (m : Made). out_after m had) (sym made)
+
+-- a freeze leaves where the desk goes next
+pub freeze_draws : (stamp : Stamp) (old new : CoreData) (had out : OutData) → Does (freeze old.set stamp old.state) old had new out
+    → next_draw new.node new.state ≡ next_draw old.node old.state
+freeze_draws stamp old new had out does =
+    ap (λ me. next_draw me new.state) does.node ∙ (ap (next_draw old.node) does.state ∙ draw_kept old.node old.set stamp old.state)

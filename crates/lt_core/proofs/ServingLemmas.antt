@@ -1,5 +1,5 @@
 -- One service and then the rest is all services.
-use Rattle.std.proofs.Common.{◌≡◌, ℕ, zero, suc, ◌+◌, ◌<◌, ◌++◌, append_assoc, length, Some, None, refl, sym, ap, subst, arith, if◌then◌else◌, Bool, true, false, ◌==◌, ◌∙◌, length-append}
+use Rattle.std.proofs.Common.{◌≡◌, ℕ, zero, suc, ◌+◌, ◌<◌, ◌++◌, append_assoc, append-nil, length, Some, None, refl, sym, ap, subst, arith, if◌then◌else◌, Bool, true, false, ◌==◌, ◌∙◌, length-append}
 use Rattle.lt_modes.specs.declared.stamp.Stamp.{Stamp}
 use Rattle.lt_modes.specs.State.{SetState}
 use Rattle.lt_modes.specs.Made.{Made, silent, then_do}
@@ -28,6 +28,10 @@ none_up_to (suc n) set stamp s e = rw e refl
 
 pub serve_none : (set : ℕ) (stamp : Stamp) (s : SetState) → next_service stamp.node s ≡ None → serve set stamp s ≡ silent s
 serve_none set stamp s e = none_up_to (length (queue_of s)) set stamp s e
+
+-- a rule that makes nothing sends nothing
+pub out_silent : (s : SetState) (out : OutData) → out_after (silent s) out ≡ out
+out_silent s out = rw (append-nil out.posts, append-nil out.events) refl
 
 -- two rules one after the other, on what was sent
 pub out_then : (a b : Made) (out : OutData) → out_after b (out_after a out) ≡ out_after (record { state = b.state; posts = a.posts ++ b.posts; events = a.events ++ b.events }) out

@@ -20,6 +20,7 @@ impl Core {
         requires fits { FitsOut (freeze self.old.set stamp self.old.state) out.old }
         ensures does { Does (freeze self.old.set stamp self.old.state) self.old out.old self.new out.new }
         ensures epoch { epoch_of self.new.state.desk ≡ epoch_of self.old.state.desk }
+        ensures draw { next_draw self.new.node self.new.state ≡ next_draw self.old.node self.old.state }
     {
         let Some(desk) = &mut self.desk else {
             return;
@@ -69,27 +70,17 @@ impl Core {
     }
 
     /// The desk goes to the node of the ask that draws it, where there is one.
-    pub(crate) fn hand_over(&mut self, stamp: Stamp, out: &mut Out)
+    pub(crate) fn hand_over(&mut self, draw: Option<u32>, stamp: Stamp, out: &mut Out)
+        requires draw { draw ≡ next_draw self.old.node self.old.state }
         requires node { stamp.node ≡ self.old.node }
         requires epoch { epoch_of self.old.state.desk < stamp.clock }
         requires fits { FitsOut (hand_over self.old.set stamp self.old.state) out.old }
         ensures does { Does (hand_over self.old.set stamp self.old.state) self.old out.old self.new out.new }
     {
-        if let Some(k) = self.next_draw() {
+        if let Some(k) = draw {
             if let Some(desk) = self.desk.take() {
                 self.send_desk(k, desk, stamp, out);
             }
-        }
-    }
-
-    // The place of the ask to whose node the desk moves.
-    fn next_draw(&self) -> Option<u32>
-        ensures next { result ≡ next_draw self.now.node self.now.state }
-        ensures within { IfSome result (λ k. k < length (queue_of self.now.state)) }
-    {
-        match &self.desk {
-            Some(desk) => desk.next_draw(self.links.me(), &self.held, self.pending.stamps()),
-            None => None,
         }
     }
 

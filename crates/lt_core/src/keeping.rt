@@ -7,6 +7,7 @@ ghost use Rattle.lt_core.specs.CoreData.{waiting_here, epoch_of, freeze_number_o
 
 use crate::one_set::{Core, asks_of};
 use lt_desk::Parked;
+use lt_modes::Ask;
 use std::collections::VecDeque;
 
 impl Core {
@@ -36,6 +37,13 @@ impl Core {
             Some(desk) => desk.epoch() <= clock && desk.freeze_number() <= clock,
             None => true,
         }
+    }
+
+    /// The unanswered asks, in order.
+    pub fn asks(&self) -> &[Ask]
+        ensures { result.now ≡ self.now.state.pending }
+    {
+        self.pending.asks()
     }
 
     /// The number of unanswered asks.

@@ -1,38 +1,43 @@
-ghost use Rattle.std.specs.Prelude.{◌≡◌, ◌+◌, ◌≤◌, ◌<◌, length, remove, IfSome};
+ghost use Rattle.std.specs.Prelude.{◌≡◌, ◌+◌, ◌≤◌, ◌<◌, length, remove};
 ghost use Rattle.lt_modes.specs.Held.{add_lock, locks_in};
-ghost use Rattle.lt_modes.specs.Serving.{queue_of, put_queue, next_service, ask_at, answer_event, serve_one, serve_copy, serve, give_up};
+ghost use Rattle.lt_modes.specs.Serving.{queue_of, put_queue, next_draw, ask_at, answer_event, serve_one, serve_copy, serve, give_up};
 ghost use Rattle.lt_held.specs.HeldData.{most_locks};
+ghost use Rattle.lt_desk.specs.Picks.{picked, IsInQueue};
 ghost use Rattle.lt_desk.specs.OutData.{FitsOut};
 ghost use Rattle.lt_core.specs.CoreData.{Does, HasRoom};
 ghost use Rattle.lt_core.specs.Steps.{answer_ask};
 
 use crate::one_set::Core;
-use lt_desk::{Body, Out};
+use lt_desk::{Body, Out, Pick};
 use lt_held::{Held, law_rows};
 use lt_modes::{Ask, Event, Mode, Stamp};
 
 impl Core {
-    /// Services until there is none.
-    pub(crate) fn serve(&mut self, stamp: Stamp, out: &mut Out)
+    /// Services until there is none; answers the place of the ask that draws the desk then.
+    pub(crate) fn serve(&mut self, stamp: Stamp, out: &mut Out) -> Option<u32>
         requires node { stamp.node ≡ self.old.node }
         requires room { HasRoom 0 stamp.clock self.old }
         requires fits { FitsOut (serve self.old.set stamp self.old.state) out.old }
         ensures does { Does (serve self.old.set stamp self.old.state) self.old out.old self.new out.new }
         ensures room { HasRoom 0 stamp.clock self.new }
+        ensures draw { result ≡ next_draw self.new.node self.new.state }
     {
-        while let Some(k) = self.next_service() {
+        let mut next = self.pick();
+        while let Some(k) = next.service() {
             self.serve_one(k, stamp, out);
+            next = self.pick();
         }
+        next.draw()
     }
 
-    // The place of the ask that is served next.
-    fn next_service(&self) -> Option<u32>
-        ensures next { result ≡ next_service self.now.node self.now.state }
-        ensures within { IfSome result (λ k. k < length (queue_of self.now.state)) }
+    // What the desk does next, where it is here.
+    fn pick(&self) -> Pick
+        ensures next { result ≡ picked self.now.node self.now.state }
+        ensures within { IsInQueue (length (queue_of self.now.state)) result }
     {
         match &self.desk {
-            Some(desk) => desk.next_service(self.links.me(), &self.held, self.pending.stamps()),
-            None => None,
+            Some(desk) => desk.pick(self.links.me(), &self.held, self.pending.stamps()),
+            None => Pick::Nothing,
         }
     }
 

@@ -29,9 +29,9 @@ impl Core {
         requires fits { FitsOut (attend self.old.set stamp self.old.state) out.old }
         ensures does { Does (attend self.old.set stamp self.old.state) self.old out.old self.new out.new }
     {
-        self.serve(stamp, out);
+        let draw = self.serve(stamp, out);
         self.freeze(stamp, out);
-        self.hand_over(stamp, out);
+        self.hand_over(draw, stamp, out);
     }
 
     // A tell where the held modes bar other modes than the charge does.

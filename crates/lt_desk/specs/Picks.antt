@@ -17,6 +17,30 @@ picked_by me queue None None = Nothing
 abbrev pub picked : ℕ → SetState → Pick
 picked me s = picked_by me (queue_of s) (next_service me s) (next_draw me s)
 
+-- the place of the ask that is served
+abbrev pub service_of : Pick → Option ℕ
+service_of Nothing = None
+service_of (Local k) = Some k
+service_of (Copy k) = Some k
+service_of (HandOver k) = None
+
+-- the place of the ask to whose node the desk is handed over
+abbrev pub draw_of : Pick → Option ℕ
+draw_of Nothing = None
+draw_of (Local k) = None
+draw_of (Copy k) = None
+draw_of (HandOver k) = Some k
+
+-- the first of the two that there is
+abbrev pub first_of : Option ℕ → Option ℕ → Option ℕ
+first_of (Some j) other = Some j
+first_of None other = other
+
+-- the desk is handed over where there is a place for it
+abbrev pub hand_over_or_none : Option ℕ → Pick
+hand_over_or_none (Some k) = HandOver k
+hand_over_or_none None = Nothing
+
 -- its place is one of a queue of this length
 abbrev pub IsInQueue : ℕ → Pick → Type 0
 IsInQueue n Nothing = Unit {0}

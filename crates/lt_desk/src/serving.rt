@@ -1,6 +1,7 @@
-ghost use Rattle.std.specs.Prelude.{◌≡◌, ◌<◌, length, IfSome};
+ghost use Rattle.std.specs.Prelude.{◌≡◌, ◌<◌, ◌==◌, ◌&&◌, ◌||◌, not, length, IfSome, Some, None, if◌then◌else◌};
 ghost use Rattle.lt_modes.specs.Serving.{is_free, is_local, is_clear_at_home, is_copy, is_served, next_service, may_draw, next_draw};
-ghost use Rattle.lt_desk.specs.Picks.{picked, IsInQueue};
+ghost use Rattle.lt_desk.specs.Picks.{picked, first_of, hand_over_or_none, IsInQueue};
+ghost use Rattle.lt_desk.specs.declared.pick.Pick.TheVariants.{Local, Copy};
 ghost use Rattle.lt_desk.specs.Sights.{sight_state, desk_of};
 
 use crate::pick::Pick;
@@ -8,20 +9,56 @@ use crate::sight::Sight;
 use lt_modes::{Ask, ModeSet};
 
 impl Sight<'_> {
+    /// Looks once at each ask, up to the first that is served.
     pub(crate) fn pick(&self) -> Pick
         ensures next { result ≡ picked self.now.me (sight_state self.now) }
         ensures within { IsInQueue (length self.now.queue.now.asks) result }
     {
-        if let Some(k) = self.next_service() {
-            if self.queue.get(k).node == self.me {
-                Pick::Local(k)
-            } else {
-                Pick::Copy(k)
+        let mut before = ModeSet::empty();
+        let mut draw = None;
+        for k in 0..self.queue.len() {
+            let ask = self.queue.get(k);
+            let free = self.is_free(before, &ask);
+            if self.has_turn(free, &ask) {
+                return service(k, ask.node == self.me);
             }
-        } else if let Some(k) = self.next_draw() {
-            Pick::HandOver(k)
+            draw = self.first_draw(draw, free, k, &ask);
+            before = before.with(ask.mode);
+        }
+        draw_at(draw)
+    }
+
+    // Whether the ask is served, where it is free or not.
+    fn has_turn(&self, free: bool, ask: &Ask) -> bool
+        ensures { result
+            ≡ (free && (is_local self.now.me (sight_state self.now) (desk_of self.now) ask.now
+            || is_copy self.now.me (sight_state self.now) (desk_of self.now) ask.now)) }
+    {
+        free && (self.is_local(ask) || self.is_copy(ask))
+    }
+
+    // Whether the ask may draw the desk to its node, where it is free or not.
+    fn draws(&self, free: bool, k: u32, ask: &Ask) -> bool
+        ensures { result
+            ≡ (not (ask.now.node == self.now.me)
+            && (free && (k == 0 || is_clear_at_home self.now.me (sight_state self.now) (desk_of self.now) ask.now))) }
+    {
+        ask.node != self.me && free && (k == 0 || self.is_clear_at_home(ask))
+    }
+
+    // The place noted before; where there is none, place k if its ask may draw the desk.
+    fn first_draw(&self, draw: Option<u32>, free: bool, k: u32, ask: &Ask) -> Option<u32>
+        ensures { result
+            ≡ first_of draw (if not (ask.now.node == self.now.me)
+            && (free && (k == 0 || is_clear_at_home self.now.me (sight_state self.now) (desk_of self.now) ask.now))
+            then Some k else None) }
+    {
+        if draw.is_some() {
+            draw
+        } else if self.draws(free, k, ask) {
+            Some(k)
         } else {
-            Pick::Nothing
+            None
         }
     }
 
@@ -96,5 +133,22 @@ impl Sight<'_> {
         ensures { result ≡ is_clear_at_home self.now.me (sight_state self.now) (desk_of self.now) ask.now }
     {
         !self.modes_at(ask.node).bars().has(ask.mode)
+    }
+}
+
+// The service of the ask at place k, here or at another node.
+fn service(k: u32, here: bool) -> Pick
+    ensures { result ≡ (if here then Local k else Copy k) }
+{
+    if here { Pick::Local(k) } else { Pick::Copy(k) }
+}
+
+// The move of the desk to the node of the ask at this place.
+fn draw_at(draw: Option<u32>) -> Pick
+    ensures { result ≡ hand_over_or_none draw }
+{
+    match draw {
+        Some(k) => Pick::HandOver(k),
+        None => Pick::Nothing,
     }
 }

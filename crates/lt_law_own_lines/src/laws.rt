@@ -1,4 +1,5 @@
 ghost use Rattle.lt_law_own_lines.specs.OwnLaws.{OwnLinesOfMoves, OwnLinesInRuns, RepliesAtHome, RepliesOfLog, RepliesSoFar, RepliesGrow};
+ghost use Rattle.lt_law_own_lines.specs.WaitingLaws.{WaitingInCommands, WaitingInTakes, WaitingInActs, WaitingInNodeTakes, KnownWhereSound};
 
 /// The lines that name a client as the one that acts or is answered stand in moves of that client's own node: in each
 /// enabled move of a world that is at home, and so in each run; and so the replies to a client in a run are those in the
@@ -10,4 +11,15 @@ pub fn law_own_lines()
     ensures log { RepliesOfLog }
     ensures so_far { RepliesSoFar }
     ensures grow { RepliesGrow }
+{}
+
+/// Only the clients that the lines of a move name may wait from then on, or wait no more: in each move of one set, and so
+/// in each move of a node, in which no other client has made a command either. The node's own asks are to be known there,
+/// as they are where each set is sound.
+pub fn law_waiting_lines()
+    ensures commands { WaitingInCommands }
+    ensures takes { WaitingInTakes }
+    ensures act { WaitingInActs }
+    ensures take { WaitingInNodeTakes }
+    ensures known { KnownWhereSound }
 {}

@@ -1,2 +1,3 @@
 pub mod RunsOpened
 pub mod OthersOpened
+pub mod LimitsOpened

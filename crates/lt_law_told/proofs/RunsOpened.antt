@@ -68,7 +68,7 @@ runs_told = record {
   threads = opened Run (Some two_writers) two_writers_script (λ moves ending run text j. ran_so moves ending run text j.journals);
 }
 
-some_none : (node : ℕ) → Some node ≡ None → ⊥
+pub some_none : (node : ℕ) → Some node ≡ None → ⊥
 some_none node e = cc
 
 -- after its first move the node is full

@@ -1,6 +1,7 @@
 ghost use Rattle.lt_law_told.specs.Words.{WordsAre};
 ghost use Rattle.lt_law_told.specs.Runs.{RunsTold, TimesTold};
 ghost use Rattle.lt_law_told.specs.Others.{SoakTold, CheckTold, MakeTold};
+ghost use Rattle.lt_law_told.specs.Limits.{WithinTold, FarTold, EachTimeTold};
 
 /// What an answer says of its run, field by field, for each command; and the words of each command.
 ///
@@ -9,6 +10,9 @@ pub fn law_told()
     ensures words { WordsAre }
     ensures runs { RunsTold }
     ensures times { TimesTold }
+    ensures each_time { EachTimeTold }
+    ensures within { WithinTold }
+    ensures far { FarTold }
     ensures soak { SoakTold }
     ensures check { CheckTold }
     ensures make { MakeTold }

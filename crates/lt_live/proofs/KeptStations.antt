@@ -3,7 +3,7 @@ use Rattle.std.proofs.Common.{◌≡◌, ◌≢◌, ◌<◌, ℕ, List, [], ◌�
 use Rattle.std.specs.Prelude.{slice_get, slice_set}
 use Rattle.std.proofs.lemmas.Bool.{cases_eq, eq-eqb, ne_eqb}
 use Rattle.std.proofs.lemmas.List.{append-nil}
-use Rattle.std.proofs.lemmas.Option.{slice_get_within}
+use Rattle.std.proofs.lemmas.Option.{same_Some, slice_get_within}
 use Rattle.lt_lists.proofs.AllLemmas.{all_append}
 use Rattle.lt_modes.specs.declared.command.Command.{Command}
 use Rattle.lt_modes.specs.Script.{ScriptData}
@@ -17,7 +17,8 @@ use Rattle.lt_live.specs.declared.ends.Seat.{Seat}
 use Rattle.lt_live.specs.Words.{in_hand}
 use Rattle.lt_live.specs.Seats.{TakesIn, Tells}
 use Rattle.lt_live.specs.Stations.{IsSeatOf, IsStation, EachSeat, MayHandOver, HandMayGo}
-use Rattle.lt_live.proofs.SeatLists.{same_seat, set_here, set_other, each_before}
+use Rattle.lt_live.proofs.Places.{set_here, set_other}
+use Rattle.lt_live.proofs.SeatLists.{each_before}
 use Rattle.lt_live.proofs.KeptSeats.{seat_of_grew, seat_of_taken, seat_of_told}
 
 -- the seat at this place was one of the runner's, and is one of a runner's
@@ -120,7 +121,7 @@ handed a seats place x command h here hand =
     by_place k seat e = elim (cases_eq k place) [
       | inl at ↦
           let is : record x { hand = None } ≡ seat =
-          same_seat (record x { hand = None }) seat
+          same_Some (record x { hand = None }) seat
           (sym (set_here seats place (record x { hand = None }) inside) ∙ ap (slice_get (slice_set seats place (record x { hand = None }))) (sym at) ∙ e) in
           record {
             was = x;

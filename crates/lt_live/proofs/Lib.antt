@@ -2,8 +2,14 @@ pub mod Telling
 pub mod Serving
 pub mod ReplyLemmas
 pub mod AskLemmas
+pub mod Places
 pub mod SeatLists
+pub mod Linked
 pub mod KeptSeats
 pub mod KeptStations
 pub mod LookedSeats
 pub mod TurnParts
+pub mod FirstSeats
+pub mod FoundedStations
+pub mod FirstRunners
+pub mod OpenedStations

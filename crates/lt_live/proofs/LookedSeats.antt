@@ -2,7 +2,7 @@
 use Rattle.std.proofs.Common.{◌≡◌, ◌<◌, ◌⊎◌, ℕ, List, length, Some, refl, sym, ap, subst, ◌∙◌, inl, inr, ◌++◌}
 use Rattle.std.specs.Prelude.{slice_get, slice_set, slice_index_or}
 use Rattle.std.proofs.lemmas.Bool.{cases_eq}
-use Rattle.std.proofs.lemmas.Option.{slice_get-get_or, slice_get_within}
+use Rattle.std.proofs.lemmas.Option.{same_Some, slice_get-get_or, slice_get_within}
 use Rattle.lt_spec.specs.Families.{commands_of}
 use Rattle.lt_spec.specs.Log.{Logged}
 use Rattle.lt_runner.specs.declared.parts.Parts.{Parts}
@@ -11,7 +11,7 @@ use Rattle.lt_live.specs.declared.ends.Seat.{Seat}
 use Rattle.lt_live.specs.Words.{in_hand, known_replies, IsLink}
 use Rattle.lt_live.specs.Seats.{AreBeside, LooksBeside}
 use Rattle.lt_live.specs.Stations.{IsSeatOf, IsStation, IsSeated, SeatLooks}
-use Rattle.lt_live.proofs.SeatLists.{same_seat, set_here, set_other}
+use Rattle.lt_live.proofs.Places.{set_here, set_other}
 use Rattle.lt_live.proofs.KeptSeats.{seat_of}
 use Rattle.lt_live.proofs.KeptStations.{Stays, station_from}
 
@@ -34,7 +34,7 @@ station_set p seats place x y h here client now = station_from p p seats (slice_
     by_place k seat e = elim (cases_eq k place) [
       | inl at ↦
           let is : y ≡ seat =
-          same_seat y seat (sym (set_here seats place y (slice_get_within seats place x here)) ∙ ap (slice_get (slice_set seats place y)) (sym at) ∙ e) in
+          same_Some y seat (sym (set_here seats place y (slice_get_within seats place x here)) ∙ ap (slice_get (slice_set seats place y)) (sym at) ∙ e) in
           record {
             was = x;
             here = ap (slice_get seats) at ∙ here;
@@ -52,7 +52,7 @@ pub seat_found : (seats : List Seat) (place : ℕ) (d : Seat) (s : Session) (sea
 seat_found seats place d s seated at found =
     let inside : place < length seats = subst (λ (k : ℕ). k < length seats) (sym at) (slice_get_within seats s.place seated.seat seated.here) in
     let there : slice_get seats s.place ≡ Some d = ap (slice_get seats) (sym at) ∙ slice_get-get_or seats place d inside ∙ ap Some (sym found) in
-    (there, subst (λ (x : Seat). IsLink s x) (same_seat seated.seat d (sym seated.here ∙ there)) seated.link)
+    (there, subst (λ (x : Seat). IsLink s x) (same_Some seated.seat d (sym seated.here ∙ there)) seated.link)
 
 pub seat_inside : (seats : List Seat) (place : ℕ) (s : Session) → IsSeated s seats → place ≡ s.place → place < length seats
 seat_inside seats place s seated at = subst (λ (k : ℕ). k < length seats) (sym at) (slice_get_within seats s.place seated.seat seated.here)

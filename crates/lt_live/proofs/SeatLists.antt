@@ -1,5 +1,5 @@
 -- Lists of seats, place by place.
-use Rattle.std.proofs.Common.{◌≡◌, ◌≢◌, ◌<◌, ◌≤◌, ◌+◌, ℕ, zero, suc, List, [], ◌∷◌, length, Option, Some, None, refl, sym, ap, subst, arith, ◌∙◌, inl, inr}
+use Rattle.std.proofs.Common.{◌≡◌, ◌<◌, ◌≤◌, ◌+◌, ℕ, List, length, Option, Some, None, refl, sym, subst, arith, ◌∙◌, inl, inr}
 use Rattle.std.specs.Prelude.{slice_get, slice_set, slice_index_or}
 use Rattle.std.proofs.lemmas.Bool.{cases_eq, cases_lt}
 use Rattle.std.proofs.lemmas.List.{length-set}
@@ -7,21 +7,7 @@ use Rattle.std.proofs.lemmas.Option.{slice_get-get_or, slice_get_within}
 use Rattle.lt_mail.specs.Words.{Alike}
 use Rattle.lt_live.specs.declared.ends.Seat.{Seat}
 use Rattle.lt_live.specs.Stations.{EachSeat, SeatAt}
-
-pub same_seat : (a b : Seat) → Some a ≡ Some b → a ≡ b
-same_seat a b e = cc
-
-pub set_here : (seats : List Seat) (k : ℕ) (y : Seat) → k < length seats → slice_get (slice_set seats k y) k ≡ Some y
-set_here [] k y below = absurd (omega (arith, below))
-set_here (x ∷ seats) zero y below = refl
-set_here (x ∷ seats) (suc k) y below = set_here seats k y (omega (arith, below))
-
-pub set_other : (seats : List Seat) (k : ℕ) (y : Seat) (other : ℕ) → other ≢ k → slice_get (slice_set seats k y) other ≡ slice_get seats other
-set_other [] k y other apart = refl
-set_other (x ∷ seats) zero y zero apart = absurd (apart refl)
-set_other (x ∷ seats) zero y (suc other) apart = refl
-set_other (x ∷ seats) (suc k) y zero apart = refl
-set_other (x ∷ seats) (suc k) y (suc other) apart = set_other seats k y other (λ e. apart (ap suc e))
+use Rattle.lt_live.proofs.Places.{set_here, set_other}
 
 -- one seat was written
 pub seat_set : (R : Seat → Seat → Type 0) (place : ℕ) (seats : List Seat) (d y : Seat) → place < length seats → R (slice_index_or seats place d) y
@@ -71,6 +57,17 @@ going_ends R n old new long h k = elim (cases_lt k n) [
     by_place None e same past =
         subst (λ (o : Option Seat). Alike R (slice_get old k) o) (sym (same ∙ e)) (subst (λ (o : Option Seat). Alike R o None) (sym e) tt)
 
+-- some of the seats went on so, and the others stay
+pub going_stops : (R : Seat → Seat → Type 0) → ((seat : Seat) → R seat seat) → (n : ℕ) (old new : List Seat) → Going R n old new → EachSeat R old new
+going_stops R self n old new h k = elim (cases_lt k n) [
+  | inl below ↦ h.done k below
+  | inr past ↦ subst (λ (o : Option Seat). Alike R (slice_get old k) o) (sym (h.rest k past)) (here (slice_get old k))
+]
+  where
+    here : (o : Option Seat) → Alike R o o
+    here None = tt
+    here (Some seat) = self seat
+
 -- the seat that was at this place before
 pub each_before : (R : Seat → Seat → Type 0) (xs ys : List Seat) → EachSeat R xs ys → (k : ℕ) (y : Seat) → slice_get ys k ≡ Some y
     → (x : Seat) × (slice_get xs k ≡ Some x) × R x y
@@ -79,6 +76,15 @@ each_before R xs ys h k y e = here (slice_get xs k) refl (subst (λ (o : Option 
     here : (o : Option Seat) → slice_get xs k ≡ o → Alike R o (Some y) → (x : Seat) × (slice_get xs k ≡ Some x) × R x y
     here None f p = absurd p
     here (Some x) f p = (x, f, p)
+
+-- and that which is there now
+pub each_after : (R : Seat → Seat → Type 0) (xs ys : List Seat) → EachSeat R xs ys → (k : ℕ) (x : Seat) → slice_get xs k ≡ Some x
+    → (y : Seat) × (slice_get ys k ≡ Some y) × R x y
+each_after R xs ys h k x e = there (slice_get ys k) refl (subst (λ (o : Option Seat). Alike R o (slice_get ys k)) e (h k))
+  where
+    there : (o : Option Seat) → slice_get ys k ≡ o → Alike R (Some x) o → (y : Seat) × (slice_get ys k ≡ Some y) × R x y
+    there None f p = absurd p
+    there (Some y) f p = (y, f, p)
 
 pub each_join : (R S T : Seat → Seat → Type 0) → ((a b c : Seat) → R a b → S b c → T a c) → (xs ys zs : List Seat)
     → EachSeat R xs ys → EachSeat S ys zs → EachSeat T xs zs

@@ -23,8 +23,8 @@ use Rattle.lt_runner.specs.Appended.{with_request}
 use Rattle.lt_live.specs.declared.ends.Seat.{Seat}
 use Rattle.lt_live.specs.Asking.{may_ask, may_append}
 use Rattle.lt_live.specs.Seats.{TakesIn, Tells}
-use Rattle.lt_live.specs.Stations.{IsStation, EachSeat, SeatAt, OnlyAppends, with_all, CanNotAppend, NoneCanAppend, MayHandOver, HandMayGo, MoveEnds, SeatTurns, StationTurns, HaveCursors}
-use Rattle.lt_live.proofs.SeatLists.{each_before, each_join}
+use Rattle.lt_live.specs.Stations.{IsStation, EachSeat, SeatAt, OnlyAppends, with_all, CanNotAppend, NoneCanAppend, SomeCanAppend, MayHandOver, HandMayGo, MoveEnds, SeatTurns, StationTurns, HaveCursors}
+use Rattle.lt_live.proofs.SeatLists.{each_before, each_after, each_join}
 
 only_request : (a : Parts) (client : ℕ) (command : Command) → OnlyAppends a (with_request a client command)
 only_request a client command = record { runner = refl; commands = ((client, command) ∷ [], refl) }
@@ -46,13 +46,6 @@ only_join a b c h k = record {
         ∙ k.commands.1,
   );
 }
-
--- a turn of the runner
-pub move_ends : (turned : Turned) (a b : Parts) → TurnEnds turned a b → MoveEnds turned a b
-move_ends Moved a b h = h
-move_ends Quiet a b h = h
-move_ends Full a b h = h
-move_ends NoMemory a b h = h.0
 
 -- no turn was made
 pub seen_self : (a : Parts) → AsSeen a a
@@ -144,21 +137,50 @@ none_told a b log two later same tells none k seat e =
     let (x, here, told) = each_before (Tells log) two later tells k seat e in
     told_can_not a b log x seat same told (none k x here)
 
+-- a command in hand that can be appended can be once replies were told
+some_told : (p : Parts) (log : List Logged) (two later : List Seat) → EachSeat (Tells log) two later → SomeCanAppend p two → SomeCanAppend p later
+some_told p log two later same some =
+    let (k, x, here, can) = some in
+    let (command, hand, may) = can in
+    let (seat, there, told) = each_after (Tells log) two later same k x here in
+    (k, seat, there, (command, told.on.rest.hand ∙ hand, ap (λ (c : ℕ). may_append p.node.script c command) told.on.rest.same.client ∙ may))
+
+-- what is known of a turn of the runner, or that there was none for want of memory
+pub record Moving (fits : Bool) (turned : Turned) (a b : Parts) : Type 0 where
+  pub grew : Grew a b
+  pub ends : fits ≡ true → TurnEnds turned a b
+  pub shown : fits ≡ true → next_choice a ≢ choices.Nothing → turned ≢ Quiet
+  pub memory : fits ≡ false → (turned ≡ NoMemory) × (b ≡ a)
+
+turn_ends : (turned : Turned) (a b : Parts) (seats : List Seat) → TurnEnds turned a b → MoveEnds turned a b seats
+turn_ends Moved a b seats h = h
+turn_ends Quiet a b seats h = h
+turn_ends Full a b seats h = h
+turn_ends NoMemory a b seats h = (h.0, inl h.1)
+
+move_ends : (fits : Bool) (turned : Turned) (a b : Parts) (log : List Logged) (two later : List Seat) → Moving fits turned a b → (fits ≡ false → SomeCanAppend a two)
+    → EachSeat (Tells log) two later → MoveEnds turned a b later
+move_ends true turned a b log two later h some tells = turn_ends turned a b later (h.ends refl)
+move_ends false turned a b log two later h some tells =
+    let (short, same) = h.memory refl in
+    subst (λ (t : Turned). MoveEnds t a b later) (sym short)
+    (subst (λ (p : Parts). MoveEnds NoMemory a p later) (sym same) (seen_self a, inr (some_told a log two later tells (some refl))))
+
 -- memory didn't run out
-fits_then : (fits : Bool) (turned : Turned) → (fits ≡ false → turned ≡ NoMemory) → turned ≢ NoMemory → fits ≡ true
-fits_then true turned short some = refl
-fits_then false turned short some = absurd (some (short refl))
+fits_then : (fits : Bool) (turned : Turned) (a b : Parts) → Moving fits turned a b → turned ≢ NoMemory → fits ≡ true
+fits_then true turned a b h some = refl
+fits_then false turned a b h some = absurd (some (h.memory refl).0)
 
 pub turns : (turned : Turned) (fits : Bool) (a mid b : Parts) (seats one two later : List Seat) → EachSeat TakesIn seats one → OnlyAppends a mid → EachSeat HandMayGo one two
-    → (fits ≡ true → NoneCanAppend mid two) → Grew mid b → MoveEnds turned mid b → (fits ≡ true → next_choice mid ≢ choices.Nothing → turned ≢ Quiet)
-    → (fits ≡ false → turned ≡ NoMemory) → EachSeat (Tells b.log.entries) two later → StationTurns turned a seats b later
-turns turned fits a mid b seats one two later takes only gives none grew ends shown short tells = record {
+    → (fits ≡ true → NoneCanAppend mid two) → (fits ≡ false → SomeCanAppend mid two) → Moving fits turned mid b → EachSeat (Tells b.log.entries) two later
+    → StationTurns turned a seats b later
+turns turned fits a mid b seats one two later takes only gives none some h tells = record {
   between = mid;
   appends = only;
-  grew = grew;
-  ends = ends;
-  shown = λ some. shown (fits_then fits turned short some);
-  hands = λ some. none_told mid b b.log.entries two later grew.same.script tells (none (fits_then fits turned short some));
+  grew = h.grew;
+  ends = move_ends fits turned mid b b.log.entries two later h some tells;
+  shown = λ moves. h.shown (fits_then fits turned mid b h moves);
+  hands = λ moves. none_told mid b b.log.entries two later h.grew.same.script tells (none (fits_then fits turned mid b h moves));
   each = each_join TookAndGave (Tells b.log.entries) (SeatTurns b.log.entries) (seat_turned b.log.entries) seats two later
       (each_join TakesIn HandMayGo TookAndGave took_and_gave seats one two takes gives) tells;
 }

@@ -5,3 +5,4 @@ pub mod Cursor
 pub mod Seats
 pub mod ReplyLaws
 pub mod Stations
+pub mod Opened

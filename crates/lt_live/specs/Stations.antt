@@ -1,5 +1,5 @@
 -- What a station keeps, and what a turn of it does.
-use Rattle.std.specs.Prelude.{◌≡◌, ◌≢◌, ◌<◌, ◌⊎◌, Bool, false, ℕ, List, Some, None, length, slice_get}
+use Rattle.std.specs.Prelude.{◌≡◌, ◌≢◌, ◌<◌, ◌⊎◌, Bool, true, false, ℕ, List, Some, None, length, slice_get}
 use mathlib.Core.List.{IsPrefix}
 use Rattle.rtrb.specs.Ring.{producer_capacity}
 use Rattle.lt_modes.specs.declared.command.Command.{Command}
@@ -12,7 +12,7 @@ use Rattle.lt_runner.specs.declared.parts.Parts.{Parts}
 use Rattle.lt_runner.specs.declared.turning.Turned.{Turned}
 use Rattle.lt_runner.specs.declared.turning.Turned.TheVariants.{Moved, Quiet, Full, NoMemory}
 use Rattle.lt_runner.specs.Choices.{next_choice}
-use Rattle.lt_runner.specs.Kept.{AsSeen, Grew, TurnEnds}
+use Rattle.lt_runner.specs.Kept.{AsSeen, CouldMove, Grew, TurnEnds}
 use Rattle.lt_runner.specs.Appended.{with_request}
 use Rattle.lt_live.specs.declared.ends.Session.{Session}
 use Rattle.lt_live.specs.declared.ends.Seat.{Seat}
@@ -39,6 +39,10 @@ pub record IsStation (p : Parts) (seats : List Seat) : Type 0 where
   pub each : (k : ℕ) (seat : Seat) → slice_get seats k ≡ Some seat → IsSeatOf p seat
   pub apart : (j k : ℕ) (x y : Seat) → slice_get seats j ≡ Some x → slice_get seats k ≡ Some y → x.client ≡ y.client → j ≡ k
   pub own : AreAt p.node.script p.node.me p.node.script.commands
+
+-- no seat is of this client
+abbrev pub AreOthers : ℕ → List Seat → Type 0
+AreOthers client seats = (k : ℕ) (seat : Seat) → slice_get seats k ≡ Some seat → seat.client ≢ client
 
 -- the seats at the same places go together
 abbrev pub EachSeat : (Seat → Seat → Type 0) → List Seat → List Seat → Type 0
@@ -77,6 +81,13 @@ CanNotAppend p seat = (command : Command) → seat.hand ≡ Some command → may
 abbrev pub NoneCanAppend : Parts → List Seat → Type 0
 NoneCanAppend p seats = (k : ℕ) (seat : Seat) → slice_get seats k ≡ Some seat → CanNotAppend p seat
 
+-- a command is in hand that can be
+abbrev pub CanAppend : Parts → Seat → Type 0
+CanAppend p seat = (command : Command) × (seat.hand ≡ Some command) × (may_append p.node.script seat.client command ≡ true)
+
+abbrev pub SomeCanAppend : Parts → List Seat → Type 0
+SomeCanAppend p seats = (k : ℕ) × (seat : Seat) × (slice_get seats k ≡ Some seat) × CanAppend p seat
+
 -- the command in hand became the last one of the client's list
 pub record HandsOver (s : Seat) (a : Parts) (t : Seat) (b : Parts) : Type 0 where
   pub command : Command
@@ -92,12 +103,13 @@ MayHandOver s a t b = HandsOver s a t b ⊎ ((t ≡ s) × (b ≡ a))
 abbrev pub HandMayGo : Seat → Seat → Type 0
 HandMayGo s t = (t ≡ record s { hand = None }) ⊎ (t ≡ s)
 
--- how one move of the runner came out; where memory ran out none was made
-abbrev pub MoveEnds : Turned → Parts → Parts → Type 0
-MoveEnds Moved a b = TurnEnds Moved a b
-MoveEnds Quiet a b = TurnEnds Quiet a b
-MoveEnds Full a b = TurnEnds Full a b
-MoveEnds NoMemory a b = AsSeen a b
+-- how one move of the runner came out; where memory ran out none was made, and it was wanted for a move that is there to be made,
+-- or for a command in hand
+abbrev pub MoveEnds : Turned → Parts → Parts → List Seat → Type 0
+MoveEnds Moved a b seats = TurnEnds Moved a b
+MoveEnds Quiet a b seats = TurnEnds Quiet a b
+MoveEnds Full a b seats = TurnEnds Full a b
+MoveEnds NoMemory a b seats = AsSeen a b × (CouldMove b ⊎ SomeCanAppend b seats)
 
 -- a command was taken into the hand where none was there and one was known; then the one in hand may be gone; and replies
 -- may have gone into the ring, of all lines of the log or until the ring had no place
@@ -114,7 +126,7 @@ pub record StationTurns (turned : Turned) (a : Parts) (seats : List Seat) (b : P
   pub between : Parts
   pub appends : OnlyAppends a between
   pub grew : Grew between b
-  pub ends : MoveEnds turned between b
+  pub ends : MoveEnds turned between b later
   pub shown : turned ≢ NoMemory → next_choice between ≢ choices.Nothing → turned ≢ Quiet
   pub hands : turned ≢ NoMemory → NoneCanAppend b later
   pub each : EachSeat (SeatTurns b.log.entries) seats later
@@ -124,6 +136,10 @@ pub record IsSeated (s : Session) (seats : List Seat) : Type 0 where
   pub seat : Seat
   pub here : slice_get seats s.place ≡ Some seat
   pub link : IsLink s seat
+
+-- sessions keep their other ends
+abbrev pub StaySeated : List Seat → List Seat → Type 0
+StaySeated old new = (s : Session) → IsSeated s old → IsSeated s new
 
 -- the session and its seat looked at their rings from both ends, and the other seats stay: all replies were told, or the
 -- session knows one

@@ -1,4 +1,4 @@
-ghost use Rattle.std.specs.Prelude.{◌≡◌, ◌+◌, ◌≤◌, length};
+ghost use Rattle.std.specs.Prelude.{◌≡◌, ◌+◌, ◌<◌, ◌≤◌, length};
 ghost use Rattle.rtrb.specs.Ring.{sent, known_free, producer_capacity};
 
 use crate::reply::Reply;
@@ -18,6 +18,7 @@ pub struct Session {
     pub(crate) left: u32,
     pub(crate) commands: Producer<Command>,
     pub(crate) replies: Consumer<Reply>,
+    pub(crate) ghost known: { client < length script.clients },
     // So many commands at least have found or will find a place.
     pub(crate) ghost roomy: { producer_capacity commands ≤ known_free commands + length (sent commands) },
     pub(crate) ghost spent: { length (sent commands) + left ≡ share },

@@ -1,5 +1,5 @@
 // New sessions.
-ghost use Rattle.std.specs.Prelude.{◌≡◌, [], IfOk};
+ghost use Rattle.std.specs.Prelude.{◌≡◌, ◌<◌, [], length, IfOk};
 ghost use Rattle.rtrb.specs.Ring.{producer_capacity};
 ghost use Rattle.lt_live.specs.Words.{submitted, polled, known_replies, places, known_commands, IsLink};
 ghost use Rattle.lt_live.specs.Seats.{IsSeat};
@@ -18,6 +18,7 @@ pub(crate) fn new_session(
     share: u32,
     capacity: u32,
 ) -> Result<(Session, Seat), AllocError>
+    requires { client < length script.now.clients }
     ensures link { IfOk result (λ ends. IsLink ends.0 ends.1) }
     ensures session { IfOk result (λ ends. (ends.0.script ≡ script.now) × (ends.0.client ≡ client) × (ends.0.place ≡ place) × (ends.0.left ≡ share) × (ends.0.share ≡ share)) }
     ensures fresh { IfOk result (λ ends. (submitted ends.0 ≡ []) × (polled ends.0 ≡ []) × (known_replies ends.0 ≡ []) × (known_commands ends.1 ≡ [])) }

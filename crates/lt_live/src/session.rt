@@ -1,9 +1,10 @@
 // What a session does on its caller's thread.
-ghost use Rattle.std.specs.Prelude.{◌≡◌, ◌+◌, ◌-◌, ◌≤◌, ◌<◌, ◌++◌, ◌∷◌, [], length, IfSome, IfNone, IfErr, OnOk};
+ghost use Rattle.std.specs.Prelude.{◌≡◌, ◌+◌, ◌-◌, ◌≤◌, ◌<◌, ◌++◌, ◌∷◌, [], true, length, IfSome, IfNone, IfErr, OnOk};
 ghost use mathlib.Core.List.{IsPrefix};
 ghost use Rattle.lt_script.specs.Script.{HasTargets, HasModesOf};
 ghost use Rattle.lt_live.specs.Words.{submitted, polled, known_replies, places, SameSession};
 
+use crate::asking::may_ask;
 use crate::ends::Session;
 use crate::reply::Reply;
 use lt_modes::Command;
@@ -31,6 +32,17 @@ impl Session {
         ensures share { length (submitted self.now) + result ≡ self.now.share }
     {
         self.left
+    }
+
+    /// Whether the command may be submitted here: all that it names is of the script and of its version, and the client whose
+    /// locks it drops is of the same node as this one.
+    #[tactic(auto, using(crate::proofs::AskLemmas::has_targets, crate::proofs::AskLemmas::has_modes, crate::proofs::AskLemmas::asks))]
+    pub fn may_submit(&self, command: Command) -> bool
+        ensures targets { result ≡ true → HasTargets self.now.script.sets self.now.script.clients self.now.client command }
+        ensures modes { result ≡ true → HasModesOf self.now.script.version command }
+        ensures all { HasTargets self.now.script.sets self.now.script.clients self.now.client command → HasModesOf self.now.script.version command → result ≡ true }
+    {
+        may_ask(&self.script, self.client, command)
     }
 
     /// Submits the next command of the client. Where the ring has no place for it, it comes back.

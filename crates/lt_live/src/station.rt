@@ -1,13 +1,15 @@
-ghost use Rattle.std.specs.Prelude.{◌≡◌};
+ghost use Rattle.std.specs.Prelude.{◌≡◌, [], ◌∷◌, ◌++◌, length, OnOk};
+ghost use Rattle.lt_law_appended.specs.Commands.{AreAt};
 ghost use Rattle.lt_spec.specs.NodeMove.{node_waits};
 ghost use Rattle.lt_node.specs.NodeData.{state_of};
-ghost use Rattle.lt_live.specs.Stations.{IsSeated, SeatLooks, StationTurns};
+ghost use Rattle.lt_live.specs.Stations.{AreOthers, IsSeatOf, IsSeated, StaySeated, SeatLooks, StationTurns};
 
 use crate::ends::{Seat, Session};
 use crate::looking::beside_at;
 use crate::turning::turn_of;
 use lt_runner::{Gate, Runner, Turned};
 use lt_script::Script;
+use std::alloc::{AllocError, Global};
 use std::marker::Model;
 
 /// What serves the sessions of a node's clients: the node's runner, and its ends of their rings.
@@ -28,12 +30,43 @@ impl Model for Station {
 }
 
 impl Station {
+    /// A station with this runner, and no seats yet.
+    #[tactic(auto, using(crate::proofs::FirstSeats::station_first))]
+    pub(crate) fn new(alloc: Global, runner: Runner) -> Station
+        requires { AreAt runner.node.script runner.node.me runner.node.script.commands }
+        ensures { result ≡ record { runner = runner; seats = [] } }
+    {
+        Station {
+            runner,
+            seats: Vec::new(alloc),
+        }
+    }
+
+    /// How many sessions have their other ends here.
+    pub(crate) fn seats(&self) -> usize
+        ensures { result ≡ length self.now.seats }
+    {
+        self.seats.len()
+    }
+
+    /// One seat more, of a client that has none here. Without memory the seat is dropped.
+    pub(crate) fn add_seat(&mut self, seat: Seat) -> Result<(), AllocError>
+        requires seat { IsSeatOf self.old.runner seat }
+        requires others { AreOthers seat.client self.old.seats }
+        ensures runner { self.new.runner ≡ self.old.runner }
+        ensures seats { OnOk result (self.new.seats ≡ self.old.seats ++ seat ∷ []) }
+    {
+        self.seats.push(seat)?;
+        Ok(())
+    }
+
     /// Takes at most one command of each client, makes one move, and tells what replies there are.
     ///
     /// A command that finds no memory stays in hand, and is appended in a later turn. After `NoMemory` no move was made in
     /// this turn, and what was appended stays.
     pub fn turn<G: Gate>(&mut self, gate: &G) -> Turned
-        ensures { StationTurns result self.old.runner self.old.seats self.new.runner self.new.seats }
+        ensures turns { StationTurns result self.old.runner self.old.seats self.new.runner self.new.seats }
+        ensures seated { StaySeated self.old.seats self.new.seats }
     {
         turn_of(&mut self.seats, &mut self.runner, gate)
     }
@@ -43,6 +76,7 @@ impl Station {
     pub fn beside(&mut self, session: &mut Session)
         requires { IsSeated session.old self.old.seats }
         ensures looks { SeatLooks self.old.runner.log.entries session.old session.new self.old.seats self.new.seats }
+        ensures seated { IsSeated session.new self.new.seats }
         ensures runner { self.new.runner ≡ self.old.runner }
     {
         beside_at(&mut self.seats, session, &self.runner);

@@ -1,13 +1,13 @@
 // One turn of a station.
-ghost use Rattle.std.specs.Prelude.{◌≡◌, ◌≢◌, ◌<◌, ◌&&◌, ℕ, true, false, Some, length, slice_get};
+ghost use Rattle.std.specs.Prelude.{◌≡◌, ◌≢◌, ◌<◌, ℕ, true, false, Some, length, slice_get};
 ghost use Rattle.lt_spec.specs.Families.{home};
 ghost use Rattle.lt_runner.specs.declared.choice.Choice.TheVariants as choices;
 ghost use Rattle.lt_runner.specs.declared.turning.Turned.TheVariants as turns;
 ghost use Rattle.lt_runner.specs.Choices.{next_choice};
-ghost use Rattle.lt_runner.specs.Kept.{Grew};
+ghost use Rattle.lt_runner.specs.Kept.{Grew, TurnEnds};
 ghost use Rattle.lt_live.specs.declared.ends.Seat.{Seat as SeatEnds};
 ghost use Rattle.lt_live.specs.Seats.{TakesIn, Tells};
-ghost use Rattle.lt_live.specs.Stations.{IsStation, EachSeat, SeatAt, OnlyAppends, HandMayGo, MayHandOver, CanNotAppend, NoneCanAppend, MoveEnds, StationTurns, HasCursorAt, HaveCursors};
+ghost use Rattle.lt_live.specs.Stations.{IsStation, EachSeat, SeatAt, OnlyAppends, HandMayGo, MayHandOver, CanNotAppend, CanAppend, NoneCanAppend, SomeCanAppend, StationTurns, HasCursorAt, HaveCursors};
 
 use crate::asking::may_append;
 use crate::ends::Seat;
@@ -28,12 +28,12 @@ pub(crate) fn turn_of<G: Gate>(seats: &mut Vec<Seat>, runner: &mut Runner, gate:
 }
 
 // Makes one move, where memory didn't run out before.
-#[tactic(auto, using(crate::proofs::TurnParts::move_ends, crate::proofs::TurnParts::seen_self, lt_runner::proofs::TurnLemmas::grew_self))]
+#[tactic(auto, using(lt_runner::proofs::TurnLemmas::grew_self))]
 fn make_move<G: Gate>(runner: &mut Runner, fits: bool, gate: &G) -> Turned
     ensures grew { Grew runner.old runner.new }
-    ensures ends { MoveEnds result runner.old runner.new }
+    ensures ends { fits ≡ true → TurnEnds result runner.old runner.new }
     ensures shown { fits ≡ true → next_choice runner.old ≢ choices.Nothing → result ≢ turns.Quiet }
-    ensures memory { fits ≡ false → result ≡ turns.NoMemory }
+    ensures memory { fits ≡ false → (result ≡ turns.NoMemory) × (runner.new ≡ runner.old) }
 {
     if fits {
         runner.turn(gate)
@@ -64,20 +64,15 @@ fn append_all(seats: &mut Vec<Seat>, runner: &mut Runner) -> bool
     ensures kept { IsStation runner.new seats.new.items }
     ensures runner { OnlyAppends runner.old runner.new }
     ensures seats { EachSeat HandMayGo seats.old.items seats.new.items }
-    ensures hands { result ≡ true → NoneCanAppend runner.new seats.new.items }
+    ensures all { result ≡ true → NoneCanAppend runner.new seats.new.items }
+    ensures memory { result ≡ false → SomeCanAppend runner.new seats.new.items }
 {
-    let mut fits = true;
     for place in 0..seats.len() {
-        fits = both(append_at(seats, runner, place), fits);
+        if !append_at(seats, runner, place) {
+            return false;
+        }
     }
-    fits
-}
-
-// Whether memory was found both times.
-fn both(first: bool, second: bool) -> bool
-    ensures { result ≡ (first && second) }
-{
-    first && second
+    true
 }
 
 fn append_at(seats: &mut Vec<Seat>, runner: &mut Runner, place: usize) -> bool
@@ -87,6 +82,7 @@ fn append_at(seats: &mut Vec<Seat>, runner: &mut Runner, place: usize) -> bool
     ensures runner { OnlyAppends runner.old runner.new }
     ensures seat { SeatAt HandMayGo place seats.old.items seats.new.items }
     ensures hand { result ≡ true → (seat : SeatEnds) → slice_get seats.new.items place ≡ Some seat → CanNotAppend runner.new seat }
+    ensures memory { result ≡ false → SomeCanAppend runner.new seats.new.items }
 {
     append(&mut seats[place], runner)
 }
@@ -98,6 +94,7 @@ fn append(seat: &mut Seat, runner: &mut Runner) -> bool
     requires home { home runner.old.node.script seat.old.client ≡ runner.old.node.me }
     ensures hand { MayHandOver seat.old runner.old seat.new runner.new }
     ensures rest { result ≡ true → CanNotAppend runner.new seat.new }
+    ensures memory { result ≡ false → CanAppend runner.new seat.new }
 {
     let Some(command) = seat.hand else {
         return true;

@@ -1,17 +1,19 @@
 -- Where memory is taken, all else stays.
-use Rattle.std.proofs.Common.{◌≡◌, ◌+◌, ◌<◌, ◌≤◌, ℕ, List, length, map, arith, refl, sym, ap, subst, ◌∙◌, slice_index_or, slice_set, inl, inr, All, IsTrue}
+use Rattle.std.proofs.Common.{◌≡◌, ◌+◌, ◌<◌, ◌≤◌, ℕ, List, [], ◌∷◌, length, map, arith, refl, sym, ap, subst, ◌∙◌, slice_index_or, slice_set, inl, inr, All, IsTrue, sum_by}
 use Rattle.std.proofs.Math.Path.{fun_ext}
 use Rattle.std.proofs.Math.ListN.{get_or-map as map_read}
 use Rattle.std.proofs.Math.Seq.{map-set_same}
 use Rattle.std.proofs.lemmas.Bool.{cases_eq}
 use Rattle.std.proofs.lemmas.Grind.{get_or-set_at}
 use Rattle.std.proofs.lemmas.List.{length-map, get_or-set_other, get_or_default}
+use Rattle.std.proofs.lemmas.List.Sums.{sum_by-cons}
 use Rattle.lt_modes.specs.State.{SetState}
 use Rattle.lt_core.specs.CoreData.{CoreData, HasMemory, waiting_here}
+use Rattle.lt_core.specs.Bound.{most}
 use Rattle.lt_limits.specs.Limits.{node_within}
 use Rattle.lt_spec.specs.NodeMove.{NodeState}
 use Rattle.lt_node.specs.NodeData.{NodeData, IsNode, SameNode, state_of, first_core}
-use Rattle.lt_node.specs.Room.{KeptData, HasFewAsks, kept_of}
+use Rattle.lt_node.specs.Room.{KeptData, HasFewAsks, kept_of, most_sent}
 use Rattle.lt_node.proofs.NodeLemmas.{node_is}
 use Rattle.lt_node.proofs.WithinLemmas.{each_within}
 
@@ -31,6 +33,19 @@ pub few_kept : (xs ys : List CoreData) → map kept_of xs ≡ map kept_of ys →
 few_kept xs ys same few k d inside =
     let states = ap (λ (x : KeptData). x.state) (kept_at xs ys k d same) in
     subst (λ (s : SetState). waiting_here s ≤ 256) (sym states) (few k d (omega (arith, inside, kept_length xs ys same)))
+
+abbrev most_kept : KeptData → ℕ
+most_kept kept = most kept.state + 2
+
+sent_by_kept : (cores : List CoreData) → sum_by most_sent cores ≡ sum_by most_kept (map kept_of cores)
+sent_by_kept [] = refl
+sent_by_kept (core ∷ rest) =
+    sum_by-cons most_sent core rest ∙ ap (λ (k : ℕ). most_sent core + k) (sent_by_kept rest)
+    ∙ sym (sum_by-cons most_kept (kept_of core) (map kept_of rest))
+
+-- so no more is sent
+pub sent_kept : (xs ys : List CoreData) → map kept_of xs ≡ map kept_of ys → sum_by most_sent xs ≡ sum_by most_sent ys
+sent_kept xs ys same = sent_by_kept xs ∙ ap (λ (l : List KeptData). sum_by most_kept l) same ∙ sym (sent_by_kept ys)
 
 -- one more has memory
 pub memory_more : (cores : List CoreData) (k : ℕ) (new : CoreData) → k < length cores → HasMemory 0 new → ((s : ℕ) (d : CoreData) → s < k → HasMemory 0 (slice_index_or cores s d))

@@ -12,3 +12,4 @@ pub mod KeptLemmas
 pub mod DropLemmas
 pub mod AskSearch
 mod RequestLemmas
+pub mod MarkLemmas

@@ -5,3 +5,4 @@ pub mod Clients
 pub mod Family
 pub mod Asks
 pub mod Appending
+pub mod Marks

@@ -14,6 +14,7 @@ ghost use Rattle.lt_node.specs.Answers.{answer_of_act, answer_to};
 ghost use Rattle.lt_node.specs.Room.{RoomToAct, IsReady, most_sent};
 
 use crate::family;
+use crate::marks::mark;
 use crate::node::Node;
 use lt_core::{Answer, SetCommand};
 use lt_desk::Out;
@@ -110,7 +111,11 @@ impl Node {
         ensures answer { result ≡ answer_of self.old.me client command ((state_of self.old).set set) }
         ensures does { NodeDoes (touched (state_of self.old) set (move_of stamp client command set ((state_of self.old).set set))) self.old out.old self.new out.new }
     {
-        self.cores[usize::from(set)].act(client, command, stamp, out)
+        let core = &mut self.cores[usize::from(set)];
+        mark(&mut self.waiting, core.asks(), set, false);
+        let answer = core.act(client, command, stamp, out);
+        mark(&mut self.waiting, core.asks(), set, true);
+        answer
     }
 
     // Drops all locks of a client in a family, unless it waits; the answer stands before what the sets send.
@@ -123,7 +128,15 @@ impl Node {
     {
         if self.waits(other) {
             out.push_event(Event::Busy { client, other, set });
-            family::end_each(&mut self.cores, &self.script, set, None, stamp, out);
+            family::end_each(
+                &mut self.cores,
+                &mut self.waiting,
+                &self.script,
+                set,
+                None,
+                stamp,
+                out,
+            );
             return Answer::Busy;
         }
         let locks = family::locks(&self.cores, &self.script, set, other);
@@ -133,7 +146,15 @@ impl Node {
             set,
             count: locks,
         });
-        family::end_each(&mut self.cores, &self.script, set, Some(other), stamp, out);
+        family::end_each(
+            &mut self.cores,
+            &mut self.waiting,
+            &self.script,
+            set,
+            Some(other),
+            stamp,
+            out,
+        );
         Answer::Dropped(locks)
     }
 }

@@ -6,6 +6,7 @@ mod appending;
 mod client;
 mod family;
 mod limits;
+mod marks;
 mod node;
 mod room;
 mod taking;

@@ -9,6 +9,7 @@ ghost use Rattle.lt_script.specs.Script.{IsScript};
 ghost use Rattle.lt_node.specs.NodeData.{IsNode, IsCoreOf, state_of, first_core};
 
 use crate::client::{Client, clients_of, homes_of};
+use crate::marks::no_marks;
 use lt_core::{Core, Numbers};
 use lt_desk::Letter;
 use lt_modes::Stamp;
@@ -27,12 +28,15 @@ pub struct Node {
     // All clients of the script; the commands only of this node's own.
     pub(crate) clients: Vec<Client>,
     pub(crate) cores: Vec<Core>,
+    // In which sets each client waits: bit s is set s.
+    pub(crate) waiting: Vec<u8>,
 }
 
 impl Model for Node {
     ghost use Rattle.std.specs.Prelude.{map};
     ghost use Rattle.lt_node.specs.NodeData.{NodeData, IsNode};
     ghost use Rattle.lt_node.specs.Clients.{progress_made, KnowsClients};
+    ghost use Rattle.lt_node.specs.Marks.{TellsWaiting};
 
     ghost Value = { NodeData };
 
@@ -50,7 +54,8 @@ impl Model for Node {
       clock = n.clock;
       made = map progress_made n.clients.items;
       cores = n.cores.items;
-    }) × KnowsClients n.script n.me n.homes.items n.clients.items };
+    }) × KnowsClients n.script n.me n.homes.items n.clients.items
+        × TellsWaiting n.script n.me n.cores.items n.waiting.items };
 }
 
 impl Node {
@@ -64,6 +69,7 @@ impl Node {
         let homes = homes_of(alloc, script)?;
         let clients = clients_of(alloc, script, node)?;
         let cores = cores_of(alloc, script, node)?;
+        let waiting = no_marks(alloc, script)?;
         let script = script.copy(alloc)?;
         Ok(Node {
             script,
@@ -72,6 +78,7 @@ impl Node {
             homes,
             clients,
             cores,
+            waiting,
         })
     }
 
@@ -105,6 +112,18 @@ impl Node {
 
     /// Whether an ask of the client is unanswered, in some set.
     pub fn waits(&self, client: u16) -> bool
+        ensures { result ≡ node_waits self.now.script (state_of self.now) client }
+    {
+        let place = usize::from(client);
+        if place < self.waiting.len() {
+            self.waiting[place] != 0
+        } else {
+            self.waits_in_some(client)
+        }
+    }
+
+    // The same for a number that isn't one of the script's clients.
+    fn waits_in_some(&self, client: u16) -> bool
         ensures { result ≡ node_waits self.now.script (state_of self.now) client }
     {
         for set in 0..self.cores.len() {

@@ -1,4 +1,4 @@
-ghost use Rattle.std.specs.Prelude.{◌≡◌, ◌+◌, ◌≤◌, ◌<◌, ◌^◌, All, IsTrue, OnOk, length, map, sum_by};
+ghost use Rattle.std.specs.Prelude.{◌≡◌, ◌+◌, ◌≤◌, ◌<◌, ◌^◌, All, IsOk, IsTrue, OnOk, length, map, sum_by};
 ghost use Rattle.lt_modes.specs.Fits.{fits, numbers_of};
 ghost use Rattle.lt_desk.specs.LetterSeen.{letter_seen, body_seen};
 ghost use Rattle.lt_desk.specs.Hands.{asks_in};
@@ -20,6 +20,7 @@ impl Node {
         ensures node { SameNode self.old self.new }
         ensures out { (out.new.posts ≡ out.old.posts) × (out.new.events ≡ out.old.events) }
         ensures room { OnOk result (RoomToAct self.new out.new) }
+        ensures full { RoomToAct self.old out.old → IsOk result }
     {
         reserve_each(&mut self.cores)?;
         let sent = most_sent(&self.cores) + 1;
@@ -34,6 +35,7 @@ impl Node {
         ensures letter { letter_seen letter.new ≡ letter_seen letter.old }
         ensures out { (out.new.posts ≡ out.old.posts) × (out.new.events ≡ out.old.events) }
         ensures room { OnOk result (RoomToTake self.new letter.new out.new) }
+        ensures full { RoomToTake self.old letter.old out.old → IsOk result }
     {
         reserve_for(&mut self.cores[usize::from(letter.set)], letter, out)
     }
@@ -44,6 +46,7 @@ fn reserve_each(cores: &mut Vec<Core>) -> Result<(), AllocError>
     requires { All HasFewAsks cores.old.items }
     ensures kept { map kept_of cores.new.items ≡ map kept_of cores.old.items }
     ensures room { OnOk result (All (HasMemory 0) cores.new.items) }
+    ensures full { All (HasMemory 0) cores.old.items → IsOk result }
 {
     for set in 0..cores.len() {
         cores[set].reserve()?;
@@ -59,6 +62,7 @@ fn reserve_for(core: &mut Core, letter: &mut Letter, out: &mut Out) -> Result<()
     ensures letter { letter_seen letter.new ≡ letter_seen letter.old }
     ensures out { (out.new.posts ≡ out.old.posts) × (out.new.events ≡ out.old.events) }
     ensures room { OnOk result (RoomForLetter core.new letter.new out.new) }
+    ensures full { RoomForLetter core.old letter.old out.old → IsOk result }
 {
     core.reserve_for(letter)?;
     let sent = core.most_sent() + 2 + brought(&letter.body);

@@ -6,6 +6,7 @@ ghost use Rattle.lt_spec.specs.NodeMove.{node_take};
 ghost use Rattle.lt_node.specs.NodeData.{NodeDoes, state_of};
 ghost use Rattle.lt_node.specs.Room.{RoomToTake};
 
+use crate::marks::mark;
 use crate::node::Node;
 use lt_desk::{Letter, Out};
 
@@ -20,6 +21,10 @@ impl Node {
     {
         let stamp = self.stamp_of_take(&letter);
         self.clock = stamp.clock;
-        self.cores[usize::from(letter.set)].take(letter, stamp, out);
+        let set = letter.set;
+        let core = &mut self.cores[usize::from(set)];
+        mark(&mut self.waiting, core.asks(), set, false);
+        core.take(letter, stamp, out);
+        mark(&mut self.waiting, core.asks(), set, true);
     }
 }

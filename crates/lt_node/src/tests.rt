@@ -10,24 +10,10 @@ use lt_script::{MAX_COMMANDS, Script};
 use std::alloc::{AllocError, Global};
 use std::test::Fail;
 
-// Two sets of one family. The second client wants what the first has; the fourth can't drop what the second waits
-// for, and the third drops what the first has.
-fn script(alloc: Global) -> Result<Script, AllocError> {
-    let set = 0;
-    let mode = Mode::Write;
-    let mut script = Script::new(alloc, 2)?;
-    script.add_set("s".as_bytes(), 0)?;
-    script.add_set("t".as_bytes(), 0)?;
-    script.add_client("a".as_bytes(), 0)?;
-    script.add_client("b".as_bytes(), 1)?;
-    script.add_client("c".as_bytes(), 0)?;
-    script.add_client("d".as_bytes(), 1)?;
-    script.add_command(0, Command::Lock { set, mode })?;
-    script.add_command(1, Command::Lock { set, mode })?;
-    script.add_command(3, Command::DropAll { client: 1, set: 1 })?;
-    script.add_command(2, Command::DropAll { client: 0, set: 1 })?;
-    Ok(script)
-}
+const LOCK: Command = Command::Lock {
+    set: 0,
+    mode: Mode::Write,
+};
 
 // Whether the client is one of the node's.
 fn is_own(node: &Node, client: u16) -> bool
@@ -67,24 +53,41 @@ fn take(node: &mut Node, mut letter: Letter, out: &mut Out) -> Result<bool, Allo
     Ok(true)
 }
 
+// Takes the letter that was sent last, where it is for the node and fits.
+fn take_sent(node: &mut Node, out: &mut Out) -> Result<bool, AllocError>
+    ensures { node.new.script ≡ node.old.script }
+{
+    match out.next_letter() {
+        Some(post) if post.to == node.me() => take(node, post.letter, out),
+        _ => Ok(false),
+    }
+}
+
+// Two sets of one family, and a client on each of two nodes: the first drops what it locked, which the second wants.
+fn two_nodes(alloc: Global) -> Result<Script, AllocError> {
+    let mut script = Script::new(alloc, 2)?;
+    script.add_set("s".as_bytes(), 0)?;
+    script.add_set("t".as_bytes(), 0)?;
+    script.add_client("a".as_bytes(), 0)?;
+    script.add_client("b".as_bytes(), 1)?;
+    script.add_command(0, LOCK)?;
+    script.add_command(1, LOCK)?;
+    script.add_command(0, Command::DropAll { client: 0, set: 1 })?;
+    Ok(script)
+}
+
 #[test]
-fn two_nodes_make_their_moves(rt: HostRuntime) -> Result<(), Fail> {
-    let script = script(rt.alloc())?;
+fn a_waiter_is_sent_the_token(rt: HostRuntime) -> Result<(), Fail> {
+    let script = two_nodes(rt.alloc())?;
     let mut out = Out::new(rt.alloc());
     assert_eq!(rt; script.nodes(), 2);
     let mut first = Node::new(rt.alloc(), &script, 0)?;
     let mut second = Node::new(rt.alloc(), &script, 1)?;
     assert_eq!(rt; act(&mut first, 0, &mut out)?, Some(Answer::Granted));
     assert_eq!(rt; act(&mut second, 1, &mut out)?, Some(Answer::Waits));
-    assert!(rt; second.waits(1));
-    assert_eq!(rt; act(&mut second, 3, &mut out)?, Some(Answer::Busy));
-    let ask = out.next_letter().ok_or("no ask")?.letter;
-    assert!(rt; take(&mut first, ask, &mut out)?);
-    assert_eq!(rt; act(&mut first, 2, &mut out)?, Some(Answer::Dropped(1)));
-    let token = out.next_letter().ok_or("no token")?.letter;
-    assert!(rt; take(&mut second, token, &mut out)?);
-    assert!(rt; !second.waits(1));
-    assert_eq!(rt; second.clock(), 4);
+    assert!(rt; take_sent(&mut first, &mut out)?);
+    assert_eq!(rt; act(&mut first, 0, &mut out)?, Some(Answer::Dropped(1)));
+    assert!(rt; take_sent(&mut second, &mut out)?);
     for want in [
         Event::Grant {
             client: 0,
@@ -96,13 +99,8 @@ fn two_nodes_make_their_moves(rt: HostRuntime) -> Result<(), Fail> {
             set: 0,
             mode: Mode::Write,
         },
-        Event::Busy {
-            client: 3,
-            other: 1,
-            set: 1,
-        },
         Event::DropAll {
-            client: 2,
+            client: 0,
             other: 0,
             set: 1,
             count: 1,
@@ -120,101 +118,18 @@ fn two_nodes_make_their_moves(rt: HostRuntime) -> Result<(), Fail> {
     ] {
         assert_eq!(rt; out.next_event(), Some(want));
     }
-    assert_eq!(rt; out.next_event(), None);
     Ok(())
 }
 
-// Four nodes with a writer each; the last is at the node that has the token at the start.
-fn writers(alloc: Global) -> Result<Script, AllocError> {
-    let lock = Command::Lock {
-        set: 0,
-        mode: Mode::Write,
-    };
-    let mut script = Script::new(alloc, 4)?;
-    script.add_set("s".as_bytes(), 0)?;
-    script.add_client("b".as_bytes(), 1)?;
-    script.add_client("c".as_bytes(), 2)?;
-    script.add_client("d".as_bytes(), 3)?;
-    script.add_client("a".as_bytes(), 0)?;
-    script.add_command(0, lock)?;
-    script.add_command(1, lock)?;
-    script.add_command(2, lock)?;
-    script.add_command(3, lock)?;
-    Ok(script)
-}
-
-// Takes the letter that was sent last, where it is for the node and fits.
-fn take_sent(node: &mut Node, out: &mut Out) -> Result<bool, AllocError>
-    ensures { node.new.script ≡ node.old.script }
-{
-    match out.next_letter() {
-        Some(post) if post.to == node.me() => take(node, post.letter, out),
-        _ => Ok(false),
-    }
-}
-
-#[test]
-fn asks_park_behind_asks(rt: HostRuntime) -> Result<(), Fail> {
-    let script = writers(rt.alloc())?;
-    let mut out = Out::new(rt.alloc());
-    assert_eq!(rt; script.nodes(), 4);
-    let mut a = Node::new(rt.alloc(), &script, 0)?;
-    let mut b = Node::new(rt.alloc(), &script, 1)?;
-    let mut c = Node::new(rt.alloc(), &script, 2)?;
-    let mut d = Node::new(rt.alloc(), &script, 3)?;
-    assert_eq!(rt; act(&mut b, 0, &mut out)?, Some(Answer::Waits));
-    assert!(rt; take_sent(&mut a, &mut out)?);
-    assert!(rt; take_sent(&mut b, &mut out)?);
-    assert_eq!(rt; act(&mut c, 1, &mut out)?, Some(Answer::Waits));
-    assert!(rt; take_sent(&mut a, &mut out)?);
-    assert!(rt; take_sent(&mut b, &mut out)?);
-    assert_eq!(rt; act(&mut d, 2, &mut out)?, Some(Answer::Waits));
-    assert!(rt; take_sent(&mut a, &mut out)?);
-    assert!(rt; take_sent(&mut c, &mut out)?);
-    assert_eq!(rt; act(&mut a, 3, &mut out)?, Some(Answer::Waits));
-    assert!(rt; take_sent(&mut d, &mut out)?);
-    assert!(rt; b.cores.first().is_some_and(|core| core.queues(1)));
-    assert!(rt; c.cores.first().is_some_and(|core| core.parks(2)));
-    assert!(rt; d.cores.first().is_some_and(|core| core.parks(3)));
-    assert!(rt; script.sets() == 1);
-    assert!(rt; c.parked_behind(0, 1, 2) && !c.parked_behind(0, 2, 1));
-    assert!(rt; d.parked_behind(0, 2, 3) && !b.parked_behind(0, 0, 1));
-    assert_eq!(rt; b.count(0, 0, Mode::Write), 1);
-    Ok(())
-}
-
-// Three writers on one node.
-fn lone_writers(alloc: Global) -> Result<Script, AllocError> {
-    let lock = Command::Lock {
-        set: 0,
-        mode: Mode::Write,
-    };
+// Two writers on one node.
+fn one_node(alloc: Global) -> Result<Script, AllocError> {
     let mut script = Script::new(alloc, 1)?;
     script.add_set("s".as_bytes(), 0)?;
     script.add_client("a".as_bytes(), 0)?;
     script.add_client("b".as_bytes(), 0)?;
-    script.add_client("c".as_bytes(), 0)?;
-    script.add_command(0, lock)?;
-    script.add_command(1, lock)?;
-    script.add_command(2, lock)?;
+    script.add_command(0, LOCK)?;
+    script.add_command(1, LOCK)?;
     Ok(script)
-}
-
-#[test]
-fn asks_stand_before_asks(rt: HostRuntime) -> Result<(), Fail> {
-    let script = lone_writers(rt.alloc())?;
-    let mut out = Out::new(rt.alloc());
-    assert!(rt; script.nodes() == 1 && script.sets() == 1);
-    let mut node = Node::new(rt.alloc(), &script, 0)?;
-    assert_eq!(rt; act(&mut node, 0, &mut out)?, Some(Answer::Granted));
-    assert_eq!(rt; act(&mut node, 1, &mut out)?, Some(Answer::Waits));
-    assert_eq!(rt; act(&mut node, 2, &mut out)?, Some(Answer::Waits));
-    assert!(rt; node.stands_before(0, 1, 2) && !node.stands_before(0, 2, 1));
-    assert_eq!(rt; node.ask_of(0), None);
-    let (set, ask) = node.ask_of(1).ok_or("no ask")?;
-    assert_eq!(rt; (set, ask.client, ask.mode), (0, 1, Mode::Write));
-    assert_eq!(rt; node.ask_in(0, 1), Some(ask));
-    Ok(())
 }
 
 // The client of the node is then to unlock what it locks.
@@ -231,17 +146,32 @@ fn append_unlock(node: &mut Node, client: u16) -> Result<bool, AllocError> {
 }
 
 #[test]
-fn an_appended_command_is_made_after_the_others(rt: HostRuntime) -> Result<(), Fail> {
-    let script = lone_writers(rt.alloc())?;
+fn an_appended_unlock_lets_the_waiter_go_on(rt: HostRuntime) -> Result<(), Fail> {
+    let script = one_node(rt.alloc())?;
     let mut out = Out::new(rt.alloc());
-    assert_eq!(rt; script.nodes(), 1);
+    assert!(rt; script.nodes() == 1 && script.sets() == 1);
     let mut node = Node::new(rt.alloc(), &script, 0)?;
-    assert!(rt; append_unlock(&mut node, 1)?);
-    assert!(rt; append_unlock(&mut node, 0)?);
     assert_eq!(rt; act(&mut node, 0, &mut out)?, Some(Answer::Granted));
     assert_eq!(rt; act(&mut node, 1, &mut out)?, Some(Answer::Waits));
-    assert_eq!(rt; act(&mut node, 0, &mut out)?, Some(Answer::Unlocked));
     assert_eq!(rt; act(&mut node, 0, &mut out)?, None);
-    assert_eq!(rt; act(&mut node, 1, &mut out)?, Some(Answer::Unlocked));
+    assert!(rt; append_unlock(&mut node, 0)?);
+    assert_eq!(rt; act(&mut node, 0, &mut out)?, Some(Answer::Unlocked));
+    assert!(rt; !node.waits(1));
+    Ok(())
+}
+
+#[test]
+fn a_node_tells_who_waits(rt: HostRuntime) -> Result<(), Fail> {
+    let script = one_node(rt.alloc())?;
+    let mut out = Out::new(rt.alloc());
+    assert!(rt; script.nodes() == 1 && script.sets() == 1);
+    let mut node = Node::new(rt.alloc(), &script, 0)?;
+    assert_eq!(rt; act(&mut node, 0, &mut out)?, Some(Answer::Granted));
+    assert_eq!(rt; act(&mut node, 1, &mut out)?, Some(Answer::Waits));
+    assert!(rt; !node.stands_before(0, 1, 0) && !node.parked_behind(0, 0, 1));
+    let (set, ask) = node.ask_of(1).ok_or("no ask")?;
+    assert_eq!(rt; (set, ask.client, ask.mode), (0, 1, Mode::Write));
+    assert_eq!(rt; node.ask_in(0, 1), Some(ask));
+    assert_eq!(rt; node.count(0, 0, Mode::Write), 1);
     Ok(())
 }

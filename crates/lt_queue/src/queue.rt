@@ -1,4 +1,4 @@
-ghost use Rattle.std.specs.Prelude.{◌≡◌, ◌<◌, ◌≤◌, [], not, length, take, remove, slice_index_or, IfOk, OnOk, OnErr};
+ghost use Rattle.std.specs.Prelude.{◌≡◌, ◌<◌, ◌≤◌, [], true, not, length, take, remove, slice_index_or, IfOk, OnOk, OnErr};
 ghost use Rattle.lt_modes.specs.Modes.{has, bars};
 ghost use Rattle.lt_modes.specs.Queue.{place, after_holders_from, entered, modes_of_asks, no_ask};
 ghost use Rattle.lt_modes.specs.Freezing.{frozen_by};
@@ -15,10 +15,13 @@ pub struct Queue {
     asks: Vec<Ask>,
     // For each mode, how many asks want it.
     asked: ModeCounts,
+    // The place after the last holder's ask, or 0.
+    after_holders: u32,
 }
 
 impl Model for Queue {
-    ghost use Rattle.std.specs.Prelude.{◌<◌, ◌^◌, vec_capacity};
+    ghost use Rattle.std.specs.Prelude.{◌≡◌, ◌<◌, ◌^◌, vec_capacity};
+    ghost use Rattle.lt_modes.specs.Queue.{after_holders_from};
     ghost use Rattle.lt_queue.specs.QueueData.{QueueData};
     ghost use Rattle.lt_queue.specs.AskCounts.{AreAskCounts};
 
@@ -26,7 +29,8 @@ impl Model for Queue {
 
     ghost view = { λ q. record { asks = q.asks.items; room = vec_capacity q.asks } };
 
-    ghost invariant = { λ q. (vec_capacity q.asks < 2 ^ 32) × AreAskCounts q.asks.items q.asked };
+    ghost invariant = { λ q. (vec_capacity q.asks < 2 ^ 32)
+        × (AreAskCounts q.asks.items q.asked × (q.after_holders ≡ after_holders_from 0 0 q.asks.items)) };
 }
 
 impl Queue {
@@ -37,6 +41,7 @@ impl Queue {
         Ok(Queue {
             asks,
             asked: ModeCounts::new(),
+            after_holders: 0,
         })
     }
 
@@ -74,15 +79,30 @@ impl Queue {
     }
 
     /// Takes the ask at place k away.
-    #[tactic(auto, using(crate::proofs::AskedLemmas::may_go, crate::proofs::AskedLemmas::one_went))]
+    #[tactic(auto, using(crate::proofs::AskedLemmas::may_go))]
     pub fn remove(&mut self, k: u32) -> Ask
         requires { k < length self.old.asks }
         ensures ask { result ≡ slice_index_or self.old.asks k no_ask }
         ensures queue { self.new ≡ record self.old { asks = remove self.old.asks k } }
     {
+        self.after_holders = self.after_holders_without(k);
         let ask = self.asks.remove(k as usize);
         self.asked = self.asked.shifted(ModeSet::one(ask.mode), ModeSet::empty());
         ask
+    }
+
+    // The place after the last holder's ask, once the ask at place k is taken away.
+    fn after_holders_without(&self, k: u32) -> u32
+        requires { k < length self.now.asks }
+        ensures { result ≡ place (remove self.now.asks k) true }
+    {
+        if self.after_holders <= k {
+            self.after_holders
+        } else if k + 1 < self.after_holders {
+            self.after_holders - 1
+        } else {
+            after_holders(&self.asks.as_slice()[..k as usize]) as u32
+        }
     }
 
     /// Where a new ask stands: a holder's directly after the last holder's ask, or first; any other last.
@@ -91,7 +111,7 @@ impl Queue {
         ensures within { result ≤ length self.now.asks }
     {
         if holder {
-            after_holders(self.asks.as_slice()) as u32
+            self.after_holders
         } else {
             self.len()
         }
@@ -103,12 +123,25 @@ impl Queue {
         requires { length self.old.asks < self.old.room }
         ensures { self.new ≡ record self.old { asks = entered self.old.asks ask } }
     {
-        let k = self.place(ask.holder) as usize;
-        match self.asks.insert(k, ask) {
+        let k = self.place(ask.holder);
+        self.after_holders = self.after_holders_with(&ask);
+        match self.asks.insert(k as usize, ask) {
             Ok(()) => {}
             Err(_) => unreachable!(),
         }
         self.asked = self.asked.shifted(ModeSet::empty(), ModeSet::one(ask.mode));
+    }
+
+    // The place after the last holder's ask, once this ask is in the queue.
+    fn after_holders_with(&self, ask: &Ask) -> u32
+        requires { length self.now.asks < self.now.room }
+        ensures { result ≡ place (entered self.now.asks ask.now) true }
+    {
+        if ask.holder {
+            self.after_holders + 1
+        } else {
+            self.after_holders
+        }
     }
 
     /// The number of asks for the mode.

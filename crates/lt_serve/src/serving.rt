@@ -37,7 +37,7 @@ pub struct Setup {
     pub capacity: u32,
     /// How often a worker looks in vain for a move before it ends.
     pub patience: u32,
-    /// How many workers share the nodes, at most as many as there are nodes.
+    /// How many workers share the nodes at most. No more begin than there are nodes, nor than 3 and one for each 32 nodes.
     pub workers: u8,
 }
 

@@ -2,3 +2,4 @@ mod OwedLemmas
 mod EntryLemmas
 mod CountLemmas
 mod RecountLemmas
+mod ToldLemmas

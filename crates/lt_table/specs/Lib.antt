@@ -1,3 +1,4 @@
 pub mod TableData
 pub mod Seen
 pub mod NodeCounts
+pub mod Told

@@ -1,4 +1,4 @@
-ghost use Rattle.std.specs.Prelude.{◌≡◌, ◌≤◌, ◌<◌, ◌+◌, List, length, map, replicate, IfOk, OnOk, OnErr, ◌==◌, ◌&&◌, not, nat_lt};
+ghost use Rattle.std.specs.Prelude.{◌≡◌, ◌≤◌, ◌<◌, ◌+◌, List, true, length, map, replicate, IfOk, OnOk, OnErr, ◌==◌, ◌&&◌, not, nat_lt};
 ghost use Rattle.lt_modes.specs.declared.ask.Ask.{Ask};
 ghost use Rattle.lt_modes.specs.State.{SetState, Desk, first_entry};
 ghost use Rattle.lt_modes.specs.Held.{held_modes};
@@ -9,8 +9,9 @@ ghost use Rattle.lt_modes.specs.HandingOver.{stamps_of, settled};
 ghost use Rattle.lt_table.specs.TableData.{entry_at, put_by, ask_with, told_frozen};
 ghost use Rattle.lt_table.specs.Seen.{entry_seen, spare_in};
 ghost use Rattle.lt_table.specs.NodeCounts.{nodes_with};
+ghost use Rattle.lt_table.specs.Told.{AreTold};
 
-use crate::entry::Entry;
+use crate::entry::{Entry, still_told};
 use lt_asks::Pending;
 use lt_counts::ModeCounts;
 use lt_modes::{Mode, ModeSet, Stamp};
@@ -25,19 +26,26 @@ pub struct Table {
     entries: Vec<Entry>,
     // For each mode, how many nodes have it in their record.
     counts: ModeCounts,
+    // For so many asks more each entry has places.
+    spare: u32,
+    // The frozen modes that each node with a record was told, where it is known that they all were.
+    told: Option<ModeSet>,
 }
 
 impl Model for Table {
-    ghost use Rattle.std.specs.Prelude.{◌<◌, map, length};
+    ghost use Rattle.std.specs.Prelude.{◌<◌, ◌≤◌, map, length};
     ghost use Rattle.lt_table.specs.TableData.{TableData};
     ghost use Rattle.lt_table.specs.Seen.{entry_seen, spare_in};
     ghost use Rattle.lt_table.specs.NodeCounts.{AreNodeCounts};
+    ghost use Rattle.lt_table.specs.Told.{AreToldLast};
 
     ghost Value = { TableData };
 
-    ghost view = { λ t. record { entries = map entry_seen t.entries.items; spare = spare_in t.entries.items } };
+    ghost view = { λ t. record { entries = map entry_seen t.entries.items; spare = t.spare } };
 
-    ghost invariant = { λ t. (length t.entries.items < 256) × AreNodeCounts (map entry_seen t.entries.items) t.counts };
+    ghost invariant = { λ t. (length t.entries.items < 256)
+        × (AreNodeCounts (map entry_seen t.entries.items) t.counts
+        × ((t.spare ≤ spare_in t.entries.items) × AreToldLast (map entry_seen t.entries.items) t.told)) };
 }
 
 impl Table {
@@ -47,6 +55,8 @@ impl Table {
         Ok(Table {
             entries: first_entries(alloc, nodes)?,
             counts: ModeCounts::new(),
+            spare: 0,
+            told: None,
         })
     }
 
@@ -64,7 +74,10 @@ impl Table {
         ensures kept { self.old.spare ≤ self.new.spare }
         ensures full { OnErr result (self.old.spare < asks) }
     {
-        reserve(&mut self.entries, asks)
+        if self.spare < asks {
+            self.spare = reserve(&mut self.entries, asks)?;
+        }
+        Ok(())
     }
 
     /// The record of a node: the modes that it reported, and those of its owed asks.
@@ -115,6 +128,7 @@ impl Table {
             let before = entry.record();
             entry.tell(modes, pending, stamp);
             let after = entry.record();
+            self.told = still_told(self.told, after, entry.frozen_told);
             self.counts = self.counts.shifted(before, after);
         }
         newer
@@ -132,7 +146,9 @@ impl Table {
             let before = entry.record();
             entry.owe(stamp, mode);
             let after = entry.record();
+            self.told = still_told(self.told, after, entry.frozen_told);
             self.counts = self.counts.shifted(before, after);
+            self.spare -= 1;
         }
     }
 
@@ -160,8 +176,29 @@ impl Table {
     {
         let x = usize::from(node);
         if x < self.entries.len() {
-            self.entries[x].tell_frozen(modes);
+            let entry = &mut self.entries[x];
+            entry.tell_frozen(modes);
+            let known = entry.record();
+            self.told = still_told(self.told, known, modes);
         }
+    }
+
+    /// Whether it is known that each node with a record was told these frozen modes.
+    pub fn all_told(&self, modes: ModeSet) -> bool
+        ensures { result ≡ true → AreTold modes self.now.entries }
+    {
+        match self.told {
+            Some(told) => told.same(modes),
+            None => false,
+        }
+    }
+
+    /// From now on it is known that each node with a record was told these frozen modes.
+    pub fn note_told(&mut self, modes: ModeSet)
+        requires { AreTold modes self.old.entries }
+        ensures { self.new ≡ self.old }
+    {
+        self.told = Some(modes);
     }
 
     /// What the node tells of itself as it hands the desk over: its modes, and the stamps of its unanswered asks.
@@ -176,6 +213,7 @@ impl Table {
             let before = entry.record();
             entry.settle(modes, pending, stamp);
             let after = entry.record();
+            self.told = still_told(self.told, after, entry.frozen_told);
             self.counts = self.counts.shifted(before, after);
         }
     }
@@ -220,15 +258,18 @@ fn first_entries(alloc: Global, nodes: u8) -> Result<Vec<Entry>, AllocError>
     Ok(entries)
 }
 
-fn reserve(entries: &mut Vec<Entry>, asks: u32) -> Result<(), AllocError>
+// Makes room for so many asks more in each entry; answers for how many there is room then.
+fn reserve(entries: &mut Vec<Entry>, asks: u32) -> Result<u32, AllocError>
     ensures entries { map entry_seen entries.new.items ≡ map entry_seen entries.old.items }
     ensures length { length entries.new.items ≡ length entries.old.items }
-    ensures spare { OnOk result (asks ≤ spare_in entries.new.items) }
+    ensures spare { IfOk result (λ spare. (asks ≤ spare) × (spare ≤ spare_in entries.new.items)) }
     ensures kept { spare_in entries.old.items ≤ spare_in entries.new.items }
-    ensures full { OnErr result (spare_in entries.old.items < asks) }
 {
+    let mut least = u32::MAX;
     for x in 0..entries.len() {
-        entries[x].reserve(asks)?;
+        let entry = &mut entries[x];
+        entry.reserve(asks)?;
+        least = least.min(entry.spare());
     }
-    Ok(())
+    Ok(least)
 }

@@ -18,6 +18,7 @@ use Rattle.lt_threads.specs.Enabled.{IsLeastEnabled, EachShows, IsFirstMove, Non
 use Rattle.lt_threads.proofs.Each.{each_before, each_join, each_len, each_weaker}
 use Rattle.lt_threads.proofs.Linked.{links_last}
 use Rattle.lt_threads.proofs.Shown.{shows_is}
+use Rattle.lt_threads.proofs.SameScripts.{same_before}
 
 pub crew_linked : (script : ScriptData) (rs : List Parts) → IsCrew script rs → RunnersLinked rs
 crew_linked script rs crew = record { me = λ k p e. (crew.each k p e).me; links = crew.links }
@@ -35,7 +36,7 @@ crew_last script old new same crew = record {
         let was = each_before SameRunner old new same k p e in
         let is : SameRunner was.0 p = was.2 in
         let before = crew.each k was.0 was.1 in record {
-          script_is = is.script ∙ before.script_is;
+          script_is = same_before k was.0.node.script p.node.script script is.script before.script_is;
           me = is.me ∙ before.me;
           limit = subst (λ (n : ℕ). n ≤ MAX_MOVES) (sym is.limit) before.limit;
         }

@@ -10,9 +10,11 @@ use Rattle.lt_lists.proofs.Members.{some_equal}
 use Rattle.lt_desk.specs.LetterSeen.{letter_seen}
 use Rattle.lt_modes.specs.Script.{ScriptData}
 use Rattle.lt_modes.specs.State.{Letter}
+use Rattle.lt_spec.specs.NodeMove.{NodeState}
 use Rattle.lt_spec.specs.World.{start}
 use Rattle.lt_law_plays.specs.Plays.{Plays}
 use Rattle.lt_law_plays.specs.Parts.{Part, Joined}
+use Rattle.lt_law_appended.proofs.Sharing.{plays_same_at}
 use Rattle.lt_node.specs.NodeData.{state_of}
 use Rattle.lt_mail.specs.declared.lane.OutLane.{OutLane}
 use Rattle.lt_mail.specs.Lanes.{ring_given, outbox_letters, sent_by}
@@ -85,7 +87,11 @@ joined script rs crew kept met = record {
         let known = kept k p here in
         let in_crew = crew.each k p here in
         let used : used_of p ≡ known.used = fun_ext (λ node. used_is p known node) in
+        let own = p.node.script in
+        let plays : Plays own k ((start own).node k) p.log.entries known.used (sent_to p.mail) (state_of p.node) =
+        subst (λ (x : ℕ). Plays own x ((start own).node x) p.log.entries known.used (sent_to p.mail) (state_of p.node)) in_crew.me known.plays in
+        let shared : Plays script k ((start own).node k) p.log.entries known.used (sent_to p.mail) (state_of p.node) =
+        plays_same_at k own script in_crew.script_is p.log.entries ((start own).node k) (state_of p.node) known.used (sent_to p.mail) plays in
         subst (λ (letters : ℕ → List Letter). Plays script k ((start script).node k) p.log.entries letters (sent_to p.mail) (state_of p.node)) (sym used)
-        (subst (λ (x : ℕ). Plays script x ((start script).node x) p.log.entries known.used (sent_to p.mail) (state_of p.node)) in_crew.me
-        (subst (λ (s : ScriptData). Plays s p.node.me ((start s).node p.node.me) p.log.entries known.used (sent_to p.mail) (state_of p.node)) in_crew.script_is
-        known.plays))
+        (subst (λ (n : NodeState). Plays script k n p.log.entries known.used (sent_to p.mail) (state_of p.node))
+        (sym (ap (λ (s : ScriptData). (start s).node k) in_crew.script_is.rest)) shared)

@@ -2,6 +2,7 @@ pub mod Each
 pub mod Linked
 pub mod Pairs
 pub mod Fetches
+pub mod SameScripts
 pub mod Joined
 pub mod SameRun
 pub mod Shown
@@ -13,3 +14,4 @@ pub mod Logs
 pub mod Waiters
 pub mod Ends
 pub mod SharedRunners
+pub mod Shares

@@ -22,29 +22,17 @@ use Rattle.lt_threads.specs.Rounds.{room_of}
 use Rattle.lt_threads.specs.Pushes.{OnePushed, PushedAt, CanPush, PushedOn, PushEnds}
 use Rattle.lt_runner.proofs.KeptLemmas.{seen_join}
 use Rattle.lt_runner.proofs.TurnLemmas.{choice_lasts}
-use Rattle.lt_threads.proofs.Each.{seen_self, each_join, each_len, each_weaker, each_before}
-use Rattle.lt_threads.proofs.Linked.{links_last}
+use Rattle.lt_threads.proofs.Each.{seen_self, each_join, each_weaker, each_before}
+use Rattle.lt_threads.proofs.Enabling.{crew_last}
 use Rattle.lt_threads.proofs.SameRun.{SameLog, same_run}
 use Rattle.lt_threads.proofs.Turns.{grew_join, each_longer, each_seen, at_each, at_grew, at_less}
-
--- the crew stays a crew
-pub crew_lasts : (script : ScriptData) (old new : List Parts) → EachIs SameRunner old new → IsCrew script old → IsCrew script new
-crew_lasts script old new same crew = record {
-  is_script = crew.is_script;
-  count = each_len SameRunner old new same ∙ crew.count;
-  each = λ k p e.
-      let was = each_before SameRunner old new same k p e in
-      let is : SameRunner was.0 p = was.2 in
-      let in_crew = crew.each k was.0 was.1 in
-      record { script_is = is.script ∙ in_crew.script_is; me = is.me ∙ in_crew.me; limit = omega (arith, is.limit, in_crew.limit) };
-  links = links_last old new same crew.links;
-}
 
 grew_same : (old new : List Parts) → EachIs Grew old new → EachIs SameRunner old new
 grew_same old new h = each_weaker Grew SameRunner (λ a b grew. grew.same) old new h
 
+-- the crew stays a crew
 pub crew_grew : (script : ScriptData) (old new : List Parts) → EachIs Grew old new → IsCrew script old → IsCrew script new
-crew_grew script old new h crew = crew_lasts script old new (grew_same old new h) crew
+crew_grew script old new h crew = crew_last script old new (grew_same old new h) crew
 
 -- the world stays where no runner moved
 pub same_world : (script : ScriptData) (old new : List Parts) → EachIs AsSeen old new → crew_world script new ≡ crew_world script old

@@ -33,6 +33,7 @@ use Rattle.lt_threads.specs.Together.{part_of, crew_run, crew_world, IsCrew, Are
 use Rattle.lt_runner.specs.Looking.{HasFetched, is_move}
 use Rattle.lt_threads.specs.Meeting.{AreMet, AnyTwo}
 use Rattle.lt_threads.proofs.Joined.{left_for, left_is, joined, part_from}
+use Rattle.lt_threads.proofs.SameScripts.{nodes_same, choice_same}
 
 -- all that is known of runners that have met
 record CrewMet (script : ScriptData) (rs : List Parts) : Type 0 where
@@ -126,10 +127,10 @@ takes_hand script rs k p seen hand e =
     let known = s.kept k p seen.here in
     let in_crew = s.crew.each k p seen.here in
     let from : (hand.from < p.node.script.nodes) × (hand.from ≢ p.node.me) = subst (IsFromPeer p.node.script.nodes p.node.me) e known.hand in
-    let below : hand.from < script.nodes = subst (λ (d : ScriptData). hand.from < d.nodes) in_crew.script_is from.0 in
+    let below : hand.from < script.nodes = omega (arith, from.0, nodes_same k p.node.script script in_crew.script_is) in
     let apart : hand.from ≢ k = λ same. from.1 (same ∙ sym in_crew.me) in
     let (x, there) = runner_at rs hand.from (omega (arith, below, s.crew.count)) in
-    let mine : k < script.nodes = subst (λ (d : ScriptData). k < d.nodes) in_crew.script_is (subst (λ (n : ℕ). n < p.node.script.nodes) in_crew.me known.below) in
+    let mine : k < script.nodes = omega (arith, known.below, in_crew.me, nodes_same k p.node.script script in_crew.script_is) in
     let in_front : in_hand hand.from p.hand ≡ letter_seen hand.letter ∷ [] =
     ap (in_hand hand.from) e ∙ ap (λ (b : Bool). if b then letter_seen hand.letter ∷ [] else []) (eq-eqb hand.from hand.from refl) in
     let left : left_for hand.from k x p ≡ letter_seen hand.letter ∷ (known_from p.mail hand.from ++ waiting_to x.mail k) =
@@ -192,8 +193,8 @@ shows_is script rs crew kept met k p here fetched =
     let in_crew = crew.each k p here in
     let state = state_of p.node in
     let named : is_move (next_choice p) ≡ is_move (choice_by script k state p.hand) =
-    ap (λ (s : ScriptData). is_move (choice_by s p.node.me state p.hand)) in_crew.script_is
-    ∙ ap (λ (m : ℕ). is_move (choice_by script m state p.hand)) in_crew.me in
+    ap (λ (m : ℕ). is_move (choice_by p.node.script m state p.hand)) in_crew.me
+    ∙ ap is_move (choice_same k p.node.script script in_crew.script_is state p.hand) in
     named ∙ by_hand p.hand refl
   where
     seen : Seen script rs k p

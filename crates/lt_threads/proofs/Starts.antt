@@ -13,6 +13,7 @@ use Rattle.lt_mail.specs.Opening.{Opened, IsFresh}
 use Rattle.lt_runner.specs.declared.parts.Parts.{Parts}
 use Rattle.lt_runner.specs.Starts.{StartsWith}
 use Rattle.lt_threads.specs.Starting.{IsFirst, Starting, IsFirstCrew}
+use Rattle.lt_threads.proofs.SameScripts.{same_itself, same_before}
 
 -- before the first runner
 pub starting : (script : ScriptData) (capacity limit : ℕ) (mails : List Mail) → Opened script.nodes capacity mails → Starting script capacity limit 0 mails []
@@ -100,7 +101,11 @@ first_crew script capacity limit left rs is_script few h = record {
   crew = record {
     is_script = is_script;
     count = h.count;
-    each = λ k p e. let first = h.each k p e in record { script_is = first.script_is; me = first.me; limit = omega (arith, first.limit_is, few) };
+    each = λ k p e. let first = h.each k p e in record {
+      script_is = same_before k script p.node.script script first.script_is (same_itself k script);
+      me = first.me;
+      limit = omega (arith, first.limit_is, few);
+    };
     links = λ a b x y ea eb apart.
         let one = h.each a x ea in
         let two = h.each b y eb in
@@ -110,6 +115,7 @@ first_crew script capacity limit left rs is_script few h = record {
         subst (λ (i : ℕ). Both IsOpenLink (out_at x.mail b) (in_at y.mail i)) fresh.me
         (subst (λ (i : ℕ). Both IsOpenLink (out_at x.mail i) (in_at y.mail x.mail.me)) also.me linked);
   };
+  scripts = λ k p e. (h.each k p e).script_is;
   logs = λ k p e. (h.each k p e).log;
   limits = λ k p e. (h.each k p e).limit_is;
   places = λ k other p e below.

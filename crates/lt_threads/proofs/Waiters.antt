@@ -12,6 +12,7 @@ use Rattle.lt_threads.specs.Together.{part_of, crew_world, IsCrew, AreKept}
 use Rattle.lt_threads.specs.Meeting.{AreMet, AnyTwo}
 use Rattle.lt_threads.proofs.Joined.{joined}
 use Rattle.lt_threads.proofs.Shown.{part_here}
+use Rattle.lt_threads.proofs.SameScripts.{waits_same}
 
 -- a client waits where its node says so
 pub waits_here : (script : ScriptData) (rs : List Parts) → IsCrew script rs → AreKept rs → AreMet AnyTwo rs → (client : ℕ) (p : Parts)
@@ -21,4 +22,4 @@ waits_here script rs crew kept met client p e =
     let in_crew = crew.each k p e in
     let run = joined_merges script _ (joined script rs crew kept met) in
     let node : (crew_world script rs).node k ≡ state_of p.node = run.node k (part_of p) (part_here rs k p e) in
-    ap (λ (s : ScriptData). node_waits s (state_of p.node) client) in_crew.script_is ∙ sym (ap (λ (n : NodeState). node_waits script n client) node)
+    waits_same k p.node.script script in_crew.script_is (state_of p.node) client ∙ sym (ap (λ (n : NodeState). node_waits script n client) node)

@@ -9,3 +9,4 @@ pub mod Crews
 pub mod Threads
 pub mod Workers
 pub mod Settled
+pub mod Shares

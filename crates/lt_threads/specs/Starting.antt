@@ -26,6 +26,7 @@ pub record Starting (script : ScriptData) (capacity limit k : ℕ) (left : List 
 -- the runners of a script of which none has made a move; each may make so many, and its ring to each node has so many places
 pub record IsFirstCrew (script : ScriptData) (capacity limit : ℕ) (rs : List Parts) : Type 0 where
   pub crew : IsCrew script rs
+  pub scripts : (k : ℕ) (p : Parts) → slice_get rs k ≡ Some p → p.node.script ≡ script
   pub logs : (k : ℕ) (p : Parts) → slice_get rs k ≡ Some p → p.log.entries ≡ []
   pub limits : (k : ℕ) (p : Parts) → slice_get rs k ≡ Some p → p.limit ≡ limit
   pub places : (k other : ℕ) (p : Parts) → slice_get rs k ≡ Some p → other < script.nodes → places_to p.mail other ≡ capacity

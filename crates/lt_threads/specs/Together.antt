@@ -8,6 +8,7 @@ use Rattle.lt_spec.specs.World.{World, world_after}
 use Rattle.lt_limits.specs.declared.moves.TheConstants.{MAX_MOVES}
 use Rattle.lt_law_plays.specs.Merged.{merged}
 use Rattle.lt_law_plays.specs.Parts.{Part, logs_of}
+use Rattle.lt_law_appended.specs.Commands.{SameAt}
 use Rattle.lt_node.specs.NodeData.{state_of}
 use Rattle.lt_mail.specs.Words.{out_at, in_at, sent_to, taken_from, IsOpenLink, Both, Alike}
 use Rattle.lt_runner.specs.declared.parts.Parts.{Parts}
@@ -30,9 +31,10 @@ crew_run script rs = merged script.nodes (logs_of script (map part_of rs)).log
 abbrev pub crew_world : ScriptData → List Parts → World
 crew_world script rs = world_after script (crew_run script rs)
 
--- the runner of node k of the script, which makes no more moves than a script may let a node make
+-- the runner of node k, whose own script is this one but for commands of the clients of other nodes; it makes no more moves than
+-- a script may let a node make
 pub record InCrew (script : ScriptData) (k : ℕ) (p : Parts) : Type 0 where
-  pub script_is : p.node.script ≡ script
+  pub script_is : SameAt k p.node.script script
   pub me : p.node.me ≡ k
   pub limit : p.limit ≤ MAX_MOVES
 

@@ -5,6 +5,7 @@
 mod enabled;
 mod fetching;
 mod finishing;
+mod joining;
 mod meeting;
 mod outlook;
 mod rounds;
@@ -19,6 +20,7 @@ mod worker;
 
 pub use enabled::any_enabled;
 pub use finishing::finish;
+pub use joining::{JoinError, finish_joined, join_scripts};
 pub use rounds::{Ended, run_rounds};
 pub use sharing::{MAX_WORKERS, crew};
 pub use starting::start_crew;

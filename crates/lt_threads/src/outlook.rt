@@ -1,7 +1,9 @@
 ghost use Rattle.std.specs.Prelude.{◌<◌};
 
-/// Visits in vain for each node after which a worker ends, where its patience isn't less.
-const VAIN_ROUNDS: u32 = 8;
+/// The workers among few nodes, and for how many nodes there is one more.
+const FEW_WORKERS: u8 = 3;
+
+const NODES_PER_WORKER: u8 = 32;
 
 /// What a worker knows of the nodes, a bit each, and where it looks next.
 ///
@@ -43,8 +45,7 @@ impl Outlook {
     /// Whether the worker has tried often enough. While another worker has a node with its mail, visits in vain don't
     /// end it.
     pub(crate) fn is_over(&self, count: u8, patience: u32) -> bool {
-        let most = patience.min(VAIN_ROUNDS) * u32::from(count);
-        self.vain >= most && self.owed == 0 || self.refused >= patience
+        self.vain >= u32::from(count) && self.owed == 0 || self.refused >= patience
     }
 
     /// The next of so many nodes.
@@ -99,6 +100,11 @@ impl Outlook {
         self.full |= bit(node);
         self.acts &= !bit(node);
     }
+}
+
+/// How many workers share so many nodes at most: more of them get into each other's way.
+pub(crate) fn most_workers(count: u8) -> u8 {
+    FEW_WORKERS + count / NODES_PER_WORKER
 }
 
 fn bit(node: u8) -> u64 {

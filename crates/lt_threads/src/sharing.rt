@@ -7,7 +7,7 @@ ghost use Rattle.lt_threads.specs.Workers.{IsFree, AreFree, Leads};
 ghost use Rattle.lt_threads.specs.Settled.{CrewWorked};
 ghost use Rattle.lt_threads.specs.declared.sharing.TheConstants.{MAX_WORKERS};
 
-use crate::outlook::Outlook;
+use crate::outlook::{Outlook, most_workers};
 use crate::settling::settle;
 use crate::worker::Worker;
 use lt_pool::{Pool, Post};
@@ -55,7 +55,8 @@ fn share<R: Threads + Sync, G: Gate>(
 {
     let count = runners.len() as u8;
     let (pool, mut first) = Pool::new(alloc, runners)?;
-    let mut hands = engage(alloc, &pool, &mut first, workers.min(count))?;
+    let workers = workers.min(count).min(most_workers(count));
+    let mut hands = engage(alloc, &pool, &mut first, workers)?;
     work_all(rt, &pool, hands.as_mut_slice(), count, patience, gate);
     dismiss(&pool, &mut first, hands);
     match pool.close(first) {

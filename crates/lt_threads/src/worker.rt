@@ -6,6 +6,7 @@ ghost use Rattle.lt_threads.specs.Workers.{IsFree};
 use crate::outlook::Outlook;
 use lt_pool::{Pool, Post};
 use lt_runner::{Gate, Runner, Worked};
+use std::thread::yield_now;
 
 /// A worker: what it claims runners with, where it looks next, and whether it found no memory for a move, which ends it.
 #[derive(Drop)]
@@ -40,7 +41,7 @@ impl Worker {
         }
     }
 
-    // Claims the node's runner, lets it work and gives it back; or another worker has it.
+    // Claims the node's runner, lets it work and gives it back; or another worker has it, which may wait for a processor.
     fn visit<G: Gate>(&mut self, pool: &Pool<Runner>, node: u8, gate: &G)
         requires free { IsFree pool.now self.old.post }
         requires inside { node < length pool.now.firsts }
@@ -48,6 +49,7 @@ impl Worker {
     {
         let Ok(mut runner) = pool.claim(&mut self.post, node) else {
             self.outlook.note_refusal(node);
+            yield_now();
             return;
         };
         let visit = work_on(&mut runner, gate);

@@ -9,7 +9,7 @@ use Rattle.lt_spec.specs.NodeMove.{node_act, act_stamp}
 use Rattle.lt_spec.specs.World.{world_after, is_enabled, node_move, move_stamp}
 use Rattle.lt_desk.specs.OutData.{OutData}
 use Rattle.lt_node.specs.NodeData.{NodeData, NodeDoes, state_of}
-use Rattle.lt_world.specs.Mail.{WireData}
+use Rattle.lt_inbox.specs.Mail.{WireData}
 use Rattle.lt_world.specs.Fields.{IsNodeOf, IsOpened, Holds, node_at}
 use Rattle.lt_world.specs.Moving.{IsWithin, CanAct}
 use Rattle.lt_world.proofs.Bridge.{Did, did}

@@ -11,9 +11,9 @@ use Rattle.lt_spec.specs.NodeMove.{NodeState, NodeMade}
 use Rattle.lt_spec.specs.World.{World, put_mail, after_made, letter_for}
 use Rattle.lt_desk.specs.OutData.{OutData}
 use Rattle.lt_node.specs.NodeData.{NodeData, NodeDoes, SameNode, state_of, with_sent}
-use Rattle.lt_world.specs.Mail.{WireData, inbox_at, mail_in, put_wire, SameLetters, AreDelivered}
+use Rattle.lt_inbox.specs.Mail.{WireData, inbox_at, mail_in, put_wire, SameLetters, AreDelivered}
 use Rattle.lt_world.specs.Fields.{no_node, node_at, IsNodeOf, IsWorld, OnlyMemory}
-use Rattle.lt_world.proofs.Wires.{senders_put, mail_put}
+use Rattle.lt_inbox.proofs.Wires.{senders_put, mail_put}
 
 -- one node of these, with another in its place
 pub node_put : (nodes : List NodeData) (q : ℕ) (d : NodeData) → q < length nodes → node_at (slice_set nodes q d) q ≡ d

@@ -1,18 +1,16 @@
-pub mod Senders
-pub mod Wires
-pub mod Delivered
 pub mod Bridge
 pub mod Runs
 pub mod Premises
 pub mod Moves
 pub mod Acting
 pub mod Taking
-pub mod TakeOrder
+pub mod WorldTakes
 pub mod ActOrder
-mod FirstTurn
+pub mod TurnOrder
 pub mod Counts
 pub mod Rest
 pub mod Picks
-pub mod MadeLemmas
+pub mod TurnMoves
+mod Noting
 pub mod AgainstLemmas
 mod Standing

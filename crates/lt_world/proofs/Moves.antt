@@ -11,7 +11,7 @@ use Rattle.lt_spec.specs.NodeMove.{NodeMade}
 use Rattle.lt_spec.specs.World.{World, world_after, node_move, opened, move_stamp, after_made, IsRun}
 use Rattle.lt_desk.specs.OutData.{OutData}
 use Rattle.lt_node.specs.NodeData.{NodeData, with_sent}
-use Rattle.lt_world.specs.Mail.{WireData, SameLetters, AreDelivered, inbox_at}
+use Rattle.lt_inbox.specs.Mail.{WireData, SameLetters, AreDelivered}
 use Rattle.lt_world.specs.Fields.{IsWorld, IsOpened, Holds, OnlyMemory}
 use Rattle.lt_world.proofs.Bridge.{Did, world_same, world_moved}
 use Rattle.lt_world.proofs.Counts.{moves_inside}
@@ -51,13 +51,13 @@ targets script q step nodes boxes had out run n h done =
     (sym (posts_sent (node_move script (world_after script run) q step) had out h.no_posts done.sent))
     (posts_inside script run q step h.is_script.some_node h.is_run (moves_inside script (world_after script run) q step h.is_script h.enabled) h.enabled))
 
--- and each node has a list of the letters of the one that made it
-pub senders : (script : ScriptData) (q : ℕ) (step : Step) (nodes : List NodeData) (boxes : List (List WireData)) (had : OutData) (run : List Logged) (stamp : Stamp)
+-- and the one that made it has a list of letters to each node
+pub sender : (script : ScriptData) (q : ℕ) (step : Step) (nodes : List NodeData) (boxes : List (List WireData)) (had : OutData) (run : List Logged) (stamp : Stamp)
     → IsOpened script q step nodes boxes had run → stamp ≡ move_stamp (world_after script run) q step
-    → (k : ℕ) → k < length boxes → stamp.node < length (inbox_at boxes k)
-senders script q step nodes boxes had run stamp h at k below =
+    → stamp.node < length boxes
+sender script q step nodes boxes had run stamp h at =
     let mover : stamp.node ≡ q = ap (λ (s : Stamp). s.node) at ∙ stamp_node (world_after script run) q step in
-    omega (arith, mover, moves_inside script (world_after script run) q step h.is_script h.enabled, h.world.senders k (omega (arith, below, h.world.receivers)))
+    omega (arith, mover, moves_inside script (world_after script run) q step h.is_script h.enabled, h.world.receivers)
 
 -- the entry of the move
 pub run_moved : (script : ScriptData) (q : ℕ) (step : Step) (nodes : List NodeData) (boxes : List (List WireData)) (had out : OutData) (run run' : List Logged) (n : NodeData) (stamp : Stamp)

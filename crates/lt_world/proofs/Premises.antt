@@ -72,6 +72,20 @@ can_act script run q client n good is_run enabled few is =
       clock = carried (λ s x state. state.clock + 1 < 2 ^ 32) is (omega (arith, few, clock_below script run q is_run));
     }
 
+-- the front letter fits its receiver
+pub front_fits : (script : ScriptData) (run : List Logged) (q p : ℕ) (letter : Letter) (rest : List Letter) → IsScript script → IsRun script run
+    → IsTrue (is_enabled script (world_after script run) q (Take p)) → length run + 1 < 2 ^ 32
+    → (world_after script run).mail p q ≡ letter ∷ rest
+    → IsTrue (fits (numbers_of script) q ((world_after script run).node q).clock (((world_after script run).node q).set letter.set) letter)
+front_fits script run q p letter rest good is_run enabled few front =
+    let w = world_after script run in
+    let has : HasLetter script w p q = (takes_where script w p q).0 enabled in
+    let on : Contains (w.mail p q) letter = subst (λ (ls : List Letter). Contains ls letter) (sym front) (0, omega arith, refl) in
+    let on' : Contains ((world_after script (take (length run) run)).mail p q) letter =
+    subst (λ (r : List Logged). Contains ((world_after script r).mail p q) letter) (sym (whole_run run)) on in
+    subst (λ (r : List Logged). IsTrue (fits (numbers_of script) q ((world_after script r).node q).clock (((world_after script r).node q).set letter.set) letter)) (whole_run run)
+    (letters_fit_in_runs script run (whole script good) is_run (length run) p q letter few has.sender has.receiver on')
+
 pub can_take : (script : ScriptData) (run : List Logged) (q p : ℕ) (letter : Letter) (rest : List Letter) (n : NodeData) → IsScript script → IsRun script run
     → IsTrue (is_enabled script (world_after script run) q (Take p)) → length run + 1 < 2 ^ 32
     → (world_after script run).mail p q ≡ letter ∷ rest
@@ -79,12 +93,8 @@ pub can_take : (script : ScriptData) (run : List Logged) (q p : ℕ) (letter : L
 can_take script run q p letter rest n good is_run enabled few front is =
     let w = world_after script run in
     let has : HasLetter script w p q = (takes_where script w p q).0 enabled in
-    let on : Contains (w.mail p q) letter = subst (λ (ls : List Letter). Contains ls letter) (sym front) (0, omega arith, refl) in
-    let on' : Contains ((world_after script (take (length run) run)).mail p q) letter =
-    subst (λ (r : List Logged). Contains ((world_after script r).mail p q) letter) (sym (whole_run run)) on in
     let fitting : IsTrue (fits (numbers_of script) q (w.node q).clock ((w.node q).set letter.set) letter) =
-    subst (λ (r : List Logged). IsTrue (fits (numbers_of script) q ((world_after script r).node q).clock (((world_after script r).node q).set letter.set) letter)) (whole_run run)
-    (letters_fit_in_runs script run (whole script good) is_run (length run) p q letter few has.sender has.receiver on') in
+    front_fits script run q p letter rest good is_run enabled few front in
     record {
       fits_here = carried (λ s x state. IsTrue (fits (numbers_of s) x state.clock (state.set letter.set) letter)) is fitting;
       within = within script run q n good is_run has.receiver is;

@@ -1,12 +1,11 @@
 -- Where a world rests, and what the enabled move at a place is.
-use Rattle.std.proofs.Common.{◌≡◌, ◌≢◌, Bool, true, false, ℕ, zero, suc, ◌<◌, List, [], ◌∷◌, length, Option, Some, None, inl, inr, refl, sym, ap, ◌∙◌, arith}
-use Rattle.std.specs.Prelude.{◌&&◌, ◌==◌, not, nat_lt, IsFalse, is_some}
-use Rattle.std.proofs.lemmas.Bool.{cases_eq, eq-eqb, ne_eqb, lt-ltb, false_from_ne_true, false≢true, and_from, or_left}
+use Rattle.std.proofs.Common.{◌≡◌, true, false, ℕ, ◌<◌, List, [], ◌∷◌, length, Option, Some, None, inl, inr, refl, sym, ap, ◌∙◌, arith}
+use Rattle.std.specs.Prelude.{◌&&◌, ◌==◌, nat_lt, IsFalse, is_some}
+use Rattle.std.proofs.lemmas.Bool.{cases_eq, eq-eqb, ne_eqb, lt-ltb, false_from_ne_true, false≢true, and_from}
 use Rattle.lt_modes.specs.declared.moves.Step.{Step}
 use Rattle.lt_modes.specs.declared.moves.Step.TheVariants.{Act, Take}
 use Rattle.lt_modes.specs.Script.{ScriptData}
-use Rattle.lt_lists.specs.Below.{any_below, count_below}
-use Rattle.lt_lists.proofs.Searches.{none_counted, any_below_at, any_below_none}
+use Rattle.lt_lists.proofs.Searches.{none_counted, any_below_at}
 use Rattle.lt_spec.specs.Families.{home}
 use Rattle.lt_spec.specs.World.{World, is_enabled, is_at_rest, is_runnable}
 use Rattle.lt_spec.specs.FixedOrder.{Turn, takes, count_turns, pick}
@@ -58,24 +57,3 @@ pub act_enabled : (script : ScriptData) (w : World) (client : ℕ) → client < 
 act_enabled script w client inside runs =
     and_from (nat_lt client (length script.clients)) (home script client == home script client && is_runnable script w client) (lt-ltb client (length script.clients) inside)
     (and_from (home script client == home script client) (is_runnable script w client) (eq-eqb (home script client) (home script client) refl) runs)
-
--- where no number passes, none is counted
-none_found : (n : ℕ) (test : ℕ → Bool) → any_below n test ≡ false → count_below n test ≡ 0
-none_found zero test e = refl
-none_found (suc n) test e =
-    let before : any_below n test ≡ false = false_from_ne_true (any_below n test) (λ t. false≢true (sym e ∙ or_left (any_below n test) (test n) t)) in
-    rw (any_below_none (suc n) test e n (omega arith)) (omega (arith, none_found n test before))
-
--- where no letter is on its way, a world rests exactly where no client can act
-pub rests_without_takes : (script : ScriptData) (w : World) → length (takes script w) ≡ 0
-    → is_at_rest script w ≡ not (any_below (length script.clients) (is_runnable script w))
-rests_without_takes script w none = by_test (any_below (length script.clients) (is_runnable script w)) refl
-  where
-    by_test : (acts : Bool) → any_below (length script.clients) (is_runnable script w) ≡ acts → is_at_rest script w ≡ not acts
-    by_test true e = rw e refl
-    by_test false e =
-        at_rest_where_none script w (omega (arith, none, none_found (length script.clients) (is_runnable script w) e))
-
--- and where one is, it doesn't rest
-pub takes_left : (script : ScriptData) (w : World) → length (takes script w) ≢ 0 → is_at_rest script w ≡ false
-takes_left script w some = rest_counted script w ∙ ne_eqb (count_turns script w) 0 (λ e. some (omega (arith, e)))

@@ -1,5 +1,5 @@
 -- The fields of a world after a whole move.
-use Rattle.std.proofs.Common.{arith, ◌≡◌, ◌+◌, ◌<◌, ◌≤◌, ℕ, List, sym, subst}
+use Rattle.std.proofs.Common.{arith, ◌≡◌, ◌+◌, ◌<◌, ◌≤◌, ℕ, List, Option, sym, subst}
 use Rattle.std.specs.Prelude.{IsTrue, slice_index_or, slice_set}
 use Rattle.lt_modes.specs.declared.moves.Step.{Step}
 use Rattle.lt_modes.specs.Script.{ScriptData}
@@ -8,8 +8,8 @@ use Rattle.lt_spec.specs.World.{World, world_after, is_enabled, logged}
 use Rattle.lt_limits.specs.Cut.{moves_of}
 use Rattle.lt_desk.specs.OutData.{OutData}
 use Rattle.lt_node.specs.NodeData.{NodeData}
-use Rattle.lt_world.specs.Mail.{WireData}
-use Rattle.lt_world.specs.Fields.{AreCounted, AreAtMost, AreMade, Holds, Stands}
+use Rattle.lt_inbox.specs.Mail.{WireData}
+use Rattle.lt_world.specs.Fields.{AreCounted, AreAtMost, AreTurns, Holds, Stands}
 use Rattle.lt_world.specs.Network.{run_with}
 use Rattle.lt_world.proofs.Counts.{counted_moved, at_most_moved, moves_inside}
 use Rattle.lt_world.proofs.Runs.{stamp_node}
@@ -25,11 +25,11 @@ pub record Moved (script : ScriptData) (limit most most' : ℕ) (moves moves' : 
   pub more : most ≤ most'
   pub longer : run' ≡ run_with script run q step
 
-pub stands_moved : (script : ScriptData) (limit most most' : ℕ) (nodes : List NodeData) (boxes : List (List WireData)) (moves moves' made : List ℕ) (out : OutData)
+pub stands_moved : (script : ScriptData) (limit most most' : ℕ) (nodes : List NodeData) (boxes : List (List WireData)) (moves moves' : List ℕ) (turns : List (Option ℕ)) (out : OutData)
     (run run' : List Logged) (q : ℕ) (step : Step)
-    → Moved script limit most most' moves moves' run run' q step → Holds script nodes boxes out run' → AreMade script made (world_after script run')
-    → Stands script limit most' nodes boxes moves' made out run'
-stands_moved script limit most most' nodes boxes moves moves' made out run run' q step h holds acts = record {
+    → Moved script limit most most' moves moves' run run' q step → Holds script nodes boxes out run' → AreTurns script turns (world_after script run')
+    → Stands script limit most' nodes boxes moves' turns out run'
+stands_moved script limit most most' nodes boxes moves moves' turns out run run' q step h holds acts = record {
   holds = holds;
   counted = subst (λ (ms : List ℕ). AreCounted script limit ms run') (sym h.counts)
       (subst (AreCounted script limit (slice_set moves q (slice_index_or moves q 0 + 1))) (sym h.longer)

@@ -13,7 +13,7 @@ use Rattle.lt_law_enabled.specs.OrderLaws.{HasLetter}
 use Rattle.lt_law_enabled.proofs.Order.{takes_where}
 use Rattle.lt_desk.specs.OutData.{OutData}
 use Rattle.lt_node.specs.NodeData.{NodeData, NodeDoes, state_of}
-use Rattle.lt_world.specs.Mail.{WireData, SameLetters, wire_between, mail_in, put_wire}
+use Rattle.lt_inbox.specs.Mail.{WireData, SameLetters, wire_between, mail_in, put_wire}
 use Rattle.lt_world.specs.Fields.{IsNodeOf, IsWorld, IsOpened, Holds, node_at}
 use Rattle.lt_world.specs.Moving.{CanTake}
 use Rattle.lt_world.proofs.Bridge.{Did, did, world_put}

@@ -1,5 +1,5 @@
 -- What the fields of a world hold, for the moves that were made.
-use Rattle.std.specs.Prelude.{◌≡◌, ◌<◌, ◌≤◌, ◌+◌, ◌^◌, ℕ, List, [], length, slice_index_or, slice_set, IsTrue}
+use Rattle.std.specs.Prelude.{◌≡◌, ◌<◌, ◌≤◌, ◌+◌, ◌^◌, ℕ, List, [], Option, Some, None, length, slice_index_or, slice_set, if◌then◌else◌, IsTrue}
 use Rattle.lt_modes.specs.declared.moves.Step.{Step}
 use Rattle.lt_modes.specs.Script.{ScriptData}
 use Rattle.lt_lists.specs.Below.{sum_below}
@@ -12,7 +12,7 @@ use Rattle.lt_node.specs.NodeData.{NodeData, SameNode, state_of}
 use Rattle.lt_merge.specs.Run.{RunData}
 use Rattle.lt_limits.specs.declared.moves.TheConstants.{MAX_MOVES}
 use Rattle.lt_limits.specs.Cut.{moves_of}
-use Rattle.lt_world.specs.Mail.{WireData, inbox_at, mail_in, HasRoomFrom}
+use Rattle.lt_inbox.specs.Mail.{WireData, inbox_at, mail_in, HasRoomFrom}
 
 -- what contracts see of a world: its script, how many moves a node may make, and the run so far
 pub record WorldData : Type 0 where
@@ -93,13 +93,17 @@ pub record AreCounted (script : ScriptData) (limit : ℕ) (moves : List ℕ) (ru
 abbrev pub AreAtMost : ScriptData → ℕ → List Logged → Type 0
 AreAtMost script most run = (q : ℕ) → q < script.nodes → moves_of q run ≤ most
 
--- how many commands each client has made
-pub record AreMade (script : ScriptData) (made : List ℕ) (w : World) : Type 0 where
-  pub count : length made ≡ length script.clients
-  pub made_are : (c : ℕ) → c < length script.clients → slice_index_or made c 0 ≡ made_by script w c
+-- the number of commands that the client has made, where it can make one more now
+abbrev pub turn_of : ScriptData → World → ℕ → Option ℕ
+turn_of script w client = if is_runnable script w client then Some (made_by script w client) else None
 
-pub record Stands (script : ScriptData) (limit most : ℕ) (nodes : List NodeData) (inboxes : List (List WireData)) (moves made : List ℕ) (out : OutData) (run : List Logged) : Type 0 where
+-- which clients can act, each with the number of commands that it has made
+pub record AreTurns (script : ScriptData) (turns : List (Option ℕ)) (w : World) : Type 0 where
+  pub count : length turns ≡ length script.clients
+  pub turns_are : (c : ℕ) → c < length script.clients → slice_index_or turns c None ≡ turn_of script w c
+
+pub record Stands (script : ScriptData) (limit most : ℕ) (nodes : List NodeData) (inboxes : List (List WireData)) (moves : List ℕ) (turns : List (Option ℕ)) (out : OutData) (run : List Logged) : Type 0 where
   pub holds : Holds script nodes inboxes out run
   pub counted : AreCounted script limit moves run
   pub at_most : AreAtMost script most run
-  pub acts : AreMade script made (world_after script run)
+  pub acts : AreTurns script turns (world_after script run)

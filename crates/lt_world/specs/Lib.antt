@@ -1,6 +1,6 @@
 pub mod Choice
-pub mod Mail
 pub mod Fields
+pub mod Turns
 pub mod Moving
 pub mod Network
 pub mod Reserved

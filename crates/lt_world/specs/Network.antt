@@ -9,7 +9,7 @@ use Rattle.lt_world.specs.Fields.{Holds}
 
 -- all stand as they are after the moves of the run
 abbrev pub IsAfterRun : ScriptData → Network → Type 0
-IsAfterRun script n = Holds script n.nodes.items n.inboxes.items n.out n.run.entries
+IsAfterRun script n = Holds script n.nodes.items n.inboxes n.out n.run.entries
 
 -- the world after these moves
 abbrev pub world_in : ScriptData → Network → World

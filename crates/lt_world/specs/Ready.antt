@@ -1,11 +1,10 @@
 -- A world with room for one move.
-use Rattle.std.specs.Prelude.{◌≡◌, ◌<◌, ℕ, List}
-use Rattle.lt_modes.specs.Script.{ScriptData}
+use Rattle.std.specs.Prelude.{◌≡◌, ◌<◌}
 use Rattle.lt_limits.specs.Cut.{moves_of}
 use Rattle.lt_world.specs.declared.choice.Choice.{Choice}
-use Rattle.lt_world.specs.declared.network.Network.{Network}
 use Rattle.lt_world.specs.declared.reserved.Reserved.{Reserved}
-use Rattle.lt_world.specs.Fields.{WorldData, AreCounted, AreAtMost, AreMade}
+use Rattle.lt_world.specs.declared.world.ready.Parts.{Parts}
+use Rattle.lt_world.specs.Fields.{WorldData, AreCounted, AreAtMost, AreTurns, Stands}
 use Rattle.lt_world.specs.Network.{world_in}
 use Rattle.lt_world.specs.Reserved.{IsReserved, step_of}
 
@@ -14,10 +13,19 @@ pub record ReadyData : Type 0 where
   pub world : WorldData
   pub choice : Choice
 
-pub record IsReady (script : ScriptData) (limit most : ℕ) (n : Network) (moves made : List ℕ) (choice : Choice) (reserved : Reserved) : Type 0 where
-  pub reserved_for : IsReserved script n choice.node reserved
+-- what contracts see of the world that these parts make
+abbrev pub world_with : Parts → WorldData
+world_with p = record { script = p.script; limit = p.limit; run = p.network.run.entries }
+
+-- they make a world, between two moves
+abbrev pub IsWhole : Parts → Type 0
+IsWhole p = Stands p.script p.limit p.most p.network.nodes.items p.network.inboxes p.moves.items p.turns p.network.out p.network.run.entries
+
+-- there is room in them for the move
+pub record IsReady (p : Parts) (choice : Choice) (reserved : Reserved) : Type 0 where
+  pub reserved_for : IsReserved p.script p.network choice.node reserved
   pub step_is : step_of reserved ≡ choice.step
-  pub below : moves_of choice.node n.run.entries < limit
-  pub counted : AreCounted script limit moves n.run.entries
-  pub at_most : AreAtMost script most n.run.entries
-  pub acts : AreMade script made (world_in script n)
+  pub below : moves_of choice.node p.network.run.entries < p.limit
+  pub counted : AreCounted p.script p.limit p.moves.items p.network.run.entries
+  pub at_most : AreAtMost p.script p.most p.network.run.entries
+  pub acts : AreTurns p.script p.turns (world_in p.script p.network)

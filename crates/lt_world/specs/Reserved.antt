@@ -11,7 +11,7 @@ use Rattle.lt_node.specs.Room.{RoomToAct, RoomToTake}
 use Rattle.lt_world.specs.declared.network.Network.{Network}
 use Rattle.lt_world.specs.declared.reserved.Reserved.{Reserved}
 use Rattle.lt_world.specs.declared.reserved.Reserved.TheVariants.{Acting, Taking}
-use Rattle.lt_world.specs.Mail.{WireData, wire_between, mail_in}
+use Rattle.lt_inbox.specs.Mail.{WireData, wire_between, mail_in}
 use Rattle.lt_world.specs.Fields.{IsOpened, InboxRoom, node_at}
 use Rattle.lt_world.specs.Network.{world_in}
 
@@ -28,6 +28,6 @@ NodeRoom w q nodes inboxes out (Taking sender letter) =
 
 -- all stand as they are after the moves of the run, with room for an enabled move of node q
 pub record IsReserved (script : ScriptData) (n : Network) (q : ℕ) (reserved : Reserved) : Type 0 where
-  pub opened : IsOpened script q (step_of reserved) n.nodes.items n.inboxes.items n.out n.run.entries
-  pub room : NodeRoom (world_in script n) q n.nodes.items n.inboxes.items n.out reserved
-  pub send : InboxRoom q n.inboxes.items n.run n.out
+  pub opened : IsOpened script q (step_of reserved) n.nodes.items n.inboxes n.out n.run.entries
+  pub room : NodeRoom (world_in script n) q n.nodes.items n.inboxes n.out reserved
+  pub send : InboxRoom q n.inboxes n.run n.out

@@ -3,15 +3,11 @@
 #![tactic(auto)]
 
 mod choice;
-mod delivery;
-mod inbox;
 mod network;
 mod recording;
 mod reserved;
-mod takes;
 #[cfg(test)]
 mod tests;
-mod wire;
 mod world;
 
 pub use choice::Choice;

@@ -8,20 +8,19 @@ ghost use Rattle.lt_desk.specs.LetterSeen.{letter_seen};
 ghost use Rattle.lt_spec.specs.NodeMove.{node_act, node_take, act_stamp, take_stamp};
 ghost use Rattle.lt_node.specs.NodeData.{NodeDoes, state_of};
 ghost use Rattle.lt_node.specs.Room.{RoomToAct, RoomToTake};
-ghost use Rattle.lt_world.specs.Mail.{SameLetters, AreDelivered, inbox_at, mail_in};
+ghost use Rattle.lt_inbox.specs.Mail.{AreDelivered};
 ghost use Rattle.lt_script.specs.Script.{IsScript};
-ghost use Rattle.lt_world.specs.Moving.{IsWithin, CanAct, CanTake};
+ghost use Rattle.lt_world.specs.Moving.{CanAct, CanTake};
 ghost use Rattle.lt_world.specs.Network.{IsAfterRun, world_in, run_with};
 ghost use Rattle.lt_world.specs.declared.reserved.Reserved.TheVariants.{Acting, Taking};
 ghost use Rattle.lt_world.specs.Reserved.{IsReserved, step_of};
-ghost use Rattle.lt_world.specs.Fields.{IsNodeOf, OnlyMemory, InboxRoom, node_at};
+ghost use Rattle.lt_world.specs.Fields.{IsNodeOf, InboxRoom, node_at};
 
 use crate::choice::Choice;
-use crate::delivery::{deliver, pop_front, put_front};
-use crate::inbox::Inbox;
 use crate::recording::note_events;
 use crate::reserved::Reserved;
 use lt_desk::{Letter, Out};
+use lt_inbox::Inboxes;
 use lt_merge::Run;
 use lt_modes::{Move, Stamp, Step};
 use lt_node::Node;
@@ -32,7 +31,7 @@ use std::alloc::{AllocError, Global};
 #[derive(Drop)]
 pub(crate) struct Network {
     pub(crate) nodes: Vec<Node>,
-    pub(crate) inboxes: Vec<Inbox>,
+    pub(crate) inboxes: Inboxes,
     // What a move sends out, on its way to the inboxes and into the run; nothing between moves.
     pub(crate) out: Out,
     pub(crate) run: Run,
@@ -45,7 +44,7 @@ impl Network {
         ensures start { IfOk result (λ n. n.run.entries ≡ []) }
     {
         let nodes = nodes_of(alloc, script)?;
-        let inboxes = inboxes_of(alloc, script.nodes())?;
+        let inboxes = Inboxes::new(alloc, script.nodes())?;
         Ok(Network {
             nodes,
             inboxes,
@@ -64,40 +63,15 @@ impl Network {
         ensures err { OnErr result (self.new.run.entries ≡ self.old.run.entries) }
     {
         match choice.step {
-            Step::Act(client) => self.step_act(script, choice.node, client),
-            Step::Take(sender) => self.step_take(script, choice.node, sender),
+            Step::Act(client) => {
+                self.reserve_act(script, choice.node, client)?;
+                self.act(script, choice.node, client);
+            }
+            Step::Take(sender) => {
+                let letter = self.open_take(script, choice.node, sender)?;
+                self.take(script, choice.node, sender, letter);
+            }
         }
-    }
-
-    // Makes the next command of a client of this node.
-    fn step_act(&mut self, script: &Script, node: u8, client: u16) -> Result<(), AllocError>
-        requires holds { IsAfterRun script.now self.old }
-        requires enabled { IsTrue (is_enabled script.now (world_in script.now self.old) node (Act client)) }
-        requires few { length self.old.run.entries + 1 < 2 ^ 32 }
-        ensures holds { IsAfterRun script.now self.new }
-        ensures ok { OnOk result (self.new.run.entries ≡ run_with script.now self.old.run.entries node (Act client)) }
-        ensures err { OnErr result (self.new.run.entries ≡ self.old.run.entries) }
-    {
-        self.reserve_act(script, node, client)?;
-        self.act(script, node, client);
-        Ok(())
-    }
-
-    // Takes the front letter from the sender to this node. The letter isn't handed out in between, since it is large.
-    fn step_take(&mut self, script: &Script, node: u8, sender: u8) -> Result<(), AllocError>
-        requires holds { IsAfterRun script.now self.old }
-        requires enabled { IsTrue (is_enabled script.now (world_in script.now self.old) node (Take sender)) }
-        requires few { length self.old.run.entries + 1 < 2 ^ 32 }
-        ensures holds { IsAfterRun script.now self.new }
-        ensures ok { OnOk result (self.new.run.entries ≡ run_with script.now self.old.run.entries node (Take sender)) }
-        ensures err { OnErr result (self.new.run.entries ≡ self.old.run.entries) }
-    {
-        let mut letter = pop_front(&mut self.inboxes, sender, node);
-        if let Err(error) = self.reserve_letter(node, &mut letter) {
-            put_front(&mut self.inboxes, sender, node, letter);
-            return Err(error);
-        }
-        self.take(script, node, sender, letter);
         Ok(())
     }
 
@@ -159,19 +133,6 @@ fn nodes_of(alloc: Global, script: &Script) -> Result<Vec<Node>, AllocError>
     Ok(nodes)
 }
 
-// So many inboxes without letters, each for so many senders.
-fn inboxes_of(alloc: Global, nodes: u8) -> Result<Vec<Inbox>, AllocError>
-    ensures count { IfOk result (λ inboxes. length inboxes.items ≡ nodes) }
-    ensures senders { IfOk result (λ inboxes. (q : ℕ) → q < nodes → length (inbox_at inboxes.items q) ≡ nodes) }
-    ensures empty { IfOk result (λ inboxes. (p q : ℕ) → mail_in inboxes.items p q ≡ []) }
-{
-    let mut inboxes = Vec::new(alloc);
-    for _ in 0..nodes {
-        inboxes.push(Inbox::new(alloc, nodes)?)?;
-    }
-    Ok(inboxes)
-}
-
 // This node makes the next command of the client.
 fn act_at(nodes: &mut Vec<Node>, node: u8, client: u16, out: &mut Out) -> Stamp
     requires node { node < length nodes.old.items }
@@ -203,17 +164,17 @@ fn take_at(nodes: &mut Vec<Node>, node: u8, letter: Letter, out: &mut Out) -> St
 }
 
 // Notes the move that its node made, and sends on what it sent out.
-fn record_move(inboxes: &mut Vec<Inbox>, run: &mut Run, made: Move, out: &mut Out)
-    requires senders { (q : ℕ) → q < length inboxes.old.items → made.stamp.node < length (inbox_at inboxes.old.items q) }
-    requires targets { All (λ (post : rules.Post). post.to < length inboxes.old.items) out.old.posts }
-    requires room { InboxRoom made.stamp.node inboxes.old.items run.old out.old }
+fn record_move(inboxes: &mut Inboxes, run: &mut Run, made: Move, out: &mut Out)
+    requires sender { made.stamp.node < length inboxes.old }
+    requires targets { All (λ (post : rules.Post). post.to < length inboxes.old) out.old.posts }
+    requires room { InboxRoom made.stamp.node inboxes.old run.old out.old }
     requires few { length run.old.entries + 1 < 2 ^ 32 }
-    ensures delivered { AreDelivered made.stamp.node out.old.posts inboxes.old.items inboxes.new.items }
+    ensures delivered { AreDelivered made.stamp.node out.old.posts inboxes.old inboxes.new }
     ensures entries { run.new.entries ≡ run.old.entries ++ record { made = made; events = out.old.events } ∷ [] }
     ensures out { (out.new.posts ≡ []) × (out.new.events ≡ []) }
 {
     out.is_within();
     run.push(made);
     note_events(out, run);
-    deliver(inboxes, made.stamp.node, out);
+    inboxes.deliver(made.stamp.node, out);
 }

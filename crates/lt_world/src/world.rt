@@ -1,18 +1,16 @@
 mod full;
 mod order;
 mod ready;
+mod turns;
 mod waiting;
 
-ghost use Rattle.std.specs.Prelude.{◌≡◌, ◌≢◌, ◌≤◌, ◌<◌, ◌+◌, ◌^◌, ◌↔◌, ℕ, [], ◌∷◌, ◌++◌, length, IsTrue, IsFalse, IsNone, IfOk, IfSome, OnSome, OnOk, OnErr, option_map, slice_index_or, slice_set};
+ghost use Rattle.std.specs.Prelude.{◌≡◌, ◌≤◌, ◌<◌, ◌+◌, ◌^◌, ◌↔◌, ℕ, [], ◌∷◌, ◌++◌, length, IsTrue, IsFalse, IsNone, IfOk, IfSome, OnSome, OnOk, OnErr, option_map, slice_index_or, slice_set};
 ghost use Rattle.lt_limits.specs.declared.moves.TheConstants.{MAX_MOVES};
-ghost use Rattle.lt_lists.specs.Below.{any_below};
-ghost use Rattle.lt_modes.specs.declared.moves.Step.TheVariants.{Act};
-ghost use Rattle.lt_spec.specs.World.{made_by, is_runnable, is_enabled, is_at_rest, anyone_waits, is_waiting, has_mail, logged, IsRun};
+ghost use Rattle.lt_spec.specs.World.{is_runnable, is_enabled, is_at_rest, anyone_waits, is_waiting, has_mail, logged, IsRun};
 ghost use Rattle.lt_spec.specs.FixedOrder.{pick, count_turns};
 ghost use Rattle.lt_world.specs.Choice.{choice_of};
 ghost use Rattle.lt_limits.specs.Cut.{moves_of};
-ghost use Rattle.lt_world.specs.Fields.{AreMade, world_of};
-ghost use Rattle.lt_world.specs.Network.{IsAfterRun, world_in};
+ghost use Rattle.lt_world.specs.Fields.{world_of};
 
 use crate::choice::Choice;
 use crate::network::Network;
@@ -20,9 +18,11 @@ use lt_limits::MAX_MOVES;
 use lt_merge::Run;
 use lt_modes::Step;
 use lt_script::Script;
+use lt_turns::Turns;
 pub use ready::Ready;
 use std::alloc::{AllocError, Global};
 use std::marker::Model;
+use turns::{note_turns, turns_of};
 
 /// The nodes of a script, the letters on their way, and the run so far, with a copy of the script.
 #[derive(Drop)]
@@ -32,9 +32,9 @@ pub struct World {
     network: Network,
     // How many moves each node has made.
     moves: Vec<u32>,
-    // How many commands each client has made.
-    made: Vec<u32>,
-    // No node has made more.
+    // The clients that can act, each by the number of commands that it has made.
+    turns: Turns,
+    // No node has made more moves.
     most: u32,
 }
 
@@ -45,7 +45,7 @@ impl Model for World {
 
     ghost view = { λ w. record { script = w.script; limit = w.limit; run = w.network.run.entries } };
 
-    ghost invariant = { λ w. Stands w.script w.limit w.most w.network.nodes.items w.network.inboxes.items w.moves.items w.made.items w.network.out w.network.run.entries };
+    ghost invariant = { λ w. Stands w.script w.limit w.most w.network.nodes.items w.network.inboxes w.moves.items w.turns w.network.out w.network.run.entries };
 }
 
 impl World {
@@ -56,14 +56,14 @@ impl World {
     {
         let network = Network::new(alloc, script)?;
         let moves = no_moves(alloc, script.nodes())?;
-        let made = none_made(alloc, script)?;
+        let turns = turns_of(alloc, script, &network)?;
         let script = script.copy(alloc)?;
         Ok(World {
             script,
             limit,
             network,
             moves,
-            made,
+            turns,
             most: 0,
         })
     }
@@ -83,7 +83,7 @@ impl World {
     pub fn at_rest(&self) -> bool
         ensures { result ≡ is_at_rest self.now.script (world_of self.now) }
     {
-        self.count_takes() == 0 && !self.anyone_acts()
+        self.count() == 0
     }
 
     /// The number of enabled moves.
@@ -99,18 +99,6 @@ impl World {
     {
         for client in 0..self.script.clients() {
             if self.is_waiting(client) {
-                return true;
-            }
-        }
-        false
-    }
-
-    // Whether some client can act.
-    fn anyone_acts(&self) -> bool
-        ensures { result ≡ any_below (length self.now.script.clients) (is_runnable self.now.script (world_of self.now)) }
-    {
-        for client in 0..self.script.clients() {
-            if self.is_runnable(client) {
                 return true;
             }
         }
@@ -138,7 +126,7 @@ impl World {
     {
         self.network.step(&self.script, choice)?;
         count_move(&mut self.moves, &mut self.most, choice.node);
-        note_made(&mut self.made, &self.script, &self.network, choice);
+        note_turns(&mut self.turns, &self.script, &self.network, choice.step);
         Ok(())
     }
 
@@ -163,8 +151,7 @@ impl World {
         requires { client < length self.now.script.clients }
         ensures { result ≡ is_runnable self.now.script (world_of self.now) client }
     {
-        let home = usize::from(self.script.home(client));
-        self.network.nodes[home].runnable(client)
+        self.turns.number(client).is_some()
     }
 
     // Whether an ask of the client is unanswered.
@@ -183,8 +170,7 @@ impl World {
         let nodes = self.script.nodes();
         sender < nodes
             && (receiver < nodes
-                && (sender != receiver
-                    && self.network.inboxes[usize::from(receiver)].has_from(sender)))
+                && (sender != receiver && self.network.inboxes.has_mail(sender, receiver)))
     }
 }
 
@@ -200,18 +186,6 @@ fn no_moves(alloc: Global, nodes: u8) -> Result<Vec<u32>, AllocError>
     Ok(moves)
 }
 
-// No command of any client.
-fn none_made(alloc: Global, script: &Script) -> Result<Vec<u32>, AllocError>
-    ensures count { IfOk result (λ made. length made.items ≡ length script.now.clients) }
-    ensures none { IfOk result (λ made. (c : ℕ) → slice_index_or made.items c 0 ≡ 0) }
-{
-    let mut made = Vec::new(alloc);
-    for _ in 0..script.clients() {
-        made.push(0)?;
-    }
-    Ok(made)
-}
-
 // Counts a move of the node.
 fn count_move(moves: &mut Vec<u32>, most: &mut u32, node: u8)
     requires node { node < length moves.old.items }
@@ -223,28 +197,4 @@ fn count_move(moves: &mut Vec<u32>, most: &mut u32, node: u8)
     let made = &mut moves[usize::from(node)];
     *made += 1;
     *most = (*most).max(*made);
-}
-
-// Notes how many commands the client of a move has made.
-fn note_made(made: &mut Vec<u32>, script: &Script, network: &Network, choice: Choice)
-    requires holds { IsAfterRun script.now network.now }
-    requires count { length made.old.items ≡ length script.now.clients }
-    requires client { (client : ℕ) → choice.step ≡ Act client → client < length script.now.clients }
-    requires others { (c : ℕ) → c < length script.now.clients → choice.step ≢ Act c
-        → slice_index_or made.old.items c 0 ≡ made_by script.now (world_in script.now network.now) c }
-    ensures { AreMade script.now made.new.items (world_in script.now network.now) }
-{
-    if let Step::Act(client) = choice.step {
-        made[usize::from(client)] = made_of(script, network, client);
-    }
-}
-
-// How many commands the client has made.
-fn made_of(script: &Script, network: &Network, client: u16) -> u32
-    requires holds { IsAfterRun script.now network.now }
-    requires client { client < length script.now.clients }
-    ensures { result ≡ made_by script.now (world_in script.now network.now) client }
-{
-    let home = usize::from(script.home(client));
-    network.nodes[home].made(client)
 }

@@ -1,21 +1,20 @@
-ghost use Rattle.std.specs.Prelude.{◌≡◌, ◌<◌, ◌+◌, ◌^◌, ℕ, length, IsTrue, IfOk, OnOk, OnErr};
+ghost use Rattle.std.specs.Prelude.{◌≡◌, ◌<◌, ◌+◌, ◌^◌, length, IsTrue, IfOk, OnOk, OnErr};
 ghost use Rattle.lt_modes.specs.declared.moves.Step.TheVariants.{Act, Take};
 ghost use Rattle.lt_spec.specs.World.{is_enabled};
 ghost use Rattle.lt_desk.specs.LetterSeen.{letter_seen};
 ghost use Rattle.lt_node.specs.Room.{RoomToAct, RoomToTake};
-ghost use Rattle.lt_world.specs.Mail.{SameLetters, inbox_at};
+ghost use Rattle.lt_inbox.specs.Mail.{SameLetters};
 ghost use Rattle.lt_world.specs.Moving.{IsWithin, CanTake};
 ghost use Rattle.lt_world.specs.Network.{IsAfterRun, world_in};
-ghost use Rattle.lt_world.specs.declared.reserved.Reserved.TheVariants.{Acting};
+ghost use Rattle.lt_world.specs.declared.reserved.Reserved.TheVariants.{Acting, Taking};
 ghost use Rattle.lt_world.specs.Reserved.{IsReserved, step_of};
 ghost use Rattle.lt_world.specs.Fields.{OnlyMemory, InboxRoom, node_at};
 
 use super::Network;
 use crate::choice::Choice;
-use crate::delivery::{pop_front, put_front, reserve_from};
-use crate::inbox::Inbox;
 use crate::reserved::Reserved;
 use lt_desk::{Letter, Out};
+use lt_inbox::Inboxes;
 use lt_merge::Run;
 use lt_modes::Step;
 use lt_script::Script;
@@ -42,7 +41,10 @@ impl Network {
                 self.reserve_act(script, choice.node, client)?;
                 Ok(Reserved::Acting { client })
             }
-            Step::Take(sender) => self.reserve_take(script, choice.node, sender),
+            Step::Take(sender) => {
+                let letter = self.open_take(script, choice.node, sender)?;
+                Ok(Reserved::Taking { sender, letter })
+            }
         }
     }
 
@@ -63,27 +65,27 @@ impl Network {
         self.reserve_command(node)
     }
 
-    // Takes the front letter from the sender to this node in hand, and makes room for it.
-    fn reserve_take(
+    // Takes the front letter from the sender to this node in hand, with room for the node to take it. Where memory is
+    // refused, it goes back.
+    pub(super) fn open_take(
         &mut self,
         script: &Script,
         node: u8,
         sender: u8,
-    ) -> Result<Reserved, AllocError>
+    ) -> Result<Letter, AllocError>
         requires holds { IsAfterRun script.now self.old }
         requires enabled { IsTrue (is_enabled script.now (world_in script.now self.old) node (Take sender)) }
         requires few { length self.old.run.entries + 1 < 2 ^ 32 }
-        ensures reserved { IfOk result (IsReserved script.now self.new node) }
-        ensures step { IfOk result (λ reserved. step_of reserved ≡ Take sender) }
+        ensures reserved { IfOk result (λ letter. IsReserved script.now self.new node (Taking sender letter)) }
         ensures err { OnErr result (IsAfterRun script.now self.new) }
         ensures entries { self.new.run.entries ≡ self.old.run.entries }
     {
-        let mut letter = pop_front(&mut self.inboxes, sender, node);
+        let mut letter = self.inboxes.pop_front(sender, node);
         if let Err(error) = self.reserve_letter(node, &mut letter) {
-            put_front(&mut self.inboxes, sender, node, letter);
+            self.inboxes.put_front(sender, node, letter);
             return Err(error);
         }
-        Ok(Reserved::Taking { sender, letter })
+        Ok(letter)
     }
 
     /// Leaves a move for which room was made: a letter in hand goes back.
@@ -93,7 +95,7 @@ impl Network {
         ensures entries { self.new.run.entries ≡ self.old.run.entries }
     {
         if let Reserved::Taking { sender, letter } = reserved {
-            put_front(&mut self.inboxes, sender, node, letter);
+            self.inboxes.put_front(sender, node, letter);
         }
     }
 
@@ -101,30 +103,30 @@ impl Network {
     fn reserve_command(&mut self, node: u8) -> Result<(), AllocError>
         requires node { node < length self.old.nodes.items }
         requires within { IsWithin (node_at self.old.nodes.items node) }
-        requires senders { (q : ℕ) → q < length self.old.inboxes.items → node < length (inbox_at self.old.inboxes.items q) }
+        requires sender { node < length self.old.inboxes }
         ensures nodes { OnlyMemory node self.old.nodes.items self.new.nodes.items }
-        ensures letters { SameLetters self.old.inboxes.items self.new.inboxes.items }
+        ensures letters { SameLetters self.old.inboxes self.new.inboxes }
         ensures entries { self.new.run.entries ≡ self.old.run.entries }
         ensures out { (self.new.out.posts ≡ self.old.out.posts) × (self.new.out.events ≡ self.old.out.events) }
         ensures room { OnOk result (RoomToAct (node_at self.new.nodes.items node) self.new.out) }
-        ensures send { OnOk result (InboxRoom node self.new.inboxes.items self.new.run self.new.out) }
+        ensures send { OnOk result (InboxRoom node self.new.inboxes self.new.run self.new.out) }
     {
         self.nodes[usize::from(node)].reserve(&mut self.out)?;
         reserve_all(&mut self.inboxes, &mut self.run, node, &self.out)
     }
 
     // Makes room for this node to take the letter.
-    pub(super) fn reserve_letter(&mut self, node: u8, letter: &mut Letter) -> Result<(), AllocError>
+    fn reserve_letter(&mut self, node: u8, letter: &mut Letter) -> Result<(), AllocError>
         requires node { node < length self.old.nodes.items }
         requires takes { CanTake (node_at self.old.nodes.items node) (letter_seen letter.old) }
-        requires senders { (q : ℕ) → q < length self.old.inboxes.items → node < length (inbox_at self.old.inboxes.items q) }
+        requires sender { node < length self.old.inboxes }
         ensures nodes { OnlyMemory node self.old.nodes.items self.new.nodes.items }
-        ensures letters { SameLetters self.old.inboxes.items self.new.inboxes.items }
+        ensures letters { SameLetters self.old.inboxes self.new.inboxes }
         ensures entries { self.new.run.entries ≡ self.old.run.entries }
         ensures out { (self.new.out.posts ≡ self.old.out.posts) × (self.new.out.events ≡ self.old.out.events) }
         ensures letter { letter_seen letter.new ≡ letter_seen letter.old }
         ensures room { OnOk result (RoomToTake (node_at self.new.nodes.items node) letter.new self.new.out) }
-        ensures send { OnOk result (InboxRoom node self.new.inboxes.items self.new.run self.new.out) }
+        ensures send { OnOk result (InboxRoom node self.new.inboxes self.new.run self.new.out) }
     {
         self.nodes[usize::from(node)].reserve_for(letter, &mut self.out)?;
         reserve_all(&mut self.inboxes, &mut self.run, node, &self.out)
@@ -133,17 +135,17 @@ impl Network {
 
 // Makes room for what a node sends out, for which `out` has room.
 fn reserve_all(
-    inboxes: &mut Vec<Inbox>,
+    inboxes: &mut Inboxes,
     run: &mut Run,
     sender: u8,
     out: &Out,
 ) -> Result<(), AllocError>
-    requires { (q : ℕ) → q < length inboxes.old.items → sender < length (inbox_at inboxes.old.items q) }
-    ensures letters { SameLetters inboxes.old.items inboxes.new.items }
+    requires { sender < length inboxes.old }
+    ensures letters { SameLetters inboxes.old inboxes.new }
     ensures entries { run.new.entries ≡ run.old.entries }
-    ensures send { OnOk result (InboxRoom sender inboxes.new.items run.new out.now) }
+    ensures send { OnOk result (InboxRoom sender inboxes.new run.new out.now) }
 {
-    reserve_from(inboxes, sender, out.post_room())?;
+    inboxes.reserve_from(sender, out.post_room())?;
     let lines = u32::try_from(out.event_room()).map_err(|_| AllocError)?;
     run.reserve(lines)
 }

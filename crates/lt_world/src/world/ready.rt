@@ -2,38 +2,47 @@ ghost use Rattle.std.specs.Prelude.{◌≡◌, ◌<◌, ◌∷◌, ◌++◌, [],
 ghost use Rattle.lt_spec.specs.World.{is_enabled, logged};
 ghost use Rattle.lt_limits.specs.Cut.{moves_of};
 ghost use Rattle.lt_world.specs.Fields.{world_of};
+ghost use Rattle.lt_world.specs.Ready.{IsWhole, world_with};
 
-use super::{World, count_move, note_made};
+use super::turns::note_turns;
+use super::{World, count_move};
 use crate::choice::Choice;
 use crate::network::Network;
 use crate::reserved::Reserved;
 use lt_script::Script;
+use lt_turns::Turns;
 use std::marker::Model;
 
 /// A world with room for one move, which therefore can't fail.
 #[derive(Drop)]
 pub struct Ready {
-    script: Script,
-    limit: u32,
-    network: Network,
-    moves: Vec<u32>,
-    made: Vec<u32>,
-    most: u32,
+    parts: Parts,
     choice: Choice,
     reserved: Reserved,
 }
 
+// What a world is made of, while room is made for a move and the move is made or left.
+#[derive(Drop)]
+struct Parts {
+    script: Script,
+    limit: u32,
+    network: Network,
+    moves: Vec<u32>,
+    turns: Turns,
+    most: u32,
+}
+
 impl Model for Ready {
-    ghost use Rattle.lt_world.specs.Ready.{ReadyData, IsReady};
+    ghost use Rattle.lt_world.specs.Ready.{ReadyData, IsReady, world_with};
 
     ghost Value = { ReadyData };
 
     ghost view = { λ r. record {
-      world = record { script = r.script; limit = r.limit; run = r.network.run.entries };
+      world = world_with r.parts;
       choice = r.choice;
     } };
 
-    ghost invariant = { λ r. IsReady r.script r.limit r.most r.network r.moves.items r.made.items r.choice r.reserved };
+    ghost invariant = { λ r. IsReady r.parts r.choice r.reserved };
 }
 
 impl World {
@@ -45,33 +54,14 @@ impl World {
         ensures ok { IfOk result (λ ready. ready ≡ record { world = self; choice = choice }) }
         ensures err { IfErr result (λ world. world ≡ self) }
     {
-        let World {
-            script,
-            limit,
-            mut network,
-            moves,
-            made,
-            most,
-        } = self;
-        match network.reserve(&script, choice) {
+        let mut parts = Parts::of(self);
+        match parts.network.reserve(&parts.script, choice) {
             Ok(reserved) => Ok(Ready {
-                script,
-                limit,
-                network,
-                moves,
-                made,
-                most,
+                parts,
                 choice,
                 reserved,
             }),
-            Err(_) => Err(World {
-                script,
-                limit,
-                network,
-                moves,
-                made,
-                most,
-            }),
+            Err(_) => Err(parts.whole()),
         }
     }
 }
@@ -82,26 +72,14 @@ impl Ready {
         ensures { result ≡ record self.world { run = self.world.run ++ logged self.world.script (world_of self.world) self.choice.node self.choice.step ∷ [] } }
     {
         let Ready {
-            script,
-            limit,
-            mut network,
-            mut moves,
-            mut made,
-            mut most,
+            mut parts,
             choice,
             reserved,
         } = self;
-        network.make(&script, choice.node, reserved);
-        count_move(&mut moves, &mut most, choice.node);
-        note_made(&mut made, &script, &network, choice);
-        World {
-            script,
-            limit,
-            network,
-            moves,
-            made,
-            most,
-        }
+        parts.network.make(&parts.script, choice.node, reserved);
+        count_move(&mut parts.moves, &mut parts.most, choice.node);
+        note_turns(&mut parts.turns, &parts.script, &parts.network, choice.step);
+        parts.whole()
     }
 
     /// Leaves the move: the world as it was.
@@ -109,22 +87,58 @@ impl Ready {
         ensures { result ≡ self.world }
     {
         let Ready {
-            script,
-            limit,
-            mut network,
-            moves,
-            made,
-            most,
+            mut parts,
             choice,
             reserved,
         } = self;
-        network.leave(&script, choice.node, reserved);
+        parts.network.leave(&parts.script, choice.node, reserved);
+        parts.whole()
+    }
+}
+
+impl Parts {
+    // Takes a world apart.
+    fn of(world: World) -> Parts
+        ensures whole { IsWhole result }
+        ensures same { world_with result ≡ world }
+    {
+        let World {
+            script,
+            limit,
+            network,
+            moves,
+            turns,
+            most,
+        } = world;
+        Parts {
+            script,
+            limit,
+            network,
+            moves,
+            turns,
+            most,
+        }
+    }
+
+    // Puts them together again.
+    fn whole(self) -> World
+        requires { IsWhole self }
+        ensures { result ≡ world_with self }
+    {
+        let Parts {
+            script,
+            limit,
+            network,
+            moves,
+            turns,
+            most,
+        } = self;
         World {
             script,
             limit,
             network,
             moves,
-            made,
+            turns,
             most,
         }
     }

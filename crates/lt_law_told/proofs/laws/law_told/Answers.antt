@@ -1,5 +1,6 @@
 use Rattle.lt_law_told.proofs.RunsOpened.{words_are, runs_told, times_told}
 use Rattle.lt_law_told.proofs.OthersOpened.{soak_told, check_told, make_told}
+use Rattle.lt_law_told.proofs.LimitsOpened.{within_told, far_told, each_time_told}
 use Rattle.lt_law_told.proofs.laws.law_told.Goals as goal
 
 pub returns-clause-words : goal.returns-clause-words
@@ -10,6 +11,15 @@ returns-clause-runs c = runs_told
 
 pub returns-clause-times : goal.returns-clause-times
 returns-clause-times c = times_told
+
+pub returns-clause-each_time : goal.returns-clause-each_time
+returns-clause-each_time c = each_time_told
+
+pub returns-clause-within : goal.returns-clause-within
+returns-clause-within c = within_told
+
+pub returns-clause-far : goal.returns-clause-far
+returns-clause-far c = far_told
 
 pub returns-clause-soak : goal.returns-clause-soak
 returns-clause-soak c = soak_told

@@ -1,6 +1,5 @@
--- Each seat may have handed its command over.
-use Rattle.std.proofs.Common.{arith, refl, sym, ◌∙◌}
-use Rattle.std.proofs.lemmas.Bool.{and_parts}
+-- Each seat may have handed its command over, until memory ran out for one.
+use Rattle.std.proofs.Common.{arith, refl}
 use Rattle.lt_live.specs.Stations.{HandMayGo}
 use Rattle.lt_live.proofs.SeatLists.{going_starts, going_on, going_ends}
 use Rattle.lt_live.proofs.TurnParts.{only_self, only_join, none_first, first_on, first_all}
@@ -12,7 +11,7 @@ loop-place-init c = record {
   runner = only_self c.args.runner.now;
   going = going_starts HandMayGo c.args.seats.now.items;
   count = refl;
-  hands = λ fits. none_first c.args.runner.now c.args.seats.now.items;
+  hands = none_first c.args.runner.now c.args.seats.now.items;
 }
 
 pub loop-place-preserved : goal.loop-place-preserved
@@ -25,18 +24,15 @@ loop-place-preserved c =
       runner = only_join c.args.runner.now c.loop-place.runner c.append_at.new.runner before.runner step.runner;
       going = going;
       count = going.count;
-      hands = λ both.
-          let parts = and_parts c.append_at.result c.loop-place.fits (sym c.both-fits.ensures ∙ both) in
-          first_on c.loop-place.place c.loop-place.runner c.append_at.new.runner c.loop-place.seats.items c.append_at.new.seats.items step.runner step.seat
-          (before.hands parts.1) (step.hand parts.0);
+      hands = first_on c.loop-place.place c.loop-place.runner c.append_at.new.runner c.loop-place.seats.items c.append_at.new.seats.items step.runner step.seat
+          before.hands (step.hand c.if-not-append_at.false);
     }
+
+pub returns-clause-all : goal.returns-clause-all
+returns-clause-all c = λ fits.
+    first_all c.loop-place.place c.loop-place.runner c.loop-place.seats.items (omega (arith, c.loop-place.invariant.count, c.loop-place-test.false)) c.loop-place.invariant.hands
 
 pub returns-clause-seats : goal.returns-clause-seats
 returns-clause-seats c =
     going_ends HandMayGo c.loop-place.place c.args.seats.now.items c.loop-place.seats.items
     (omega (arith, c.loop-place.invariant.count, c.loop-place-test.false)) c.loop-place.invariant.going
-
-pub returns-clause-hands : goal.returns-clause-hands
-returns-clause-hands c = λ fits.
-    first_all c.loop-place.place c.loop-place.runner c.loop-place.seats.items (omega (arith, c.loop-place.invariant.count, c.loop-place-test.false))
-    (c.loop-place.invariant.hands fits)

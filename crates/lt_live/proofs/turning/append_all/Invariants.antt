@@ -1,5 +1,5 @@
 -- The loop over seats.
-use Rattle.std.proofs.Common.{◌≡◌, length, true}
+use Rattle.std.proofs.Common.{◌≡◌, length}
 use Rattle.lt_live.specs.Stations.{IsStation, OnlyAppends, HandMayGo}
 use Rattle.lt_live.proofs.SeatLists.{Going}
 use Rattle.lt_live.proofs.TurnParts.{FirstCanNot}
@@ -11,5 +11,5 @@ invariant-loop-place l = record {
   runner : OnlyAppends l.initial.runner l.runner;
   going : Going HandMayGo l.place l.initial.seats.items l.seats.items;
   count : length l.seats.items ≡ length l.initial.seats.items;
-  hands : l.fits ≡ true → FirstCanNot l.place l.runner l.seats.items;
+  hands : FirstCanNot l.place l.runner l.seats.items;
 }

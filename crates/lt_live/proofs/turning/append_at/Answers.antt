@@ -1,10 +1,11 @@
 -- One seat may have handed its command over, and the others stay.
 use Rattle.std.proofs.Common.{subst, sym, ◌∙◌}
 use Rattle.std.specs.Prelude.{slice_index_or}
-use Rattle.std.proofs.lemmas.Option.{slice_get-get_or}
+use Rattle.std.proofs.lemmas.Option.{same_Some, slice_get-get_or}
 use Rattle.lt_live.specs.declared.ends.Seat.{Seat}
 use Rattle.lt_live.specs.Stations.{IsSeatOf, MayHandOver, HandMayGo, CanNotAppend}
-use Rattle.lt_live.proofs.SeatLists.{seat_set, set_here, same_seat}
+use Rattle.lt_live.proofs.Places.{set_here}
+use Rattle.lt_live.proofs.SeatLists.{seat_set}
 use Rattle.lt_live.proofs.KeptStations.{station_handed, hand_goes}
 use Rattle.lt_live.proofs.TurnParts.{only_handed}
 use Rattle.lt_live.proofs.turning.append_at.Goals as goal
@@ -43,5 +44,9 @@ returns-clause-seat c =
 pub returns-clause-hand : goal.returns-clause-hand
 returns-clause-hand c = λ fits seat there.
     subst (λ (s : Seat). CanNotAppend c.append.new.runner s)
-    (same_seat c.append.new.seat seat (sym (set_here c.args.seats.now.items c.args.place c.append.new.seat c.requires.inside) ∙ there))
+    (same_Some c.append.new.seat seat (sym (set_here c.args.seats.now.items c.args.place c.append.new.seat c.requires.inside) ∙ there))
     (c.append.ensures.rest fits)
+
+pub returns-clause-memory : goal.returns-clause-memory
+returns-clause-memory c = λ short.
+    (c.args.place, c.append.new.seat, set_here c.args.seats.now.items c.args.place c.append.new.seat c.requires.inside, c.append.ensures.memory short)

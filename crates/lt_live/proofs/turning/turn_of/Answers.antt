@@ -24,8 +24,9 @@ returns-clause-kept g c =
 
 pub returns-clause-turns : goal.returns-clause-turns
 returns-clause-turns g c =
+    let move = c.make_move-turned.ensures in
     turns c.make_move-turned.result c.append_all-fits.result c.args.runner.now c.append_all-fits.new.runner c.make_move-turned.new.runner
     c.args.seats.now.items c.take_all.new.seats.items c.append_all-fits.new.seats.items c.tell_all.new.seats.items
-    c.take_all.ensures c.append_all-fits.ensures.runner c.append_all-fits.ensures.seats c.append_all-fits.ensures.hands c.make_move-turned.ensures.grew c.make_move-turned.ensures.ends
-    c.make_move-turned.ensures.shown c.make_move-turned.ensures.memory
+    c.take_all.ensures c.append_all-fits.ensures.runner c.append_all-fits.ensures.seats c.append_all-fits.ensures.all c.append_all-fits.ensures.memory
+    (record { grew = move.grew; ends = move.ends; shown = move.shown; memory = move.memory })
     (subst (λ (log : RunData). EachSeat (Tells log.entries) c.append_all-fits.new.seats.items c.tell_all.new.seats.items) c.log.ensures c.tell_all.ensures)

@@ -5,8 +5,8 @@ use Rattle.lt_modes.specs.HandingOver.{hand_over}
 use Rattle.lt_core.proofs.ServingLemmas.{does_then, fits_first, fits_after}
 use Rattle.lt_core.proofs.one_set.Core.attend.Goals as goal
 
-pub serve-requires-clause-fits : goal.serve-requires-clause-fits
-serve-requires-clause-fits c =
+pub serve-draw-requires-clause-fits : goal.serve-draw-requires-clause-fits
+serve-draw-requires-clause-fits c =
     let s = c.args.self.now in
     let stamp = c.args.stamp in
     let first = serve s.set stamp s.state in
@@ -19,7 +19,7 @@ freeze-requires-clause-fits c =
     let stamp = c.args.stamp in
     let first = serve s.set stamp s.state in
     let second = freeze s.set stamp first.state in
-    fits_after first (λ set. freeze set stamp) s c.serve.new.self c.args.out.now c.serve.new.out c.serve.ensures.does
+    fits_after first (λ set. freeze set stamp) s c.serve-draw.new.self c.args.out.now c.serve-draw.new.out c.serve-draw.ensures.does
     (fits_first (then_do first (freeze s.set stamp)) (hand_over s.set stamp second.state) c.args.out.now c.requires.fits)
 
 pub hand_over-requires-clause-fits : goal.hand_over-requires-clause-fits
@@ -28,7 +28,7 @@ hand_over-requires-clause-fits c =
     let stamp = c.args.stamp in
     let first = serve s.set stamp s.state in
     fits_after (then_do first (freeze s.set stamp)) (λ set. hand_over set stamp) s c.freeze.new.self c.args.out.now c.freeze.new.out
-    (does_then first (λ set. freeze set stamp) s c.serve.new.self c.freeze.new.self c.args.out.now c.serve.new.out c.freeze.new.out c.serve.ensures.does c.freeze.ensures.does)
+    (does_then first (λ set. freeze set stamp) s c.serve-draw.new.self c.freeze.new.self c.args.out.now c.serve-draw.new.out c.freeze.new.out c.serve-draw.ensures.does c.freeze.ensures.does)
     c.requires.fits
 
 pub returns : goal.returns
@@ -38,6 +38,6 @@ returns c =
     let first = serve s.set stamp s.state in
     record {
       does = does_then (then_do first (freeze s.set stamp)) (λ set. hand_over set stamp) s c.freeze.new.self c.hand_over.new.self c.args.out.now c.freeze.new.out c.hand_over.new.out
-          (does_then first (λ set. freeze set stamp) s c.serve.new.self c.freeze.new.self c.args.out.now c.serve.new.out c.freeze.new.out c.serve.ensures.does c.freeze.ensures.does)
+          (does_then first (λ set. freeze set stamp) s c.serve-draw.new.self c.freeze.new.self c.args.out.now c.serve-draw.new.out c.freeze.new.out c.serve-draw.ensures.does c.freeze.ensures.does)
           c.hand_over.ensures.does;
     }

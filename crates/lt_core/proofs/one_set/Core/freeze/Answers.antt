@@ -9,7 +9,7 @@ use Rattle.lt_desk.specs.Freezes.{told_nodes, bits_from}
 use Rattle.lt_desk.specs.LetterSeen.{parked_seen}
 use Rattle.lt_desk.specs.OutData.{FitsOut}
 use Rattle.lt_core.specs.CoreData.{CoreData, Does, desk_seen, room_by}
-use Rattle.lt_core.proofs.NoticeLemmas.{freeze_fits, freeze_sent}
+use Rattle.lt_core.proofs.NoticeLemmas.{freeze_fits, freeze_sent, freeze_draws}
 use Rattle.lt_core.proofs.one_set.Core.freeze.Goals as goal
 
 pub send_notices-requires-clause-fits : goal.send_notices-requires-clause-fits
@@ -79,3 +79,6 @@ returns-clause-does c =
           ∙ sym (ap (λ (m : Made). m.state) made);
       sent = freeze_sent before.set stamp s (Some c.freeze-targets.new.self.desk) desk targets.modes targets.number (told_nodes stamp.node desk) (bits_from c.nodes-nodes.result 0 targets.nodes) c.args.out.now c.send_notices.new.out made told c.send_notices.ensures;
     })
+
+pub returns-clause-draw : goal.returns-clause-draw
+returns-clause-draw c = freeze_draws c.args.stamp c.args.self.now _ c.args.out.now c.send_notices.new.out (returns-clause-does c)

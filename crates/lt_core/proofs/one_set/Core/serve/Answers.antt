@@ -1,20 +1,49 @@
-use Rattle.std.proofs.Common.{◌≡◌, ◌∙◌, Some, rules}
-use Rattle.lt_modes.specs.Serving.{next_service, serve, serve_one}
-use Rattle.lt_core.proofs.ServingLemmas.{serve_more, rest_kept}
+use Rattle.std.proofs.Common.{◌≡◌, ◌∙◌, length, Some, None, ap, sym, rules}
+use Rattle.lt_modes.specs.Made.{Made}
+use Rattle.lt_modes.specs.Serving.{queue_of, next_service, serve, serve_one}
+use Rattle.lt_desk.specs.OutData.{out_after}
+use Rattle.lt_desk.specs.Picks.{service_of}
+use Rattle.lt_desk.proofs.DrawLemmas.{service_is, service_in_queue}
+use Rattle.lt_core.proofs.ServingLemmas.{serve_more, serve_none, out_silent, rest_kept}
 use Rattle.lt_core.proofs.one_set.Core.serve.Goals as goal
+
+pub serve_one-requires-clause-within : goal.serve_one-requires-clause-within
+serve_one-requires-clause-within c =
+    service_in_queue c.loop-k.next (length (queue_of c.loop-k.self.state)) c.in-Some.k c.loop-k.invariant.within (sym c.service.ensures ∙ c.in-Some.is)
 
 pub loop-k-preserved : goal.loop-k-preserved
 loop-k-preserved c =
     let before = c.loop-k.self in
     let stamp = c.args.stamp in
     let k = c.in-Some.k in
-    let found : next_service stamp.node before.state ≡ Some k = search rules in
+    let served : service_of c.loop-k.next ≡ Some k = sym c.service.ensures ∙ c.in-Some.is in
+    let found : next_service stamp.node before.state ≡ Some k =
+    ap (λ me. next_service me before.state) (c.requires.node ∙ sym c.loop-k.invariant.node)
+    ∙ (sym (service_is before.node before.state c.loop-k.next c.loop-k.invariant.next) ∙ served) in
     let rest = rest_kept (serve_one before.set stamp k before.state) (serve before.set stamp before.state) (λ set. serve set stamp) before c.serve_one.new.self c.loop-k.out c.serve_one.new.out c.serve_one.ensures.does
-    (serve_more before.set stamp before.state k found c.in-Some.ensures.within) in
+    (serve_more before.set stamp before.state k found (service_in_queue c.loop-k.next (length (queue_of before.state)) k c.loop-k.invariant.within served)) in
     record {
       node = c.serve_one.ensures.does.node ∙ c.loop-k.invariant.node;
       set = c.serve_one.ensures.does.set ∙ c.loop-k.invariant.set;
       state = rest.0 ∙ c.loop-k.invariant.state;
       sent = rest.1 ∙ c.loop-k.invariant.sent;
       room = c.serve_one.ensures.room;
+      next = c.pick-next-in-Some.ensures.next;
+      within = c.pick-next-in-Some.ensures.within;
+    }
+
+pub returns-clause-does : goal.returns-clause-does
+returns-clause-does c =
+    let after = c.loop-k.self in
+    let stamp = c.args.stamp in
+    let none : service_of c.loop-k.next ≡ None = search rules in
+    let idle : next_service stamp.node after.state ≡ None =
+    ap (λ me. next_service me after.state) (c.requires.node ∙ sym c.loop-k.invariant.node)
+    ∙ (sym (service_is after.node after.state c.loop-k.next c.loop-k.invariant.next) ∙ none) in
+    let quiet = serve_none after.set stamp after.state idle in
+    record {
+      node = c.loop-k.invariant.node;
+      set = c.loop-k.invariant.set;
+      state = sym (ap (λ (m : Made). m.state) quiet) ∙ c.loop-k.invariant.state;
+      sent = sym (ap (λ (m : Made). out_after m c.loop-k.out) quiet ∙ out_silent after.state c.loop-k.out) ∙ c.loop-k.invariant.sent;
     }

@@ -26,6 +26,7 @@ invariant_of-self c =
       node_advanced _ clients c.from.result c.next.new.self c.self.invariant.0 refl,
       clients_advanced c.self.inside.script c.self.inside.me c.self.inside.homes.items clients c.from.result c.index_mut.result.now c.next.new.self c.self.invariant.1
           (omega (arith, c.from.ensures, c.requires.client, count, c.self.invariant.0.clients, length-map clients progress_made)) c.index_mut.ensures.value c.next.ensures.made,
+      c.self.invariant.2,
     )
 
 pub returns-clause-command : goal.returns-clause-command

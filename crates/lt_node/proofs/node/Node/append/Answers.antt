@@ -1,4 +1,7 @@
-use Rattle.std.proofs.Common.{refl}
+use Rattle.std.proofs.Common.{refl, subst, sym}
+use Rattle.lt_modes.specs.Script.{ScriptData}
+use Rattle.lt_node.specs.Marks.{TellsWaiting}
+use Rattle.lt_node.proofs.MarkLemmas.{waiting_appended}
 use Rattle.lt_node.proofs.AppendLemmas.{appended_at}
 use Rattle.lt_node.proofs.node.Node.append.Goals as goal
 
@@ -7,8 +10,13 @@ invariant_of-self-2 c =
     let appended = appended_at _ c.args.self.now c.self.inside.homes.items c.self.inside.clients.items c.args.client c.from.result c.index_mut.result.now c.append_to.new.list c.append_to.new.script c.args.command
     c.self.view_is c.self.invariant.0 refl c.self.invariant.1 c.from.ensures c.index_mut.ensures.value
     (record { inside = c.requires.client; here = c.requires.home; targets = c.requires.targets; modes = c.requires.modes; room = c.requires.room })
-    c.in_ok-append_to.ensures.list c.in_ok-append_to.ensures.script in
-    (appended.holds.node, appended.holds.knows)
+    c.in_ok-append_to.ensures.list c.in_ok-append_to.ensures.script in (
+      appended.holds.node,
+      appended.holds.knows,
+      subst (λ (script : ScriptData). TellsWaiting script c.self.inside.me c.self.inside.cores.items c.self.inside.waiting.items)
+          (sym c.in_ok-append_to.ensures.script)
+          (waiting_appended c.self.inside.script c.self.inside.me c.args.client c.args.command c.self.inside.cores.items c.self.inside.waiting.items c.self.invariant.2),
+    )
 
 pub returns-clause-appended : goal.returns-clause-appended
 returns-clause-appended c =

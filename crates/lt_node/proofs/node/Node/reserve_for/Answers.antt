@@ -1,5 +1,6 @@
 use Rattle.std.proofs.Common.{slice_set}
-use Rattle.lt_node.proofs.KeptLemmas.{kept_set, same_node}
+use Rattle.lt_node.proofs.KeptLemmas.{kept_set, node_same, same_node}
+use Rattle.lt_node.proofs.MarkLemmas.{waiting_kept}
 use Rattle.lt_node.proofs.TakeLemmas.{taken_by}
 use Rattle.lt_node.proofs.node.Node.reserve_for.Goals as goal
 
@@ -15,3 +16,10 @@ pub returns-clause-node : goal.returns-clause-node
 returns-clause-node c =
     same_node _ c.args.self.now (slice_set c.self.inside.cores.items c.from.result c.reserve_for.new.core) c.self.view_is
     (kept_set c.self.inside.cores.items c.from.result c.index_mut.result.now c.reserve_for.new.core c.index_mut.ensures.value c.reserve_for.ensures.kept)
+
+pub invariant_of-self : goal.invariant_of-self
+invariant_of-self c =
+    let all = c.self.inside.cores.items in
+    let new = slice_set all c.from.result c.reserve_for.new.core in
+    let kept = kept_set all c.from.result c.index_mut.result.now c.reserve_for.new.core c.index_mut.ensures.value c.reserve_for.ensures.kept in
+    (node_same _ new c.self.invariant.0 kept, c.self.invariant.1, waiting_kept _ _ new all _ kept c.self.invariant.2)

@@ -7,4 +7,4 @@ use Rattle.lt_queue.proofs.queue.Queue.frozen.Goals as goal
 pub returns : goal.returns
 returns c =
     c.bars.ensures
-    ∙ ap bars (c.beyond.ensures ∙ (modes_are c.self.inside.asks.items c.self.inside.asked c.empty.result c.empty-2.result c.self.invariant.1 c.empty.ensures c.empty-2.ensures ∙ ap (λ q. modes_of_asks q.asks) c.self.view_is))
+    ∙ ap bars (c.beyond.ensures ∙ (modes_are c.self.inside.asks.items c.self.inside.asked c.empty.result c.empty-2.result c.self.invariant.1.0 c.empty.ensures c.empty-2.ensures ∙ ap (λ q. modes_of_asks q.asks) c.self.view_is))

@@ -1,9 +1,10 @@
-use Rattle.std.proofs.Common.{◌<◌, length, ap, arith, rules}
+use Rattle.std.proofs.Common.{◌<◌, length, ap, arith, refl, rules}
 use Rattle.lt_modes.specs.State.{Tell}
 use Rattle.lt_modes.specs.Tells.{told}
 use Rattle.lt_table.specs.Seen.{spare_of}
 use Rattle.lt_table.proofs.EntryLemmas.{spare_set, entries_put}
 use Rattle.lt_table.proofs.RecountLemmas.{can_recount, recounted}
+use Rattle.lt_table.proofs.ToldLemmas.{still_kept}
 use Rattle.lt_table.proofs.table.Table.tell.Goals as goal
 
 pub returns-then-x-len-clause-entries : goal.returns-then-x-len-clause-entries
@@ -14,27 +15,30 @@ returns-then-x-len-clause-entries c =
     entries_put (told tell) es c.args.self.now.entries c.from-x.result c.args.node c.index_mut-entry.result.now c.tell.new.self
     (ap (λ t. t.entries) c.self.view_is) c.from-x.ensures within c.index_mut-entry.ensures.value (c.tell.ensures.entry c.args.node)
 
-pub returns-then-x-len-clause-spare : goal.returns-then-x-len-clause-spare
-returns-then-x-len-clause-spare c =
-    let es = c.self.inside.entries.items in
-    let e = c.index_mut-entry.result.now in
-    omega (arith, ap (λ t. t.spare) c.self.view_is, spare_set es c.from-x.result c.tell.new.self e 0 (omega (arith, c.tell.ensures.spare, ap spare_of c.index_mut-entry.ensures.value)))
-
 pub shifted-self-inside-requires : goal.shifted-self-inside-requires
 shifted-self-inside-requires c =
     let es = c.self.inside.entries.items in
     let e = c.index_mut-entry.result.now in
     let within : c.from-x.result < length es = search rules in
     can_recount es c.self.inside.counts c.from-x.result e c.tell.new.self c.record-before.result c.record-after.result
-    c.self.invariant.0 c.self.invariant.1 within c.index_mut-entry.ensures.value c.record-before.ensures c.record-after.ensures
+    c.self.invariant.0 c.self.invariant.1.0 within c.index_mut-entry.ensures.value c.record-before.ensures c.record-after.ensures
 
 pub invariant_of-self : goal.invariant_of-self
 invariant_of-self c =
     let es = c.self.inside.entries.items in
+    let x = c.from-x.result in
     let e = c.index_mut-entry.result.now in
-    let within : c.from-x.result < length es = search rules in (
+    let new = c.tell.new.self in
+    let within : x < length es = search rules in
+    let there = c.index_mut-entry.ensures.value in (
       search rules,
-      recounted es c.self.inside.counts c.shifted-self-inside.result c.from-x.result e c.tell.new.self
-          c.record-before.result c.record-after.result c.self.invariant.1 within c.index_mut-entry.ensures.value c.record-before.ensures c.record-after.ensures
-          c.shifted-self-inside.ensures,
+      (
+        recounted es c.self.inside.counts c.shifted-self-inside.result x e new c.record-before.result c.record-after.result
+            c.self.invariant.1.0 within there c.record-before.ensures c.record-after.ensures c.shifted-self-inside.ensures,
+        (
+          omega (arith, c.self.invariant.1.1.0, spare_set es x new e 0 (omega (arith, c.tell.ensures.spare, ap spare_of there))),
+          still_kept es c.self.inside.told c.still_told-self-inside.result x e new c.record-after.result new.frozen_told
+              c.self.invariant.1.1.1 within there c.record-after.ensures refl c.still_told-self-inside.ensures,
+        ),
+      ),
     )

@@ -1,7 +1,5 @@
-use Rattle.std.proofs.Common.{◌∙◌, List, sym, subst, arith}
-use Rattle.lt_spec.specs.Log.{Logged}
-use Rattle.lt_spec.specs.World.{world_after}
-use Rattle.lt_world.specs.Fields.{AreCounted, AreAtMost, AreMade}
+use Rattle.std.proofs.Common.{◌∙◌, sym, subst, arith}
+use Rattle.lt_world.specs.Fields.{AreCounted, AreAtMost}
 use Rattle.lt_world.proofs.Counts.{counted_at_start}
 use Rattle.lt_world.proofs.world.World.new.Goals as goal
 
@@ -11,6 +9,5 @@ invariant_of-result c = rw c.in_ok-script.ensures (record {
   counted = subst (AreCounted c.args.script.now c.args.limit c.in_ok-moves.moves.items) (sym c.in_ok-network.ensures.start)
       (counted_at_start c.args.script.now c.args.limit c.in_ok-moves.moves.items c.requires.1 (c.in_ok-moves.ensures.count ∙ c.nodes.ensures.nodes) c.in_ok-moves.ensures.none);
   at_most = subst (AreAtMost c.args.script.now 0) (sym c.in_ok-network.ensures.start) (λ q below. omega arith);
-  acts = subst (λ (r : List Logged). AreMade c.args.script.now c.in_ok-made.made.items (world_after c.args.script.now r)) (sym c.in_ok-network.ensures.start)
-      (record { count = c.in_ok-made.ensures.count; made_are = λ client below. c.in_ok-made.ensures.none client });
+  acts = c.in_ok-turns.ensures;
 })

@@ -2,36 +2,36 @@ use Rattle.std.proofs.Common.{◌<◌, List, sym, subst}
 use Rattle.lt_spec.specs.Log.{Logged}
 use Rattle.lt_spec.specs.World.{world_after}
 use Rattle.lt_limits.specs.Cut.{moves_of}
-use Rattle.lt_world.specs.Fields.{WorldData, AreCounted, AreAtMost, AreMade}
+use Rattle.lt_world.specs.Fields.{WorldData, AreCounted, AreAtMost, AreTurns}
 use Rattle.lt_world.proofs.Counts.{few_moves}
 use Rattle.lt_world.proofs.world.World.reserve.Goals as goal
 
 pub reserve-requires-clause-few : goal.reserve-requires-clause-few
 reserve-requires-clause-few c =
-    let s = c.self.inside in
-    few_moves s.script s.limit s.moves.items s.network.run.entries c.self.invariant.holds.is_script c.self.invariant.counted
+    let s = c.of-parts.result in
+    few_moves s.script s.limit s.moves.items s.network.run.entries c.of-parts.ensures.whole.holds.is_script c.of-parts.ensures.whole.counted
 
 pub invariant_of-result : goal.invariant_of-result
 invariant_of-result c =
-    let s = c.self.inside in
+    let s = c.of-parts.result in
     let same = sym c.in-Ok.ensures.entries in
     record {
       reserved_for = c.in-Ok.ensures.reserved;
       step_is = c.in-Ok.ensures.step;
       below = subst (λ (r : List Logged). moves_of c.args.choice.node r < s.limit) same
-          (subst (λ (w : WorldData). moves_of c.args.choice.node w.run < w.limit) (sym c.self.view_is) c.requires.room);
-      counted = subst (AreCounted s.script s.limit s.moves.items) same c.self.invariant.counted;
-      at_most = subst (AreAtMost s.script s.most) same c.self.invariant.at_most;
-      acts = subst (λ (r : List Logged). AreMade s.script s.made.items (world_after s.script r)) same c.self.invariant.acts;
+          (subst (λ (w : WorldData). moves_of c.args.choice.node w.run < w.limit) (sym c.of-parts.ensures.same) c.requires.room);
+      counted = subst (AreCounted s.script s.limit s.moves.items) same c.of-parts.ensures.whole.counted;
+      at_most = subst (AreAtMost s.script s.most) same c.of-parts.ensures.whole.at_most;
+      acts = subst (λ (r : List Logged). AreTurns s.script s.turns (world_after s.script r)) same c.of-parts.ensures.whole.acts;
     }
 
-pub invariant_of-result-in-Err : goal.invariant_of-result-in-Err
-invariant_of-result-in-Err c =
-    let s = c.self.inside in
+pub whole-requires : goal.whole-requires
+whole-requires c =
+    let s = c.of-parts.result in
     let same = sym c.in-Err.ensures.entries in
     record {
       holds = c.in-Err.ensures.err;
-      counted = subst (AreCounted s.script s.limit s.moves.items) same c.self.invariant.counted;
-      at_most = subst (AreAtMost s.script s.most) same c.self.invariant.at_most;
-      acts = subst (λ (r : List Logged). AreMade s.script s.made.items (world_after s.script r)) same c.self.invariant.acts;
+      counted = subst (AreCounted s.script s.limit s.moves.items) same c.of-parts.ensures.whole.counted;
+      at_most = subst (AreAtMost s.script s.most) same c.of-parts.ensures.whole.at_most;
+      acts = subst (λ (r : List Logged). AreTurns s.script s.turns (world_after s.script r)) same c.of-parts.ensures.whole.acts;
     }

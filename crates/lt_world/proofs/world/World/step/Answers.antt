@@ -3,9 +3,9 @@ use Rattle.std.specs.Prelude.{IsTrue}
 use Rattle.lt_spec.specs.Log.{Logged}
 use Rattle.lt_spec.specs.World.{is_enabled, world_after}
 use Rattle.lt_limits.specs.Cut.{moves_of}
-use Rattle.lt_world.specs.Fields.{WorldData, world_of, AreCounted, AreAtMost, AreMade}
+use Rattle.lt_world.specs.Fields.{WorldData, world_of, AreCounted, AreAtMost, AreTurns}
 use Rattle.lt_world.proofs.Counts.{few_moves}
-use Rattle.lt_world.proofs.MadeLemmas.{others_made}
+use Rattle.lt_world.proofs.TurnMoves.{others_stand}
 use Rattle.lt_world.proofs.Standing.{Moved, stands_moved}
 use Rattle.lt_world.proofs.world.World.step.Goals as goal
 
@@ -22,14 +22,18 @@ invariant_of-self c =
       holds = c.step.ensures.holds;
       counted = subst (AreCounted s.script s.limit s.moves.items) same c.self.invariant.counted;
       at_most = subst (AreAtMost s.script s.most) same c.self.invariant.at_most;
-      acts = subst (λ (r : List Logged). AreMade s.script s.made.items (world_after s.script r)) same c.self.invariant.acts;
+      acts = subst (λ (r : List Logged). AreTurns s.script s.turns (world_after s.script r)) same c.self.invariant.acts;
     }
 
-pub note_made-requires-clause-others : goal.note_made-requires-clause-others
-note_made-requires-clause-others c =
+pub note_turns-requires-clause-others : goal.note_turns-requires-clause-others
+note_turns-requires-clause-others c =
     let s = c.self.inside in
     let q = c.args.choice.node in
-    others_made s.script s.network.run.entries c.step.new.self.run.entries q c.args.choice.step s.made.items c.self.invariant.acts c.in_ok-step.ensures.ok
+    let holds = c.self.invariant.holds in
+    others_stand s.script s.network.run.entries c.step.new.self.run.entries q c.args.choice.step s.turns holds.is_script holds.is_run
+    (subst (λ (w : WorldData). IsTrue (is_enabled w.script (world_of w) q c.args.choice.step)) (sym c.self.view_is) c.requires.enabled)
+    (few_moves s.script s.limit s.moves.items s.network.run.entries holds.is_script c.self.invariant.counted)
+    c.self.invariant.acts c.in_ok-step.ensures.ok
 
 pub invariant_of-self-2 : goal.invariant_of-self-2
 invariant_of-self-2 c =
@@ -47,5 +51,5 @@ invariant_of-self-2 c =
       more = c.count_move.ensures.most;
       longer = c.in_ok-step.ensures.ok;
     } in
-    stands_moved s.script s.limit s.most c.count_move.new.most n.nodes.items n.inboxes.items s.moves.items c.count_move.new.moves.items c.note_made.new.made.items n.out
-    s.network.run.entries n.run.entries q step moved c.step.ensures.holds c.note_made.ensures
+    stands_moved s.script s.limit s.most c.count_move.new.most n.nodes.items n.inboxes s.moves.items c.count_move.new.moves.items c.note_turns.new.turns n.out
+    s.network.run.entries n.run.entries q step moved c.step.ensures.holds c.note_turns.ensures

@@ -1,15 +1,23 @@
-use Rattle.std.proofs.Common.{◌≡◌, ◌∙◌, ap, subst, List}
+use Rattle.std.proofs.Common.{◌≡◌, ◌∙◌, Option, Some, None, List, ap, subst}
 use Rattle.std.specs.Prelude.{slice_get, option_map}
 use Rattle.lt_spec.specs.FixedOrder.{Turn, takes}
+use Rattle.lt_inbox.specs.Takes.{turn_of}
 use Rattle.lt_world.specs.Choice.{choice_of}
-use Rattle.lt_world.specs.Mail.{WireData, takes_in}
 use Rattle.lt_world.specs.Fields.{WorldData, world_of}
-use Rattle.lt_world.proofs.TakeOrder.{takes_are}
+use Rattle.lt_world.proofs.WorldTakes.{takes_are}
 use Rattle.lt_world.proofs.world.World.take_at.Goals as goal
+
+pub returns-in_err-take : goal.returns-in_err-take
+returns-in_err-take c =
+    let s = c.self.inside in
+    let none : Option Turn = None in
+    let here = ap (λ (ts : List Turn). slice_get ts c.args.k) (takes_are s.script s.network.nodes.items s.network.inboxes s.network.out s.network.run.entries c.self.invariant.holds) in
+    c.from_residual.ensures
+    ∙ ap (option_map choice_of) (subst (λ (w : WorldData). none ≡ slice_get (takes w.script (world_of w)) c.args.k) c.self.view_is (c.in_err-take.ensures ∙ here))
 
 pub returns : goal.returns
 returns c =
     let s = c.self.inside in
-    subst (λ (w : WorldData). c.at.result ≡ option_map choice_of (slice_get (takes w.script (world_of w)) c.args.k)) c.self.view_is
-    (c.at.ensures ∙ (ap (λ (boxes : List (List WireData)). option_map choice_of (slice_get (takes_in boxes) c.args.k)) c.deref.ensures.value) ∙ ap (λ (ts : List Turn). option_map choice_of (slice_get ts c.args.k))
-    (takes_are s.script s.network.nodes.items s.network.inboxes.items s.network.out s.network.run.entries c.self.invariant.holds))
+    let some : Option Turn = Some (turn_of c.in_ok-take.take) in
+    let here = ap (λ (ts : List Turn). slice_get ts c.args.k) (takes_are s.script s.network.nodes.items s.network.inboxes s.network.out s.network.run.entries c.self.invariant.holds) in
+    ap (option_map choice_of) (subst (λ (w : WorldData). some ≡ slice_get (takes w.script (world_of w)) c.args.k) c.self.view_is (c.in_ok-take.ensures ∙ here))

@@ -1,0 +1,321 @@
+-- The effects of a move on a set leave a client that no line names waiting as before.
+use Rattle.std.proofs.Common.{◌≡◌, ◌≢◌, ℕ, zero, suc, ◌<◌, List, [], ◌∷◌, ◌++◌, length, Option, Some, None, Bool, true, false, refl, sym, ap, subst, arith, ◌∙◌, take as take_first, drop as drop_front}
+use Rattle.std.specs.Prelude.{◌==◌, ◌&&◌, ◌||◌, not, nat_lt, if◌then◌else◌, All, fold, remove, position, slice_index_or}
+use Rattle.std.specs.List.{AllByRecursion, list_any}
+use Rattle.std.proofs.lemmas.Bool.{eqb-true, ne_eqb}
+use Rattle.std.proofs.lemmas.List.Quantifiers.{position-Some}
+use Rattle.std.proofs.lemmas.List.Elements.{All-push, All-append, All-cons, All-take, All-drop, All-nil, recursion_from_All}
+use Rattle.lt_modes.specs.declared.mode.Mode.{Mode}
+use Rattle.lt_modes.specs.declared.stamp.Stamp.{Stamp}
+use Rattle.lt_modes.specs.declared.ask.Ask.{Ask}
+use Rattle.lt_modes.specs.declared.parts.Link.{Link}
+use Rattle.lt_modes.specs.declared.event.Event.{Event}
+use Rattle.lt_modes.specs.Modes.{excludes_itself}
+use Rattle.lt_modes.specs.Held.{held_modes}
+use Rattle.lt_modes.specs.State.{SetState, Desk, Body, AskBody, TellBody, CopyBody, TokenBody, FreezeBody, Letter, Parked, ParkedAsk, ParkedTell}
+use Rattle.lt_modes.specs.Made.{Made, silent, then_do}
+use Rattle.lt_modes.specs.Queue.{no_ask, has_stamp, without, without_at, entered, place}
+use Rattle.lt_modes.specs.Serving.{queue_of, queue_of_desk, put_queue, owed_at, answer_event, answer_by, ask_at, serve_one, serve_local, serve_copy, waits}
+use Rattle.lt_modes.specs.Freezing.{freeze, freeze_at}
+use Rattle.lt_modes.specs.HandingOver.{hand_over_to}
+use Rattle.lt_modes.specs.Routing.{Way, Parks, Goes, learn, dealt, reversed, sent_on, route}
+use Rattle.lt_modes.specs.Telling.{tell_of, finish}
+use Rattle.lt_modes.specs.Taking.{take_body, arrive}
+use Rattle.lt_modes.specs.SetMove.{ask_of, asked, dropped, take, drop}
+use Rattle.lt_lists.proofs.AllLemmas.{all_front, all_back, remove_all}
+use Rattle.lt_law_accounts.proofs.Asks.{has_stamp-true}
+use Rattle.lt_model.proofs.Effects.{route_ways}
+use Rattle.lt_model.proofs.HomesRows.{without_home}
+use Rattle.lt_model.proofs.RuleEffects.{Between, EndRules, ActRules, finish_rule, take_rule}
+use Rattle.lt_law_own_lines.specs.OwnLines.{line_client}
+
+-- which client made the ask that has the stamp
+abbrev pub Maker : Type 0
+Maker = Stamp → ℕ
+
+abbrev pub IsMadeBy : Maker → Ask → Type 0
+IsMadeBy maker ask = maker ask.stamp ≡ ask.client
+
+-- where the ask is of node q
+abbrev pub IsOwnMadeBy : Maker → ℕ → Ask → Type 0
+IsOwnMadeBy maker q ask = ask.node ≡ q → maker ask.stamp ≡ ask.client
+
+abbrev pub IsParkedMadeBy : Maker → ℕ → Parked → Type 0
+IsParkedMadeBy maker q (ParkedAsk ask) = IsOwnMadeBy maker q ask
+IsParkedMadeBy maker q (ParkedTell tell) = Unit {0}
+
+-- the unanswered asks, and those of node q that are here, were made by these clients
+pub record AreMadeBy (maker : Maker) (q : ℕ) (t : SetState) : Type 0 where
+  pub pending : All (IsMadeBy maker) t.pending
+  pub parked : All (IsParkedMadeBy maker q) t.parked
+  pub queue : All (IsOwnMadeBy maker q) (queue_of t)
+
+abbrev pub OthersLines : ℕ → List Event → Type 0
+OthersLines other lines = AllByRecursion (λ (line : Event). line_client line ≢ Some other) lines
+
+-- so it stays, and a client that no line names waits as before
+pub record Leaves (maker : Maker) (q other : ℕ) (t : SetState) (m : Made) : Type 0 where
+  pub made : AreMadeBy maker q m.state
+  pub waiting : OthersLines other m.events → waits m.state other ≡ waits t other
+
+abbrev pub leaves : Maker → ℕ → ℕ → Between
+leaves maker q other t m = AreMadeBy maker q t → Leaves maker q other t m
+
+joined_leaves : (maker : Maker) (q other : ℕ) (t : SetState) (m : Made) (rule : SetState → Made) → leaves maker q other t m
+    → leaves maker q other m.state (rule m.state) → leaves maker q other t (then_do m rule)
+joined_leaves maker q other t m rule first second h =
+    let one = first h in
+    let two = second one.made in
+    record {
+      made = two.made;
+      waiting = λ lines. two.waiting (all_back _ m.events (rule m.state).events lines) ∙ one.waiting (all_front _ m.events (rule m.state).events lines);
+    }
+
+-- an element that doesn't pass is taken out
+any_removed : (test : Ask → Bool) (asks : List Ask) (k : ℕ) → k < length asks → test (slice_index_or asks k no_ask) ≡ false
+    → list_any test (remove asks k) ≡ list_any test asks
+any_removed test [] k within e = absurd (omega (arith, within))
+any_removed test (ask ∷ rest) zero within e = ap (λ (b : Bool). b || list_any test rest) (sym e)
+any_removed test (ask ∷ rest) (suc k) within e = ap (λ (b : Bool). test ask || b) (any_removed test rest k (omega (arith, within)) e)
+
+-- an ask of another client is answered
+waits_without : (maker : Maker) (asks : List Ask) (stamp : Stamp) (other : ℕ) → All (IsMadeBy maker) asks → (maker stamp ≢ other)
+    → list_any (λ (ask : Ask). ask.client == other) (without asks stamp) ≡ list_any (λ (ask : Ask). ask.client == other) asks
+waits_without maker asks stamp other h differ = by_place (position (has_stamp stamp) asks) refl
+  where
+    by_place : (o : Option ℕ) → position (has_stamp stamp) asks ≡ o
+        → list_any (λ (ask : Ask). ask.client == other) (without_at asks o) ≡ list_any (λ (ask : Ask). ask.client == other) asks
+    by_place None e = refl
+    by_place (Some k) e =
+        let found = position-Some (has_stamp stamp) asks k no_ask e in
+        let own = slice_index_or asks k no_ask in
+        let made : maker stamp ≡ own.client = ap maker (sym (has_stamp-true stamp own found.1)) ∙ h k no_ask found.0 in
+        any_removed _ asks k found.0 (ne_eqb own.client other (λ same. differ (made ∙ same)))
+
+answer_client : (set : ℕ) (ask : Ask) → line_client (answer_event set ask) ≡ Some ask.client
+answer_client set ask = by_choice ask.gives_up
+  where
+    by_choice : (gives_up : Option Mode) → line_client (answer_by set ask gives_up) ≡ Some ask.client
+    by_choice None = refl
+    by_choice (Some mode) = refl
+
+-- the client whose ask is answered is named
+answered_leaves : (maker : Maker) (set other : ℕ) (ask : Ask) (asks : List Ask) → All (IsMadeBy maker) asks → IsMadeBy maker ask
+    → OthersLines other (answer_event set ask ∷ [])
+    → list_any (λ (own : Ask). own.client == other) (without asks ask.stamp) ≡ list_any (λ (own : Ask). own.client == other) asks
+answered_leaves maker set other ask asks h made lines =
+    waits_without maker asks ask.stamp other h
+    (λ same. lines.0 (answer_client set ask ∙ ap (λ (c : ℕ). Some c) (sym made ∙ same)))
+
+enter_made : (P : Ask → Type 0) (queue : List Ask) (ask : Ask) → All P queue → P ask → All P (entered queue ask)
+enter_made P queue ask h own =
+    let k = place queue ask.holder in
+    All-append P (take_first k queue) (ask ∷ drop_front k queue) (All-take P k queue h) (All-cons P ask (drop_front k queue) own (All-drop P k queue h))
+
+dealt_made : (maker : Maker) (q : ℕ) (desk : Desk) (item : Parked) → All (IsOwnMadeBy maker q) desk.queue → IsParkedMadeBy maker q item
+    → All (IsOwnMadeBy maker q) (dealt desk item).queue
+dealt_made maker q desk (ParkedAsk ask) h own = enter_made (IsOwnMadeBy maker q) desk.queue ask h own
+dealt_made maker q desk (ParkedTell tell) h own = h
+
+all_dealt_made : (maker : Maker) (q : ℕ) (items : List Parked) (desk : Desk) → All (IsOwnMadeBy maker q) desk.queue
+    → AllByRecursion (IsParkedMadeBy maker q) items → All (IsOwnMadeBy maker q) (fold dealt desk items).queue
+all_dealt_made maker q [] desk h own = h
+all_dealt_made maker q (item ∷ rest) desk h own = all_dealt_made maker q rest (dealt desk item) (dealt_made maker q desk item h own.0) own.1
+
+reversed_leaves : (maker : Maker) (q other me : ℕ) (item : Parked) (t : SetState) → AreMadeBy maker q t
+    → AreMadeBy maker q (reversed me item t) × (waits (reversed me item t) other ≡ waits t other)
+reversed_leaves maker q other me (ParkedTell tell) t h = (h, refl)
+reversed_leaves maker q other me (ParkedAsk ask) t h = by_test (excludes_itself ask.mode && not (ask.node == me))
+  where
+    turned : SetState
+    turned = record t { hoped = Some (record { node = ask.node; stamp = ask.stamp }) }
+
+    by_test : (away : Bool) → AreMadeBy maker q (if away then turned else t) × (waits (if away then turned else t) other ≡ waits t other)
+    by_test true = (record { pending = h.pending; parked = h.parked; queue = h.queue }, refl)
+    by_test false = (h, refl)
+
+route_leaves : (maker : Maker) (q other set : ℕ) (stamp : Stamp) (marked : Bool) (item : Parked) → IsParkedMadeBy maker q item
+    → (t : SetState) → leaves maker q other t (route set stamp marked item t)
+route_leaves maker q other set stamp marked item own t h =
+    route_ways (Leaves maker q other t) set stamp marked item t
+    (λ desk e. record {
+      made = record {
+        pending = h.pending;
+        parked = h.parked;
+        queue = dealt_made maker q desk item (subst (λ (o : Option Desk). All (IsOwnMadeBy maker q) (queue_of_desk o)) e h.queue) own;
+      };
+      waiting = λ lines. refl;
+    })
+    (λ away w e. goes w)
+  where
+    goes : (w : Way) → Leaves maker q other t (sent_on set stamp item t w)
+    goes Parks = record {
+      made = record { pending = h.pending; parked = All-push (IsParkedMadeBy maker q) t.parked item h.parked own; queue = h.queue };
+      waiting = λ lines. refl;
+    }
+    goes (Goes to mark) =
+        let turned = reversed_leaves maker q other stamp.node item t h in record { made = turned.0; waiting = λ lines. turned.1 }
+
+serves_leaves : (maker : Maker) (other set : ℕ) (stamp : Stamp) (t : SetState) (k : ℕ) → k < length (queue_of t)
+    → leaves maker stamp.node other t (serve_one set stamp k t)
+serves_leaves maker other set stamp t k within h = by_test ((ask_at t k).node == stamp.node) refl
+  where
+    ask : Ask
+    ask = ask_at t k
+
+    put_made : (desk : Option Desk) → All (IsOwnMadeBy maker stamp.node) (queue_of_desk desk)
+        → All (IsOwnMadeBy maker stamp.node) (queue_of_desk (put_queue (remove (queue_of_desk desk) k) desk))
+    put_made None all = all
+    put_made (Some desk) all = remove_all (IsOwnMadeBy maker stamp.node) desk.queue k all
+
+    owed_made : (desk : Option Desk) → All (IsOwnMadeBy maker stamp.node) (queue_of_desk desk)
+        → All (IsOwnMadeBy maker stamp.node) (queue_of_desk (owed_at ask k desk))
+    owed_made None all = all
+    owed_made (Some desk) all = remove_all (IsOwnMadeBy maker stamp.node) desk.queue k all
+
+    by_test : (here : Bool) → ((ask_at t k).node == stamp.node) ≡ here
+        → Leaves maker stamp.node other t (if here then serve_local set k t else serve_copy set stamp k (ask_at t k) t)
+    by_test true e = record {
+      made = record {
+        pending = without_home (IsMadeBy maker) t.pending ask.stamp h.pending;
+        parked = h.parked;
+        queue = put_made t.desk h.queue;
+      };
+      waiting = answered_leaves maker set other ask t.pending h.pending (h.queue k no_ask within (eqb-true ask.node stamp.node e));
+    }
+    by_test false e = record {
+      made = record { pending = h.pending; parked = h.parked; queue = owed_made t.desk h.queue };
+      waiting = λ lines. refl;
+    }
+
+freezes_leaves : (maker : Maker) (q other set : ℕ) (stamp : Stamp) (t : SetState) → leaves maker q other t (freeze set stamp t)
+freezes_leaves maker q other set stamp t h = by_desk t.desk h.queue
+  where
+    by_desk : (desk : Option Desk) → All (IsOwnMadeBy maker q) (queue_of_desk desk) → Leaves maker q other t (freeze_at set stamp t desk)
+    by_desk None queue = record { made = h; waiting = λ lines. refl }
+    by_desk (Some desk) queue = record {
+      made = record { pending = h.pending; parked = h.parked; queue = queue };
+      waiting = λ lines. refl;
+    }
+
+hands_over_leaves : (maker : Maker) (q other set : ℕ) (stamp : Stamp) (t : SetState) (v : ℕ) → leaves maker q other t (hand_over_to set stamp t v t.desk)
+hands_over_leaves maker q other set stamp t v h = by_desk t.desk
+  where
+    by_desk : (desk : Option Desk) → Leaves maker q other t (hand_over_to set stamp t v desk)
+    by_desk None = record { made = h; waiting = λ lines. refl }
+    by_desk (Some desk) = record {
+      made = record { pending = h.pending; parked = h.parked; queue = All-nil (IsOwnMadeBy maker q) };
+      waiting = λ lines. refl;
+    }
+
+leaving_ends : (maker : Maker) (other set : ℕ) (stamp : Stamp) → EndRules set stamp (leaves maker stamp.node other)
+leaving_ends maker other set stamp = record {
+  silent = λ t h. record { made = h; waiting = λ lines. refl };
+  joined = joined_leaves maker stamp.node other;
+  serves = serves_leaves maker other set stamp;
+  freezes = freezes_leaves maker stamp.node other set stamp;
+  leaves = hands_over_leaves maker stamp.node other set stamp;
+  tells = λ t h.
+      let told = record t { charge = held_modes t.held } in
+      let routed =
+      route_leaves maker stamp.node other set stamp false (ParkedTell (tell_of stamp t)) tt told (record { pending = h.pending; parked = h.parked; queue = h.queue }) in
+      record { made = routed.made; waiting = routed.waiting };
+}
+
+pub finish_leaves : (maker : Maker) (other set : ℕ) (stamp : Stamp) (t : SetState) → leaves maker stamp.node other t (finish set stamp t)
+finish_leaves maker other set stamp t = finish_rule set stamp (leaves maker stamp.node other) (leaving_ends maker other set stamp) t
+
+pub drop_leaves : (maker : Maker) (other set : ℕ) (stamp : Stamp) (client : ℕ) (t : SetState) → leaves maker stamp.node other t (drop set stamp client t)
+drop_leaves maker other set stamp client t h =
+    let ended = finish_leaves maker other set stamp (dropped client t) (record { pending = h.pending; parked = h.parked; queue = h.queue }) in
+    record { made = ended.made; waiting = ended.waiting }
+
+-- an ask more
+any_pushed : (test : Ask → Bool) (asks : List Ask) (ask : Ask) → test ask ≡ false → list_any test (asks ++ ask ∷ []) ≡ list_any test asks
+any_pushed test [] ask e = ap (λ (b : Bool). b || false) e
+any_pushed test (first ∷ rest) ask e = ap (λ (b : Bool). test first || b) (any_pushed test rest ask e)
+
+asks_leaves : (maker : Maker) (other set : ℕ) (stamp : Stamp) (client : ℕ) → maker stamp ≡ client → (mode : Mode) (gives_up : Option Mode) (t : SetState)
+    → leaves maker stamp.node other t (asked set stamp (ask_of stamp client mode gives_up t) t)
+asks_leaves maker other set stamp client by mode gives_up t h =
+    let ask = ask_of stamp client mode gives_up t in
+    let more : SetState = record t { pending = t.pending ++ ask ∷ [] } in
+    let routed = route_leaves maker stamp.node other set stamp false (ParkedAsk ask) (λ own. by) more
+    (record { pending = All-push (IsMadeBy maker) t.pending ask h.pending by; parked = h.parked; queue = h.queue }) in
+    record {
+      made = routed.made;
+      waiting = λ lines.
+          routed.waiting lines.1
+          ∙ any_pushed (λ (own : Ask). own.client == other) t.pending ask (ne_eqb client other (λ same. lines.0 (ap (λ (c : ℕ). Some c) same)));
+    }
+
+pub leaving_acts : (maker : Maker) (other set : ℕ) (stamp : Stamp) (client : ℕ) → maker stamp ≡ client
+    → ActRules set stamp client (leaves maker stamp.node other)
+leaving_acts maker other set stamp client by = record {
+  tries_not = λ mode t h. record { made = h; waiting = λ lines. refl };
+  holds_not = λ mode t h. record { made = h; waiting = λ lines. refl };
+  grants = λ mode t h. record { made = record { pending = h.pending; parked = h.parked; queue = h.queue }; waiting = λ lines. refl };
+  tries = λ mode t h. record { made = record { pending = h.pending; parked = h.parked; queue = h.queue }; waiting = λ lines. refl };
+  changes = λ gives_up mode t h. record { made = record { pending = h.pending; parked = h.parked; queue = h.queue }; waiting = λ lines. refl };
+  releases = λ mode t h. record { made = record { pending = h.pending; parked = h.parked; queue = h.queue }; waiting = λ lines. refl };
+  asks = asks_leaves maker other set stamp client by;
+  ended = λ t m a. joined_leaves maker stamp.node other t m (finish set stamp) a (finish_leaves maker other set stamp m.state);
+}
+
+-- what the letter brings: the node's own asks were made by these clients
+abbrev pub BringsMadeBy : Maker → ℕ → Body → Type 0
+BringsMadeBy maker q (AskBody ask marked) = IsOwnMadeBy maker q ask
+BringsMadeBy maker q (TellBody tell) = Unit {0}
+BringsMadeBy maker q (CopyBody ask) = IsMadeBy maker ask
+BringsMadeBy maker q (TokenBody desk) = All (IsOwnMadeBy maker q) desk.queue
+BringsMadeBy maker q (FreezeBody number modes) = Unit {0}
+
+learn_leaves : (maker : Maker) (q other : ℕ) (link : Link) (t : SetState) → AreMadeBy maker q t
+    → AreMadeBy maker q (learn link t) × (waits (learn link t) other ≡ waits t other)
+learn_leaves maker q other link t h = by_test (nat_lt t.firm.epoch link.epoch)
+  where
+    learned : SetState
+    learned = record t { firm = link; hoped = None }
+
+    by_test : (greater : Bool) → AreMadeBy maker q (if greater then learned else t) × (waits (if greater then learned else t) other ≡ waits t other)
+    by_test true = (record { pending = h.pending; parked = h.parked; queue = h.queue }, refl)
+    by_test false = (h, refl)
+
+arrives_leaves : (maker : Maker) (other : ℕ) (stamp : Stamp) (letter : Letter) → BringsMadeBy maker stamp.node letter.body
+    → (t : SetState) → leaves maker stamp.node other t (arrive stamp letter t)
+arrives_leaves maker other stamp letter own t h =
+    let learned = learn_leaves maker stamp.node other letter.link t h in
+    let done = by_body letter.body own (learn letter.link t) learned.0 in
+    record { made = done.made; waiting = λ lines. done.waiting lines ∙ learned.1 }
+  where
+    by_body : (body : Body) → BringsMadeBy maker stamp.node body → (u : SetState) → leaves maker stamp.node other u (take_body letter.set stamp body u)
+    by_body (AskBody ask marked) by u hu = route_leaves maker stamp.node other letter.set stamp marked (ParkedAsk ask) by u hu
+    by_body (TellBody tell) by u hu = route_leaves maker stamp.node other letter.set stamp false (ParkedTell tell) by u hu
+    by_body (CopyBody ask) by u hu = record {
+      made = record {
+        pending = without_home (IsMadeBy maker) u.pending ask.stamp hu.pending;
+        parked = hu.parked;
+        queue = hu.queue;
+      };
+      waiting = answered_leaves maker letter.set other ask u.pending hu.pending by;
+    }
+    by_body (TokenBody desk) by u hu = record {
+      made = record {
+        pending = hu.pending;
+        parked = All-nil (IsParkedMadeBy maker stamp.node);
+        queue = all_dealt_made maker stamp.node u.parked desk by (recursion_from_All (IsParkedMadeBy maker stamp.node) u.parked hu.parked);
+      };
+      waiting = λ lines. refl;
+    }
+    by_body (FreezeBody number modes) by u hu = by_test (nat_lt u.number number)
+      where
+        by_test : (newer : Bool) → Leaves maker stamp.node other u (silent (if newer then record u { frozen = modes; number = number } else u))
+        by_test true = record { made = record { pending = hu.pending; parked = hu.parked; queue = hu.queue }; waiting = λ lines. refl }
+        by_test false = record { made = hu; waiting = λ lines. refl }
+
+pub take_leaves : (maker : Maker) (other : ℕ) (stamp : Stamp) (letter : Letter) → BringsMadeBy maker stamp.node letter.body
+    → (t : SetState) → leaves maker stamp.node other t (take stamp letter t)
+take_leaves maker other stamp letter own t =
+    take_rule stamp letter (leaves maker stamp.node other) (leaves maker stamp.node other)
+    (λ u m. joined_leaves maker stamp.node other u m (finish letter.set stamp)) (leaving_ends maker other letter.set stamp) t
+    (arrives_leaves maker other stamp letter own t)

@@ -1,0 +1,10 @@
+-- Sessions keep their other ends.
+use Rattle.std.proofs.Common.{subst, sym}
+use Rattle.lt_live.specs.Stations.{StationData, IsSeated}
+use Rattle.lt_live.proofs.Linked.{seats_stay}
+use Rattle.lt_live.proofs.station.Station.turn.Goals as goal
+
+pub returns-clause-seated : goal.returns-clause-seated
+returns-clause-seated g c = λ s seated.
+    seats_stay c.turn_of.result c.self.inside.runner c.self.inside.seats.items c.turn_of.new.runner c.turn_of.new.seats.items c.turn_of.ensures.turns s
+    (subst (λ (d : StationData). IsSeated s d.seats) (sym c.self.view_is) seated)

@@ -1,0 +1,9 @@
+//! Players that take turns: which of them can act, and which one is first.
+#![tactic(auto)]
+
+#[cfg(test)]
+mod tests;
+mod tree;
+mod turns;
+
+pub use turns::Turns;

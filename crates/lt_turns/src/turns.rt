@@ -1,0 +1,107 @@
+ghost use Rattle.std.specs.Prelude.{◌≡◌, ◌<◌, None, ℕ, length, count_by, is_some, slice_index_or, slice_set, IfOk, if◌then◌else◌};
+ghost use Rattle.lt_turns.specs.Turns.{IsFirst, IsNext};
+
+use crate::tree::{Turn, first_after, turn_of, update, winner_at};
+use std::alloc::{AllocError, Global};
+use std::marker::Model;
+
+/// For each of a fixed number of players the number of its next turn, where it can act. The player with the least number
+/// is the first one, and of two with the same number the lesser player.
+#[derive(Drop)]
+pub struct Turns {
+    numbers: Vec<Option<u32>>,
+    // A tree over the players: node 1 is the root, nodes 2k and 2k + 1 stand below node k, and from the number of players
+    // on each node is a player. Here is the first turn below each node that isn't a player.
+    winners: Vec<Option<Turn>>,
+    // How many players can act.
+    count: u32,
+}
+
+impl Model for Turns {
+    ghost use Rattle.std.specs.Prelude.{List, Option, ℕ};
+    ghost use Rattle.lt_turns.specs.Turns.{IsTree};
+
+    ghost Value = { List (Option ℕ) };
+
+    ghost view = { λ t. t.numbers.items };
+
+    ghost invariant = { λ t. IsTree t.numbers.items t.winners.items t.count };
+}
+
+impl Turns {
+    /// So many players, of which none can act.
+    pub fn new(alloc: Global, players: u16) -> Result<Turns, AllocError>
+        ensures players { IfOk result (λ turns. length turns ≡ players) }
+        ensures none { IfOk result (λ turns. (player : ℕ) → slice_index_or turns player None ≡ None) }
+    {
+        let mut numbers = Vec::new(alloc);
+        let mut winners = Vec::new(alloc);
+        for _ in 0..players {
+            numbers.push(None)?;
+            winners.push(None)?;
+        }
+        Ok(Turns {
+            numbers,
+            winners,
+            count: 0,
+        })
+    }
+
+    /// The number of the player's next turn, where it can act.
+    pub fn number(&self, player: u16) -> Option<u32>
+        requires { player < length self.now }
+        ensures { result ≡ slice_index_or self.now player None }
+    {
+        self.numbers[usize::from(player)]
+    }
+
+    /// From now on the player has this number; with none it can't act.
+    pub fn set(&mut self, player: u16, number: Option<u32>)
+        requires { player < length self.old }
+        ensures { self.new ≡ slice_set self.old player number }
+    {
+        let place = usize::from(player);
+        self.count = self.count + one_if(number) - one_if(self.numbers[place]);
+        self.numbers[place] = number;
+        update(&self.numbers, &mut self.winners, place);
+    }
+
+    /// The first player of those that can act.
+    pub fn first(&self) -> Option<u16>
+        ensures { IsFirst self.now result }
+    {
+        if self.numbers.is_empty() {
+            return None;
+        }
+        match winner_at(&self.numbers, &self.winners, 1) {
+            Some(turn) => Some(turn.player),
+            None => None,
+        }
+    }
+
+    /// The first player of those that come after this one, which can act itself. Goes through all players.
+    pub fn after(&self, player: u16) -> Option<u16>
+        requires { player < length self.now }
+        ensures { IsNext self.now player result }
+    {
+        let here = turn_of(&self.numbers, usize::from(player))?;
+        Some(first_after(&self.numbers, here)?.player)
+    }
+
+    /// How many players can act.
+    pub fn count(&self) -> u32
+        ensures { result ≡ count_by is_some self.now }
+    {
+        self.count
+    }
+}
+
+// 1 for a player that can act.
+fn one_if(number: Option<u32>) -> u32
+    ensures { result ≡ (if is_some number then 1 else 0) }
+{
+    match number {
+        Some(_) => 1,
+        None => 0,
+    }
+}
