@@ -32,7 +32,7 @@ room_by None rows = rows
 room_by (Some d) rows = min d.room (min d.spare rows)
 
 -- there is room for a tell where a box is spare
-abbrev pub tells_by : {Box : Type 0} → Option Box → ℕ
+abbrev pub tells_by : {X : Type 0} → Option X → ℕ
 tells_by None = 0
 tells_by (Some box) = 1
 
