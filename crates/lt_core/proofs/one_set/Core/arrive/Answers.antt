@@ -17,12 +17,12 @@ route-requires-clause-parked c =
     let room = c.learn.ensures.room 2 c.args.stamp.clock c.requires.room in
     omega (arith, room.parked)
 
-pub route-in-Tell-requires-clause-rows : goal.route-in-Tell-requires-clause-rows
-route-in-Tell-requires-clause-rows c =
+pub route-requires-in-Tell-clause-rows : goal.route-requires-in-Tell-clause-rows
+route-requires-in-Tell-clause-rows c =
     let room = c.learn.ensures.room 2 c.args.stamp.clock c.requires.room in
     omega (arith, room.rows)
 
-pub route-in-Tell-requires-clause-parked : goal.route-in-Tell-requires-clause-parked
-route-in-Tell-requires-clause-parked c =
+pub route-requires-in-Tell-clause-parked : goal.route-requires-in-Tell-clause-parked
+route-requires-in-Tell-clause-parked c =
     let room = c.learn.ensures.room 2 c.args.stamp.clock c.requires.room in
     omega (arith, room.parked)
