@@ -98,30 +98,3 @@ pub marked_front : (boxes : List (List Bool)) (sent : List SentData) (p q : ℕ)
     → AreMarked (put_mark boxes p q true) (sent_of p q letter ∷ sent)
 marked_front boxes sent p q letter h sender receiver =
     marked boxes sent (sent_of p q letter ∷ sent) p q true h sender receiver (ap is_some_letter (one_own p q letter sent)) (λ a b apart. one_other p q letter sent a b apart)
-
--- the last letter from p to q was taken
-pub marked_none : (boxes : List (List Bool)) (sent now : List SentData) (p q : ℕ) → AreMarked boxes sent → p < length boxes → q < length boxes
-    → letters_between p q now ≡ [] → ((a b : ℕ) → (a ≡ p → b ≡ q → ⊥) → letters_between a b now ≡ letters_between a b sent)
-    → AreMarked (put_mark boxes p q false) now
-marked_none boxes sent now p q h sender receiver none others = marked boxes sent now p q false h sender receiver (ap is_some_letter none) others
-
--- a letter was taken, and more are on their way
-pub marked_still : (boxes : List (List Bool)) (sent now : List SentData) (p q : ℕ) (letter : Letter) → AreMarked boxes sent
-    → letters_between p q sent ≡ letter ∷ letters_between p q now → is_some_letter (letters_between p q now) ≡ true
-    → ((a b : ℕ) → (a ≡ p → b ≡ q → ⊥) → letters_between a b now ≡ letters_between a b sent) → AreMarked boxes now
-marked_still boxes sent now p q letter h front more others = record {
-  few = h.few;
-  senders = h.senders;
-  marks = λ a b la lb. h.marks a b la lb ∙ same a b;
-}
-  where
-    same : (a b : ℕ) → is_some_letter (letters_between a b sent) ≡ is_some_letter (letters_between a b now)
-    same a b = elim (cases_eq a p) [
-      | inr other ↦ ap is_some_letter (sym (others a b (λ e f. other e)))
-      | inl from ↦ elim (cases_eq b q) [
-        | inr other ↦ ap is_some_letter (sym (others a b (λ e f. other f)))
-        | inl to ↦
-            subst (λ (i : ℕ). is_some_letter (letters_between i b sent) ≡ is_some_letter (letters_between i b now)) (sym from)
-            (subst (λ (i : ℕ). is_some_letter (letters_between p i sent) ≡ is_some_letter (letters_between p i now)) (sym to) (ap is_some_letter front ∙ sym more))
-      ]
-    ]

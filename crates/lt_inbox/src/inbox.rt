@@ -58,6 +58,18 @@ impl Inbox {
         self.has[usize::from(sender)]
     }
 
+    /// Whether letters of this sender are on their way now.
+    pub(crate) fn set(&mut self, sender: u8, has: bool)
+        requires { sender < length self.old }
+        ensures { self.new ≡ slice_set self.old sender has }
+    {
+        if has {
+            self.mark(sender);
+        } else {
+            self.clear(sender);
+        }
+    }
+
     /// Letters of this sender are on their way.
     #[tactic(auto, using(crate::proofs::Senders::fewer_senders))]
     pub(crate) fn mark(&mut self, sender: u8)
@@ -72,7 +84,7 @@ impl Inbox {
     }
 
     /// No letter of this sender is on its way.
-    pub(crate) fn clear(&mut self, sender: u8)
+    fn clear(&mut self, sender: u8)
         requires { sender < length self.old }
         ensures { self.new ≡ slice_set self.old sender false }
     {

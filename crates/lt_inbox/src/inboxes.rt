@@ -6,7 +6,7 @@ ghost use Rattle.lt_inbox.specs.Mail.{SameLetters, AreDelivered, IsTaken, sender
 ghost use Rattle.lt_inbox.specs.Takes.{turn_of};
 
 use crate::inbox::Inbox;
-use crate::sent::{Sent, first_between, take_first};
+use crate::sent::{Sent, is_any_between, take_first};
 use crate::takes::{self, Take};
 use lt_desk::{Letter, Out, Post};
 use std::alloc::{AllocError, Global};
@@ -98,9 +98,8 @@ impl Inboxes {
         ensures { IsTaken sender receiver (letter_seen result) self.old self.new }
     {
         let letter = take_first(&mut self.sent, sender, receiver);
-        if first_between(&self.sent, sender, receiver).is_none() {
-            self.boxes[usize::from(receiver)].clear(sender);
-        }
+        let more = is_any_between(&self.sent, sender, receiver);
+        self.boxes[usize::from(receiver)].set(sender, more);
         letter
     }
 

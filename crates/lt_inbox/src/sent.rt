@@ -1,6 +1,7 @@
 ghost use Rattle.std.specs.Prelude.{◌≡◌, ◌<◌, ◌+◌, ℕ, [], ◌∷◌, length, IfSome, IfNone};
 ghost use Rattle.std.specs.VecDeque.{deque_capacity};
 ghost use Rattle.lt_desk.specs.LetterSeen.{letter_seen};
+ghost use Rattle.lt_spec.specs.World.{is_some_letter};
 ghost use Rattle.lt_inbox.specs.Mail.{IsFirst, goes, letters_between, sent_of};
 
 use lt_desk::Letter;
@@ -17,7 +18,8 @@ pub(crate) struct Sent {
 
 impl Model for Sent {
     ghost use Rattle.lt_desk.specs.LetterSeen.{letter_seen};
-    ghost use Rattle.lt_inbox.specs.Mail.{SentData};
+    ghost use Rattle.lt_spec.specs.World.{is_some_letter};
+ghost use Rattle.lt_inbox.specs.Mail.{SentData};
 
     ghost Value = { SentData };
 
@@ -48,8 +50,9 @@ impl Sent {
     }
 }
 
-/// The place of the oldest letter from the sender to the receiver.
-pub(crate) fn first_between(sent: &VecDeque<Sent>, sender: u8, receiver: u8) -> Option<usize>
+// The place of the oldest letter from the sender to the receiver.
+#[tactic(auto, using(crate::proofs::First::first_at, crate::proofs::First::none_more))]
+fn first_between(sent: &VecDeque<Sent>, sender: u8, receiver: u8) -> Option<usize>
     ensures first { IfSome result (IsFirst sender receiver sent.now.items) }
     ensures none { IfNone result (letters_between sender receiver sent.now.items ≡ []) }
 {
@@ -59,6 +62,13 @@ pub(crate) fn first_between(sent: &VecDeque<Sent>, sender: u8, receiver: u8) -> 
         }
     }
     None
+}
+
+/// Whether a letter is on its way from the sender to the receiver.
+pub(crate) fn is_any_between(sent: &VecDeque<Sent>, sender: u8, receiver: u8) -> bool
+    ensures { result ≡ is_some_letter (letters_between sender receiver sent.now.items) }
+{
+    first_between(sent, sender, receiver).is_some()
 }
 
 /// Takes the oldest letter from the sender to the receiver.
