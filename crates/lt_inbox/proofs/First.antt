@@ -1,5 +1,5 @@
 -- The oldest letter from one node to another.
-use Rattle.std.proofs.Common.{◌≡◌, Bool, true, false, ℕ, suc, ◌+◌, ◌<◌, ◌&&◌, List, [], ◌∷◌, ◌++◌, length, take, drop, inl, inr, refl, sym, ap, subst, ◌∙◌, take-suc}
+use Rattle.std.proofs.Common.{◌≡◌, Bool, true, false, ℕ, suc, ◌+◌, ◌<◌, ◌&&◌, ◌==◌, List, [], ◌∷◌, ◌++◌, length, take, drop, inl, inr, refl, sym, ap, subst, ◌∙◌, arith, take-suc}
 use Rattle.std.specs.Prelude.{slice_index_or, if◌then◌else◌, Option, Some, None}
 use Rattle.std.specs.List.{filter_map, remove}
 use Rattle.std.proofs.Math.Seq.{split_at}
@@ -37,7 +37,8 @@ goes_else p q a b one e apart = elim (cases_eq one.sender a) [
 pub none_more : (p q : ℕ) (sent : List SentData) (k : ℕ) (one : SentData) → k < length sent → one ≡ slice_index_or sent k one → goes p q one ≡ false
     → letters_between p q (take k sent) ≡ [] → letters_between p q (take (k + 1) sent) ≡ []
 none_more p q sent k one below is miss none =
-    let more : take (k + 1) sent ≡ take k sent ++ one ∷ [] = take-suc sent k one below ∙ ap (λ (x : SentData). take k sent ++ x ∷ []) (sym is) in
+    let step : k + 1 ≡ suc k = omega arith in
+    let more : take (k + 1) sent ≡ take k sent ++ one ∷ [] = ap (λ (n : ℕ). take n sent) step ∙ (take-suc sent k one below ∙ ap (λ (x : SentData). take k sent ++ x ∷ []) (sym is)) in
     ap (letters_between p q) more
     ∙ (between_append p q (take k sent) (one ∷ [])
     ∙ (ap (λ (ls : List Letter). ls ++ letters_between p q (one ∷ [])) none

@@ -98,3 +98,7 @@ pub marked_front : (boxes : List (List Bool)) (sent : List SentData) (p q : ℕ)
     → AreMarked (put_mark boxes p q true) (sent_of p q letter ∷ sent)
 marked_front boxes sent p q letter h sender receiver =
     marked boxes sent (sent_of p q letter ∷ sent) p q true h sender receiver (ap is_some_letter (one_own p q letter sent)) (λ a b apart. one_other p q letter sent a b apart)
+
+pub letters_marked : (boxes : List (List Bool)) (sent : List SentData) (p q : ℕ) → AreMarked boxes sent → p < length boxes → q < length boxes
+    → has_between boxes p q ≡ is_some_letter (letters_between p q sent)
+letters_marked boxes sent p q h sender receiver = h.marks p q sender receiver

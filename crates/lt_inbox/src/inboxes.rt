@@ -50,6 +50,7 @@ impl Inboxes {
     }
 
     /// Whether a letter is on its way from the sender to the receiver.
+    #[tactic(auto, using(crate::proofs::Marks::letters_marked))]
     pub fn has_mail(&self, sender: u8, receiver: u8) -> bool
         requires { (sender < self.now.nodes) × (receiver < self.now.nodes) }
         ensures { result ≡ is_some_letter (mail_in self.now sender receiver) }
@@ -115,6 +116,7 @@ impl Inboxes {
     }
 
     /// The number of takes.
+    #[tactic(auto, using(crate::proofs::TakeOrder::takes_marked))]
     pub fn count_takes(&self) -> u32
         ensures count { result ≡ length (takes_in self.now) }
         ensures few { result < 2 ^ 16 }
@@ -123,6 +125,7 @@ impl Inboxes {
     }
 
     /// The take at place `k`, by receiver and then by sender.
+    #[tactic(auto, using(crate::proofs::TakeOrder::takes_marked))]
     pub fn take_at(&self, k: u32) -> Option<Take>
         ensures { option_map turn_of result ≡ slice_get (takes_in self.now) k }
     {
