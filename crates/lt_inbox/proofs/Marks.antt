@@ -91,7 +91,7 @@ marked_back boxes sent p q letter h sender receiver =
     (ap is_some_letter (between_append p q sent (one ∷ []) ∙ ap (λ (ls : List Letter). letters_between p q sent ++ ls) (one_own p q letter []))
     ∙ own_last (letters_between p q sent) letter)
     (λ a b apart. between_append a b sent (one ∷ [])
-        ∙ (ap (λ (ls : List Letter). letters_between a b sent ++ ls) (one_other p q letter [] a b apart) ∙ append-nil (letters_between a b sent)))
+    ∙ (ap (λ (ls : List Letter). letters_between a b sent ++ ls) (one_other p q letter [] a b apart) ∙ append-nil (letters_between a b sent)))
 
 -- or before them
 pub marked_front : (boxes : List (List Bool)) (sent : List SentData) (p q : ℕ) (letter : Letter) → AreMarked boxes sent → p < length boxes → q < length boxes

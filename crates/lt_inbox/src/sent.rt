@@ -19,7 +19,7 @@ pub(crate) struct Sent {
 impl Model for Sent {
     ghost use Rattle.lt_desk.specs.LetterSeen.{letter_seen};
     ghost use Rattle.lt_spec.specs.World.{is_some_letter};
-ghost use Rattle.lt_inbox.specs.Mail.{SentData};
+    ghost use Rattle.lt_inbox.specs.Mail.{SentData};
 
     ghost Value = { SentData };
 

@@ -133,11 +133,7 @@ impl Network {
 }
 
 // Makes room for what a node sends out, for which `out` has room.
-fn reserve_all(
-    inboxes: &mut Inboxes,
-    run: &mut Run,
-    out: &Out,
-) -> Result<(), AllocError>
+fn reserve_all(inboxes: &mut Inboxes, run: &mut Run, out: &Out) -> Result<(), AllocError>
     ensures letters { SameLetters inboxes.old inboxes.new }
     ensures entries { run.new.entries ≡ run.old.entries }
     ensures send { OnOk result (InboxRoom inboxes.new run.new out.now) }
