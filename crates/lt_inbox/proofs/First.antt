@@ -1,12 +1,13 @@
 -- The oldest letter from one node to another.
 use Rattle.std.proofs.Common.{◌≡◌, Bool, true, false, ℕ, suc, ◌+◌, ◌<◌, ◌&&◌, ◌==◌, List, [], ◌∷◌, ◌++◌, length, take, drop, inl, inr, refl, sym, ap, subst, ◌∙◌, arith, take-suc}
-use Rattle.std.specs.Prelude.{slice_index_or, if◌then◌else◌, Option, Some, None}
+use Rattle.std.specs.Prelude.{slice_index_or, if◌then◌else◌, Option, Some, None, IfSome, IfNone, is_some}
 use Rattle.std.specs.List.{filter_map, remove}
 use Rattle.std.proofs.Math.Seq.{split_at}
 use Rattle.std.proofs.lemmas.Bool.{cases_eq, eqb-true, eq-eqb, ne_eqb, and_parts}
 use Rattle.std.proofs.lemmas.List.{get_or_default}
 use Rattle.std.proofs.lemmas.List.Elements.{filter_map-append}
 use Rattle.lt_modes.specs.State.{Letter}
+use Rattle.lt_spec.specs.World.{is_some_letter}
 use Rattle.lt_inbox.specs.Mail.{SentData, IsFirst, goes, letter_between, letters_between}
 
 pub between_append : (a b : ℕ) (xs ys : List SentData) → letters_between a b (xs ++ ys) ≡ letters_between a b xs ++ letters_between a b ys
@@ -77,3 +78,13 @@ first_at p q sent k one below is hit none = record {
         ∙ (between_append p q before (one ∷ after)
         ∙ (ap (λ (ls : List Letter). ls ++ letters_between p q (one ∷ after)) none
         ∙ (between_cons p q one after ∙ ap (λ (t : Bool). with_letter t one.letter (letters_between p q after)) hit)))
+
+-- where a first one is found, there is one
+pub any_between : (p q : ℕ) (sent : List SentData) (place : Option ℕ) → IfSome place (IsFirst p q sent) → IfNone place (letters_between p q sent ≡ [])
+    → is_some place ≡ is_some_letter (letters_between p q sent)
+any_between p q sent None found none = sym (ap is_some_letter none)
+any_between p q [] (Some k) found none = absurd (omega (arith, found.below))
+any_between p q (x ∷ xs) (Some k) found none =
+    let one = slice_index_or (x ∷ xs) k x in
+    let here : one ≡ slice_index_or (x ∷ xs) k one = get_or_default (x ∷ xs) k x one found.below in
+    sym (ap is_some_letter (found.first one here))

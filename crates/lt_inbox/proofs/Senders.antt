@@ -16,13 +16,13 @@ none_from (suc n) (suc p) = none_from n p
 
 pub none_counted : (n : ℕ) → sender_count (replicate n false) ≡ 0
 none_counted zero = refl
-none_counted (suc n) = counted_first false (replicate n false) ∙ none_counted n
+none_counted (suc n) = omega (arith, counted_first false (replicate n false), none_counted n)
 
 -- where one sender has no letter, not all have
 pub fewer_senders : (senders : List Bool) (p : ℕ) → p < length senders → has_from senders p ≡ false → sender_count senders < length senders
 fewer_senders [] p inside none = absurd (omega (arith, inside))
 fewer_senders (has ∷ rest) zero inside none =
-    let first : sender_count (has ∷ rest) ≡ sender_count rest = counted_first has rest ∙ ap (λ (b : Bool). (if b then 1 else 0) + sender_count rest) none in
+    let first : sender_count (has ∷ rest) ≡ (if false then 1 else 0) + sender_count rest = counted_first has rest ∙ ap (λ (b : Bool). (if b then 1 else 0) + sender_count rest) none in
     omega (arith, first, count_by-le-length (λ (b : Bool). b) rest)
 fewer_senders (true ∷ rest) (suc p) inside none = omega (arith, counted_first true rest, fewer_senders rest p (omega (arith, inside)) none)
 fewer_senders (false ∷ rest) (suc p) inside none = omega (arith, counted_first false rest, fewer_senders rest p (omega (arith, inside)) none)
