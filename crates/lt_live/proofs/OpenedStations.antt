@@ -17,7 +17,7 @@ use Rattle.lt_live.specs.declared.limits.TheConstants.{LETTER_PLACES}
 use Rattle.lt_live.specs.Words.{known_commands, IsLink}
 use Rattle.lt_live.specs.Seats.{IsSeat}
 use Rattle.lt_live.specs.Stations.{StationData, IsSeatOf, AreOthers}
-use Rattle.lt_live.specs.Opened.{IsNewSession, HasSeat, runner_of, SeatsBefore, Opening}
+use Rattle.lt_live.specs.Opened.{IsNewSession, HasSeat, runner_of, SeatsBefore, Opening, Opened}
 use Rattle.lt_live.proofs.Places.{set_here, set_other, pushed, last_here, stays_here}
 use Rattle.lt_live.proofs.FirstRunners.{first_seat}
 
@@ -139,8 +139,22 @@ seat_there script limit capacity n place stations sessions d seat h inside is em
     (slice_get-map runner_of stations place ∙ ap (option_map runner_of) (found_here stations place d inside is)) at known kept places some
 
 -- the station of each node is there
-pub station_there : (script : ScriptData) (limit capacity n place : ℕ) (stations : List StationData) (sessions : List Session)
-    → Opening script limit capacity n stations sessions → n < length script.clients → place ≡ home script n → place < length stations
-station_there script limit capacity n place stations sessions h known at =
-    let below = h.runners.crew.is_script.homes n known in
+pub station_there : (script : ScriptData) (limit capacity n client place : ℕ) (stations : List StationData) (sessions : List Session)
+    → Opening script limit capacity n stations sessions → client < length script.clients → place ≡ home script client → place < length stations
+station_there script limit capacity n client place stations sessions h known at =
+    let below = h.runners.crew.is_script.homes client known in
     omega (arith, at, below, h.runners.crew.count, length-map stations runner_of)
+
+-- the first client's session has its other end at the station of the client's node
+pub first_seated : (script : ScriptData) (limit capacity place : ℕ) (stations : List StationData) (sessions : List Session) (d : StationData) (s : Session)
+    → Opened script limit capacity stations sessions → 0 < length script.clients → place ≡ home script 0 → d ≡ slice_index_or stations place d
+    → s ≡ slice_index_or sessions 0 s → IsSeated s d.seats
+first_seated script limit capacity place stations sessions d s h some at found is =
+    let one : slice_get sessions 0 ≡ Some s = slice_get-get_or sessions 0 s (omega (arith, some, h.count)) ∙ ap Some (sym is) in
+    let (new, there) = h.each 0 s one in
+    let inside = station_there script limit capacity (length script.clients) 0 place stations sessions h some at in
+    let here : slice_get stations (home script s.client) ≡ Some d =
+    ap (λ (client : ℕ). slice_get stations (home script client)) new.client_is
+    ∙ ap (slice_get stations) (sym at)
+    ∙ found_here stations place d inside found in
+    subst (λ (x : StationData). IsSeated s x.seats) (same_Some there.station d (sym there.here ∙ here)) there.seated

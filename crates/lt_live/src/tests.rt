@@ -1,4 +1,4 @@
-ghost use Rattle.std.specs.Prelude.{◌≡◌, ◌<◌, ◌≤◌, [], IfOk, IfOkAnd};
+ghost use Rattle.std.specs.Prelude.{◌≡◌, ◌<◌, ◌≤◌, [], IfOk};
 ghost use Rattle.lt_script.specs.declared.limits.TheConstants.{MAX_COMMANDS};
 ghost use Rattle.lt_live.specs.Words.{SameSession};
 ghost use Rattle.lt_live.specs.Stations.{IsSeated};
@@ -101,14 +101,17 @@ fn a_reply_waits_for_a_place(rt: HostRuntime) -> Result<(), Fail> {
 fn an_ask_goes_to_the_other_node(rt: HostRuntime) -> Result<(), Fail> {
     let script = script_of(rt.alloc(), TWO_NODES)?;
     let (mut stations, mut sessions) = open(rt.alloc(), &script, 10, 1)?;
-    assert_eq!(rt; (stations.len(), sessions.len()), (2, 1));
-    assert_eq!(rt; submit(&mut sessions[0], LOCK)?, Ok(()));
+    assert_eq!(rt; stations.len(), 2);
+    assert_eq!(rt; sessions.len(), 1);
+    let mut session = sessions.remove(0);
+    let mut far = stations.remove(1);
+    let mut near = stations.remove(0);
+    assert_eq!(rt; submit(&mut session, LOCK)?, Ok(()));
     for round in 0_u8..4 {
-        for station in &mut stations {
-            station.turn(&Open);
-        }
-        assert_eq!(rt; stations[1].waits(0), round < 3);
+        near.turn(&Open);
+        far.turn(&Open);
+        assert_eq!(rt; far.waits(0), round < 3);
     }
-    assert_eq!(rt; sessions[0].poll(), Some(Reply::Granted));
+    assert_eq!(rt; session.poll(), Some(Reply::Granted));
     Ok(())
 }

@@ -13,7 +13,7 @@ pub add_seat-requires-clause-seat : goal.add_seat-requires-clause-seat
 add_seat-requires-clause-seat c =
     let at : c.from-home.result ≡ home c.args.script.now c.args.client = c.from-home.ensures ∙ c.home.ensures in
     let stations = c.args.stations.now.items in
-    let inside = station_there c.args.script.now c.args._limit c.args.capacity c.args.client c.from-home.result stations c.args.sessions.now.items c.requires.opening c.requires.client at in
+    let inside = station_there c.args.script.now c.args._limit c.args.capacity c.args.client c.args.client c.from-home.result stations c.args.sessions.now.items c.requires.opening c.requires.client at in
     seat_there c.args.script.now c.args._limit c.args.capacity c.args.client c.from-home.result stations c.args.sessions.now.items c.index_mut.result.now c.in_ok-session.seat
     c.requires.opening inside c.index_mut.ensures.value c.requires.commands at c.requires.client c.in_ok-session.ensures.seat c.in_ok-session.ensures.places.1 c.requires.capacity
 
@@ -21,7 +21,7 @@ pub add_seat-requires-clause-others : goal.add_seat-requires-clause-others
 add_seat-requires-clause-others c =
     let at : c.from-home.result ≡ home c.args.script.now c.args.client = c.from-home.ensures ∙ c.home.ensures in
     let stations = c.args.stations.now.items in
-    let inside = station_there c.args.script.now c.args._limit c.args.capacity c.args.client c.from-home.result stations c.args.sessions.now.items c.requires.opening c.requires.client at in
+    let inside = station_there c.args.script.now c.args._limit c.args.capacity c.args.client c.args.client c.from-home.result stations c.args.sessions.now.items c.requires.opening c.requires.client at in
     others_there c.args.script.now c.args._limit c.args.capacity c.args.client c.from-home.result c.in_ok-session.seat.client stations c.args.sessions.now.items c.index_mut.result.now
     c.requires.opening inside c.index_mut.ensures.value c.in_ok-session.ensures.seat.client_is
 
@@ -32,7 +32,7 @@ returns c =
     let d = c.index_mut.result.now in
     let x : StationData = slice_index_or stations c.from-home.result d in
     let value : d ≡ x = c.index_mut.ensures.value in
-    let inside = station_there c.args.script.now c.args._limit c.args.capacity c.args.client c.from-home.result stations c.args.sessions.now.items c.requires.opening c.requires.client at in
+    let inside = station_there c.args.script.now c.args._limit c.args.capacity c.args.client c.args.client c.from-home.result stations c.args.sessions.now.items c.requires.opening c.requires.client at in
     let first : c.index.result.now ≡ d = found_once stations c.from-home.result c.index.result.now d inside c.index.ensures value in
     let new = c.in_ok-session.ensures.session in
     let share : MAX_COMMANDS / c.from-share.result ≡ MAX_COMMANDS / length c.args.script.now.clients =
