@@ -15,3 +15,4 @@ pub mod Waiters
 pub mod Ends
 pub mod SharedRunners
 pub mod Shares
+pub mod LastShares

@@ -11,7 +11,7 @@ use Rattle.lt_threads.specs.Together.{EachIs}
 use Rattle.lt_threads.specs.Meeting.{RunnersLinked}
 use Rattle.lt_threads.proofs.Each.{seen_self, each_weaker, each_before, each_push, slice_left}
 
-links_stay : (o p : Option OutLane) (i j : Option InLane) → Alike SameOut o p → Alike SameIn i j → Both IsOpenLink o i → Both IsOpenLink p j
+pub links_stay : (o p : Option OutLane) (i j : Option InLane) → Alike SameOut o p → Alike SameIn i j → Both IsOpenLink o i → Both IsOpenLink p j
 links_stay None p i j u v e = absurd e
 links_stay (Some o) p None j u v e = absurd e
 links_stay (Some o) None (Some i) j u v e = absurd u

@@ -10,3 +10,4 @@ pub mod Threads
 pub mod Workers
 pub mod Settled
 pub mod Shares
+pub mod ShareLaws
