@@ -21,7 +21,7 @@ use Rattle.lt_spec.specs.World.{is_of_node}
 use Rattle.lt_model.specs.Homes.{IsWhole, HasTargetsAt}
 use Rattle.lt_law_appended.specs.Commands.{with_commands}
 use Rattle.lt_runner.specs.declared.parts.Parts.{Parts}
-use Rattle.lt_threads.specs.Shares.{AreShares, AreTooMany, IsSharedRun, commands_in}
+use Rattle.lt_threads.specs.Shares.{AreShares, ShareScript, AreTooMany, IsSharedRun, commands_in}
 use Rattle.lt_threads.proofs.Shares.{same_in_joined}
 use Rattle.lt_threads.proofs.Shown.{runner_at}
 use Rattle.lt_live.specs.declared.reply.Reply.{Reply}
@@ -31,7 +31,7 @@ use Rattle.lt_live.specs.Words.{submitted, polled}
 use Rattle.lt_live.specs.Seats.{IsServed}
 use Rattle.lt_live.specs.Stations.{StationData}
 use Rattle.lt_live.specs.Opened.{equal_share, runner_of}
-use Rattle.lt_live.specs.Live.{AreLive}
+use Rattle.lt_live.specs.Live.{AreLive, LiveScript}
 use Rattle.lt_live.specs.Finished.{IsServedRun, ServedBy, SaysSame, Settled}
 use Rattle.lt_live.proofs.AlikeLists.{alike_after, alike_len}
 use Rattle.lt_live.proofs.ReplyLemmas.{replies_in_log}
@@ -160,3 +160,23 @@ module _ (script : ScriptData) (stations later : List StationData) (sessions aft
             replies = subst (λ (list : List Reply). IsPrefix (polled at.before) list) (sym told)
                 (subst (λ (list : List Reply). IsPrefix list (replies_in client (lines_of p.log.entries))) at.says.polled at.served.replies);
           })
+
+-- what is known once all looked at their rings
+abbrev pub AllSettled : List StationData → List Session → List StationData → List Session → Type 0
+AllSettled stations sessions later after = (script : ScriptData) → AreLive script stations sessions → Settled script stations sessions later after
+
+pub are_shares : (stations later : List StationData) (sessions after : List Session) (rs : List Parts) → LiveScript stations sessions
+    → AllSettled stations sessions later after → rs ≡ map runner_of later → ShareScript rs
+are_shares stations later sessions after rs live settled taken =
+    (live.0, shares live.0 stations later sessions after rs (settled live.0 live.1) taken)
+
+pub never_many : (stations later : List StationData) (sessions after : List Session) (rs : List Parts) → LiveScript stations sessions
+    → AllSettled stations sessions later after → rs ≡ map runner_of later → ¬ AreTooMany rs
+never_many stations later sessions after rs live settled taken =
+    not_many live.0 stations later sessions after rs (settled live.0 live.1) taken
+
+pub finishes : (stations later : List StationData) (sessions after : List Session) (rs : List Parts) (made : ScriptData) (run : List Logged)
+    → AllSettled stations sessions later after → rs ≡ map runner_of later → IsSharedRun rs made run
+    → (script : ScriptData) → AreLive script stations sessions → IsServedRun script sessions made run
+finishes stations later sessions after rs made run settled taken shared script live =
+    served_run script stations later sessions after rs (settled script live) taken made run shared

@@ -18,6 +18,7 @@ use std::alloc::{AllocError, Global};
 ///
 /// It takes all stations and all sessions of one `open`, in order. A command that was submitted and isn't in the script was
 /// never made. Without memory all is dropped.
+#[tactic(auto, using(crate::proofs::Finished::are_shares, crate::proofs::Finished::never_many, crate::proofs::Finished::finishes))]
 pub fn finish(
     alloc: Global,
     mut stations: Vec<Station>,
