@@ -1,5 +1,5 @@
 -- Session after session looks at its rings.
-use Rattle.std.proofs.Common.{◌≡◌, ◌≢◌, ◌<◌, ◌≤◌, ◌+◌, ℕ, List, length, map, Some, refl, sym, ap, subst, arith, ◌∙◌, inl, inr}
+use Rattle.std.proofs.Common.{rules, ◌≡◌, ◌≢◌, ◌<◌, ◌≤◌, ◌+◌, ℕ, List, length, map, Some, refl, sym, ap, subst, arith, ◌∙◌, inl, inr}
 use Rattle.std.specs.Prelude.{slice_get, slice_set, slice_index_or}
 use Rattle.std.specs.Option.{option_map}
 use Rattle.std.proofs.lemmas.Bool.{cases_eq}
@@ -125,3 +125,32 @@ all_settled script n stations later sessions after long h = record {
   each = h.each;
   served = λ client t below e. h.served client t (omega (arith, below, long)) e;
 }
+
+-- what is found at the places of the session and of its station
+
+pub session_found : (sessions : List Session) (client : ℕ) (d : Session) → client < length sessions → d ≡ slice_index_or sessions client d → slice_get sessions client ≡ Some d
+session_found sessions client d inside is = slice_get-get_or sessions client d inside ∙ ap Some (sym is)
+
+pub home_found : (script : ScriptData) (stations : List StationData) (sessions : List Session) (client h : ℕ) (s : Session) → AreLive script stations sessions
+    → slice_get sessions client ≡ Some s → h ≡ home s.script s.client → h ≡ home script client
+home_found script stations sessions client h s live here at =
+    let known = live.each client s here in
+    at ∙ ap (λ (x : ScriptData). home x s.client) known.script_is ∙ ap (home script) known.client_is
+
+pub home_inside : (script : ScriptData) (stations : List StationData) (sessions : List Session) (client h : ℕ) (s : Session) → AreLive script stations sessions
+    → slice_get sessions client ≡ Some s → h ≡ home script client → h < length stations
+home_inside script stations sessions client h s live here at =
+    let known = live.each client s here in
+    subst (λ (k : ℕ). k < length stations) (sym at) (slice_get_within stations (home script client) known.station known.here)
+
+pub station_found : (stations : List StationData) (h : ℕ) (d : StationData) → h < length stations → d ≡ slice_index_or stations h d → slice_get stations h ≡ Some d
+station_found stations h d inside is = slice_get-get_or stations h d inside ∙ ap Some (sym is)
+
+pub seated_there : (script : ScriptData) (stations : List StationData) (sessions : List Session) (client h : ℕ) (s : Session) (d : StationData)
+    → AreLive script stations sessions → slice_get sessions client ≡ Some s → h ≡ home script client → slice_get stations h ≡ Some d → IsSeated s d.seats
+seated_there script stations sessions client h s d live here at there =
+    let known = live.each client s here in
+    subst (λ (x : StationData). IsSeated s x.seats) (same_Some known.station d (sym known.here ∙ ap (slice_get stations) (sym at) ∙ there)) known.seated
+
+pub says_looked : (log : List Logged) (s t : Session) (old new : List Seat) → SeatLooks log s t old new → SaysSame s t
+says_looked log s t old new h = record { same = h.looks.session; submitted = h.looks.submitted.0; polled = h.looks.polled }
