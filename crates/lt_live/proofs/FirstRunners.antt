@@ -14,7 +14,7 @@ use Rattle.lt_live.specs.Stations.{IsSeatOf}
 
 -- the runner of each node has the script
 script_at : (script : ScriptData) (letters limit place : ℕ) (rs : List Parts) (p : Parts) → IsFirstCrew script letters limit rs → slice_get rs place ≡ Some p → p.node.script ≡ script
-script_at script letters limit place rs p first here = (first.crew.each place p here).script_is
+script_at script letters limit place rs p first here = first.scripts place p here
 
 -- a new seat is one of the runner of its client's node
 pub first_seat : (script : ScriptData) (letters limit capacity place client : ℕ) (rs : List Parts) (p : Parts) (seat : Seat) → IsFirstCrew script letters limit rs

@@ -1,11 +1,10 @@
 -- Stations and sessions stay those of one script.
-use Rattle.std.proofs.Common.{◌≡◌, ℕ, List, [], ◌∷◌, length, map, Option, Some, None, refl, sym, ap, subst, ◌∙◌}
+use Rattle.std.proofs.Common.{◌≡◌, ℕ, List, map, Option, Some, None, refl, sym, ap, subst, ◌∙◌}
 use Rattle.std.specs.Prelude.{slice_get, slice_set}
 use Rattle.std.specs.Option.{option_map}
 use Rattle.std.proofs.lemmas.Option.{slice_get-map}
 use Rattle.lt_modes.specs.Script.{ScriptData}
 use Rattle.lt_spec.specs.Families.{home}
-use Rattle.lt_spec.specs.Log.{Logged}
 use Rattle.lt_law_appended.specs.Commands.{with_commands, AreAt}
 use Rattle.lt_mail.specs.Words.{Alike, SameEnds}
 use Rattle.lt_runner.specs.declared.parts.Parts.{Parts}
@@ -15,9 +14,9 @@ use Rattle.lt_live.specs.declared.ends.Session.{Session}
 use Rattle.lt_live.specs.declared.ends.Seat.{Seat}
 use Rattle.lt_live.specs.declared.limits.TheConstants.{LETTER_PLACES}
 use Rattle.lt_live.specs.Words.{SameSession}
-use Rattle.lt_live.specs.Stations.{StationData, IsStation, StationTurns, StaySeated}
+use Rattle.lt_live.specs.Stations.{StationData, IsStation, StationTurns}
 use Rattle.lt_live.specs.Opened.{runner_of}
-use Rattle.lt_live.specs.Live.{AreLive, GoesOn, StationGoesOn, EachStation, EachSession}
+use Rattle.lt_live.specs.Live.{GoesOn, StationGoesOn, EachStation}
 use Rattle.lt_live.specs.LiveLaws.{OpenedAreLive, LiveLasts, OneStationLasts, OneSessionLasts}
 use Rattle.lt_live.proofs.Linked.{session_stays}
 use Rattle.lt_live.proofs.AlikeLists.{alike_before, alike_after, alike_len, alike_self, alike_set}

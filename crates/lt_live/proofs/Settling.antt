@@ -1,5 +1,5 @@
 -- Session after session looks at its rings.
-use Rattle.std.proofs.Common.{rules, ◌≡◌, ◌≢◌, ◌<◌, ◌≤◌, ◌+◌, ℕ, List, length, map, Some, refl, sym, ap, subst, arith, ◌∙◌, inl, inr}
+use Rattle.std.proofs.Common.{rules, ◌≡◌, ◌<◌, ◌≤◌, ◌+◌, ℕ, List, length, map, Some, refl, sym, ap, subst, arith, ◌∙◌, inl, inr}
 use Rattle.std.specs.Prelude.{slice_get, slice_set, slice_index_or}
 use Rattle.std.specs.Option.{option_map}
 use Rattle.std.proofs.lemmas.Bool.{cases_eq}
@@ -16,12 +16,12 @@ use Rattle.lt_live.specs.Words.{SameSession, IsLink}
 use Rattle.lt_live.specs.Seats.{IsServed}
 use Rattle.lt_live.specs.Stations.{StationData, IsStation, IsSeated, StaySeated, SeatLooks}
 use Rattle.lt_live.specs.Opened.{runner_of}
-use Rattle.lt_live.specs.Live.{AreLive, GoesOn, StationGoesOn, EachSession}
+use Rattle.lt_live.specs.Live.{AreLive, GoesOn, StationGoesOn}
 use Rattle.lt_live.specs.Finished.{ServedBy, SaysSame, ServedAt, SettlesAt, Settling, Settled}
 use Rattle.lt_live.proofs.Places.{set_here, set_other}
 use Rattle.lt_live.proofs.Linked.{link_seat}
 use Rattle.lt_live.proofs.Serving.{is_settled}
-use Rattle.lt_live.proofs.AlikeLists.{alike_before, alike_after, alike_len, alike_self, alike_join, alike_set}
+use Rattle.lt_live.proofs.AlikeLists.{alike_self, alike_join, alike_set}
 use Rattle.lt_live.proofs.LiveShares.{goes_itself}
 use Rattle.lt_live.proofs.Live.{session_itself, one_station_lasts, one_session_lasts}
 
