@@ -13,3 +13,8 @@ pub mod FirstSeats
 pub mod FoundedStations
 pub mod FirstRunners
 pub mod OpenedStations
+pub mod AlikeLists
+pub mod LiveShares
+pub mod Live
+pub mod Settling
+pub mod Finished

@@ -11,7 +11,7 @@ use Rattle.lt_live.specs.Stations.{HandMayGo, SeatTurns, StationTurns, IsSeated,
 use Rattle.lt_live.proofs.SeatLists.{each_after}
 use Rattle.lt_live.proofs.Telling.{same_seats}
 
-link_seat : (s : Session) (x y : Seat) → SameSeat x y → IsLink s x → IsLink s y
+pub link_seat : (s : Session) (x y : Seat) → SameSeat x y → IsLink s x → IsLink s y
 link_seat s x y same link = (same.client ∙ link.0, search rules, search rules)
 
 link_session : (s t : Session) (x : Seat) → SameSession s t → IsLink s x → IsLink t x

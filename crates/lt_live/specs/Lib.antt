@@ -6,3 +6,6 @@ pub mod Seats
 pub mod ReplyLaws
 pub mod Stations
 pub mod Opened
+pub mod Live
+pub mod LiveLaws
+pub mod Finished

@@ -1,7 +1,16 @@
+ghost use Rattle.lt_live.specs.LiveLaws.{OpenedAreLive, LiveLasts, OneStationLasts, OneSessionLasts};
 ghost use Rattle.lt_live.specs.ReplyLaws.{RepliesOfLines, RepliesInLog};
 
 /// What sessions are told are the replies of the run: a station tells them from the log of its node alone.
 pub fn law_told()
     ensures lines { RepliesOfLines }
     ensures log { RepliesInLog }
+{}
+
+/// Stations and sessions stay those of one script, whatever stations and callers do, each on its own thread.
+pub fn law_live_lasts()
+    ensures opened { OpenedAreLive }
+    ensures last { LiveLasts }
+    ensures one_station { OneStationLasts }
+    ensures one_session { OneSessionLasts }
 {}

@@ -4,6 +4,7 @@
 mod asking;
 mod both_ends;
 mod ends;
+mod finishing;
 mod laws;
 mod limits;
 mod looking;
@@ -16,7 +17,8 @@ mod station;
 mod turning;
 
 pub use ends::{Seat, Session};
-pub use laws::law_told;
+pub use finishing::finish;
+pub use laws::{law_live_lasts, law_told};
 pub use limits::LETTER_PLACES;
 pub use reply::{Reply, reply_to};
 pub use starting::open;

@@ -3,6 +3,8 @@ ghost use Rattle.lt_law_appended.specs.Commands.{AreAt};
 ghost use Rattle.lt_spec.specs.NodeMove.{node_waits};
 ghost use Rattle.lt_node.specs.NodeData.{state_of};
 ghost use Rattle.lt_live.specs.Stations.{AreOthers, IsSeatOf, IsSeated, StaySeated, SeatLooks, StationTurns};
+ghost use Rattle.lt_live.specs.Live.{GoesOn};
+ghost use Rattle.lt_live.specs.Finished.{ServedBy};
 
 use crate::ends::{Seat, Session};
 use crate::looking::beside_at;
@@ -66,6 +68,7 @@ impl Station {
     /// this turn, and what was appended stays.
     pub fn turn<G: Gate>(&mut self, gate: &G) -> Turned
         ensures turns { StationTurns result self.old.runner self.old.seats self.new.runner self.new.seats }
+        ensures goes_on { GoesOn self.old.runner self.new.runner }
         ensures seated { StaySeated self.old.seats self.new.seats }
     {
         turn_of(&mut self.seats, &mut self.runner, gate)
@@ -77,6 +80,8 @@ impl Station {
         requires { IsSeated session.old self.old.seats }
         ensures looks { SeatLooks self.old.runner.log.entries session.old session.new self.old.seats self.new.seats }
         ensures seated { IsSeated session.new self.new.seats }
+        ensures stay { StaySeated self.old.seats self.new.seats }
+        ensures served { ServedBy self.old.runner session.old.client session.new }
         ensures runner { self.new.runner ≡ self.old.runner }
     {
         beside_at(&mut self.seats, session, &self.runner);
@@ -87,6 +92,13 @@ impl Station {
         ensures { result.now ≡ self.now.runner.node.script }
     {
         self.runner.script()
+    }
+
+    /// The runner alone; the seats are dropped, so that sessions have no other ends any more.
+    pub(crate) fn into_runner(self) -> Runner
+        ensures { result ≡ self.runner }
+    {
+        self.runner
     }
 
     /// Whether the client waits at this station's node.

@@ -1,0 +1,156 @@
+-- Session after session looks at its rings.
+use Rattle.std.proofs.Common.{rules, ◌≡◌, ◌<◌, ◌≤◌, ◌+◌, ℕ, List, length, map, Some, refl, sym, ap, subst, arith, ◌∙◌, inl, inr}
+use Rattle.std.specs.Prelude.{slice_get, slice_set, slice_index_or}
+use Rattle.std.specs.Option.{option_map}
+use Rattle.std.proofs.lemmas.Bool.{cases_eq}
+use Rattle.std.proofs.lemmas.Option.{same_Some, slice_get-get_or, slice_get-map, slice_get_within}
+use Rattle.std.proofs.Math.Seq.{map-set_same}
+use Rattle.lt_modes.specs.Script.{ScriptData}
+use Rattle.lt_spec.specs.Families.{commands_of, home}
+use Rattle.lt_spec.specs.Holdings.{lines_of}
+use Rattle.lt_spec.specs.Log.{Logged}
+use Rattle.lt_runner.specs.declared.parts.Parts.{Parts}
+use Rattle.lt_live.specs.declared.ends.Session.{Session}
+use Rattle.lt_live.specs.declared.ends.Seat.{Seat}
+use Rattle.lt_live.specs.Words.{SameSession, IsLink}
+use Rattle.lt_live.specs.Seats.{IsServed}
+use Rattle.lt_live.specs.Stations.{StationData, IsStation, IsSeated, StaySeated, SeatLooks}
+use Rattle.lt_live.specs.Opened.{runner_of}
+use Rattle.lt_live.specs.Live.{AreLive, GoesOn, StationGoesOn}
+use Rattle.lt_live.specs.Finished.{ServedBy, SaysSame, ServedAt, SettlesAt, Settling, Settled}
+use Rattle.lt_live.proofs.Places.{set_here, set_other}
+use Rattle.lt_live.proofs.Linked.{link_seat}
+use Rattle.lt_live.proofs.Serving.{is_settled}
+use Rattle.lt_live.proofs.AlikeLists.{alike_self, alike_join, alike_set}
+use Rattle.lt_live.proofs.LiveShares.{goes_itself}
+use Rattle.lt_live.proofs.Live.{session_itself, one_station_lasts, one_session_lasts}
+
+-- a look at the rings of one session leaves all sessions their ends
+pub look_stays : (log : List Logged) (s t : Session) (old new : List Seat) → SeatLooks log s t old new → StaySeated old new
+look_stays log s t old new h u seated = elim (cases_eq u.place s.place) [
+  | inl at ↦
+      let is : seated.seat ≡ h.x = same_Some seated.seat h.x (sym seated.here ∙ ap (slice_get old) at ∙ h.before) in
+      record {
+        seat = h.y;
+        here = ap (slice_get new) at ∙ h.now;
+        link = link_seat u h.x h.y h.looks.seat (subst (λ (z : Seat). IsLink u z) is seated.link);
+      }
+  | inr apart ↦ record { seat = seated.seat; here = h.others u.place apart ∙ seated.here; link = seated.link }
+]
+
+-- and the session is served
+pub look_serves : (p : Parts) (s t : Session) (old new : List Seat) → IsStation p old → IsSeated s old → SeatLooks p.log.entries s t old new → ServedBy p s.client t
+look_serves p s t old new station seated h =
+    let client : h.x.client ≡ s.client = ap (λ (z : Seat). z.client) (same_Some h.x seated.seat (sym h.before ∙ seated.here)) ∙ seated.link.0 in
+    subst (λ (c : ℕ). IsServed (commands_of p.node.script c) (lines_of p.log.entries) c t) client
+    (is_settled (commands_of p.node.script h.x.client) p.log.entries s t h.x h.y (station.each s.place h.x h.before).kept h.looks h.beside).served
+
+says_itself : (s : Session) → SaysSame s s
+says_itself s = record { same = session_itself s; submitted = refl; polled = refl }
+
+same_sessions : (a b c : Session) → SameSession a b → SameSession b c → SameSession a c
+same_sessions a b c first second = record {
+  script = second.script ∙ first.script;
+  client = second.client ∙ first.client;
+  place = second.place ∙ first.place;
+  share = second.share ∙ first.share;
+  commands = search rules;
+  replies = search rules;
+}
+
+says_join : (a b c : Session) → SaysSame a b → SaysSame b c → SaysSame a c
+says_join a b c first second = record {
+  same = same_sessions a b c first.same second.same;
+  submitted = second.submitted ∙ first.submitted;
+  polled = second.polled ∙ first.polled;
+}
+
+-- the stations and sessions at the two places are others
+module _ (script : ScriptData) (client place : ℕ) (stations : List StationData) (sessions : List Session) (x y : StationData) (s t : Session)
+    (h : AreLive script stations sessions) (session : slice_get sessions client ≡ Some s) (at : place ≡ home script client) (station : slice_get stations place ≡ Some x)
+    (runner : y.runner ≡ x.runner) (stay : StaySeated x.seats y.seats) (says : SaysSame s t) (served : ServedBy x.runner s.client t) where
+  goes : StationGoesOn x y
+  goes = record { runner = subst (λ (p : Parts). GoesOn x.runner p) (sym runner) (goes_itself x.runner); seated = stay }
+
+  was : slice_index_or stations place x ≡ x
+  was = same_Some (slice_index_or stations place x) x (sym (slice_get-get_or stations place x (slice_get_within stations place x station)) ∙ station)
+
+  now : (u : Session) → slice_get (slice_set sessions client t) client ≡ Some u → t ≡ u
+  now u e = same_Some t u (sym (set_here sessions client t (slice_get_within sessions client s session)) ∙ e)
+
+  of_client : ServedBy x.runner client t
+  of_client = subst (λ (c : ℕ). ServedBy x.runner c t) (h.each client s session).client_is served
+
+  pub settles_at : SettlesAt script client stations sessions (slice_set stations place y) (slice_set sessions client t)
+  settles_at = record {
+    live = one_session_lasts script (slice_set stations place y) sessions client s t (one_station_lasts script stations sessions place x y h station goes) session says.same;
+    runners = map-set_same runner_of stations place y x (runner ∙ sym (ap runner_of was));
+    each = alike_set SaysSame says_itself sessions client s t session says;
+    others = λ k apart. set_other sessions client t k apart;
+    served = λ u e p there.
+        let here : slice_get (map runner_of stations) (home script client) ≡ Some x.runner =
+        slice_get-map runner_of stations (home script client) ∙ ap (option_map runner_of) (ap (slice_get stations) (sym at) ∙ station) in
+        subst (λ (v : Session). ServedBy p client v) (now u e)
+        (subst (λ (q : Parts). ServedBy q client t) (same_Some x.runner p (sym here ∙ there)) of_client);
+  }
+
+pub none_settled : (script : ScriptData) (stations : List StationData) (sessions : List Session) → AreLive script stations sessions
+    → Settling script 0 stations sessions stations sessions
+none_settled script stations sessions h = record {
+  live = h;
+  runners = refl;
+  each = alike_self SaysSame says_itself sessions;
+  served = λ client t below. absurd (omega (arith, below));
+}
+
+pub next_settled : (script : ScriptData) (n : ℕ) (stations mid later : List StationData) (sessions between after : List Session)
+    → Settling script n stations sessions mid between → SettlesAt script n mid between later after → Settling script (n + 1) stations sessions later after
+next_settled script n stations mid later sessions between after h at = record {
+  live = at.live;
+  runners = at.runners ∙ h.runners;
+  each = alike_join SaysSame says_join sessions between after h.each at.each;
+  served = λ client t below e. elim (cases_eq client n) [
+    | inl here ↦
+        subst (λ (k : ℕ). ServedAt script (map runner_of stations) k t) (sym here)
+        (subst (λ (rs : List Parts). ServedAt script rs n t) h.runners (at.served t (ap (slice_get after) (sym here) ∙ e)))
+    | inr apart ↦ h.served client t (omega (arith, below, apart)) (sym (at.others client apart) ∙ e)
+  ];
+}
+
+pub all_settled : (script : ScriptData) (n : ℕ) (stations later : List StationData) (sessions after : List Session) → length sessions ≤ n
+    → Settling script n stations sessions later after → Settled script stations sessions later after
+all_settled script n stations later sessions after long h = record {
+  live = h.live;
+  runners = h.runners;
+  each = h.each;
+  served = λ client t below e. h.served client t (omega (arith, below, long)) e;
+}
+
+-- what is found at the places of the session and of its station
+
+pub session_found : (sessions : List Session) (client : ℕ) (d : Session) → client < length sessions → d ≡ slice_index_or sessions client d → slice_get sessions client ≡ Some d
+session_found sessions client d inside is = slice_get-get_or sessions client d inside ∙ ap Some (sym is)
+
+pub home_found : (script : ScriptData) (stations : List StationData) (sessions : List Session) (client h : ℕ) (s : Session) → AreLive script stations sessions
+    → slice_get sessions client ≡ Some s → h ≡ home s.script s.client → h ≡ home script client
+home_found script stations sessions client h s live here at =
+    let known = live.each client s here in
+    at ∙ ap (λ (x : ScriptData). home x s.client) known.script_is ∙ ap (home script) known.client_is
+
+pub home_inside : (script : ScriptData) (stations : List StationData) (sessions : List Session) (client h : ℕ) (s : Session) → AreLive script stations sessions
+    → slice_get sessions client ≡ Some s → h ≡ home script client → h < length stations
+home_inside script stations sessions client h s live here at =
+    let known = live.each client s here in
+    subst (λ (k : ℕ). k < length stations) (sym at) (slice_get_within stations (home script client) known.station known.here)
+
+pub station_found : (stations : List StationData) (h : ℕ) (d : StationData) → h < length stations → d ≡ slice_index_or stations h d → slice_get stations h ≡ Some d
+station_found stations h d inside is = slice_get-get_or stations h d inside ∙ ap Some (sym is)
+
+pub seated_there : (script : ScriptData) (stations : List StationData) (sessions : List Session) (client h : ℕ) (s : Session) (d : StationData)
+    → AreLive script stations sessions → slice_get sessions client ≡ Some s → h ≡ home script client → slice_get stations h ≡ Some d → IsSeated s d.seats
+seated_there script stations sessions client h s d live here at there =
+    let known = live.each client s here in
+    subst (λ (x : StationData). IsSeated s x.seats) (same_Some known.station d (sym known.here ∙ ap (slice_get stations) (sym at) ∙ there)) known.seated
+
+pub says_looked : (log : List Logged) (s t : Session) (old new : List Seat) → SeatLooks log s t old new → SaysSame s t
+says_looked log s t old new h = record { same = h.looks.session; submitted = h.looks.submitted.0; polled = h.looks.polled }

@@ -1,0 +1,76 @@
+// The run that stations made, and what their sessions were told.
+ghost use Rattle.std.specs.Prelude.{◌≡◌, ◌≤◌, ◌<◌, [], length, map, vec_capacity, IfOk};
+ghost use Rattle.lt_modes.specs.Script.{ScriptData};
+ghost use Rattle.lt_spec.specs.Families.{home};
+ghost use Rattle.lt_live.specs.Opened.{runner_of};
+ghost use Rattle.lt_live.specs.Live.{AreLive, LiveScript};
+ghost use Rattle.lt_live.specs.Finished.{IsServedRun, SettlesAt, Settled};
+
+use crate::ends::Session;
+use crate::station::Station;
+use lt_merge::Run;
+use lt_runner::Runner;
+use lt_script::Script;
+use lt_threads::{JoinError, finish_joined};
+use std::alloc::{AllocError, Global};
+
+/// The script with the commands that the stations appended, and the run of it that they made.
+///
+/// It takes all stations and all sessions of one `open`, in order. A command that was submitted and isn't in the script was
+/// never made. Without memory all is dropped.
+#[tactic(auto, using(crate::proofs::Finished::are_shares, crate::proofs::Finished::never_many, crate::proofs::Finished::finishes))]
+pub fn finish(
+    alloc: Global,
+    mut stations: Vec<Station>,
+    mut sessions: Vec<Session>,
+) -> Result<(Script, Run), AllocError>
+    requires { LiveScript stations.items sessions.items }
+    ensures { IfOk result (λ made. (script : ScriptData) → AreLive script stations.items sessions.items → IsServedRun script sessions.items made.0 made.1.entries) }
+{
+    let runners = Vec::with_capacity(alloc, stations.len())?;
+    settle_all(&mut stations, &mut sessions);
+    match finish_joined(alloc, take_runners(stations, runners)) {
+        Ok(made) => Ok(made),
+        Err(JoinError::NoMemory) => Err(AllocError),
+        Err(JoinError::TooMany) => unreachable!(),
+    }
+}
+
+// All sessions and their seats look at their rings.
+fn settle_all(stations: &mut Vec<Station>, sessions: &mut Vec<Session>)
+    requires { LiveScript stations.old.items sessions.old.items }
+    ensures { (script : ScriptData) → AreLive script stations.old.items sessions.old.items → Settled script stations.old.items sessions.old.items stations.new.items sessions.new.items }
+{
+    for client in 0..sessions.len() {
+        settle_at(stations, sessions, client);
+    }
+}
+
+fn settle_at(stations: &mut Vec<Station>, sessions: &mut Vec<Session>, client: usize)
+    requires inside { client < length sessions.old.items }
+    requires live { LiveScript stations.old.items sessions.old.items }
+    ensures { (script : ScriptData) → AreLive script stations.old.items sessions.old.items → SettlesAt script client stations.old.items sessions.old.items stations.new.items sessions.new.items }
+{
+    let home = usize::from(home_of(&sessions[client]));
+    stations[home].beside(&mut sessions[client]);
+}
+
+// The node of the session's client.
+fn home_of(session: &Session) -> u8
+    ensures { result ≡ home session.now.script session.now.client }
+{
+    session.script().home(session.client())
+}
+
+// The runners of all stations.
+fn take_runners(mut stations: Vec<Station>, mut runners: Vec<Runner>) -> Vec<Runner>
+    requires empty { runners.items ≡ [] }
+    requires room { length stations.items ≤ vec_capacity runners }
+    ensures { result.items ≡ map runner_of stations.items }
+{
+    while !stations.is_empty() {
+        let station = stations.remove(0);
+        runners.push_reserved(station.into_runner());
+    }
+    runners
+}
