@@ -2,8 +2,6 @@
 #![tactic(auto)]
 
 mod pending;
-#[cfg(test)]
-mod tests;
 mod unanswered;
 
 pub use pending::Pending;

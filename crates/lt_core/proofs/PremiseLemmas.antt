@@ -21,4 +21,5 @@ moves_have_room numbers q clock now core sound later locks memory =
       locks = locks;
       epoch = omega (arith, early.0, later);
       number = omega (arith, early.1, later);
+      tells = memory.tells;
     }

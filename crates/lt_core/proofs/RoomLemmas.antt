@@ -41,37 +41,41 @@ room_less k clock core r = record {
   locks = omega (arith, r.locks);
   epoch = r.epoch;
   number = r.number;
+  tells = r.tells;
 }
 
 -- an ask or a tell more is parked
 pub room_parked : (old new : CoreData) (item : Parked) (k clock : ℕ) → new.state ≡ record old.state { parked = old.state.parked ++ item ∷ [] }
-    → new.room ≡ old.room → old.parked_room ≤ new.parked_room + 1 → HasRoom (k + 1) clock old → HasRoom k clock new
-room_parked old new item k clock e room parked r = record {
+    → new.room ≡ old.room → old.parked_room ≤ new.parked_room + 1 → old.tell_room ≤ new.tell_room → HasRoom (k + 1) clock old → HasRoom k clock new
+room_parked old new item k clock e room parked tells r = record {
   rows = omega (arith, ap waiting_here e, asks_last old.state.parked item, count_few item, room, r.rows);
   parked = omega (arith, parked, r.parked);
   locks = omega (arith, ap (λ (s : SetState). locks_in s.held) e, ap waiting_here e, asks_last old.state.parked item, count_few item, r.locks);
   epoch = omega (arith, ap (λ (s : SetState). epoch_of s.desk) e, r.epoch);
   number = omega (arith, ap (λ (s : SetState). freeze_number_of s.desk) e, r.number);
+  tells = omega (arith, tells, r.tells);
 }
 
 -- a local service
 pub room_local : (old new : CoreData) (k clock : ℕ) → k < length (queue_of old.state) → new.state ≡ served old.state k → old.room ≤ new.room + 1
-    → locks_in new.state.held ≤ locks_in old.state.held + 1 → HasRoom 0 clock old → HasRoom 0 clock new
-room_local old new k clock h e room locks r = record {
+    → locks_in new.state.held ≤ locks_in old.state.held + 1 → old.tell_room ≤ new.tell_room → HasRoom 0 clock old → HasRoom 0 clock new
+room_local old new k clock h e room locks tells r = record {
   rows = omega (arith, ap waiting_here e, queue_out old.state.desk k h, room, r.rows);
   parked = omega arith;
   locks = omega (arith, locks, ap waiting_here e, queue_out old.state.desk k h, r.locks);
   epoch = omega (arith, ap (λ (s : SetState). epoch_of s.desk) e, epoch_put (remove (queue_of old.state) k) old.state.desk, r.epoch);
   number = omega (arith, ap (λ (s : SetState). freeze_number_of s.desk) e, number_put (remove (queue_of old.state) k) old.state.desk, r.number);
+  tells = omega (arith, tells, r.tells);
 }
 
 -- a copy is sent
 pub room_copy : (old new : CoreData) (ask : Ask) (k clock : ℕ) → k < length (queue_of old.state) → new.state ≡ record old.state { desk = owed_at ask k old.state.desk }
-    → old.room ≤ new.room + 1 → HasRoom 0 clock old → HasRoom 0 clock new
-room_copy old new ask k clock h e room r = record {
+    → old.room ≤ new.room + 1 → old.tell_room ≤ new.tell_room → HasRoom 0 clock old → HasRoom 0 clock new
+room_copy old new ask k clock h e room tells r = record {
   rows = omega (arith, ap waiting_here e, queue_owed ask old.state.desk k h, room, r.rows);
   parked = omega arith;
   locks = omega (arith, ap (λ (s : SetState). locks_in s.held) e, ap waiting_here e, queue_owed ask old.state.desk k h, r.locks);
   epoch = omega (arith, ap (λ (s : SetState). epoch_of s.desk) e, epoch_owed ask k old.state.desk, r.epoch);
   number = omega (arith, ap (λ (s : SetState). freeze_number_of s.desk) e, number_owed ask k old.state.desk, r.number);
+  tells = omega (arith, tells, r.tells);
 }

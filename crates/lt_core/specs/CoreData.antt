@@ -11,7 +11,8 @@ use Rattle.lt_desk.specs.declared.letter.Body.{Body}
 use Rattle.lt_desk.specs.declared.letter.Body.TheVariants.{Ask, Tell, Copy, Token, Freeze}
 use Rattle.lt_desk.specs.OutData.{OutData, out_after}
 
--- the node, the set and its state; for how many waiting_here asks there is room, for how many rows more, and for how many letters more that wait for the token
+-- the node, the set and its state; for how many waiting_here asks there is room, for how many rows more, for how many letters more that
+-- wait for the token, and for how many tells
 pub record CoreData : Type 0 where
   pub node : ℕ
   pub set : ℕ
@@ -19,6 +20,7 @@ pub record CoreData : Type 0 where
   pub room : ℕ
   pub row_room : ℕ
   pub parked_room : ℕ
+  pub tell_room : ℕ
 
 abbrev pub desk_seen : Option DeskData → Option Desk
 desk_seen None = None
@@ -28,6 +30,11 @@ desk_seen (Some d) = Some d.desk
 abbrev pub room_by : Option DeskData → ℕ → ℕ
 room_by None rows = rows
 room_by (Some d) rows = min d.room (min d.spare rows)
+
+-- there is room for a tell where a box is spare
+abbrev pub tells_by : {X : Type 0} → Option X → ℕ
+tells_by None = 0
+tells_by (Some box) = 1
 
 -- the core after a rule, and what it sent out, are what the rule makes
 pub record Does (made : Made) (old : CoreData) (had : OutData) (new : CoreData) (out : OutData) : Type 0 where
@@ -48,13 +55,14 @@ abbrev pub freeze_number_of : Option Desk → ℕ
 freeze_number_of None = 0
 freeze_number_of (Some desk) = desk.number
 
--- in a move with this clock there is room for what waits here and k asks and tells more
+-- in a move with this clock there is room for what waits here and k asks and tells more, and for the tell at its end
 pub record HasRoom (k clock : ℕ) (core : CoreData) : Type 0 where
   pub rows : waiting_here core.state + k ≤ core.room
   pub parked : k ≤ core.parked_room
   pub locks : locks_in core.state.held + waiting_here core.state + k ≤ most_locks
   pub epoch : epoch_of core.state.desk < clock
   pub number : freeze_number_of core.state.desk < clock
+  pub tells : 1 ≤ core.tell_room
 
 -- room for an ask of one more client, too
 pub record RoomToAsk (clock : ℕ) (core : CoreData) : Type 0 where
@@ -83,9 +91,11 @@ pub record HasMemory (brought : ℕ) (core : CoreData) : Type 0 where
   pub asks : waiting_here core.state + brought + 2 ≤ core.room
   pub rows : waiting_here core.state + brought + 2 ≤ core.row_room
   pub parked : 2 ≤ core.parked_room
+  pub tells : 1 ≤ core.tell_room
 
 -- there is room for no less than before
 pub record KeepsRoom (old new : CoreData) : Type 0 where
   pub asks : old.room ≤ new.room
   pub rows : old.row_room ≤ new.row_room
   pub parked : old.parked_room ≤ new.parked_room
+  pub tells : old.tell_room ≤ new.tell_room

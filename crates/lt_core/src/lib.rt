@@ -14,8 +14,6 @@ mod serving;
 mod set_command;
 mod taking;
 mod telling;
-#[cfg(test)]
-mod tests;
 mod waiting;
 
 pub use fits::LAST_CLOCK;

@@ -6,11 +6,11 @@ ghost use Rattle.lt_modes.specs.Fits.{has_client, parked_asks, ask_if};
 ghost use Rattle.lt_modes.specs.Made.{post_of};
 ghost use Rattle.lt_desk.specs.LetterSeen.{letter_seen, post_seen, body_seen, parked_seen};
 ghost use Rattle.lt_desk.specs.Hands.{asks_in, RoomIn, places_in, body_spare};
-ghost use Rattle.lt_core.specs.CoreData.{HasMemory, KeepsRoom, waiting_here};
+ghost use Rattle.lt_core.specs.CoreData.{HasMemory, KeepsRoom, waiting_here, tells_by};
 ghost use Rattle.lt_core.specs.Steps.{ask_count, is_ask_of};
 
 use crate::fits::{has_later, parks_later};
-use lt_asks::Unanswered;
+use lt_asks::{Pending, Unanswered};
 use lt_desk::{Body, Desk, Letter, Parked, Post};
 use lt_held::Held;
 use lt_link::Links;
@@ -35,13 +35,15 @@ pub struct Core {
     // The asks and tells that wait for the token, in order.
     pub(crate) parked: VecDeque<Parked>,
     pub(crate) desk: Option<Desk>,
+    // What the next tell of this node takes its stamps in.
+    pub(crate) spare: Option<Box<Pending>>,
 }
 
 impl Model for Core {
     ghost use Rattle.std.specs.Prelude.{◌-◌, map};
     ghost use Rattle.std.specs.VecDeque.{deque_len, deque_capacity};
     ghost use Rattle.lt_desk.specs.LetterSeen.{parked_seen};
-    ghost use Rattle.lt_core.specs.CoreData.{CoreData, desk_seen, room_by};
+    ghost use Rattle.lt_core.specs.CoreData.{CoreData, desk_seen, room_by, tells_by};
 
     ghost Value = { CoreData };
 
@@ -62,6 +64,7 @@ impl Model for Core {
       room = room_by c.desk c.held.spare;
       row_room = c.held.spare;
       parked_room = deque_capacity c.parked - deque_len c.parked;
+      tell_room = tells_by c.spare;
     } };
 }
 
@@ -93,6 +96,7 @@ impl Core {
             pending: Unanswered::new(alloc)?,
             parked: VecDeque::new(alloc),
             desk,
+            spare: None,
         })
     }
 
@@ -140,6 +144,7 @@ impl Core {
         let asks = self.waiting() + brought + 2;
         self.held.reserve(asks)?;
         self.parked.reserve(2)?;
+        reserve_box(*self.parked.allocator(), &mut self.spare)?;
         match &mut self.desk {
             Some(desk) => desk.reserve_for(asks),
             None => Ok(()),
@@ -214,6 +219,18 @@ impl Core {
         };
         Post { to, letter }
     }
+}
+
+// Makes the box where there is none.
+fn reserve_box(alloc: Global, spare: &mut Option<Box<Pending>>) -> Result<(), AllocError>
+    ensures room { OnOk result (1 ≤ tells_by spare.new) }
+    ensures kept { tells_by spare.old ≤ tells_by spare.new }
+    ensures full { 1 ≤ tells_by spare.old → IsOk result }
+{
+    if spare.is_none() {
+        *spare = Some(Box::new(alloc, Pending::new())?);
+    }
+    Ok(())
 }
 
 // How many asks are parked.

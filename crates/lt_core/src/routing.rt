@@ -3,7 +3,7 @@ ghost use Rattle.lt_modes.specs.Routing.{route, sent_on, Goes, reversed, way, le
 ghost use Rattle.lt_desk.specs.LetterSeen.{parked_seen};
 ghost use Rattle.lt_desk.specs.OutData.{FitsOut};
 ghost use Rattle.lt_link.specs.Routes.{way_of};
-ghost use Rattle.lt_core.specs.CoreData.{Does, HasRoom};
+ghost use Rattle.lt_core.specs.CoreData.{Does, HasRoom, waiting_here};
 ghost use Rattle.lt_core.specs.Steps.{ask_count};
 
 use crate::one_set::Core;
@@ -15,7 +15,8 @@ impl Core {
     /// The ask or the tell is dealt with, parked or sent on.
     pub(crate) fn route(&mut self, by_hoped: bool, item: Parked, stamp: Stamp, out: &mut Out)
         requires node { stamp.node ≡ self.old.node }
-        requires room { HasRoom 1 stamp.clock self.old }
+        requires rows { waiting_here self.old.state + 1 ≤ self.old.room }
+        requires parked { 1 ≤ self.old.parked_room }
         requires fits { FitsOut (route self.old.set stamp by_hoped (parked_seen item) self.old.state) out.old }
         ensures does { Does (route self.old.set stamp by_hoped (parked_seen item) self.old.state) self.old out.old self.new out.new }
         ensures room { (k clock : ℕ) → HasRoom (k + 1) clock self.old → HasRoom k clock self.new }
@@ -94,7 +95,7 @@ pub(crate) fn deal(desk: &mut Desk, item: Parked)
     match item {
         Parked::Ask(ask) => desk.enter(ask),
         Parked::Tell(tell) => {
-            desk.tell(tell.node, tell.modes, &tell.pending, tell.stamp);
+            desk.tell(tell.node, tell.modes, tell.pending.as_ref(), tell.stamp);
         }
     }
 }

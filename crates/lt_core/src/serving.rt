@@ -88,6 +88,7 @@ impl Core {
         requires fits { FitsOut (answer_ask self.old.set ask.now self.old.state) out.old }
         ensures does { Does (answer_ask self.old.set ask.now self.old.state) self.old out.old self.new out.new }
         ensures room { (self.old.room ≤ self.new.room + 1) × (self.new.parked_room ≡ self.old.parked_room) }
+        ensures tells { self.new.tell_room ≡ self.old.tell_room }
         ensures locks { locks_in self.new.state.held ≤ locks_in self.old.state.held + 1 }
     {
         self.pending.forget(ask.stamp);
@@ -102,6 +103,7 @@ impl Core {
         requires fits { FitsOut (serve_copy self.old.set stamp k (ask_at self.old.state k) self.old.state) out.old }
         ensures does { Does (serve_copy self.old.set stamp k (ask_at self.old.state k) self.old.state) self.old out.old self.new out.new }
         ensures room { (self.old.room ≤ self.new.room + 1) × (self.new.parked_room ≡ self.old.parked_room) }
+        ensures tells { self.new.tell_room ≡ self.old.tell_room }
     {
         let Some(desk) = &mut self.desk else {
             unreachable!()

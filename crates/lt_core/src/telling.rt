@@ -55,10 +55,14 @@ impl Core {
     {
         let modes = self.held.modes();
         self.charge = modes;
+        let Some(mut pending) = self.spare.take() else {
+            unreachable!()
+        };
+        *pending.as_mut() = self.pending.stamps().copied();
         let tell = Tell {
             node: stamp.node,
             modes,
-            pending: self.pending.stamps().copied(),
+            pending,
             stamp,
         };
         self.route(false, Parked::Tell(tell), stamp, out);

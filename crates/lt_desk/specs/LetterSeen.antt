@@ -10,7 +10,7 @@ use Rattle.lt_desk.specs.declared.letter.Letter.{Letter}
 use Rattle.lt_desk.specs.declared.letter.Post.{Post}
 
 abbrev pub tell_seen : CodeTell → rules.Tell
-tell_seen t = record { node = t.node; modes = t.modes; pending = t.pending; stamp = t.stamp }
+tell_seen t = record { node = t.node; modes = t.modes; pending = t.pending.value; stamp = t.stamp }
 
 abbrev pub parked_seen : Parked → rules.Parked
 parked_seen (WaitingAsk ask) = rules.ParkedAsk ask

@@ -11,7 +11,8 @@ use lt_modes::{Ask, ModeSet, Stamp};
 pub struct Tell {
     pub node: u8,
     pub modes: ModeSet,
-    pub pending: Pending,
+    // In a box, so that letters are small.
+    pub pending: Box<Pending>,
     /// The stamp of that move.
     pub stamp: Stamp,
 }

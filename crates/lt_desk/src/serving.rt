@@ -1,5 +1,5 @@
-ghost use Rattle.std.specs.Prelude.{◌≡◌, ◌<◌, ◌==◌, ◌&&◌, ◌||◌, not, length, IfSome, Some, None, if◌then◌else◌};
-ghost use Rattle.lt_modes.specs.Serving.{is_free, is_local, is_clear_at_home, is_copy, is_served, next_service, may_draw, next_draw};
+ghost use Rattle.std.specs.Prelude.{◌≡◌, ◌==◌, ◌&&◌, ◌||◌, not, length, Some, None, if◌then◌else◌};
+ghost use Rattle.lt_modes.specs.Serving.{is_free, is_local, is_clear_at_home, is_copy};
 ghost use Rattle.lt_desk.specs.Picks.{picked, first_of, hand_over_or_none, IsInQueue};
 ghost use Rattle.lt_desk.specs.declared.pick.Pick.TheVariants.{Local, Copy};
 ghost use Rattle.lt_desk.specs.Sights.{sight_state, desk_of};
@@ -60,52 +60,6 @@ impl Sight<'_> {
         } else {
             None
         }
-    }
-
-    // The place of the ask that is served next: granted where its node is the desk's, else sent a copy.
-    #[tactic(auto, using(crate::proofs::PlaceLemmas::next_found, crate::proofs::PlaceLemmas::next_later))]
-    pub(crate) fn next_service(&self) -> Option<u32>
-        ensures place { result ≡ next_service self.now.me (sight_state self.now) }
-        ensures within { IfSome result (λ k. k < length self.now.queue.now.asks) }
-    {
-        let mut before = ModeSet::empty();
-        for k in 0..self.queue.len() {
-            let ask = self.queue.get(k);
-            if self.is_served(before, &ask) {
-                return Some(k);
-            }
-            before = before.with(ask.mode);
-        }
-        None
-    }
-
-    // The place of the ask to whose node the desk moves, once no service is left.
-    #[tactic(auto, using(crate::proofs::PlaceLemmas::draw_found, crate::proofs::PlaceLemmas::draw_later))]
-    pub(crate) fn next_draw(&self) -> Option<u32>
-        ensures place { result ≡ next_draw self.now.me (sight_state self.now) }
-        ensures within { IfSome result (λ k. k < length self.now.queue.now.asks) }
-    {
-        let mut before = ModeSet::empty();
-        for k in 0..self.queue.len() {
-            let ask = self.queue.get(k);
-            if self.may_draw(before, k, &ask) {
-                return Some(k);
-            }
-            before = before.with(ask.mode);
-        }
-        None
-    }
-
-    fn is_served(&self, before: ModeSet, ask: &Ask) -> bool
-        ensures { result ≡ is_served self.now.me (sight_state self.now) (desk_of self.now) before ask.now }
-    {
-        self.is_free(before, ask) && (self.is_local(ask) || self.is_copy(ask))
-    }
-
-    fn may_draw(&self, before: ModeSet, k: u32, ask: &Ask) -> bool
-        ensures { result ≡ may_draw self.now.me (sight_state self.now) (desk_of self.now) before k ask.now }
-    {
-        ask.node != self.me && self.is_free(before, ask) && (k == 0 || self.is_clear_at_home(ask))
     }
 
     // Whether neither another node nor an ask before it conflicts; `before` are the modes of those asks.

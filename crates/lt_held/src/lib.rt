@@ -4,8 +4,6 @@
 mod held;
 mod laws;
 mod rows;
-#[cfg(test)]
-mod tests;
 
 pub use held::Held;
 pub use laws::law_rows;

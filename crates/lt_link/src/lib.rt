@@ -3,8 +3,6 @@
 
 mod kind;
 mod links;
-#[cfg(test)]
-mod tests;
 
 pub use kind::{Kind, Route};
 pub use links::Links;

@@ -63,6 +63,7 @@ room_later clock now more core within later memory = record {
   locks = omega (arith, within.locks, within.asks);
   epoch = omega (arith, within.epoch, later);
   number = omega (arith, within.number, later);
+  tells = memory.tells;
 }
 
 -- so a node with room for a command is ready for it

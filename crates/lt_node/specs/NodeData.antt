@@ -24,6 +24,7 @@ first_core script me s = record {
   room = 0;
   row_room = 0;
   parked_room = 0;
+  tell_room = 0;
 }
 
 -- what the node keeps for the set

@@ -4,7 +4,5 @@
 
 mod entry;
 mod table;
-#[cfg(test)]
-mod tests;
 
 pub use table::Table;

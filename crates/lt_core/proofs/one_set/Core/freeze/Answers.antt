@@ -8,7 +8,7 @@ use Rattle.lt_desk.specs.DeskData.{DeskData}
 use Rattle.lt_desk.specs.Freezes.{told_nodes, bits_from}
 use Rattle.lt_desk.specs.LetterSeen.{parked_seen}
 use Rattle.lt_desk.specs.OutData.{FitsOut}
-use Rattle.lt_core.specs.CoreData.{CoreData, Does, desk_seen, room_by}
+use Rattle.lt_core.specs.CoreData.{CoreData, Does, desk_seen, room_by, tells_by}
 use Rattle.lt_core.proofs.NoticeLemmas.{freeze_fits, freeze_sent, freeze_draws}
 use Rattle.lt_core.proofs.one_set.Core.freeze.Goals as goal
 
@@ -69,6 +69,7 @@ returns-clause-does c =
       room = room_by (Some c.freeze-targets.new.self) before.held.spare;
       row_room = before.held.spare;
       parked_room = deque_capacity before.parked - deque_len before.parked;
+      tell_room = tells_by before.spare;
     } in
     subst (λ (old : CoreData). Does (freeze old.set stamp old.state) old c.args.out.now core c.send_notices.new.out) c.self.view_is
     (record {

@@ -2,7 +2,7 @@ use Rattle.std.proofs.Common.{map, ◌-◌}
 use Rattle.std.specs.VecDeque.{deque_len, deque_capacity}
 use Rattle.lt_modes.specs.State.{SetState}
 use Rattle.lt_desk.specs.LetterSeen.{parked_seen}
-use Rattle.lt_core.specs.CoreData.{desk_seen, room_by}
+use Rattle.lt_core.specs.CoreData.{desk_seen, room_by, tells_by}
 use Rattle.lt_core.proofs.one_set.Core.learn.Goals as goal
 
 pub returns-clause-core : goal.returns-clause-core
@@ -27,4 +27,5 @@ returns-clause-core c =
       room = room_by before.desk before.held.spare;
       row_room = before.held.spare;
       parked_room = deque_capacity before.parked - deque_len before.parked;
+      tell_room = tells_by before.spare;
     })

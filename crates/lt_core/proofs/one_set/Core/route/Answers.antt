@@ -24,7 +24,7 @@ returns-in-Park-clause-room c =
       desk = desk_seen before.desk;
     } in
     rw (← c.self.view_is)
-    (λ k clock room. room_parked _ _ (parked_seen c.args.item) k clock (λ i. record state { parked = parked i }) refl (omega (arith, pushed.len, pushed.capacity)) room)
+    (λ k clock room. room_parked _ _ (parked_seen c.args.item) k clock (λ i. record state { parked = parked i }) refl (omega (arith, pushed.len, pushed.capacity)) (omega arith) room)
 
 pub returns-in-Firm-clause-room : goal.returns-in-Firm-clause-room
 returns-in-Firm-clause-room c = rw (← c.self.view_is) (λ k clock room. c.send_on.ensures.room k clock (room_less k clock _ room))
