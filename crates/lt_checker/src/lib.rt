@@ -13,8 +13,6 @@ mod limits;
 mod reader;
 mod replaying;
 mod rest;
-#[cfg(test)]
-mod tests;
 
 pub use checker::Checker;
 pub use error::{InputError, ReplayError};

@@ -6,8 +6,6 @@ mod group;
 mod laws;
 mod making;
 mod sizes;
-#[cfg(test)]
-mod tests;
 
 pub use draws::Draws;
 pub use laws::law_generated;

@@ -36,8 +36,6 @@
 
 mod closing;
 mod events;
-#[cfg(test)]
-mod example_tests;
 mod grammar;
 mod journal;
 mod laws;
@@ -46,11 +44,7 @@ mod line_words;
 mod meaning;
 mod names;
 mod reading;
-#[cfg(test)]
-mod reading_tests;
 mod splitting;
-#[cfg(test)]
-mod tests;
 mod text;
 
 pub use closing::closing_lines;

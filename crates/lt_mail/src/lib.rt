@@ -6,8 +6,6 @@ mod lane;
 mod lanes;
 mod mail;
 mod opening;
-#[cfg(test)]
-mod tests;
 
 pub use both_ends::beside;
 pub use mail::Mail;

@@ -10,8 +10,6 @@ mod marks;
 mod node;
 mod room;
 mod taking;
-#[cfg(test)]
-mod tests;
 mod waiting;
 
 pub use node::Node;

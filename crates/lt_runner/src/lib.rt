@@ -12,8 +12,6 @@ mod parts;
 mod readying;
 mod runner;
 mod same;
-#[cfg(test)]
-mod tests;
 mod turning;
 
 pub use at_once::all_at_once;

@@ -106,6 +106,13 @@ impl Runner {
         self.parts.moves() == self.parts.limit
     }
 
+    /// The number of its node.
+    pub fn me(&self) -> u8
+        ensures { result ≡ self.now.node.me }
+    {
+        self.parts.node.me()
+    }
+
     /// How many moves were made.
     pub fn moves(&self) -> u32
         ensures { result ≡ length self.now.log.entries }

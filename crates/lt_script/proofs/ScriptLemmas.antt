@@ -231,3 +231,27 @@ command_added s client command good room request modes = record {
   requests = All-push (IsRequest s.sets s.clients) s.commands (client, command) good.requests request;
   modes = All-push (λ (request : ℕ × Command). HasModesOf s.version request.1) s.commands (client, command) good.modes modes;
 }
+
+-- a script stays one without its commands
+pub commands_taken_away : (s : ScriptData) → IsScript s → IsScript (record s { commands = [] })
+commands_taken_away s good = record {
+  version = good.version;
+  some_node = good.some_node;
+  few_nodes = good.few_nodes;
+  nodes_of_version = good.nodes_of_version;
+  few_sets = good.few_sets;
+  sets_named = good.sets_named;
+  sets_found = good.sets_found;
+  families_not_later = good.families_not_later;
+  families_first = good.families_first;
+  few_clients = good.few_clients;
+  clients_of_version = good.clients_of_version;
+  clients_named = good.clients_named;
+  clients_found = good.clients_found;
+  clients_no_sets = good.clients_no_sets;
+  homes = good.homes;
+  loads = good.loads;
+  few_commands = arith;
+  requests = unit;
+  modes = unit;
+}

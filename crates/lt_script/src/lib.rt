@@ -12,8 +12,6 @@ mod name;
 mod printing;
 mod reading;
 mod script;
-#[cfg(test)]
-mod tests;
 
 pub use fault::{Fault, ReadError, ScriptFault};
 pub use laws::{law_faults, law_literals, law_print};

@@ -104,6 +104,23 @@ impl Script {
         })
     }
 
+    /// The same nodes, sets and clients, and no commands, with names yet to be looked up.
+    pub fn without_commands(&self, alloc: Global) -> Result<Script, AllocError>
+        ensures { IfOk result (λ s. s ≡ record self.now { commands = [] }) }
+    {
+        let sets = self.sets.to_vec(alloc)?;
+        let clients = self.clients.to_vec(alloc)?;
+        Ok(Script {
+            version: self.version,
+            nodes: self.nodes,
+            sets,
+            clients,
+            commands: Vec::new(alloc),
+            set_hints: Hints::new(),
+            client_hints: Hints::new(),
+        })
+    }
+
     /// The version: 1 or 2.
     pub fn version(&self) -> u8
         ensures version { result ≡ self.now.version }

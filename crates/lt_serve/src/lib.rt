@@ -15,8 +15,6 @@ mod simulated;
 mod simulation;
 mod soaking;
 mod status;
-#[cfg(test)]
-mod tests;
 mod threaded;
 
 pub use arguments::program;

@@ -3,8 +3,6 @@
 
 mod locks;
 mod summary;
-#[cfg(test)]
-mod tests;
 mod waiting;
 
 pub use summary::Summary;

@@ -12,8 +12,6 @@ mod rounds;
 mod settling;
 mod sharing;
 mod starting;
-#[cfg(test)]
-mod tests;
 mod threads;
 mod waiting;
 mod worker;

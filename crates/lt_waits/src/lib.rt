@@ -6,8 +6,6 @@ mod arguments;
 mod asking;
 mod reporting;
 mod serving;
-#[cfg(test)]
-mod tests;
 
 pub use answer::Answer;
 pub use arguments::program;

@@ -4,7 +4,5 @@
 mod command;
 mod grammar;
 mod numbers;
-#[cfg(test)]
-mod tests;
 
 pub use command::Command;

@@ -6,8 +6,6 @@ mod choice;
 mod network;
 mod recording;
 mod reserved;
-#[cfg(test)]
-mod tests;
 mod world;
 
 pub use choice::Choice;
