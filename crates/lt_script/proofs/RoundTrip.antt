@@ -1,7 +1,7 @@
 -- The text of a script is read as that script.
 use Rattle.lt_script.proofs.RoundTripSets.{get_middle, get_or_middle, Walks, walk_none, walk_more, walk_both, sets_only, clients_only, commands_only, set_fits, set_printed, set_with_printed, sets_walk}
 use Rattle.std.proofs.Common.{◌≡◌, ℕ, ◌+◌, ◌<◌, ◌≤◌, ◌==◌, ◌&&◌, Bool, true, false, not, nat_lt, cond, List, [], ◌∷◌, ◌++◌, length, map, get_or, Some, None, position, slice_get, Ok, refl, sym, ap, subst, ◌∙◌, inl, inr, arith, append_assoc, append-nil, length-append, codes}
-use Rattle.std.specs.Prelude.{IsTrue, if◌then◌else◌}
+use Rattle.std.specs.Prelude.{IsTrue}
 use Rattle.std.specs.List.{AllByRecursion}
 use Rattle.std.specs.Str.{bytes_eq}
 use Rattle.std.specs.Fmt.{decimal}

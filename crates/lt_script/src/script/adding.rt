@@ -1,0 +1,62 @@
+// What is added to a script: a last set, client or command.
+ghost use Rattle.std.specs.Prelude.{◌≡◌, ◌<◌, ◌++◌, ◌∷◌, [], true, false, length, OnOk, OnErr};
+ghost use Rattle.lt_script.specs.Names.{is_name};
+ghost use Rattle.lt_script.specs.Script.{IsFamilyOfNext, IsRequest, HasModesOf, most_clients, load_of, is_declared};
+ghost use Rattle.lt_script.specs.declared.limits.TheConstants.{MAX_SETS, MAX_CLIENTS_OF_NODE, MAX_COMMANDS};
+
+use crate::declarations::{ClientDecl, SetDecl};
+use crate::script::Script;
+use lt_modes::Command;
+use std::alloc::AllocError;
+
+impl Script {
+    /// Adds a last set. Its family is its own number, or that of the first set of an earlier family.
+    pub fn add_set(&mut self, name: &[u8], family: u8) -> Result<(), AllocError>
+        requires name { is_name name.now ≡ true }
+        requires new { is_declared self.old name.now ≡ false }
+        requires room { length self.old.sets < MAX_SETS }
+        requires family { IsFamilyOfNext self.old.sets family }
+        ensures added { OnOk result (self.new ≡ record self.old {
+          sets = self.old.sets ++ record { name = name.now; family = family } ∷ [];
+        }) }
+        ensures unchanged { OnErr result (self.new ≡ self.old) }
+    {
+        let set = SetDecl::new(*self.sets.allocator(), name, family)?;
+        let place = self.sets.len() as u8;
+        self.sets.push(set)?;
+        self.set_hints.note(name, place);
+        Ok(())
+    }
+
+    /// Adds a last client.
+    pub fn add_client(&mut self, name: &[u8], node: u8) -> Result<(), AllocError>
+        requires name { is_name name.now ≡ true }
+        requires new { is_declared self.old name.now ≡ false }
+        requires room { length self.old.clients < most_clients self.old.version }
+        requires node { node < self.old.nodes }
+        requires load { load_of self.old.clients node < MAX_CLIENTS_OF_NODE }
+        ensures added { OnOk result (self.new ≡ record self.old {
+          clients = self.old.clients ++ record { name = name.now; node = node } ∷ [];
+        }) }
+        ensures unchanged { OnErr result (self.new ≡ self.old) }
+    {
+        let client = ClientDecl::new(*self.clients.allocator(), name, node)?;
+        let place = self.clients.len() as u8;
+        self.clients.push(client)?;
+        self.client_hints.note(name, place);
+        Ok(())
+    }
+
+    /// Adds a last command, which this client makes.
+    pub fn add_command(&mut self, client: u16, command: Command) -> Result<(), AllocError>
+        requires room { length self.old.commands < MAX_COMMANDS }
+        requires request { IsRequest self.old.sets self.old.clients (client, command) }
+        requires modes { HasModesOf self.old.version command }
+        ensures added { OnOk result
+            (self.new ≡ record self.old { commands = self.old.commands ++ (client, command) ∷ [] }) }
+        ensures unchanged { OnErr result (self.new ≡ self.old) }
+    {
+        self.commands.push((client, command))?;
+        Ok(())
+    }
+}
