@@ -9,6 +9,7 @@ mod laws;
 mod limits;
 mod looking;
 mod opening;
+mod parting;
 mod reply;
 mod seats;
 mod session;

@@ -1,0 +1,18 @@
+-- Why an input is refused.
+use Rattle.std.specs.Prelude.{◌≡◌, ℕ, List, Err}
+use Rattle.lt_script.specs.Reading.{read_of}
+use Rattle.lt_live_serve.specs.declared.status.Status.{Status}
+use Rattle.lt_live_serve.specs.declared.status.Status.TheVariants.{Refused, TooLong, ReadFault, NoMemory}
+
+-- the answers of reading bytes
+abbrev pub IsReadFailure : Status → Type 0
+IsReadFailure TooLong = Unit {0}
+IsReadFailure ReadFault = Unit {0}
+IsReadFailure NoMemory = Unit {0}
+IsReadFailure other = ⊥
+
+-- the bytes have this fault, or memory was wanting
+abbrev pub IsFaultOf : List ℕ → Status → Type 0
+IsFaultOf bytes (Refused fault) = read_of bytes ≡ Err fault
+IsFaultOf bytes NoMemory = Unit {0}
+IsFaultOf bytes other = ⊥

@@ -1,0 +1,117 @@
+-- All that the top call says of an answer: what was written, why the answer comes, and what it says of the source and the sink.
+use Rattle.std.specs.Prelude.{◌≡◌, ◌≢◌, ◌<◌, ◌≤◌, ◌+◌, ℕ, List, [], Option}
+use Rattle.std.specs.Io.KnownBytes.{Appends}
+use Rattle.lt_io.specs.FaultCounts.{CountsFaults, Rose, RoseBy}
+use Rattle.lt_io.specs.Source.{SourceState}
+use Rattle.lt_io.specs.Sink.{AppendsPart}
+use Rattle.lt_limits.specs.declared.ending.Ending.{Ending}
+use Rattle.lt_limits.specs.declared.ending.Ending.TheVariants as ending
+use Rattle.lt_script.specs.declared.fault.ScriptFault.{ScriptFault}
+use Rattle.lt_spec.specs.Log.{Logged}
+use Rattle.lt_live.specs.declared.reply.Reply.{Reply}
+use Rattle.lt_live_serve.specs.declared.limits.TheConstants.{MAX_INPUT}
+use Rattle.lt_live_serve.specs.declared.served.Served.{Served}
+use Rattle.lt_live_serve.specs.declared.status.Status.{Status}
+use Rattle.lt_live_serve.specs.declared.status.Status.TheVariants.{Done, Stuck, Usage, Refused, TooLong, ReadFault, WriteFault, NoMemory, Cut, Share}
+use Rattle.lt_live_serve.specs.Runs.{HasFault, IsOverShare, Journals}
+
+-- it gives no run and no replies, and nothing was written
+abbrev pub DidNothing : List Logged → List (ℕ × Reply) → Option (List ℕ) → Option (List ℕ) → Type 0
+DidNothing run polled old new = (run ≡ []) × (polled ≡ []) × (new ≡ old)
+
+-- the run ended so, and its whole journal was appended
+abbrev pub WroteAll : Ending → Option (List ℕ) → List Logged → List (ℕ × Reply) → Option (List ℕ) → Option (List ℕ) → Type 0
+WroteAll end left run polled old new = (text : List ℕ) × Journals end left run polled text × Appends old new text
+
+-- the run ended in some way, and a first part of its journal was appended
+abbrev pub WrotePart : Option (List ℕ) → List Logged → List (ℕ × Reply) → Option (List ℕ) → Option (List ℕ) → Type 0
+WrotePart left run polled old new = (end : Ending) × (text : List ℕ) × Journals end left run polled text × AppendsPart old new text
+
+-- what the answer says of the run, of what the sessions polled, and of what the sink held before and after
+abbrev pub Did : Status → Option (List ℕ) → List Logged → List (ℕ × Reply) → Option (List ℕ) → Option (List ℕ) → Type 0
+Did Done left run polled old new = WroteAll ending.Done left run polled old new
+Did Stuck left run polled old new = WroteAll ending.Stuck left run polled old new
+Did (Cut node) left run polled old new = WroteAll (ending.Cut node) left run polled old new
+Did WriteFault left run polled old new = WrotePart left run polled old new
+Did Usage left run polled old new = DidNothing run polled old new
+Did (Refused fault) left run polled old new = DidNothing run polled old new
+Did TooLong left run polled old new = DidNothing run polled old new
+Did ReadFault left run polled old new = DidNothing run polled old new
+Did NoMemory left run polled old new = DidNothing run polled old new
+Did (Share client) left run polled old new = DidNothing run polled old new
+
+-- the answer says what the bytes are, or what came of them
+abbrev pub HasRead : Status → Type 0
+HasRead Done = Unit {0}
+HasRead Stuck = Unit {0}
+HasRead (Cut node) = Unit {0}
+HasRead WriteFault = Unit {0}
+HasRead (Refused fault) = Unit {0}
+HasRead (Share client) = Unit {0}
+HasRead other = ⊥
+
+-- what the answer says of the source's counts, before and after
+pub record SaysOfSource (answer : Status) (before after : SourceState) : Type 0 where
+  -- it gave one byte more than an input may have, or no more than that
+  pub too_long : answer ≡ TooLong → CountsFaults (MAX_INPUT + 1) before.given after.given
+  pub not_too_long : answer ≢ TooLong → after.given ≤ before.given + MAX_INPUT
+  -- one read failed, or none
+  pub read_fault : answer ≡ ReadFault → CountsFaults 1 before.faults after.faults
+  pub no_read_fault : answer ≢ ReadFault → after.faults ≡ before.faults
+  -- it came to its end
+  pub whole : HasRead answer → CountsFaults 1 before.ends after.ends
+
+-- what the answer says of the sink's count of faults: one write failed, or none
+pub record SaysOfSink (answer : Status) (before after : ℕ) : Type 0 where
+  pub write_fault : answer ≡ WriteFault → CountsFaults 1 before after
+  pub no_write_fault : answer ≢ WriteFault → after ≡ before
+
+-- the run came to an end, and its journal was written
+abbrev pub IsEnding : Status → Type 0
+IsEnding Done = Unit {0}
+IsEnding Stuck = Unit {0}
+IsEnding (Cut node) = Unit {0}
+IsEnding other = ⊥
+
+-- no write is made before the answer
+abbrev pub WritesNothing : Status → Type 0
+WritesNothing Done = ⊥
+WritesNothing Stuck = ⊥
+WritesNothing (Cut node) = ⊥
+WritesNothing WriteFault = ⊥
+WritesNothing other = Unit {0}
+
+-- why there is no run, where there are no words
+abbrev pub IsRefusal : Option (List ℕ) → Status → Type 0
+IsRefusal left (Refused fault) = HasFault left fault
+IsRefusal left (Share client) = IsOverShare left client
+IsRefusal left TooLong = Unit {0}
+IsRefusal left ReadFault = Unit {0}
+IsRefusal left NoMemory = Unit {0}
+IsRefusal left other = ⊥
+
+-- the source failed at no read and gave no more than the input may have, its script has no fault, and no client has too many commands
+pub record IsGood (before after : SourceState) : Type 0 where
+  pub no_read_fault : Rose before.faults after.faults → ⊥
+  pub not_too_long : RoseBy (MAX_INPUT + 1) before.given after.given → ⊥
+  pub no_fault : (fault : ScriptFault) → HasFault before.left fault → ⊥
+  pub none_over : (client : ℕ) → IsOverShare before.left client → ⊥
+
+-- the answer to so many words; and the source and the sink before and after, with what they tell of themselves
+pub record Serves {S K : Type 0} (state : S → SourceState) (held : K → Option (List ℕ)) (write_faults : K → ℕ) (words : ℕ) (answer : Served) (source_before source_after : S) (sink_before sink_after : K) : Type 0 where
+  -- what the run is, how it ended, what was polled, and what was written
+  pub did : Did answer.status (state source_before).left answer.run.entries answer.polled.items (held sink_before) (held sink_after)
+  -- there is a word
+  pub usage : answer.status ≡ Usage → 0 < words
+  pub no_words : 0 < words → answer.status ≡ Usage
+  pub unread : answer.status ≡ Usage → source_after ≡ source_before
+  -- why there is no run
+  pub refused : (fault : ScriptFault) → answer.status ≡ Refused fault → HasFault (state source_before).left fault
+  pub share : (client : ℕ) → answer.status ≡ Share client → IsOverShare (state source_before).left client
+  -- what the answer says of the source, and of the sink
+  pub reading : answer.status ≢ Usage → SaysOfSource answer.status (state source_before) (state source_after)
+  pub writing : SaysOfSink answer.status (write_faults sink_before) (write_faults sink_after)
+  pub unwritten : WritesNothing answer.status → sink_after ≡ sink_before
+  -- what it is where nothing goes wrong
+  pub complete : words ≡ 0 → IsGood (state source_before) (state source_after) → (Rose (write_faults sink_before) (write_faults sink_after) → ⊥)
+      → answer.status ≢ NoMemory → IsEnding answer.status

@@ -1,0 +1,67 @@
+// What a caller does.
+ghost use Rattle.std.specs.Prelude.{◌≡◌, ◌≤◌, ◌<◌, ◌+◌, true, false, length, IfOk};
+ghost use Rattle.lt_live_serve.specs.Calls.{Calls, left_of};
+
+use crate::callers::Caller;
+use crate::limits::TRIES;
+use std::alloc::AllocError;
+
+impl Caller {
+    /// Submits the next command of its client; false where there is none any more.
+    pub(crate) fn submit_next(&mut self) -> bool
+        ensures calls { Calls self.old self.new }
+        ensures heard { self.new.heard ≡ self.old.heard }
+        ensures submitted { result ≡ true → left_of self.new + 1 ≡ left_of self.old }
+        ensures none { result ≡ false → (left_of self.old ≡ 0) × (left_of self.new ≡ 0) }
+    {
+        if self.next == self.commands.len() {
+            return false;
+        }
+        self.session.left();
+        match self.session.submit(self.commands[self.next]) {
+            Ok(()) => {
+                self.next += 1;
+                true
+            }
+            Err(_) => unreachable!(),
+        }
+    }
+
+    /// Polls for a reply; false where none is known here.
+    pub(crate) fn hear(&mut self) -> Result<bool, AllocError>
+        ensures calls { Calls self.old self.new }
+        ensures next { self.new.next ≡ self.old.next }
+    {
+        self.heard.reserve(1)?;
+        let Some(reply) = self.session.poll() else {
+            return Ok(false);
+        };
+        self.heard.push_reserved(reply);
+        Ok(true)
+    }
+
+    /// Submits commands and polls for replies, for a while.
+    pub(crate) fn call(&mut self)
+        ensures calls { Calls self.old self.new }
+        ensures left { left_of self.new ≤ left_of self.old }
+    {
+        for _ in 0..TRIES {
+            self.call_once();
+        }
+    }
+
+    fn call_once(&mut self)
+        ensures calls { Calls self.old self.new }
+        ensures left { left_of self.new ≤ left_of self.old }
+    {
+        self.submit_next();
+        let _ = self.hear();
+    }
+}
+
+impl Caller {
+    /// The node of its client.
+    pub(crate) fn home(&self) -> u8 {
+        self.session.script().home(self.session.client())
+    }
+}

@@ -1,0 +1,59 @@
+// The run of a script whose commands are submitted by callers.
+use crate::completing::complete_all;
+use crate::opening::begin;
+use crate::rounds::rounds;
+use crate::running::run_on;
+use crate::telling::{gather, tell_all};
+use lt_limits::Ending;
+use lt_live::{Reply, Station};
+use lt_merge::{Run, merge};
+use lt_runner::{Gate, Runner};
+use lt_script::Script;
+use lt_threads::finish;
+use std::alloc::{AllocError, Global};
+use std::thread::Threads;
+
+/// What a live run came to: how it ended, its moves, and what was polled.
+#[derive(Drop)]
+pub(crate) struct Live {
+    pub(crate) ending: Ending,
+    pub(crate) run: Run,
+    pub(crate) polled: Vec<(u16, Reply)>,
+}
+
+/// The run of the script, whose commands callers submit and whose replies they poll.
+pub(crate) fn live_run<R: Threads + Sync, G: Gate>(
+    rt: &R,
+    alloc: Global,
+    script: &Script,
+    gate: &G,
+) -> Result<Live, AllocError> {
+    let (mut stations, mut callers) = begin(alloc, script)?;
+    rounds(rt, &mut stations, &mut callers, gate);
+    complete_all(&mut stations, &mut callers, gate)?;
+    let (mut stations, ending) = run_on(rt, alloc, script, stations, gate)?;
+    tell_all(&mut stations, &mut callers)?;
+    let polled = gather(alloc, &callers)?;
+    let run = run_of(alloc, script, stations)?;
+    Ok(Live {
+        ending,
+        run,
+        polled,
+    })
+}
+
+// The moves of all nodes.
+fn run_of(alloc: Global, script: &Script, stations: Vec<Station>) -> Result<Run, AllocError> {
+    let runners = Vec::with_capacity(alloc, stations.len())?;
+    let logs = finish(alloc, script, runners_of(stations, runners))?;
+    merge(alloc, logs)
+}
+
+// The runners of all stations.
+fn runners_of(mut stations: Vec<Station>, mut runners: Vec<Runner>) -> Vec<Runner> {
+    while !stations.is_empty() {
+        let (runner, _) = stations.remove(0).into_parts();
+        runners.push_reserved(runner);
+    }
+    runners
+}

@@ -1,0 +1,38 @@
+// Clients that have more commands than their sessions may submit.
+ghost use Rattle.std.specs.Prelude.{◌≡◌, ◌<◌, length};
+ghost use Rattle.lt_spec.specs.Families.{commands_of};
+ghost use Rattle.lt_live_serve.specs.Over.{is_over, IsFirstOver};
+
+use lt_script::{MAX_COMMANDS, Script};
+
+/// The least client that has more commands than its session may submit.
+pub(crate) fn first_over(script: &Script) -> Option<u16>
+    ensures { IsFirstOver script.now result }
+{
+    for client in 0..script.clients() {
+        if is_over(script, client) {
+            return Some(client);
+        }
+    }
+    None
+}
+
+fn is_over(script: &Script, client: u16) -> bool
+    requires { client < length script.now.clients }
+    ensures { result ≡ is_over script.now client }
+{
+    count_of(script, client) > MAX_COMMANDS / u32::from(script.clients())
+}
+
+/// How many commands the client has.
+pub(crate) fn count_of(script: &Script, client: u16) -> u32
+    ensures { result ≡ length (commands_of script.now client) }
+{
+    let mut count = 0;
+    for place in 0..script.commands() {
+        if script.command(place).0 == client {
+            count += 1;
+        }
+    }
+    count
+}

@@ -1,0 +1,73 @@
+ghost use Rattle.std.specs.Prelude.{◌≡◌, ◌≤◌, Ok, None, length, IfOk, OnOk, IfErr};
+ghost use Rattle.lt_io.specs.Whole.{Left, IsReadWhole};
+ghost use Rattle.lt_script.specs.Script.{IsScript};
+ghost use Rattle.lt_script.specs.Reading.{read_of};
+ghost use Rattle.lt_live_serve.specs.declared.limits.TheConstants.{MAX_INPUT};
+ghost use Rattle.lt_live_serve.specs.Over.{IsFirstOver};
+ghost use Rattle.lt_live_serve.specs.Runs.{Denotes};
+ghost use Rattle.lt_live_serve.specs.Serves.{SaysOfSource, IsRefusal};
+ghost use Rattle.lt_live_serve.specs.Status.{status_of};
+ghost use Rattle.lt_live_serve.specs.Input.{IsReadFailure, IsFaultOf};
+
+use crate::limits::MAX_INPUT;
+use crate::over::first_over;
+use crate::status::Status;
+use lt_io::{ReadFailure, Source, read_all};
+use lt_script::{ReadError, Script, read};
+use std::alloc::Global;
+
+/// Reads the source to its end, and the script that its bytes denote, in which no client has too many commands.
+pub(crate) fn read_shared<S: Source>(alloc: Global, source: &mut S) -> Result<Script, Status>
+    ensures script { IfOk result (Denotes (S.state source.old).left) }
+    ensures kept { IfOk result IsScript }
+    ensures shared { IfOk result (λ script. IsFirstOver script None) }
+    ensures whole { OnOk result (IsReadWhole MAX_INPUT (S.state source.old) (S.state source.new)) }
+    ensures reading { IfErr result (λ answer. SaysOfSource answer (S.state source.old) (S.state source.new)) }
+    ensures refused { IfErr result (IsRefusal (S.state source.old).left) }
+{
+    let bytes = read_bytes(alloc, source)?;
+    let script = script_of(alloc, &bytes)?;
+    match first_over(&script) {
+        Some(client) => Err(Status::Share { client }),
+        None => Ok(script),
+    }
+}
+
+// Reads the source to its end.
+fn read_bytes<S: Source>(alloc: Global, source: &mut S) -> Result<Vec<u8>, Status>
+    ensures bytes { IfOk result (λ bytes. Left (S.state source.old).left bytes.items) }
+    ensures few { IfOk result (λ bytes. length bytes.items ≤ MAX_INPUT) }
+    ensures whole { OnOk result (IsReadWhole MAX_INPUT (S.state source.old) (S.state source.new)) }
+    ensures reading { IfErr result (λ answer. SaysOfSource answer (S.state source.old) (S.state source.new)) }
+    ensures refused { IfErr result IsReadFailure }
+{
+    match read_all(alloc, source, MAX_INPUT) {
+        Ok(bytes) => Ok(bytes),
+        Err(failure) => Err(status_of(failure)),
+    }
+}
+
+// The script that the bytes denote.
+fn script_of(alloc: Global, bytes: &[u8]) -> Result<Script, Status>
+    requires few { length bytes.now ≤ MAX_INPUT }
+    ensures script { IfOk result (λ script. read_of bytes.now ≡ Ok script) }
+    ensures kept { IfOk result IsScript }
+    ensures refused { IfErr result (IsFaultOf bytes.now) }
+{
+    match read(alloc, bytes) {
+        Ok(script) => Ok(script),
+        Err(ReadError::Fault(fault)) => Err(Status::Refused(fault)),
+        Err(ReadError::Memory) => Err(Status::NoMemory),
+    }
+}
+
+// Why a source could not be read, as a status.
+fn status_of(failure: ReadFailure) -> Status
+    ensures { result ≡ status_of failure }
+{
+    match failure {
+        ReadFailure::Memory => Status::NoMemory,
+        ReadFailure::Failed => Status::ReadFault,
+        ReadFailure::TooLong => Status::TooLong,
+    }
+}

@@ -1,0 +1,102 @@
+ghost use Rattle.std.specs.Prelude.{◌≡◌, ◌≢◌, ◌↔◌, [], IsTrue};
+ghost use Rattle.lt_live_serve.specs.Status.{code_of, status_text, cut_of};
+
+use lt_limits::Ending;
+use lt_script::ScriptFault;
+use std::fmt;
+
+/// How it ended.
+#[derive(Clone, Copy, Debug, PartialEq, Eq)]
+pub enum Status {
+    /// All was done, and at the end nobody waits.
+    Done,
+    /// The run ended at rest with a client waiting.
+    Stuck,
+    /// There are words, and the program takes none.
+    Usage,
+    /// The script has a fault.
+    Refused(ScriptFault),
+    /// The input is longer than it may be.
+    TooLong,
+    ReadFault,
+    WriteFault,
+    NoMemory,
+    /// The node has made as many moves as it may, and has a further one.
+    Cut { node: u8 },
+    /// The client has more commands than its session may submit.
+    Share { client: u16 },
+}
+
+impl Status {
+    /// The exit status of the program.
+    pub fn code(&self) -> u8
+        ensures { result ≡ code_of self.now }
+    {
+        match self {
+            Status::Done => 0,
+            Status::Usage => 1,
+            Status::Refused(_) | Status::TooLong => 2,
+            Status::Stuck => 3,
+            Status::ReadFault => 4,
+            Status::WriteFault => 5,
+            Status::NoMemory => 6,
+            Status::Cut { .. } => 7,
+            Status::Share { .. } => 10,
+        }
+    }
+
+    // The node at which the run was cut.
+    pub(crate) fn cut(&self) -> Option<u8>
+        ensures { result ≡ cut_of self.now }
+    {
+        match self {
+            Status::Cut { node } => Some(*node),
+            _ => None,
+        }
+    }
+
+    /// Whether the program writes a line on standard error.
+    pub fn has_line(&self) -> bool
+        ensures { IsTrue result ↔ (status_text self.now ≢ []) }
+    {
+        !matches!(self, Status::Done | Status::Stuck)
+    }
+}
+
+impl From<Ending> for Status {
+    ghost use Rattle.lt_live_serve.specs.Status.{status_of_end};
+
+    ghost from_gives = { λ ending status. status ≡ status_of_end ending };
+
+    fn from(ending: Ending) -> Status {
+        match ending {
+            Ending::Done => Status::Done,
+            Ending::Stuck => Status::Stuck,
+            Ending::Cut { node } => Status::Cut { node },
+        }
+    }
+}
+
+/// The line that the program writes on standard error, without its line end; empty where it writes none.
+impl fmt::Display for Status {
+    ghost use Rattle.std.specs.Prelude.{Some};
+    ghost use Rattle.lt_live_serve.specs.Status.{status_text};
+
+    ghost output = { λ status. Some (status_text status) };
+
+    fn fmt<W: fmt::Write>(&self, f: &mut fmt::Formatter<W>) -> fmt::Result {
+        match self {
+            Status::Done | Status::Stuck => Ok(()),
+            Status::Usage => f.write_str("locklive: usage: locklive"),
+            Status::Refused(fault) => write!(f, "locklive: {fault}"),
+            Status::TooLong => f.write_str("locklive: input too long"),
+            Status::ReadFault => f.write_str("locklive: read fault"),
+            Status::WriteFault => f.write_str("locklive: write fault"),
+            Status::NoMemory => f.write_str("locklive: no memory"),
+            Status::Cut { node } => write!(f, "locklive: cut at node {node}"),
+            Status::Share { client } => {
+                write!(f, "locklive: too many commands of client {client}")
+            }
+        }
+    }
+}
