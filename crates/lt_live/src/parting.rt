@@ -16,6 +16,13 @@ impl Station {
         (self.runner, self.seats)
     }
 
+    /// What a station keeps.
+    pub fn kept(&self)
+        ensures { IsStation self.now.runner self.now.seats }
+    {
+        let _ = &self.runner;
+    }
+
     /// The station of these parts.
     pub fn from_parts(runner: Runner, seats: Vec<Seat>) -> Station
         requires { IsStation runner seats.items }

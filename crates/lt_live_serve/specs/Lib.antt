@@ -3,5 +3,9 @@ pub mod Status
 pub mod Input
 pub mod Asks
 pub mod Calls
+pub mod Serving
+pub mod Opening
+pub mod Apart
+pub mod Telling
 pub mod Runs
 pub mod Serves

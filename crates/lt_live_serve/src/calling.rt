@@ -1,5 +1,7 @@
 // What a caller does.
-ghost use Rattle.std.specs.Prelude.{◌≡◌, ◌≤◌, ◌<◌, ◌+◌, true, false, length, IfOk};
+ghost use Rattle.std.specs.Prelude.{◌≡◌, ◌≤◌, ◌<◌, ◌+◌, [], true, false, length, IfOk};
+ghost use Rattle.lt_spec.specs.Families.{home};
+ghost use Rattle.lt_live.specs.Words.{known_replies};
 ghost use Rattle.lt_live_serve.specs.Calls.{Calls, left_of};
 
 use crate::callers::Caller;
@@ -7,12 +9,18 @@ use crate::limits::TRIES;
 use std::alloc::AllocError;
 
 impl Caller {
+    /// The node of its client.
+    pub(crate) fn home(&self) -> u8
+        ensures { result ≡ home self.now.session.script self.now.session.client }
+    {
+        self.session.script().home(self.session.client())
+    }
+
     /// Submits the next command of its client; false where there is none any more.
     pub(crate) fn submit_next(&mut self) -> bool
         ensures calls { Calls self.old self.new }
-        ensures heard { self.new.heard ≡ self.old.heard }
-        ensures submitted { result ≡ true → left_of self.new + 1 ≡ left_of self.old }
-        ensures none { result ≡ false → (left_of self.old ≡ 0) × (left_of self.new ≡ 0) }
+        ensures one { result ≡ true → left_of self.new < left_of self.old }
+        ensures none { result ≡ false → left_of self.new ≡ 0 }
     {
         if self.next == self.commands.len() {
             return false;
@@ -30,7 +38,8 @@ impl Caller {
     /// Polls for a reply; false where none is known here.
     pub(crate) fn hear(&mut self) -> Result<bool, AllocError>
         ensures calls { Calls self.old self.new }
-        ensures next { self.new.next ≡ self.old.next }
+        ensures more { IfOk result (λ more. more ≡ true → length self.new.heard.items ≡ length self.old.heard.items + 1) }
+        ensures none { IfOk result (λ more. more ≡ false → (self.new.heard.items ≡ self.old.heard.items) × (known_replies self.old.session ≡ [])) }
     {
         self.heard.reserve(1)?;
         let Some(reply) = self.session.poll() else {
@@ -42,8 +51,7 @@ impl Caller {
 
     /// Submits commands and polls for replies, for a while.
     pub(crate) fn call(&mut self)
-        ensures calls { Calls self.old self.new }
-        ensures left { left_of self.new ≤ left_of self.old }
+        ensures { Calls self.old self.new }
     {
         for _ in 0..TRIES {
             self.call_once();
@@ -51,17 +59,9 @@ impl Caller {
     }
 
     fn call_once(&mut self)
-        ensures calls { Calls self.old self.new }
-        ensures left { left_of self.new ≤ left_of self.old }
+        ensures { Calls self.old self.new }
     {
         self.submit_next();
         let _ = self.hear();
-    }
-}
-
-impl Caller {
-    /// The node of its client.
-    pub(crate) fn home(&self) -> u8 {
-        self.session.script().home(self.session.client())
     }
 }

@@ -2,6 +2,7 @@
 #![tactic(auto)]
 
 mod arguments;
+mod benches;
 mod callers;
 mod calling;
 mod completing;

@@ -1,9 +1,19 @@
 // The run of a script whose commands are submitted by callers.
+ghost use Rattle.std.specs.Prelude.{◌≡◌, ◌≤◌, [], None, length, map, vec_capacity, IfOk};
+ghost use Rattle.lt_script.specs.Script.{IsScript};
+ghost use Rattle.lt_live.specs.Opened.{runner_of};
+ghost use Rattle.lt_threads.specs.Together.{IsCrew};
+ghost use Rattle.lt_live_serve.specs.Apart.{IsRunOf};
+ghost use Rattle.lt_live_serve.specs.Over.{IsFirstOver};
+ghost use Rattle.lt_live_serve.specs.Runs.{LiveRun};
+
 use crate::completing::complete_all;
 use crate::opening::begin;
 use crate::rounds::rounds;
 use crate::running::run_on;
 use crate::telling::{gather, tell_all};
+use lt_law_ordered::law_ordered;
+use lt_law_promises::law_promised;
 use lt_limits::Ending;
 use lt_live::{Reply, Station};
 use lt_merge::{Run, merge};
@@ -27,12 +37,18 @@ pub(crate) fn live_run<R: Threads + Sync, G: Gate>(
     alloc: Global,
     script: &Script,
     gate: &G,
-) -> Result<Live, AllocError> {
+) -> Result<Live, AllocError>
+    requires kept { IsScript script.now }
+    requires shared { IsFirstOver script.now None }
+    ensures { IfOk result (λ live. LiveRun live.ending script.now live.run.entries live.polled.items) }
+{
+    law_promised();
+    law_ordered();
     let (mut stations, mut callers) = begin(alloc, script)?;
-    rounds(rt, &mut stations, &mut callers, gate);
-    complete_all(&mut stations, &mut callers, gate)?;
-    let (mut stations, ending) = run_on(rt, alloc, script, stations, gate)?;
-    tell_all(&mut stations, &mut callers)?;
+    rounds(rt, script, &mut stations, &mut callers, gate);
+    complete_all(script, &mut stations, &mut callers, gate)?;
+    let (mut stations, ending) = run_on(rt, alloc, script, stations, &callers, gate)?;
+    tell_all(script, &mut stations, &mut callers)?;
     let polled = gather(alloc, &callers)?;
     let run = run_of(alloc, script, stations)?;
     Ok(Live {
@@ -43,14 +59,21 @@ pub(crate) fn live_run<R: Threads + Sync, G: Gate>(
 }
 
 // The moves of all nodes.
-fn run_of(alloc: Global, script: &Script, stations: Vec<Station>) -> Result<Run, AllocError> {
+fn run_of(alloc: Global, script: &Script, stations: Vec<Station>) -> Result<Run, AllocError>
+    requires { IsCrew script.now (map runner_of stations.items) }
+    ensures { IfOk result (λ run. IsRunOf script.now (map runner_of stations.items) run.entries) }
+{
     let runners = Vec::with_capacity(alloc, stations.len())?;
     let logs = finish(alloc, script, runners_of(stations, runners))?;
     merge(alloc, logs)
 }
 
 // The runners of all stations.
-fn runners_of(mut stations: Vec<Station>, mut runners: Vec<Runner>) -> Vec<Runner> {
+fn runners_of(mut stations: Vec<Station>, mut runners: Vec<Runner>) -> Vec<Runner>
+    requires empty { runners.items ≡ [] }
+    requires room { length stations.items ≤ vec_capacity runners }
+    ensures { result.items ≡ map runner_of stations.items }
+{
     while !stations.is_empty() {
         let (runner, _) = stations.remove(0).into_parts();
         runners.push_reserved(runner);

@@ -1,4 +1,12 @@
 // Stations and callers of a script.
+ghost use Rattle.std.specs.Prelude.{◌≡◌, ◌≤◌, ◌<◌, None, length, IfOk};
+ghost use Rattle.lt_script.specs.Script.{IsScript};
+ghost use Rattle.lt_script.specs.declared.limits.TheConstants.{MAX_COMMANDS};
+ghost use Rattle.lt_spec.specs.Families.{commands_of};
+ghost use Rattle.lt_live_serve.specs.Opening.{share_or_one, IsNewCaller, CanCall, AreNew, AreNewCallers};
+ghost use Rattle.lt_live_serve.specs.Over.{IsFirstOver};
+ghost use Rattle.lt_live_serve.specs.Serving.{AreServing};
+
 use crate::callers::Caller;
 use lt_limits::MAX_MOVES;
 use lt_live::{Session, Station, open};
@@ -10,7 +18,10 @@ use std::alloc::{AllocError, Global};
 pub(crate) fn begin(
     alloc: Global,
     script: &Script,
-) -> Result<(Vec<Station>, Vec<Caller>), AllocError> {
+) -> Result<(Vec<Station>, Vec<Caller>), AllocError>
+    requires { IsFirstOver script.now None }
+    ensures { IfOk result (λ made. AreServing script.now made.0.items made.1.items) }
+{
     let bare = script.without_commands(alloc)?;
     let (stations, sessions) = open(alloc, &bare, MAX_MOVES, share_of(script))?;
     let callers = callers_of(alloc, script, sessions)?;
@@ -18,7 +29,10 @@ pub(crate) fn begin(
 }
 
 // How many commands each session may submit, or one where there is none.
-fn share_of(script: &Script) -> u32 {
+fn share_of(script: &Script) -> u32
+    ensures share { result ≡ share_or_one script.now }
+    ensures some { (0 < result) × (result ≤ MAX_COMMANDS) }
+{
     if script.clients() == 0 {
         return 1;
     }
@@ -30,7 +44,10 @@ fn callers_of(
     alloc: Global,
     script: &Script,
     sessions: Vec<Session>,
-) -> Result<Vec<Caller>, AllocError> {
+) -> Result<Vec<Caller>, AllocError>
+    requires { AreNew script.now sessions.items }
+    ensures { IfOk result (λ callers. AreNewCallers script.now sessions.items callers.items) }
+{
     let mut callers = Vec::new(alloc);
     for session in sessions {
         callers.push(caller_of(alloc, script, session)?)?;
@@ -38,7 +55,10 @@ fn callers_of(
     Ok(callers)
 }
 
-fn caller_of(alloc: Global, script: &Script, session: Session) -> Result<Caller, AllocError> {
+fn caller_of(alloc: Global, script: &Script, session: Session) -> Result<Caller, AllocError>
+    requires { CanCall script.now session }
+    ensures { IfOk result (IsNewCaller script.now session) }
+{
     let commands = commands_of(alloc, script, session.client())?;
     Ok(Caller {
         session,
@@ -49,7 +69,9 @@ fn caller_of(alloc: Global, script: &Script, session: Session) -> Result<Caller,
 }
 
 // The commands of the client, in order.
-fn commands_of(alloc: Global, script: &Script, client: u16) -> Result<Vec<Command>, AllocError> {
+fn commands_of(alloc: Global, script: &Script, client: u16) -> Result<Vec<Command>, AllocError>
+    ensures { IfOk result (λ commands. commands.items ≡ commands_of script.now client) }
+{
     let mut commands = Vec::new(alloc);
     for place in 0..script.commands() {
         let (other, command) = script.command(place);

@@ -1,27 +1,42 @@
 // Rounds, in which stations and callers are at work beside each other.
+ghost use Rattle.std.specs.Prelude.{◌≡◌, ◌≤◌, ◌<◌, true, false};
+ghost use Rattle.lt_live.specs.Live.{StationGoesOn, EachStation};
+ghost use Rattle.lt_live_serve.specs.Calls.{Calls, EachCaller, AllSubmitted, all_left};
+ghost use Rattle.lt_live_serve.specs.Serving.{AreServing};
+
 use crate::callers::Caller;
 use crate::limits::{TRIES, WORKERS};
 use lt_live::Station;
 use lt_runner::Gate;
+use lt_script::Script;
 use std::thread::{Threads, for_each_mut, join_mut};
 
 /// Lets stations and callers work beside each other, in rounds, until all commands are submitted. Before the first round,
 /// and after each one, the caller of this submits a command itself.
 pub(crate) fn rounds<R: Threads + Sync, G: Gate>(
     rt: &R,
+    _script: &Script,
     stations: &mut Vec<Station>,
     callers: &mut Vec<Caller>,
     gate: &G,
-) {
+)
+    requires { AreServing _script.now stations.old.items callers.old.items }
+    ensures serving { AreServing _script.now stations.new.items callers.new.items }
+    ensures submitted { AllSubmitted callers.new.items }
+{
     while submit_one(callers) {
         round(rt, stations, callers, gate);
     }
 }
 
 // Submits a command of the first caller that has one.
-fn submit_one(callers: &mut [Caller]) -> bool {
-    for caller in callers.iter_mut() {
-        if caller.submit_next() {
+fn submit_one(callers: &mut [Caller]) -> bool
+    ensures callers { EachCaller Calls callers.old callers.new }
+    ensures one { result ≡ true → all_left callers.new < all_left callers.old }
+    ensures none { result ≡ false → AllSubmitted callers.new }
+{
+    for place in 0..callers.len() {
+        if callers[place].submit_next() {
             return true;
         }
     }
@@ -33,7 +48,10 @@ fn round<R: Threads + Sync, G: Gate>(
     stations: &mut [Station],
     callers: &mut [Caller],
     gate: &G,
-) {
+)
+    ensures stations { EachStation StationGoesOn stations.old stations.new }
+    ensures callers { EachCaller Calls callers.old callers.new }
+{
     join_mut(
         rt,
         &mut || turn_all(rt, stations, gate),
@@ -41,20 +59,36 @@ fn round<R: Threads + Sync, G: Gate>(
     );
 }
 
-fn call_all<R: Threads + Sync>(rt: &R, callers: &mut [Caller]) {
-    for_each_mut(rt, callers, usize::from(WORKERS), &|_, caller: &mut Caller| {
-        caller.call();
-    });
+fn call_all<R: Threads + Sync>(rt: &R, callers: &mut [Caller])
+    ensures { EachCaller Calls callers.old callers.new }
+{
+    for_each_mut(
+        rt,
+        callers,
+        usize::from(WORKERS),
+        &|_, caller: &mut Caller|
+            ensures { Calls caller.entry.now caller.exit.now }
+        { caller.call() },
+    );
 }
 
-fn turn_all<R: Threads + Sync, G: Gate>(rt: &R, stations: &mut [Station], gate: &G) {
-    for_each_mut(rt, stations, usize::from(WORKERS), &|_, station: &mut Station| {
-        turn_often(station, gate);
-    });
+fn turn_all<R: Threads + Sync, G: Gate>(rt: &R, stations: &mut [Station], gate: &G)
+    ensures { EachStation StationGoesOn stations.old stations.new }
+{
+    for_each_mut(
+        rt,
+        stations,
+        usize::from(WORKERS),
+        &|_, station: &mut Station|
+            ensures { StationGoesOn station.entry.now station.exit.now }
+        { turn_often(station, gate) },
+    );
 }
 
 // Makes turns, for a while.
-fn turn_often<G: Gate>(station: &mut Station, gate: &G) {
+fn turn_often<G: Gate>(station: &mut Station, gate: &G)
+    ensures { StationGoesOn station.old station.new }
+{
     for _ in 0..TRIES {
         station.turn(gate);
     }

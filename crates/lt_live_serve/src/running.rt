@@ -1,7 +1,16 @@
 // Lets the nodes make all moves that are left.
+ghost use Rattle.std.specs.Prelude.{◌≡◌, ◌≤◌, [], length, map, vec_capacity, IfOk};
+ghost use Rattle.lt_script.specs.Script.{IsScript};
+ghost use Rattle.lt_threads.specs.Together.{IsCrew};
+ghost use Rattle.lt_live.specs.Opened.{runner_of};
+ghost use Rattle.lt_live_serve.specs.Apart.{AreStations, AreParts, GoTogether, MovedOn};
+ghost use Rattle.lt_live_serve.specs.Serving.{AreServing, AreComplete};
+
+use crate::benches::Bench;
+use crate::callers::Caller;
 use crate::limits::{PATIENCE, WORKERS};
 use lt_limits::Ending;
-use lt_live::{Seat, Station};
+use lt_live::Station;
 use lt_runner::{Gate, Runner};
 use lt_script::Script;
 use lt_threads::{Ended, anyone_waits, run_rounds};
@@ -14,14 +23,22 @@ pub(crate) fn run_on<R: Threads + Sync, G: Gate>(
     alloc: Global,
     script: &Script,
     stations: Vec<Station>,
+    _callers: &[Caller],
     gate: &G,
-) -> Result<(Vec<Station>, Ending), AllocError> {
+) -> Result<(Vec<Station>, Ending), AllocError>
+    requires kept { IsScript script.now }
+    requires serving { AreServing script.now stations.items _callers.now }
+    requires complete { AreComplete script.now stations.items }
+    ensures serving { IfOk result (λ made. AreServing script.now made.0.items _callers.now) }
+    ensures moved { IfOk result (λ made. MovedOn script.now made.1 (map runner_of stations.items) (map runner_of made.0.items)) }
+{
     let runners = Vec::with_capacity(alloc, stations.len())?;
-    let seats = Vec::with_capacity(alloc, stations.len())?;
+    let benches = Vec::with_capacity(alloc, stations.len())?;
     let room = Vec::with_capacity(alloc, stations.len())?;
-    let (runners, seats) = take_apart(stations, runners, seats);
+    are_stations(&stations);
+    let (runners, benches) = take_apart(stations, runners, benches);
     let (runners, ending) = move_on(rt, alloc, script, runners, gate)?;
-    Ok((put_together(runners, seats, room), ending))
+    Ok((put_together(runners, benches, room), ending))
 }
 
 // Makes all moves that are left.
@@ -31,7 +48,10 @@ fn move_on<R: Threads + Sync, G: Gate>(
     script: &Script,
     runners: Vec<Runner>,
     gate: &G,
-) -> Result<(Vec<Runner>, Ending), AllocError> {
+) -> Result<(Vec<Runner>, Ending), AllocError>
+    requires { IsCrew script.now runners.items }
+    ensures { IfOk result (λ made. MovedOn script.now made.1 runners.items made.0.items) }
+{
     let (mut runners, ended) = run_rounds(rt, alloc, script, runners, WORKERS, PATIENCE, gate)?;
     match ended {
         Ended::NoMemory => Err(AllocError),
@@ -41,28 +61,46 @@ fn move_on<R: Threads + Sync, G: Gate>(
     }
 }
 
+// What each station keeps.
+fn are_stations(stations: &[Station])
+    ensures { AreStations stations.now }
+{
+    for k in 0..stations.len() {
+        stations[k].kept();
+    }
+}
+
 fn take_apart(
     mut stations: Vec<Station>,
     mut runners: Vec<Runner>,
-    mut seats: Vec<Vec<Seat>>,
-) -> (Vec<Runner>, Vec<Vec<Seat>>) {
+    mut benches: Vec<Bench>,
+) -> (Vec<Runner>, Vec<Bench>)
+    requires empty { (runners.items ≡ []) × (benches.items ≡ []) }
+    requires room { (length stations.items ≤ vec_capacity runners) × (length stations.items ≤ vec_capacity benches) }
+    ensures { AreParts stations.items result.0.items result.1.items }
+{
     while !stations.is_empty() {
-        let (runner, own) = stations.remove(0).into_parts();
+        let (runner, seats) = stations.remove(0).into_parts();
         runners.push_reserved(runner);
-        seats.push_reserved(own);
+        benches.push_reserved(Bench { seats });
     }
-    (runners, seats)
+    (runners, benches)
 }
 
 fn put_together(
     mut runners: Vec<Runner>,
-    mut seats: Vec<Vec<Seat>>,
+    mut benches: Vec<Bench>,
     mut stations: Vec<Station>,
-) -> Vec<Station> {
-    while !runners.is_empty() && !seats.is_empty() {
+) -> Vec<Station>
+    requires together { GoTogether runners.items benches.items }
+    requires empty { stations.items ≡ [] }
+    requires room { length runners.items ≤ vec_capacity stations }
+    ensures { AreParts result.items runners.items benches.items }
+{
+    while !runners.is_empty() {
         let runner = runners.remove(0);
-        let own = seats.remove(0);
-        stations.push_reserved(Station::from_parts(runner, own));
+        let bench = benches.remove(0);
+        stations.push_reserved(Station::from_parts(runner, bench.seats));
     }
     stations
 }
