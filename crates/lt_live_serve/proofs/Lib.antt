@@ -1,0 +1,10 @@
+pub mod Clients
+pub mod Sharing
+pub mod Answering
+pub mod Callers
+pub mod Opened
+pub mod Lasting
+pub mod Parted
+pub mod Ended
+pub mod Heard
+pub mod Told

@@ -16,7 +16,7 @@ use Rattle.lt_threads.specs.Threads.{IsThreadRun}
 use Rattle.lt_live.specs.declared.reply.Reply.{Reply}
 use Rattle.lt_live.specs.Replies.{replies_in}
 use Rattle.lt_live_serve.specs.Over.{IsFirstOver}
-use Rattle.lt_live_serve.specs.Status.{cut_of, status_of_end}
+use Rattle.lt_live_serve.specs.Status.{cut_of}
 
 -- if the bytes are known, they denote this script
 abbrev pub Denotes : Option (List ℕ) → ScriptData → Type 0
@@ -33,7 +33,7 @@ abbrev pub IsOverShare : Option (List ℕ) → ℕ → Type 0
 IsOverShare None client = Unit {0}
 IsOverShare (Some bytes) client = (script : ScriptData) × (read_of bytes ≡ Ok script) × IsFirstOver script (Some client)
 
--- each client's replies in these first n clients' order, each with its client
+-- the replies to the first n clients, client by client, each with its client
 abbrev pub replies_below : ℕ → List Logged → List (ℕ × Reply)
 replies_below n run = gather_below n (λ client. map (λ (reply : Reply). (client, reply)) (replies_in client (lines_of run)))
 
@@ -56,4 +56,4 @@ pub record Journals (end : Ending) (left : Option (List ℕ)) (run : List Logged
   pub denoted : Denotes left script
   pub shared : IsFirstOver script None
   pub live : LiveRun end script run polled
-  pub journal : text ≡ text_of script run (cut_of (status_of_end end))
+  pub journal : text ≡ text_of script run (cut_of end)

@@ -5,6 +5,7 @@ use Rattle.lt_modes.specs.Script.{ScriptData}
 use Rattle.lt_spec.specs.Families.{commands_of, home}
 use Rattle.lt_spec.specs.Holdings.{lines_of}
 use Rattle.lt_law_appended.specs.Commands.{with_commands}
+use Rattle.lt_runner.specs.declared.parts.Parts.{Parts}
 use Rattle.lt_threads.specs.Crews.{HasLimit}
 use Rattle.lt_live.specs.Live.{AreLive}
 use Rattle.lt_live.specs.Opened.{runner_of}
@@ -29,11 +30,10 @@ IsCompleteAt script stations client = (station : StationData) → slice_get stat
 abbrev pub AreComplete : ScriptData → List StationData → Type 0
 AreComplete script stations = (client : ℕ) → IsCompleteAt script stations client
 
--- the caller has polled all replies to its client that its station has in its log
-abbrev pub HasHeardAll : ScriptData → List StationData → ℕ → Caller → Type 0
-HasHeardAll script stations client c = (station : StationData) → slice_get stations (home script client) ≡ Some station
-    → c.heard.items ≡ replies_in client (lines_of station.runner.log.entries)
+-- the caller has polled all replies to its client that the log of the client's node has
+abbrev pub HasHeardAll : ScriptData → List Parts → ℕ → Caller → Type 0
+HasHeardAll script runners client c = (p : Parts) → slice_get runners (home script client) ≡ Some p → c.heard.items ≡ replies_in client (lines_of p.log.entries)
 
 -- so have the first n callers
-abbrev pub HaveHeard : ScriptData → ℕ → List StationData → List Caller → Type 0
-HaveHeard script n stations callers = (client : ℕ) (c : Caller) → client < n → slice_get callers client ≡ Some c → HasHeardAll script stations client c
+abbrev pub HaveHeard : ScriptData → ℕ → List Parts → List Caller → Type 0
+HaveHeard script n runners callers = (client : ℕ) (c : Caller) → client < n → slice_get callers client ≡ Some c → HasHeardAll script runners client c

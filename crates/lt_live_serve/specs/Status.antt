@@ -34,8 +34,8 @@ status_text (Cut node) = codes "locklive: cut at node " ++ decimal node
 status_text (Share client) = codes "locklive: too many commands of client " ++ decimal client
 
 -- the node at which the run was cut
-abbrev pub cut_of : Status → Option ℕ
-cut_of (Cut node) = Some node
+abbrev pub cut_of : Ending → Option ℕ
+cut_of (ending.Cut node) = Some node
 cut_of other = None
 
 -- how a run ended, as a status

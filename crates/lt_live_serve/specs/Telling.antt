@@ -20,7 +20,7 @@ pub record TellsAt (script : ScriptData) (client : ℕ) (stations : List Station
   pub serving : AreServing script later after
   pub runners : map runner_of later ≡ map runner_of stations
   pub others : (k : ℕ) → k ≢ client → slice_get after k ≡ slice_get callers k
-  pub heard : (c : Caller) → slice_get after client ≡ Some c → HasHeardAll script later client c
+  pub heard : (c : Caller) → slice_get after client ≡ Some c → HasHeardAll script (map runner_of later) client c
 
 -- what the caller polled, each reply with its client
 abbrev pub marked : Caller → List (ℕ × Reply)

@@ -17,6 +17,7 @@ impl Caller {
     }
 
     /// Submits the next command of its client; false where there is none any more.
+    #[tactic(auto, using(crate::proofs::Callers::has_left, crate::proofs::Callers::has_place, crate::proofs::Callers::may_ask, crate::proofs::Callers::submitted_count))]
     pub(crate) fn submit_next(&mut self) -> bool
         ensures calls { Calls self.old self.new }
         ensures one { result ≡ true → left_of self.new < left_of self.old }
@@ -50,6 +51,7 @@ impl Caller {
     }
 
     /// Submits commands and polls for replies, for a while.
+    #[tactic(auto, using(crate::proofs::Lasting::calls_itself, crate::proofs::Lasting::calls_join))]
     pub(crate) fn call(&mut self)
         ensures { Calls self.old self.new }
     {
@@ -58,6 +60,7 @@ impl Caller {
         }
     }
 
+    #[tactic(auto, using(crate::proofs::Lasting::calls_itself, crate::proofs::Lasting::calls_join))]
     fn call_once(&mut self)
         ensures { Calls self.old self.new }
     {

@@ -12,6 +12,7 @@ use crate::opening::begin;
 use crate::rounds::rounds;
 use crate::running::run_on;
 use crate::telling::{gather, tell_all};
+use lt_law_merged::law_can_move;
 use lt_law_ordered::law_ordered;
 use lt_law_promises::law_promised;
 use lt_limits::Ending;
@@ -32,6 +33,7 @@ pub(crate) struct Live {
 }
 
 /// The run of the script, whose commands callers submit and whose replies they poll.
+#[tactic(auto, using(crate::proofs::Heard::live_run))]
 pub(crate) fn live_run<R: Threads + Sync, G: Gate>(
     rt: &R,
     alloc: Global,
@@ -42,6 +44,7 @@ pub(crate) fn live_run<R: Threads + Sync, G: Gate>(
     requires shared { IsFirstOver script.now None }
     ensures { IfOk result (λ live. LiveRun live.ending script.now live.run.entries live.polled.items) }
 {
+    law_can_move();
     law_promised();
     law_ordered();
     let (mut stations, mut callers) = begin(alloc, script)?;

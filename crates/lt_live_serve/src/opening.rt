@@ -15,11 +15,13 @@ use lt_script::{MAX_COMMANDS, Script};
 use std::alloc::{AllocError, Global};
 
 /// The stations of all nodes of the script, and the callers of all clients, of whom none has submitted a command.
+#[tactic(auto, using(crate::proofs::Opened::are_new, crate::proofs::Opened::first_serving))]
 pub(crate) fn begin(
     alloc: Global,
     script: &Script,
 ) -> Result<(Vec<Station>, Vec<Caller>), AllocError>
-    requires { IsFirstOver script.now None }
+    requires kept { IsScript script.now }
+    requires shared { IsFirstOver script.now None }
     ensures { IfOk result (λ made. AreServing script.now made.0.items made.1.items) }
 {
     let bare = script.without_commands(alloc)?;
@@ -40,12 +42,14 @@ fn share_of(script: &Script) -> u32
 }
 
 // A caller for each session.
+#[tactic(auto, using(crate::proofs::Opened::no_caller))]
 fn callers_of(
     alloc: Global,
     script: &Script,
     sessions: Vec<Session>,
 ) -> Result<Vec<Caller>, AllocError>
-    requires { AreNew script.now sessions.items }
+    requires kept { IsScript script.now }
+    requires new { AreNew script.now sessions.items }
     ensures { IfOk result (λ callers. AreNewCallers script.now sessions.items callers.items) }
 {
     let mut callers = Vec::new(alloc);
@@ -55,8 +59,10 @@ fn callers_of(
     Ok(callers)
 }
 
+#[tactic(auto, using(crate::proofs::Opened::asks_all))]
 fn caller_of(alloc: Global, script: &Script, session: Session) -> Result<Caller, AllocError>
-    requires { CanCall script.now session }
+    requires kept { IsScript script.now }
+    requires session { CanCall script.now session }
     ensures { IfOk result (IsNewCaller script.now session) }
 {
     let commands = commands_of(alloc, script, session.client())?;
@@ -69,6 +75,7 @@ fn caller_of(alloc: Global, script: &Script, session: Session) -> Result<Caller,
 }
 
 // The commands of the client, in order.
+#[tactic(auto, using(crate::proofs::Clients::among_own, crate::proofs::Clients::among_other, crate::proofs::Clients::among_all))]
 fn commands_of(alloc: Global, script: &Script, client: u16) -> Result<Vec<Command>, AllocError>
     ensures { IfOk result (λ commands. commands.items ≡ commands_of script.now client) }
 {

@@ -6,6 +6,7 @@ ghost use Rattle.lt_live_serve.specs.Over.{is_over, IsFirstOver};
 use lt_script::{MAX_COMMANDS, Script};
 
 /// The least client that has more commands than its session may submit.
+#[tactic(auto, using(crate::proofs::Sharing::next_over, crate::proofs::Sharing::all_over))]
 pub(crate) fn first_over(script: &Script) -> Option<u16>
     ensures { IsFirstOver script.now result }
 {
@@ -25,6 +26,7 @@ fn is_over(script: &Script, client: u16) -> bool
 }
 
 /// How many commands the client has.
+#[tactic(auto, using(crate::proofs::Clients::count_own, crate::proofs::Clients::count_other, crate::proofs::Clients::count_all))]
 pub(crate) fn count_of(script: &Script, client: u16) -> u32
     ensures { result ≡ length (commands_of script.now client) }
 {

@@ -30,6 +30,7 @@ pub(crate) fn rounds<R: Threads + Sync, G: Gate>(
 }
 
 // Submits a command of the first caller that has one.
+#[tactic(auto, using(crate::proofs::Lasting::same_callers, crate::proofs::Lasting::one_called, crate::proofs::Lasting::one_less, crate::proofs::Lasting::next_submitted, crate::proofs::Lasting::all_submitted))]
 fn submit_one(callers: &mut [Caller]) -> bool
     ensures callers { EachCaller Calls callers.old callers.new }
     ensures one { result ≡ true → all_left callers.new < all_left callers.old }
@@ -54,8 +55,12 @@ fn round<R: Threads + Sync, G: Gate>(
 {
     join_mut(
         rt,
-        &mut || turn_all(rt, stations, gate),
-        &mut || call_all(rt, callers),
+        &mut ||
+            ensures { EachStation StationGoesOn stations.entry.now stations.exit.now }
+        { turn_all(rt, stations, gate) },
+        &mut ||
+            ensures { EachCaller Calls callers.entry.now callers.exit.now }
+        { call_all(rt, callers) },
     );
 }
 
@@ -67,7 +72,7 @@ fn call_all<R: Threads + Sync>(rt: &R, callers: &mut [Caller])
         callers,
         usize::from(WORKERS),
         &|_, caller: &mut Caller|
-            ensures { Calls caller.entry.now caller.exit.now }
+            ensures { Calls caller.old caller.new }
         { caller.call() },
     );
 }
@@ -80,12 +85,13 @@ fn turn_all<R: Threads + Sync, G: Gate>(rt: &R, stations: &mut [Station], gate: 
         stations,
         usize::from(WORKERS),
         &|_, station: &mut Station|
-            ensures { StationGoesOn station.entry.now station.exit.now }
+            ensures { StationGoesOn station.old station.new }
         { turn_often(station, gate) },
     );
 }
 
 // Makes turns, for a while.
+#[tactic(auto, using(crate::proofs::Lasting::station_itself, crate::proofs::Lasting::station_turned))]
 fn turn_often<G: Gate>(station: &mut Station, gate: &G)
     ensures { StationGoesOn station.old station.new }
 {

@@ -1,4 +1,5 @@
 use crate::status::Status;
+use lt_limits::Ending;
 use lt_live::Reply;
 use lt_merge::Run;
 
@@ -9,4 +10,13 @@ pub struct Served {
     pub status: Status,
     pub run: Run,
     pub polled: Vec<(u16, Reply)>,
+}
+
+/// What came of a script before anything is written.
+#[derive(Drop)]
+pub(crate) struct Made {
+    pub(crate) ending: Ending,
+    pub(crate) run: Run,
+    pub(crate) polled: Vec<(u16, Reply)>,
+    pub(crate) text: Vec<u8>,
 }

@@ -1,26 +1,19 @@
-ghost use Rattle.std.specs.Prelude.{◌≡◌, length, IfOk, IfErr, OnOk};
-ghost use Rattle.lt_live_serve.specs.Serves.{Serves};
+ghost use Rattle.std.specs.Prelude.{◌≡◌, ◌⊎◌, ℕ, [], List, Option, length, IfOk, IfErr, OnOk};
+ghost use Rattle.lt_io.specs.Whole.{IsReadWhole};
+ghost use Rattle.lt_live_serve.specs.declared.limits.TheConstants.{MAX_INPUT};
+ghost use Rattle.lt_live_serve.specs.Runs.{Journals};
+ghost use Rattle.lt_live_serve.specs.Serves.{Serves, Did, SaysOfSource, SaysOfSink, IsRefusal, IsEnding, WritesNothing};
 
 use crate::live::live_run;
 use crate::reading::read_shared;
-use crate::served::Served;
-use crate::status::Status;
+use crate::served::{Made, Served};
+use crate::status::{Status, cut_of};
 use lt_io::{Sink, Source, write_all};
 use lt_journal::write;
-use lt_live::Reply;
 use lt_merge::Run;
 use lt_runner::Gate;
 use std::alloc::Global;
 use std::thread::Threads;
-
-/// What came of a script before anything is written.
-#[derive(Drop)]
-pub(crate) struct Made {
-    pub(crate) ending: Status,
-    pub(crate) run: Run,
-    pub(crate) polled: Vec<(u16, Reply)>,
-    pub(crate) text: Vec<u8>,
-}
 
 /// Reads a script, lets a caller for each client submit its commands to the stations of its nodes and poll for all replies,
 /// and writes the journal of the run. The text is made whole before the first write. There are to be no words; else the
@@ -50,15 +43,19 @@ fn make<R: Threads + Sync, S: Source, G: Gate>(
     alloc: Global,
     source: &mut S,
     gate: &G,
-) -> Result<Made, Status> {
+) -> Result<Made, Status>
+    ensures journals { IfOk result (λ made. Journals made.ending (S.state source.old).left made.run.entries made.polled.items made.text.items) }
+    ensures whole { OnOk result (IsReadWhole MAX_INPUT (S.state source.old) (S.state source.new)) }
+    ensures reading { IfErr result (λ answer. SaysOfSource answer (S.state source.old) (S.state source.new)) }
+    ensures refused { IfErr result (IsRefusal (S.state source.old).left) }
+{
     let script = read_shared(alloc, source)?;
     let Ok(live) = live_run(rt, alloc, &script, gate) else {
         return Err(Status::NoMemory);
     };
-    let ending = Status::from(live.ending);
-    match write(alloc, &script, &live.run, ending.cut()) {
+    match write(alloc, &script, &live.run, cut_of(live.ending)) {
         Ok(text) => Ok(Made {
-            ending,
+            ending: live.ending,
             run: live.run,
             polled: live.polled,
             text,
@@ -68,9 +65,15 @@ fn make<R: Threads + Sync, S: Source, G: Gate>(
 }
 
 // Writes the text.
-fn write_made<K: Sink>(sink: &mut K, made: Made) -> Served {
+fn write_made<K: Sink>(sink: &mut K, made: Made) -> Served
+    ensures did { (left : Option (List ℕ)) → Journals made.ending left made.run.entries made.polled.items made.text.items
+        → Did result.status left result.run.entries result.polled.items (K.held sink.old) (K.held sink.new) }
+    ensures written { IsEnding result.status ⊎ (result.status ≡ Status.WriteFault) }
+    ensures writing { SaysOfSink result.status (K.faults sink.old) (K.faults sink.new) }
+    ensures unwritten { WritesNothing result.status → sink.new ≡ sink.old }
+{
     let status = match write_all(sink, &made.text) {
-        Ok(()) => made.ending,
+        Ok(()) => Status::from(made.ending),
         Err(_) => Status::WriteFault,
     };
     Served {
@@ -82,7 +85,11 @@ fn write_made<K: Sink>(sink: &mut K, made: Made) -> Served {
 
 impl Served {
     // No move was made.
-    pub(crate) fn without_run(alloc: Global, status: Status) -> Served {
+    pub(crate) fn without_run(alloc: Global, status: Status) -> Served
+        ensures status { result.status ≡ status }
+        ensures run { result.run.entries ≡ [] }
+        ensures polled { result.polled.items ≡ [] }
+    {
         Served {
             status,
             run: Run::new(alloc),

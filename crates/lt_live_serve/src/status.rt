@@ -45,16 +45,6 @@ impl Status {
         }
     }
 
-    // The node at which the run was cut.
-    pub(crate) fn cut(&self) -> Option<u8>
-        ensures { result ≡ cut_of self.now }
-    {
-        match self {
-            Status::Cut { node } => Some(*node),
-            _ => None,
-        }
-    }
-
     /// Whether the program writes a line on standard error.
     pub fn has_line(&self) -> bool
         ensures { IsTrue result ↔ (status_text self.now ≢ []) }
@@ -98,5 +88,15 @@ impl fmt::Display for Status {
                 write!(f, "locklive: too many commands of client {client}")
             }
         }
+    }
+}
+
+/// The node at which the run was cut.
+pub(crate) fn cut_of(ending: Ending) -> Option<u8>
+    ensures { result ≡ cut_of ending }
+{
+    match ending {
+        Ending::Cut { node } => Some(node),
+        _ => None,
     }
 }

@@ -15,6 +15,7 @@ use lt_script::Script;
 use std::alloc::{AllocError, Global};
 
 /// Lets the callers poll all replies.
+#[tactic(auto, using(crate::proofs::Told::none_told, crate::proofs::Told::next_told, crate::proofs::Told::all_told))]
 pub(crate) fn tell_all(
     _script: &Script,
     stations: &mut Vec<Station>,
@@ -23,7 +24,7 @@ pub(crate) fn tell_all(
     requires { AreServing _script.now stations.old.items callers.old.items }
     ensures serving { OnOk result (AreServing _script.now stations.new.items callers.new.items) }
     ensures runners { OnOk result (map runner_of stations.new.items ≡ map runner_of stations.old.items) }
-    ensures heard { OnOk result (HaveHeard _script.now (length callers.new.items) stations.new.items callers.new.items) }
+    ensures heard { OnOk result (HaveHeard _script.now (length callers.new.items) (map runner_of stations.new.items) callers.new.items) }
 {
     for client in 0..callers.len() {
         tell_at(_script, stations, callers, client)?;
@@ -46,16 +47,21 @@ fn tell_at(
 }
 
 // Lets the caller poll all its replies.
+#[tactic(auto, using(crate::proofs::Told::hears_itself, crate::proofs::Told::hears_join))]
 fn tell(station: &mut Station, caller: &mut Caller) -> Result<(), AllocError>
     requires { IsSeated caller.old.session station.old.seats }
     ensures hears { Hears station.old caller.old station.new caller.new }
     ensures all { OnOk result (caller.new.heard.items ≡ replies_in caller.old.session.client (lines_of station.old.runner.log.entries)) }
 {
-    while tell_one(station, caller)? {}
-    Ok(())
+    loop {
+        if !tell_one(station, caller)? {
+            return Ok(());
+        }
+    }
 }
 
 // Lets the caller poll its next reply; false where it has polled all.
+#[tactic(auto, using(crate::proofs::Told::heard_all, crate::proofs::Told::seated_on, crate::proofs::Told::heard_few))]
 fn tell_one(station: &mut Station, caller: &mut Caller) -> Result<bool, AllocError>
     requires { IsSeated caller.old.session station.old.seats }
     ensures hears { Hears station.old caller.old station.new caller.new }
@@ -63,6 +69,7 @@ fn tell_one(station: &mut Station, caller: &mut Caller) -> Result<bool, AllocErr
     ensures few { length caller.new.heard.items ≤ length (replies_in caller.old.session.client (lines_of station.old.runner.log.entries)) }
     ensures all { IfOk result (λ more. more ≡ false → caller.new.heard.items ≡ replies_in caller.old.session.client (lines_of station.old.runner.log.entries)) }
 {
+    station.kept();
     station.beside(&mut caller.session);
     let more = caller.hear();
     station.beside(&mut caller.session);
@@ -70,6 +77,7 @@ fn tell_one(station: &mut Station, caller: &mut Caller) -> Result<bool, AllocErr
 }
 
 /// What the callers polled, each reply with its client.
+#[tactic(auto, using(crate::proofs::Told::gather_next, crate::proofs::Told::gather_all))]
 pub(crate) fn gather(
     alloc: Global,
     callers: &[Caller],
@@ -84,6 +92,7 @@ pub(crate) fn gather(
 }
 
 // Adds what the caller polled.
+#[tactic(auto, using(crate::proofs::Told::first_marked, crate::proofs::Told::next_marked, crate::proofs::Told::all_marked))]
 fn add_heard(polled: &mut Vec<(u16, Reply)>, caller: &Caller) -> Result<(), AllocError>
     ensures { OnOk result (polled.new.items ≡ polled.old.items ++ marked caller.now) }
 {

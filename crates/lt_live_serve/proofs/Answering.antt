@@ -1,0 +1,149 @@
+-- What an answer says: once the journal is written, where there is no run, and where there is a word.
+use Rattle.std.proofs.Common.{◌≡◌, ◌≢◌, ◌<◌, ◌≤◌, ◌+◌, ◌⊎◌, ℕ, List, Option, [], refl, sym, ap, subst, arith, inl, inr, ◌∙◌}
+use Rattle.lt_io.specs.FaultCounts.{CountsFaults, Rose, RoseBy, count_after}
+use Rattle.lt_io.specs.Source.{SourceState}
+use Rattle.lt_io.specs.Whole.{IsReadWhole}
+use Rattle.lt_limits.specs.declared.ending.Ending.{Ending}
+use Rattle.lt_limits.specs.declared.ending.Ending.TheVariants as ending
+use Rattle.lt_script.specs.declared.fault.ScriptFault.{ScriptFault}
+use Rattle.lt_spec.specs.Log.{Logged}
+use Rattle.lt_live.specs.declared.reply.Reply.{Reply}
+use Rattle.lt_live_serve.specs.declared.limits.TheConstants.{MAX_INPUT}
+use Rattle.lt_live_serve.specs.declared.served.Served.{Served}
+use Rattle.lt_live_serve.specs.declared.status.Status.{Status}
+use Rattle.lt_live_serve.specs.declared.status.Status.TheVariants.{Done, Stuck, Usage, Refused, TooLong, ReadFault, WriteFault, NoMemory, Cut, Share}
+use Rattle.lt_live_serve.specs.Status.{status_of_end}
+use Rattle.lt_live_serve.specs.Runs.{HasFault, IsOverShare, Journals}
+use Rattle.lt_live_serve.specs.Serves.{Serves, Did, SaysOfSource, SaysOfSink, HasRead, IsEnding, WritesNothing, IsRefusal, IsGood}
+
+at_least : (a b : ℕ) → b ≡ a → a ≤ b
+at_least a b e = omega (arith, e)
+
+rose : (n before now : ℕ) → CountsFaults n before now → RoseBy n before now
+rose n before now h = at_least (count_after before n) now h.count
+
+-- the writing has begun
+abbrev pub HasWritten : Status → Type 0
+HasWritten status = IsEnding status ⊎ (status ≡ WriteFault)
+
+not_usage : (status : Status) → HasWritten status → status ≡ Usage → ⊥
+not_usage status (inl h) e = subst IsEnding e h
+not_usage status (inr h) e = cc
+
+not_refused : (status : Status) (fault : ScriptFault) → HasWritten status → status ≡ Refused fault → ⊥
+not_refused status fault (inl h) e = subst IsEnding e h
+not_refused status fault (inr h) e = cc
+
+not_shared : (status : Status) (client : ℕ) → HasWritten status → status ≡ Share client → ⊥
+not_shared status client (inl h) e = subst IsEnding e h
+not_shared status client (inr h) e = cc
+
+not_long : (status : Status) → HasWritten status → status ≡ TooLong → ⊥
+not_long status (inl h) e = subst IsEnding e h
+not_long status (inr h) e = cc
+
+not_failed : (status : Status) → HasWritten status → status ≡ ReadFault → ⊥
+not_failed status (inl h) e = subst IsEnding e h
+not_failed status (inr h) e = cc
+
+written_reading : (status : Status) (before after : SourceState) → IsReadWhole MAX_INPUT before after → HasWritten status → SaysOfSource status before after
+written_reading status before after whole h = record {
+  too_long = λ e. absurd (not_long status h e);
+  not_too_long = λ other. whole.few;
+  read_fault = λ e. absurd (not_failed status h e);
+  no_read_fault = λ other. whole.without_fault;
+  whole = λ read. whole.ended;
+}
+
+-- where the journal was written, or a part of it
+pub written_serves : {S K : Type 0} (state : S → SourceState) (held : K → Option (List ℕ)) (write_faults : K → ℕ) (words : ℕ) (answer : Served) (before after : S) (sink sink_after : K)
+    → words ≡ 0 → HasWritten answer.status
+    → Did answer.status (state before).left answer.run.entries answer.polled.items (held sink) (held sink_after)
+    → IsReadWhole MAX_INPUT (state before) (state after) → SaysOfSink answer.status (write_faults sink) (write_faults sink_after)
+    → (WritesNothing answer.status → sink_after ≡ sink) → Serves state held write_faults words answer before after sink sink_after
+written_serves state held write_faults words answer before after sink sink_after none written did whole writing unwritten = record {
+  did = did;
+  usage = λ e. absurd (not_usage answer.status written e);
+  no_words = λ some. absurd (omega (arith, none, some));
+  unread = λ e. absurd (not_usage answer.status written e);
+  refused = λ fault e. absurd (not_refused answer.status fault written e);
+  share = λ client e. absurd (not_shared answer.status client written e);
+  reading = λ other. written_reading answer.status (state before) (state after) whole written;
+  writing = writing;
+  unwritten = unwritten;
+  complete = λ no_word good writes memory. elim written [
+    | inl h ↦ h
+    | inr e ↦ absurd (writes (rose 1 (write_faults sink) (write_faults sink_after) (writing.write_fault e)))
+  ];
+}
+
+refusal_did : (status : Status) (left : Option (List ℕ)) (run : List Logged) (polled : List (ℕ × Reply)) (held : Option (List ℕ))
+    → IsRefusal left status → run ≡ [] → polled ≡ [] → Did status left run polled held held
+refusal_did (Refused fault) left run polled held h none no_reply = (none, no_reply, refl)
+refusal_did (Share client) left run polled held h none no_reply = (none, no_reply, refl)
+refusal_did TooLong left run polled held h none no_reply = (none, no_reply, refl)
+refusal_did ReadFault left run polled held h none no_reply = (none, no_reply, refl)
+refusal_did NoMemory left run polled held h none no_reply = (none, no_reply, refl)
+refusal_did Usage left run polled held h none no_reply = absurd h
+refusal_did Done left run polled held h none no_reply = absurd h
+refusal_did Stuck left run polled held h none no_reply = absurd h
+refusal_did (Cut node) left run polled held h none no_reply = absurd h
+refusal_did WriteFault left run polled held h none no_reply = absurd h
+
+refusal_complete : (status : Status) (before after : SourceState) → IsRefusal before.left status → SaysOfSource status before after → IsGood before after
+    → status ≢ NoMemory → IsEnding status
+refusal_complete (Refused fault) before after h tells good memory = absurd (good.no_fault fault h)
+refusal_complete (Share client) before after h tells good memory = absurd (good.none_over client h)
+refusal_complete TooLong before after h tells good memory = absurd (good.not_too_long (rose (MAX_INPUT + 1) before.given after.given (tells.too_long refl)))
+refusal_complete ReadFault before after h tells good memory = absurd (good.no_read_fault (rose 1 before.faults after.faults (tells.read_fault refl)))
+refusal_complete NoMemory before after h tells good memory = absurd (memory refl)
+refusal_complete Usage before after h tells good memory = absurd h
+refusal_complete Done before after h tells good memory = absurd h
+refusal_complete Stuck before after h tells good memory = absurd h
+refusal_complete (Cut node) before after h tells good memory = absurd h
+refusal_complete WriteFault before after h tells good memory = absurd h
+
+-- where there is no run
+pub refusal_serves : {S K : Type 0} (state : S → SourceState) (held : K → Option (List ℕ)) (write_faults : K → ℕ) (words : ℕ) (answer : Served) (status : Status) (before after : S) (sink : K)
+    → words ≡ 0 → answer.status ≡ status → answer.run.entries ≡ [] → answer.polled.items ≡ [] → IsRefusal (state before).left status
+    → SaysOfSource status (state before) (state after) → Serves state held write_faults words answer before after sink sink
+refusal_serves state held write_faults words answer status before after sink none same no_run no_reply refused reading =
+    let refusal : IsRefusal (state before).left answer.status = subst (λ (s : Status). IsRefusal (state before).left s) (sym same) refused in
+    let tells : SaysOfSource answer.status (state before) (state after) = subst (λ (s : Status). SaysOfSource s (state before) (state after)) (sym same) reading in
+    record {
+      did = refusal_did answer.status (state before).left answer.run.entries answer.polled.items (held sink) refusal no_run no_reply;
+      usage = λ e. absurd (subst (λ (s : Status). IsRefusal (state before).left s) e refusal);
+      no_words = λ some. absurd (omega (arith, none, some));
+      unread = λ e. absurd (subst (λ (s : Status). IsRefusal (state before).left s) e refusal);
+      refused = λ fault e. subst (λ (s : Status). IsRefusal (state before).left s) e refusal;
+      share = λ client e. subst (λ (s : Status). IsRefusal (state before).left s) e refusal;
+      reading = λ other. tells;
+      writing = record {
+        write_fault = λ e. absurd (subst (λ (s : Status). IsRefusal (state before).left s) e refusal);
+        no_write_fault = λ other. refl;
+      };
+      unwritten = λ nothing. refl;
+      complete = λ no_word good writes memory. refusal_complete answer.status (state before) (state after) refusal tells good memory;
+    }
+
+-- where there is a word
+pub usage_serves : {S K : Type 0} (state : S → SourceState) (held : K → Option (List ℕ)) (write_faults : K → ℕ) (words : ℕ) (answer : Served) (source : S) (sink : K)
+    → 0 < words → answer.status ≡ Usage → answer.run.entries ≡ [] → answer.polled.items ≡ [] → Serves state held write_faults words answer source source sink sink
+usage_serves state held write_faults words answer source sink some is no_run no_reply = record {
+  did = subst (λ (s : Status). Did s (state source).left answer.run.entries answer.polled.items (held sink) (held sink)) (sym is) (no_run, no_reply, refl);
+  usage = λ e. some;
+  no_words = λ h. is;
+  unread = λ e. refl;
+  refused = λ fault e. absurd (cc);
+  share = λ client e. absurd (cc);
+  reading = λ other. absurd (other is);
+  writing = record { write_fault = λ e. absurd (cc); no_write_fault = λ other. refl };
+  unwritten = λ nothing. refl;
+  complete = λ none good writes memory. absurd (omega (arith, none, some));
+}
+
+-- what was written of each ending
+pub end_is_ending : (end : Ending) → IsEnding (status_of_end end)
+end_is_ending ending.Done = tt
+end_is_ending ending.Stuck = tt
+end_is_ending (ending.Cut node) = tt

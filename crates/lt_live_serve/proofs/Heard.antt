@@ -1,0 +1,88 @@
+-- What callers heard, and the live run.
+use Rattle.std.proofs.Common.{◌≡◌, ◌≢◌, ◌<◌, ◌≤◌, ◌+◌, ◌++◌, ◌⊎◌, ℕ, zero, suc, List, [], ◌∷◌, length, map, take, Option, Some, None, refl, sym, ap, subst, arith, ◌∙◌, inl, inr, append-nil, take_all}
+use Rattle.std.specs.Prelude.{slice_get, filter}
+use Rattle.std.specs.Option.{option_map}
+use Rattle.std.proofs.lemmas.List.{length-map}
+use Rattle.std.proofs.lemmas.Option.{same_Some, slice_get-map, slice_get_within}
+use Rattle.lt_modes.specs.declared.event.Event.{Event}
+use Rattle.lt_modes.specs.Script.{ScriptData}
+use Rattle.lt_script.specs.Script.{IsScript}
+use Rattle.lt_lists.specs.Below.{gather_below}
+use Rattle.lt_limits.specs.declared.ending.Ending.{Ending}
+use Rattle.lt_law_limits.proofs.Within.{whole}
+use Rattle.lt_law_merged.specs.CanMove.{RestIsNoMove}
+use Rattle.lt_law_ordered.specs.OrderedLaws.{OrderedFinish}
+use Rattle.lt_law_promises.specs.Promised.{RunsKeepPromises}
+use Rattle.lt_spec.specs.Families.{home}
+use Rattle.lt_spec.specs.Holdings.{lines_of}
+use Rattle.lt_spec.specs.Log.{Logged}
+use Rattle.lt_spec.specs.World.{is_of_node}
+use Rattle.lt_runner.specs.declared.parts.Parts.{Parts}
+use Rattle.lt_live.specs.declared.reply.Reply.{Reply}
+use Rattle.lt_live.specs.declared.ends.Seat.{Seat}
+use Rattle.lt_live.specs.declared.ends.Session.{Session}
+use Rattle.lt_live.specs.Cursor.{lines_before, lines_at, IsCursor}
+use Rattle.lt_live.specs.Opened.{runner_of}
+use Rattle.lt_live.specs.Replies.{replies_in}
+use Rattle.lt_live.specs.Stations.{StationData}
+use Rattle.lt_live.proofs.ReplyLemmas.{replies_in_log}
+use Rattle.lt_live_serve.specs.declared.callers.Caller.{Caller}
+use Rattle.lt_live_serve.specs.Apart.{MovedOn, IsRunOf}
+use Rattle.lt_live_serve.specs.Calls.{session_of}
+use Rattle.lt_live_serve.specs.Runs.{LiveRun, all_replies, replies_below}
+use Rattle.lt_live_serve.specs.Serving.{AreServing, HaveHeard}
+use Rattle.lt_live_serve.specs.Telling.{marked, marked_by, heard_at}
+use Rattle.lt_live_serve.proofs.Ended.{thread_run, not_stuck}
+
+gather_same : {X : Type 0} (n : ℕ) (f g : ℕ → List X) → ((k : ℕ) → k < n → f k ≡ g k) → gather_below n f ≡ gather_below n g
+gather_same zero f g h = refl
+gather_same {X = X} (suc n) f g h =
+    ap (λ (xs : List X). xs ++ f n) (gather_same n f g (λ k below. h k (omega (arith, below))))
+    ∙ ap (λ (xs : List X). gather_below n g ++ xs) (h n (omega arith))
+
+caller_at : (callers : List Caller) (k : ℕ) → k < length callers → (c : Caller) × (slice_get callers k ≡ Some c)
+caller_at [] k h = absurd (omega (arith, h))
+caller_at (c ∷ rest) zero h = (c, refl)
+caller_at (c ∷ rest) (suc k) h = caller_at rest k (omega (arith, h))
+
+module _ (script : ScriptData) (stations : List StationData) (callers : List Caller) (run : List Logged) (is_script : IsScript script)
+    (h : AreServing script stations callers) (heard : HaveHeard script (length callers) (map runner_of stations) callers) (made : IsRunOf script (map runner_of stations) run) where
+  count : length callers ≡ length script.clients
+  count = sym (length-map session_of callers) ∙ h.live.count
+
+  -- the client's replies in the run
+  replies : (client : ℕ) → client < length script.clients → heard_at callers client ≡ map (λ (reply : Reply). (client, reply)) (replies_in client (lines_of run))
+  replies client below =
+      let inside : client < length callers = omega (arith, below, count) in
+      let (c, here) = caller_at callers client inside in
+      let there : slice_get (map session_of callers) client ≡ Some c.session = slice_get-map session_of callers client ∙ ap (option_map session_of) here in
+      let live = h.live.each client c.session there in
+      let station : StationData = live.station in
+      let runner : slice_get (map runner_of stations) (home script client) ≡ Some station.runner =
+      slice_get-map runner_of stations (home script client) ∙ ap (option_map runner_of) live.here in
+      let logged : filter (is_of_node (home script client)) run ≡ station.runner.log.entries = made.are.moves run made.merges (home script client) station.runner runner in
+      let told : replies_in client (lines_of run) ≡ replies_in client (lines_of station.runner.log.entries) =
+      replies_in_log script run station.runner.log.entries (whole script is_script) (made.are.is_run run made.merges) client logged in
+      ap marked_by here
+      ∙ ap (λ (k : ℕ). map (λ (reply : Reply). (k, reply)) c.heard.items) live.client_is
+      ∙ ap (map (λ (reply : Reply). (client, reply))) (heard client c inside here station.runner runner ∙ sym told)
+
+  pub polled_all : gather_below (length callers) (heard_at callers) ≡ all_replies script run
+  polled_all =
+      ap (λ (n : ℕ). gather_below n (heard_at callers)) count
+      ∙ gather_same (length script.clients) (heard_at callers) (λ client. map (λ (reply : Reply). (client, reply)) (replies_in client (lines_of run))) replies
+
+-- a live run
+pub live_run : RunsKeepPromises → OrderedFinish → RestIsNoMove → (script : ScriptData) (end : Ending) (before : List Parts) (stations later : List StationData) (callers : List Caller)
+    (polled : List (ℕ × Reply)) (run : List Logged) → IsScript script → MovedOn script end before (map runner_of stations) → map runner_of later ≡ map runner_of stations
+    → AreServing script later callers → HaveHeard script (length callers) (map runner_of later) callers → polled ≡ gather_below (length callers) (heard_at callers)
+    → IsRunOf script (map runner_of later) run → LiveRun end script run polled
+live_run promises finish rest script end before stations later callers polled run is_script moved_then same h heard told made =
+    let moved : MovedOn script end before (map runner_of later) = subst (λ (rs : List Parts). MovedOn script end before rs) (sym same) moved_then in
+    let ran = thread_run script (map runner_of later) run moved.crew h.limits made rest end moved.ends in
+    record {
+      ran = ran;
+      promised = promises script run (whole script is_script) ran.is_run;
+      ordered = not_stuck end script run is_script ran.is_run ran.ends finish;
+      polled_is = told ∙ polled_all script later callers run is_script h heard made;
+    }

@@ -1,0 +1,205 @@
+-- Callers poll all replies.
+use Rattle.std.proofs.Common.{◌≡◌, ◌≢◌, ◌<◌, ◌≤◌, ◌+◌, ◌++◌, ◌⊎◌, ℕ, zero, suc, List, [], ◌∷◌, length, map, take, get_or, Option, Some, None, refl, sym, ap, subst, arith, ◌∙◌, inl, inr, append-nil, take_all}
+use Rattle.std.specs.Prelude.{slice_get, slice_set, slice_index_or}
+use Rattle.std.specs.Option.{option_map}
+use Rattle.std.proofs.Math.Seq.{map-set_same}
+use Rattle.std.proofs.lemmas.Bool.{cases_eq}
+use Rattle.std.proofs.lemmas.List.{append_assoc, map-append, length-append, take_more}
+use Rattle.std.proofs.lemmas.Option.{same_Some, slice_get-get_or, slice_get-map, slice_get_within}
+use mathlib.Core.List.{IsPrefix}
+use Rattle.lt_modes.specs.declared.event.Event.{Event}
+use Rattle.lt_modes.specs.Script.{ScriptData}
+use Rattle.lt_lists.specs.Below.{gather_below}
+use Rattle.lt_spec.specs.Families.{home}
+use Rattle.lt_spec.specs.Holdings.{lines_of}
+use Rattle.lt_spec.specs.Log.{Logged}
+use Rattle.lt_law_appended.specs.Commands.{with_commands}
+use Rattle.lt_runner.specs.declared.parts.Parts.{Parts}
+use Rattle.lt_live.specs.declared.ends.Seat.{Seat}
+use Rattle.lt_live.specs.declared.ends.Session.{Session}
+use Rattle.lt_live.specs.declared.reply.Reply.{Reply}
+use Rattle.lt_live.specs.Cursor.{lines_before, lines_at, lines_if}
+use Rattle.lt_live.specs.Finished.{ServedBy}
+use Rattle.lt_live.specs.Live.{GoesOn, StationGoesOn}
+use Rattle.lt_live.specs.Opened.{runner_of}
+use Rattle.lt_live.specs.Replies.{replies_in}
+use Rattle.lt_live.specs.Stations.{StationData, IsStation, IsSeated, StaySeated, SeatLooks}
+use Rattle.lt_live.specs.Words.{polled, known_replies, SameSession}
+use Rattle.lt_live.proofs.AlikeLists.{alike_set}
+use Rattle.lt_live.proofs.Linked.{session_stays}
+use Rattle.lt_live.proofs.LiveShares.{goes_itself}
+use Rattle.lt_live.proofs.Places.{set_here, set_other}
+use Rattle.lt_live.proofs.Settling.{same_sessions}
+use Rattle.lt_live_serve.specs.declared.callers.Caller.{Caller}
+use Rattle.lt_live_serve.specs.Calls.{Calls, session_of, left_of}
+use Rattle.lt_live_serve.specs.Serving.{AreServing, HasHeardAll, HaveHeard}
+use Rattle.lt_live_serve.specs.Telling.{Hears, TellsAt, marked, marked_by, heard_at}
+use Rattle.lt_live_serve.proofs.Lasting.{serving_lasts, station_itself, calls_itself, calls_join}
+
+past_end : (log : List Logged) → lines_at log (length log) ≡ []
+past_end [] = refl
+past_end (entry ∷ rest) = past_end rest
+
+none_taken : {X : Type 0} (n : ℕ) → take n ([] {X}) ≡ []
+none_taken zero = refl
+none_taken (suc n) = refl
+
+-- all lines of the log
+all_before : (log : List Logged) (lines : ℕ) → lines_before log (length log) lines ≡ lines_of log
+all_before log lines =
+    ap (λ (entries : List Logged). lines_of entries ++ take lines (lines_at log (length log))) (take_all (length log) log (omega arith))
+    ∙ ap (λ (rest : List Event). lines_of log ++ take lines rest) (past_end log)
+    ∙ ap (λ (rest : List Event). lines_of log ++ rest) (none_taken lines)
+    ∙ append-nil (lines_of log)
+
+-- a session that looked at its rings and knows no reply has polled all
+pub heard_all : (p : Parts) (s t : Session) (old new : List Seat) → IsStation p old → IsSeated s old → SeatLooks p.log.entries s t old new → known_replies t ≡ []
+    → polled t ≡ replies_in s.client (lines_of p.log.entries)
+heard_all p s t old new station seated h none =
+    sym (append-nil (polled t))
+    ∙ ap (λ (replies : List Reply). polled t ++ replies) (sym none)
+    ∙ h.beside.replies
+    ∙ told
+    ∙ ap (λ (k : ℕ). replies_in h.x.client (lines_before p.log.entries k h.y.lines)) moves
+    ∙ ap (replies_in h.x.client) (all_before p.log.entries h.y.lines)
+    ∙ ap (λ (k : ℕ). replies_in k (lines_of p.log.entries)) client
+  where
+    client : h.x.client ≡ s.client
+    client = ap (λ (z : Seat). z.client) (same_Some h.x seated.seat (sym h.before ∙ seated.here)) ∙ seated.link.0
+
+    told = h.looks.told (station.each s.place h.x h.before).kept.told
+
+    moves : h.y.moves ≡ length p.log.entries
+    moves = elim h.moves [
+      | inl e ↦ e
+      | inr some ↦ absurd (omega (arith, some, ap (λ (replies : List Reply). length replies) none))
+    ]
+
+prefix_few : {X : Type 0} (xs ys : List X) → IsPrefix xs ys → length xs ≤ length ys
+prefix_few xs ys h = omega (arith, length-append xs h.0, ap length h.1)
+
+-- what a caller polled are first replies of its client
+pub heard_few : (p : Parts) (client : ℕ) (c : Caller) → ServedBy p client c.session → length c.heard.items ≤ length (replies_in client (lines_of p.log.entries))
+heard_few p client c served =
+    omega (
+      arith,
+      prefix_few (polled c.session) (replies_in client (lines_of p.log.entries)) served.replies,
+      ap (λ (replies : List Reply). length replies) c.hears,
+    )
+
+-- what a caller and its station do
+
+pub hears_itself : (a : StationData) (c : Caller) → IsSeated c.session a.seats → Hears a c a c
+hears_itself a c seated = record { runner = refl; stay = λ s h. h; seated = seated; calls = calls_itself c }
+
+pub hears_join : (a b d : StationData) (c e f : Caller) → Hears a c b e → Hears b e d f → Hears a c d f
+hears_join a b d c e f first second = record {
+  runner = second.runner ∙ first.runner;
+  stay = λ s h. second.stay s (first.stay s h);
+  seated = second.seated;
+  calls = calls_join c e f first.calls second.calls;
+}
+
+-- one caller was told
+
+goes_same : (x y : StationData) → y.runner ≡ x.runner → StaySeated x.seats y.seats → StationGoesOn x y
+goes_same x y same stay = record { runner = subst (λ (p : Parts). GoesOn x.runner p) (sym same) (goes_itself x.runner); seated = stay }
+
+pub caller_found : (callers : List Caller) (client : ℕ) (d : Caller) → client < length callers → d ≡ slice_index_or callers client d → slice_get callers client ≡ Some d
+caller_found callers client d inside is = slice_get-get_or callers client d inside ∙ ap Some (sym is)
+
+pub session_there : (callers : List Caller) (client : ℕ) (c : Caller) → slice_get callers client ≡ Some c → slice_get (map session_of callers) client ≡ Some c.session
+session_there callers client c here = slice_get-map session_of callers client ∙ ap (option_map session_of) here
+
+module _ (script : ScriptData) (client place : ℕ) (stations : List StationData) (callers : List Caller) (x y : StationData) (c d : Caller)
+    (h : AreServing script stations callers) (here : slice_get callers client ≡ Some c) (at : place ≡ home script client) (station : slice_get stations place ≡ Some x)
+    (hears : Hears x c y d) (all : d.heard.items ≡ replies_in c.session.client (lines_of x.runner.log.entries)) where
+  same_runners : map runner_of (slice_set stations place y) ≡ map runner_of stations
+  same_runners = map-set_same runner_of stations place y x (hears.runner ∙ sym (ap runner_of was))
+    where
+      was : slice_index_or stations place x ≡ x
+      was = same_Some (slice_index_or stations place x) x (sym (slice_get-get_or stations place x (slice_get_within stations place x station)) ∙ station)
+
+  pub tells_at : TellsAt script client stations callers (slice_set stations place y) (slice_set callers client d)
+  tells_at = record {
+    serving = serving_lasts script stations (slice_set stations place y) callers (slice_set callers client d) h
+        (alike_set StationGoesOn station_itself stations place x y station (goes_same x y hears.runner hears.stay))
+        (alike_set Calls calls_itself callers client c d here hears.calls);
+    runners = same_runners;
+    others = λ k apart. set_other callers client d k apart;
+    heard = λ e there p runner.
+        let is : d ≡ e = same_Some d e (sym (set_here callers client d (slice_get_within callers client c here)) ∙ there) in
+        let first : slice_get (map runner_of stations) (home script client) ≡ Some x.runner =
+        slice_get-map runner_of stations (home script client) ∙ ap (option_map runner_of) (ap (slice_get stations) (sym at) ∙ station) in
+        let same : x.runner ≡ p =
+        same_Some x.runner p (sym first ∙ (ap (λ (rs : List Parts). slice_get rs (home script client)) (sym same_runners) ∙ runner)) in
+        let own : c.session.client ≡ client = (h.live.each client c.session (session_there callers client c here)).client_is in
+        sym (ap (λ (v : Caller). v.heard.items) is)
+        ∙ all
+        ∙ ap (λ (k : ℕ). replies_in k (lines_of x.runner.log.entries)) own
+        ∙ ap (λ (r : Parts). replies_in client (lines_of r.log.entries)) same;
+  }
+
+-- one caller after the other
+
+pub record ToldTo (script : ScriptData) (n : ℕ) (stations : List StationData) (later : List StationData) (after : List Caller) : Type 0 where
+  pub serving : AreServing script later after
+  pub runners : map runner_of later ≡ map runner_of stations
+  pub heard : HaveHeard script n (map runner_of later) after
+
+pub none_told : (script : ScriptData) (stations : List StationData) (callers : List Caller) → AreServing script stations callers → ToldTo script 0 stations stations callers
+none_told script stations callers h = record { serving = h; runners = refl; heard = λ client c below. absurd (omega (arith, below)) }
+
+pub next_told : (script : ScriptData) (n : ℕ) (stations mid later : List StationData) (between after : List Caller) → ToldTo script n stations mid between
+    → TellsAt script n mid between later after → ToldTo script (n + 1) stations later after
+next_told script n stations mid later between after h at = record {
+  serving = at.serving;
+  runners = at.runners ∙ h.runners;
+  heard = λ client c below e. elim (cases_eq client n) [
+    | inl here ↦
+        subst (λ (k : ℕ). HasHeardAll script (map runner_of later) k c) (sym here) (at.heard c (ap (slice_get after) (sym here) ∙ e))
+    | inr apart ↦
+        subst (λ (rs : List Parts). HasHeardAll script rs client c) (sym at.runners)
+        (h.heard client c (omega (arith, below, apart)) (sym (at.others client apart) ∙ e))
+  ];
+}
+
+pub all_told : (script : ScriptData) (n : ℕ) (stations later : List StationData) (after : List Caller) → length after ≤ n → ToldTo script n stations later after
+    → HaveHeard script (length after) (map runner_of later) after
+all_told script n stations later after long h client c below e = h.heard client c (omega (arith, below, long)) e
+
+-- what all polled
+
+pub gather_next : (callers : List Caller) (k : ℕ) (d : Caller) → k < length callers
+    → gather_below (k + 1) (heard_at callers) ≡ gather_below k (heard_at callers) ++ marked (get_or callers k d)
+gather_next callers k d inside =
+    let on : k + 1 ≡ suc k = omega arith in
+    ap (λ n. gather_below n (heard_at callers)) on
+    ∙ ap (λ (list : List (ℕ × Reply)). gather_below k (heard_at callers) ++ list) (ap marked_by (slice_get-get_or callers k d inside))
+
+pub gather_all : (callers : List Caller) (k : ℕ) → k ≤ length callers → length callers ≤ k → gather_below k (heard_at callers) ≡ gather_below (length callers) (heard_at callers)
+gather_all callers k few long = let is : k ≡ length callers = omega (arith, few, long) in ap (λ n. gather_below n (heard_at callers)) is
+
+
+-- the first k replies that the caller polled
+abbrev pub marked_to : Caller → ℕ → List (ℕ × Reply)
+marked_to c k = map (λ (reply : Reply). (c.session.client, reply)) (take k c.heard.items)
+
+pub first_marked : (c : Caller) (xs : List (ℕ × Reply)) → xs ≡ xs ++ marked_to c 0
+first_marked c xs = sym (append-nil xs)
+
+pub next_marked : (c : Caller) (xs ys : List (ℕ × Reply)) (k : ℕ) (d : Reply) → k < length c.heard.items → ys ≡ xs ++ marked_to c k
+    → ys ++ (c.session.client, get_or c.heard.items k d) ∷ [] ≡ xs ++ marked_to c (k + 1)
+next_marked c xs ys k d inside so_far =
+    ap (λ (list : List (ℕ × Reply)). list ++ (c.session.client, get_or c.heard.items k d) ∷ []) so_far
+    ∙ append_assoc xs (marked_to c k) ((c.session.client, get_or c.heard.items k d) ∷ [])
+    ∙ ap (λ (list : List (ℕ × Reply)). xs ++ list)
+    (sym (ap (map (λ (reply : Reply). (c.session.client, reply))) (take_more c.heard.items k d inside)
+    ∙ map-append (λ (reply : Reply). (c.session.client, reply)) (take k c.heard.items) (get_or c.heard.items k d ∷ [])))
+
+pub all_marked : (c : Caller) (xs : List (ℕ × Reply)) (k : ℕ) → length c.heard.items ≤ k → xs ++ marked_to c k ≡ xs ++ marked c
+all_marked c xs k long = ap (λ (list : List Reply). xs ++ map (λ (reply : Reply). (c.session.client, reply)) list) (take_all k c.heard.items long)
+
+-- the middle caller is the first one with its session looked at
+pub seated_on : (s t : Session) (seats : List Seat) → SameSession s t → IsSeated s seats → IsSeated t seats
+seated_on s t seats same seated = session_stays s t seats same seated

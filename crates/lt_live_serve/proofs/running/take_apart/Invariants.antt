@@ -1,0 +1,17 @@
+-- The parts that were taken, and then those of the stations that are left.
+use Rattle.std.proofs.Common.{◌≡◌, ◌≤◌, ◌+◌, ◌++◌, length, map}
+use Rattle.std.specs.Prelude.{vec_len, vec_capacity}
+use Rattle.lt_live.specs.Opened.{runner_of}
+use Rattle.lt_live_serve.specs.Apart.{seats_of, seats_on}
+use Rattle.lt_live_serve.proofs.running.take_apart.Given as goal
+
+abbrev pub invariant-loop-stations : goal.invariant-loop-stations
+invariant-loop-stations l = record {
+  runners : l.runners.items ++ map runner_of l.stations.items ≡ map runner_of l.initial.stations.items;
+  seats : map seats_on l.benches.items ++ map seats_of l.stations.items ≡ map seats_of l.initial.stations.items;
+  room : length l.runners.items + length l.stations.items ≤ vec_capacity l.runners;
+  more_room : length l.benches.items + length l.stations.items ≤ vec_capacity l.benches;
+}
+
+abbrev pub decreases-loop-stations : goal.decreases-loop-stations
+decreases-loop-stations l = vec_len l.stations
