@@ -7,5 +7,6 @@ pub mod Serving
 pub mod Opening
 pub mod Apart
 pub mod Telling
+pub mod Completing
 pub mod Runs
 pub mod Serves
