@@ -9,10 +9,7 @@ use Rattle.lt_lists.proofs.Members.{some_equal}
 use Rattle.lt_modes.specs.declared.command.Command.{Command}
 use Rattle.lt_modes.specs.Script.{ScriptData}
 use Rattle.lt_spec.specs.Families.{command_if, commands_of}
-
--- the client's commands among the first k ones
-abbrev pub among : ScriptData → ℕ → ℕ → List Command
-among script client k = filter_map (command_if client) (take k script.commands)
+use Rattle.lt_live_serve.specs.Clients.{among}
 
 take_next : {X : Type 0} (xs : List X) (k : ℕ) (x : X) → slice_get xs k ≡ Some x → take (k + 1) xs ≡ take k xs ++ x ∷ []
 take_next [] k x e = cc
@@ -56,3 +53,12 @@ count_other script client k request e other = ap (λ (xs : List Command). length
 
 pub count_all : (script : ScriptData) (client k : ℕ) → length script.commands ≤ k → length (among script client k) ≡ length (commands_of script client)
 count_all script client k long = ap (λ (xs : List Command). length xs) (among_all script client k long)
+
+pub pushed_own : (script : ScriptData) (client k : ℕ) (request : ℕ × Command) (old new : List Command) → slice_get script.commands k ≡ Some request → request.0 ≡ client
+    → old ≡ among script client k → new ≡ old ++ request.1 ∷ [] → new ≡ among script client (k + 1)
+pushed_own script client k request old new e own before added =
+    added ∙ ap (λ (xs : List Command). xs ++ request.1 ∷ []) before ∙ sym (among_own script client k request e own)
+
+pub pushed_other : (script : ScriptData) (client k : ℕ) (request : ℕ × Command) (old : List Command) → slice_get script.commands k ≡ Some request → request.0 ≢ client
+    → old ≡ among script client k → old ≡ among script client (k + 1)
+pushed_other script client k request old e other before = before ∙ sym (among_other script client k request e other)

@@ -48,7 +48,7 @@ caller_at (c ∷ rest) (suc k) h = caller_at rest k (omega (arith, h))
 module _ (script : ScriptData) (stations : List StationData) (callers : List Caller) (run : List Logged) (is_script : IsScript script)
     (h : AreServing script stations callers) (heard : HaveHeard script (length callers) (map runner_of stations) callers) (made : IsRunOf script (map runner_of stations) run) where
   count : length callers ≡ length script.clients
-  count = sym (length-map session_of callers) ∙ h.live.count
+  count = sym (length-map callers session_of) ∙ h.live.count
 
   -- the client's replies in the run
   replies : (client : ℕ) → client < length script.clients → heard_at callers client ≡ map (λ (reply : Reply). (client, reply)) (replies_in client (lines_of run))

@@ -1,5 +1,5 @@
 -- Stations and callers stay those of the script.
-use Rattle.std.proofs.Common.{◌≡◌, ◌≢◌, ◌<◌, ◌≤◌, ◌+◌, ℕ, zero, suc, List, [], ◌∷◌, length, map, Option, Some, None, refl, sym, ap, subst, arith, ◌∙◌, inl, inr}
+use Rattle.std.proofs.Common.{rules, ◌≡◌, ◌≢◌, ◌<◌, ◌≤◌, ◌+◌, ℕ, zero, suc, List, [], ◌∷◌, length, map, Option, Some, None, refl, sym, ap, subst, arith, ◌∙◌, inl, inr}
 use Rattle.std.specs.Prelude.{slice_get, slice_set, slice_index_or}
 use Rattle.std.specs.Option.{option_map}
 use Rattle.std.proofs.lemmas.Bool.{cases_eq}
@@ -22,7 +22,6 @@ use Rattle.lt_live.proofs.AlikeLists.{alike_self, alike_before, alike_set}
 use Rattle.lt_live.proofs.Live.{live_lasts, session_itself}
 use Rattle.lt_live.proofs.LiveShares.{goes_itself}
 use Rattle.lt_live.proofs.Places.{set_here, set_other}
-use Rattle.lt_live.proofs.Settling.{same_sessions}
 use Rattle.lt_live_serve.specs.declared.callers.Caller.{Caller}
 use Rattle.lt_live_serve.specs.Calls.{Calls, EachCaller, AllSubmitted, session_of, left_of, all_left}
 use Rattle.lt_live_serve.specs.Serving.{AreServing}
@@ -61,12 +60,22 @@ station_join a b c first second = record {
 pub station_turned : (a b c : StationData) → StationGoesOn a b → GoesOn b.runner c.runner → StaySeated b.seats c.seats → StationGoesOn a c
 station_turned a b c first goes seated = station_join a b c first (record { runner = goes; seated = seated })
 
+sessions_join : (a b c : Session) → SameSession a b → SameSession b c → SameSession a c
+sessions_join a b c first second = record {
+  script = second.script ∙ first.script;
+  client = second.client ∙ first.client;
+  place = second.place ∙ first.place;
+  share = second.share ∙ first.share;
+  commands = search rules;
+  replies = search rules;
+}
+
 pub calls_itself : (c : Caller) → Calls c c
 calls_itself c = record { session = session_itself c.session; commands = refl; left = omega arith }
 
 pub calls_join : (a b c : Caller) → Calls a b → Calls b c → Calls a c
 calls_join a b c first second = record {
-  session = same_sessions a.session b.session c.session first.session second.session;
+  session = sessions_join a.session b.session c.session first.session second.session;
   commands = second.commands ∙ first.commands;
   left = let x = first.left in let y = second.left in omega (arith, x, y);
 }

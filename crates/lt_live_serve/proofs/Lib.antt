@@ -1,10 +1,12 @@
 pub mod Clients
 pub mod Sharing
 pub mod Answering
-pub mod Callers
+pub mod Submitting
 pub mod Opened
 pub mod Lasting
 pub mod Parted
 pub mod Ended
 pub mod Heard
 pub mod Told
+pub mod Completed
+pub mod Looked

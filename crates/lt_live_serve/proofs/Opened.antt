@@ -1,12 +1,12 @@
 -- A caller for each new session.
-use Rattle.std.proofs.Common.{◌≡◌, ◌≢◌, ◌<◌, ◌≤◌, ◌+◌, ◌++◌, ℕ, List, [], ◌∷◌, length, map, get_or, Some, None, Bool, true, false, refl, sym, ap, subst, arith, ◌∙◌, inl, inr}
+use Rattle.std.proofs.Common.{◌≡◌, ◌≢◌, ◌<◌, ◌≤◌, ◌+◌, ◌++◌, ℕ, zero, suc, List, [], ◌∷◌, length, map, get_or, Some, None, Bool, true, false, refl, sym, ap, subst, arith, ◌∙◌, inl, inr}
 use Rattle.std.specs.Prelude.{◌⊎◌, ◌==◌, slice_get, filter_map, if◌then◌else◌, nat_lt}
 use Rattle.std.specs.List.{AllByRecursion, cons_option}
 use Rattle.std.specs.Option.{option_map}
 use Rattle.std.proofs.lemmas.Bool.{cases_eq, eqb-true, eq-eqb, ne_eqb, false≢true, lt-ltb}
 use Rattle.std.proofs.lemmas.List.{map-append}
 use Rattle.std.proofs.lemmas.List.Elements.{recursion_from_All}
-use Rattle.std.proofs.lemmas.Option.{slice_get-get_or, slice_get-map, slice_get_within}
+use Rattle.std.proofs.lemmas.Option.{same_Some, slice_get-get_or, slice_get-map, slice_get_within}
 use Rattle.lt_modes.specs.declared.command.Command.{Command}
 use Rattle.lt_modes.specs.Script.{ScriptData}
 use Rattle.lt_script.specs.Script.{IsScript, IsRequest, HasTargets, HasModesOf}
@@ -17,10 +17,12 @@ use Rattle.lt_live.specs.declared.ends.Session.{Session}
 use Rattle.lt_live.specs.Live.{AreLive}
 use Rattle.lt_live.specs.Opened.{Opened, IsNewSession, equal_share, runner_of}
 use Rattle.lt_live.specs.Stations.{StationData}
+use Rattle.lt_live.specs.Asking.{may_ask}
+use Rattle.lt_live.proofs.AskLemmas.{asks}
 use Rattle.lt_live.proofs.Live.{opened_are_live}
 use Rattle.lt_live.proofs.Places.{pushed, none_here}
 use Rattle.lt_live_serve.specs.declared.callers.Caller.{Caller}
-use Rattle.lt_live_serve.specs.Asks.{MayAsk, AsksAll}
+use Rattle.lt_live_serve.specs.Asks.{AsksAll}
 use Rattle.lt_live_serve.specs.Calls.{session_of}
 use Rattle.lt_live_serve.specs.Opening.{share_or_one, CanCall, AreNew, IsNewCaller, AreNewCallers}
 use Rattle.lt_live_serve.specs.Over.{IsFirstOver, is_over}
@@ -30,14 +32,19 @@ use Rattle.lt_live_serve.specs.Serving.{AreServing}
 asks_from : (script : ScriptData) (client : ℕ) (commands : List (ℕ × Command)) → AllByRecursion (IsRequest script.sets script.clients) commands
     → AllByRecursion (λ (request : ℕ × Command). HasModesOf script.version request.1) commands
     → AsksAll script client (filter_map (command_if client) commands)
-asks_from script client [] targets modes = tt
+asks_from script client [] targets modes = λ k command e. none_here k command e
 asks_from script client (request ∷ rest) targets modes =
     by_test (request.0 == client) refl (asks_from script client rest targets.1 modes.1)
   where
+    first : (request.0 == client) ≡ true → (more : List Command) → AsksAll script client more → AsksAll script client (request.1 ∷ more)
+    first e more h zero command at =
+        subst (λ (x : Command). may_ask script client x ≡ true) (same_Some request.1 command at)
+        (asks script client request.1 (subst (λ (k : ℕ). HasTargets script.sets script.clients k request.1) (eqb-true request.0 client e) targets.0.1) modes.0)
+    first e more h (suc k) command at = h k command at
+
     by_test : (t : Bool) → (request.0 == client) ≡ t → AsksAll script client (filter_map (command_if client) rest)
         → AsksAll script client (cons_option (if t then Some request.1 else None) (filter_map (command_if client) rest))
-    by_test true e more =
-        ((subst (λ (k : ℕ). HasTargets script.sets script.clients k request.1) (eqb-true request.0 client e) targets.0.1, modes.0), more)
+    by_test true e more = first e (filter_map (command_if client) rest) more
     by_test false e more = more
 
 pub asks_all : (script : ScriptData) (client : ℕ) → IsScript script → AsksAll (with_commands script []) client (commands_of script client)

@@ -15,6 +15,7 @@ use Rattle.lt_mail.specs.Words.{Alike}
 use Rattle.lt_runner.specs.declared.parts.Parts.{Parts}
 use Rattle.lt_runner.specs.Kept.{Grew}
 use Rattle.lt_threads.specs.Together.{EachIs, IsCrew}
+use Rattle.lt_threads.specs.Shares.{AreShares}
 use Rattle.lt_threads.proofs.Each.{each_before, each_len}
 use Rattle.lt_live.specs.declared.ends.Seat.{Seat}
 use Rattle.lt_live.specs.declared.ends.Session.{Session}
@@ -58,6 +59,7 @@ crew_of script stations callers is_script h complete = record {
   links = shares.links;
 }
   where
+    shares : AreShares (with_commands script []) (map runner_of stations)
     shares = h.live.runners
 
     same : (k : ℕ) (p : Parts) → slice_get (map runner_of stations) k ≡ Some p → SameAt k p.node.script script
@@ -112,9 +114,9 @@ go_together stations runners later benches kept parts grew = record {
         arith,
         first,
         second,
-        length-map seats_of stations,
-        length-map seats_on benches,
-        length-map runner_of stations,
+        length-map stations seats_of,
+        length-map benches seats_on,
+        length-map stations runner_of,
         each_len Grew runners later grew,
       );
   each = λ k p b here there.

@@ -24,12 +24,11 @@ use Rattle.lt_live.specs.Live.{GoesOn, StationGoesOn}
 use Rattle.lt_live.specs.Opened.{runner_of}
 use Rattle.lt_live.specs.Replies.{replies_in}
 use Rattle.lt_live.specs.Stations.{StationData, IsStation, IsSeated, StaySeated, SeatLooks}
-use Rattle.lt_live.specs.Words.{polled, known_replies, SameSession}
+use Rattle.lt_live.specs.Words.{polled, known_replies, told_to, SameSession}
 use Rattle.lt_live.proofs.AlikeLists.{alike_set}
 use Rattle.lt_live.proofs.Linked.{session_stays}
 use Rattle.lt_live.proofs.LiveShares.{goes_itself}
 use Rattle.lt_live.proofs.Places.{set_here, set_other}
-use Rattle.lt_live.proofs.Settling.{same_sessions}
 use Rattle.lt_live_serve.specs.declared.callers.Caller.{Caller}
 use Rattle.lt_live_serve.specs.Calls.{Calls, session_of, left_of}
 use Rattle.lt_live_serve.specs.Serving.{AreServing, HasHeardAll, HaveHeard}
@@ -40,7 +39,7 @@ past_end : (log : List Logged) → lines_at log (length log) ≡ []
 past_end [] = refl
 past_end (entry ∷ rest) = past_end rest
 
-none_taken : {X : Type 0} (n : ℕ) → take n ([] {X}) ≡ []
+none_taken : {X : Type 0} (n : ℕ) → ◌≡◌ {A = List X} (take n []) []
 none_taken zero = refl
 none_taken (suc n) = refl
 
@@ -67,6 +66,7 @@ heard_all p s t old new station seated h none =
     client : h.x.client ≡ s.client
     client = ap (λ (z : Seat). z.client) (same_Some h.x seated.seat (sym h.before ∙ seated.here)) ∙ seated.link.0
 
+    told : told_to h.y ≡ replies_in h.x.client (lines_before p.log.entries h.y.moves h.y.lines)
     told = h.looks.told (station.each s.place h.x h.before).kept.told
 
     moves : h.y.moves ≡ length p.log.entries

@@ -1,4 +1,5 @@
 pub mod Over
+pub mod Clients
 pub mod Status
 pub mod Input
 pub mod Asks

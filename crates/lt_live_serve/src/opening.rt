@@ -1,8 +1,9 @@
 // Stations and callers of a script.
-ghost use Rattle.std.specs.Prelude.{◌≡◌, ◌≤◌, ◌<◌, None, length, IfOk};
+ghost use Rattle.std.specs.Prelude.{◌≡◌, ◌≤◌, ◌<◌, ◌+◌, None, length, IfOk, OnOk};
 ghost use Rattle.lt_script.specs.Script.{IsScript};
 ghost use Rattle.lt_script.specs.declared.limits.TheConstants.{MAX_COMMANDS};
 ghost use Rattle.lt_spec.specs.Families.{commands_of};
+ghost use Rattle.lt_live_serve.specs.Clients.{among};
 ghost use Rattle.lt_live_serve.specs.Opening.{share_or_one, IsNewCaller, CanCall, AreNew, AreNewCallers};
 ghost use Rattle.lt_live_serve.specs.Over.{IsFirstOver};
 ghost use Rattle.lt_live_serve.specs.Serving.{AreServing};
@@ -75,16 +76,32 @@ fn caller_of(alloc: Global, script: &Script, session: Session) -> Result<Caller,
 }
 
 // The commands of the client, in order.
-#[tactic(auto, using(crate::proofs::Clients::among_own, crate::proofs::Clients::among_other, crate::proofs::Clients::among_all))]
+#[tactic(auto, using(crate::proofs::Clients::among_all))]
 fn commands_of(alloc: Global, script: &Script, client: u16) -> Result<Vec<Command>, AllocError>
     ensures { IfOk result (λ commands. commands.items ≡ commands_of script.now client) }
 {
     let mut commands = Vec::new(alloc);
     for place in 0..script.commands() {
-        let (other, command) = script.command(place);
-        if other == client {
-            commands.push(command)?;
-        }
+        push_own(&mut commands, script, client, place)?;
     }
     Ok(commands)
+}
+
+// Adds the command at this place, where it is the client's.
+#[tactic(auto, using(crate::proofs::Clients::pushed_own, crate::proofs::Clients::pushed_other))]
+fn push_own(
+    commands: &mut Vec<Command>,
+    script: &Script,
+    client: u16,
+    place: u32,
+) -> Result<(), AllocError>
+    requires place { place < length script.now.commands }
+    requires before { commands.old.items ≡ among script.now client place }
+    ensures { OnOk result (commands.new.items ≡ among script.now client (place + 1)) }
+{
+    let (other, command) = script.command(place);
+    if other == client {
+        commands.push(command)?;
+    }
+    Ok(())
 }

@@ -1,6 +1,7 @@
 // Clients that have more commands than their sessions may submit.
-ghost use Rattle.std.specs.Prelude.{◌≡◌, ◌<◌, length};
+ghost use Rattle.std.specs.Prelude.{◌≡◌, ◌<◌, ◌≤◌, ◌+◌, length};
 ghost use Rattle.lt_spec.specs.Families.{commands_of};
+ghost use Rattle.lt_live_serve.specs.Clients.{among};
 ghost use Rattle.lt_live_serve.specs.Over.{is_over, IsFirstOver};
 
 use lt_script::{MAX_COMMANDS, Script};
@@ -26,15 +27,24 @@ fn is_over(script: &Script, client: u16) -> bool
 }
 
 /// How many commands the client has.
-#[tactic(auto, using(crate::proofs::Clients::count_own, crate::proofs::Clients::count_other, crate::proofs::Clients::count_all))]
+#[tactic(auto, using(crate::proofs::Clients::count_all))]
 pub(crate) fn count_of(script: &Script, client: u16) -> u32
     ensures { result ≡ length (commands_of script.now client) }
 {
     let mut count = 0;
     for place in 0..script.commands() {
-        if script.command(place).0 == client {
-            count += 1;
-        }
+        count += count_at(script, client, place);
     }
     count
+}
+
+// One where the command at this place is the client's.
+#[tactic(auto, using(crate::proofs::Clients::count_own, crate::proofs::Clients::count_other))]
+fn count_at(script: &Script, client: u16, place: u32) -> u32
+    requires { place < length script.now.commands }
+    ensures count { length (among script.now client (place + 1)) ≡ length (among script.now client place) + result }
+    ensures one { result ≤ 1 }
+{
+    let (other, _) = script.command(place);
+    if other == client { 1 } else { 0 }
 }

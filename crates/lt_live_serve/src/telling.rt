@@ -43,7 +43,8 @@ fn tell_at(
     ensures { OnOk result (TellsAt _script.now client stations.old.items callers.old.items stations.new.items callers.new.items) }
 {
     let home = usize::from(callers[client].home());
-    tell(&mut stations[home], &mut callers[client])
+    tell(&mut stations[home], &mut callers[client])?;
+    Ok(())
 }
 
 // Lets the caller poll all its replies.

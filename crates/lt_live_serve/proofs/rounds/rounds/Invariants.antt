@@ -3,8 +3,8 @@ use Rattle.lt_live_serve.specs.Calls.{all_left}
 use Rattle.lt_live_serve.specs.Serving.{AreServing}
 use Rattle.lt_live_serve.proofs.rounds.rounds.Given as goal
 
-abbrev pub invariant-loop-callers : goal.invariant-loop-callers
-invariant-loop-callers g l = AreServing l._script l.stations.items l.callers.items
+abbrev pub invariant-loop-stations : goal.invariant-loop-stations
+invariant-loop-stations g l = AreServing l._script l.stations.items l.callers.items
 
-abbrev pub decreases-loop-callers : goal.decreases-loop-callers
-decreases-loop-callers g l = all_left l.callers.items
+abbrev pub decreases-loop-stations : goal.decreases-loop-stations
+decreases-loop-stations g l = all_left l.callers.items

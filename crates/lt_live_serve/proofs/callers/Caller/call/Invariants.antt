@@ -1,6 +1,6 @@
 -- The caller called.
 use Rattle.lt_live_serve.specs.Calls.{Calls}
-use Rattle.lt_live_serve.proofs.calling.Caller.call.Given as goal
+use Rattle.lt_live_serve.proofs.callers.Caller.call.Given as goal
 
 abbrev pub invariant-loop : goal.invariant-loop
 invariant-loop l = Calls l.initial.self l.self
