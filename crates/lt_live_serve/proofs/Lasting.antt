@@ -60,7 +60,7 @@ station_join a b c first second = record {
 pub station_turned : (a b c : StationData) → StationGoesOn a b → GoesOn b.runner c.runner → StaySeated b.seats c.seats → StationGoesOn a c
 station_turned a b c first goes seated = station_join a b c first (record { runner = goes; seated = seated })
 
-sessions_join : (a b c : Session) → SameSession a b → SameSession b c → SameSession a c
+pub sessions_join : (a b c : Session) → SameSession a b → SameSession b c → SameSession a c
 sessions_join a b c first second = record {
   script = second.script ∙ first.script;
   client = second.client ∙ first.client;

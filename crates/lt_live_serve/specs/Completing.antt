@@ -81,3 +81,13 @@ pub record Turns (a b : StationData) : Type 0 where
   pub fits : turned ≢ NoMemory
   pub turns : StationTurns turned a.runner a.seats b.runner b.seats
   pub goes : StationGoesOn a b
+
+-- the station at this place did, and the others stay
+pub record TurnsAt (place : ℕ) (old new : List StationData) : Type 0 where
+  pub x : StationData
+  pub y : StationData
+  pub before : slice_get old place ≡ Some x
+  pub now : slice_get new place ≡ Some y
+  pub one : Turns x y
+  pub count : length new ≡ length old
+  pub others : (k : ℕ) → k ≢ place → slice_get new k ≡ slice_get old k

@@ -17,7 +17,7 @@ impl Caller {
     }
 
     /// Submits the next command of its client; false where there is none any more.
-    #[tactic(auto, using(crate::proofs::Submitting::has_left, crate::proofs::Submitting::has_place, crate::proofs::Submitting::may_ask, crate::proofs::Submitting::submitted_count))]
+    #[tactic(auto, using(crate::proofs::Submitting::has_left, crate::proofs::Submitting::has_place, crate::proofs::Submitting::targets_of, crate::proofs::Submitting::modes_of, crate::proofs::Submitting::one_more, crate::proofs::Submitting::submitted_count))]
     pub(crate) fn submit_next(&mut self) -> bool
         ensures calls { Calls self.old self.new }
         ensures one { result ≡ true → left_of self.new < left_of self.old }

@@ -17,4 +17,4 @@ caller_of-requires-clause-session c =
 pub loop-session-preserved : goal.loop-session-preserved
 loop-session-preserved c =
     subst (λ (callers : List Caller). AreNewCallers c.args.script.now (c.loop-session.yielded ++ c.in-Some.session ∷ []) callers) (sym c.in_ok-push.ensures.items)
-    (one_more_caller c.args.script.now c.loop-session.yielded c.loop-session.callers.items c.in-Some.session c.in_ok-caller_of.result c.loop-session.invariant c.in_ok-caller_of.ensures)
+    (one_more_caller c.args.script.now c.loop-session.yielded c.loop-session.callers.items c.in-Some.session c.in_ok-caller_of.field-0 c.loop-session.invariant c.in_ok-caller_of.ensures)
