@@ -32,10 +32,10 @@ gone_taken s t (inr still) = ap taken still
 module _ (turned : Turned) (a b : Parts) (seats later : List Seat) (place : ℕ) (y z : Seat) (s : Session) (h : StationTurns turned a seats b later)
     (before : slice_get seats place ≡ Some y) (turn : SeatTurns b.log.entries y z) (kept : IsSeatOf a y) (after : IsSeatOf b z) (beside : AreBeside s y)
     (none : z.hand ≡ None) where
-  old : List Command
+  abbrev pub old : List Command
   old = commands_of a.node.script y.client
 
-  new : List Command
+  abbrev pub new : List Command
   new = commands_of b.node.script z.client
 
   grown : new ≡ old ++ in_hand turn.held.hand
