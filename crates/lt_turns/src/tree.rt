@@ -1,4 +1,4 @@
-ghost use Rattle.std.specs.Prelude.{◌≡◌, ◌<◌, ◌*◌, ◌^◌, ◌/◌, ◌+◌, length, IsTrue};
+ghost use Rattle.std.specs.Prelude.{◌≡◌, ◌<◌, ◌*◌, ◌^◌, ◌/◌, ◌+◌, length};
 ghost use Rattle.lt_turns.specs.Turns.{turn_of, winner_at, earlier, comes_before, turn_after, IsFirstAfter, AreWon, AreWonBut};
 
 use crate::slot::Slot;
