@@ -1,7 +1,6 @@
 ghost use Rattle.std.specs.Prelude.{◌≡◌, ◌<◌, ◌≤◌, [], IfOk};
 ghost use Rattle.lt_script.specs.declared.limits.TheConstants.{MAX_COMMANDS};
 ghost use Rattle.lt_live.specs.Words.{SameSession};
-ghost use Rattle.lt_live.specs.Stations.{IsSeated};
 
 use lt_live::{Reply, Session, Station, open};
 use lt_modes::{Command, Mode};
@@ -44,7 +43,6 @@ pub(crate) fn script_of(alloc: Global, text: &str) -> Result<Script, Fail>
 // The first client's session, and the station of its node.
 fn first_client(alloc: Global, text: &str, capacity: u32) -> Result<(Station, Session), Fail>
     requires { (0 < capacity) × (capacity ≤ MAX_COMMANDS) }
-    ensures { IfOk result (λ ends. IsSeated ends.1 ends.0.seats) }
 {
     let script = script_of(alloc, text)?;
     if script.clients() == 0 {
@@ -80,20 +78,6 @@ fn a_full_ring_gives_the_command_back(rt: HostRuntime) -> Result<(), Fail> {
         (session.left(), station.script().commands()),
         (MAX_COMMANDS - 2, 2)
     );
-    Ok(())
-}
-
-#[test]
-fn a_reply_waits_for_a_place(rt: HostRuntime) -> Result<(), Fail> {
-    let (mut station, mut session) = first_client(rt.alloc(), ONE_CLIENT, 1)?;
-    for command in [LOCK, UNLOCK] {
-        assert_eq!(rt; submit(&mut session, command)?, Ok(()));
-        assert_eq!(rt; station.turn(&Open), Turned::Moved);
-    }
-    assert_eq!(rt; session.poll(), Some(Reply::Granted));
-    assert_eq!(rt; session.poll(), None);
-    station.beside(&mut session);
-    assert_eq!(rt; session.poll(), Some(Reply::Unlocked));
     Ok(())
 }
 
