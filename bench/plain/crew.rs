@@ -17,9 +17,9 @@ const FEW_WORKERS: u32 = 3;
 const NODES_PER_WORKER: u32 = 32;
 
 // A move in a node's text: where it ends.
-struct Moved {
-    stamp: Stamp,
-    end: usize,
+pub struct Moved {
+    pub stamp: Stamp,
+    pub end: usize,
 }
 
 struct Runner<'a> {
@@ -145,7 +145,9 @@ pub fn run(text: &[u8], tells: bool) -> Option<Vec<u8>> {
         }
     }
     let runners: Vec<Runner> = slots.into_iter().map(|slot| slot.runner.into_inner()).collect();
-    Some(journal(&script, &words, &runners))
+    let moved: Vec<_> = runners.iter().map(|runner| (&runner.moves[..], &runner.out.text)).collect();
+    let nodes: Vec<&Node> = runners.iter().map(|runner| &runner.node).collect();
+    Some(journal(&script, &words, &moved, &nodes))
 }
 
 // No letter is sent at the end.
@@ -155,26 +157,25 @@ impl Post for Nowhere {
     fn send(&mut self, _to: u8, _letter: Letter) {}
 }
 
-// The lines of all moves in order of their stamps, and those of the end.
-fn journal(script: &Script<'_>, words: &Words, runners: &[Runner<'_>]) -> Vec<u8> {
-    let mut moves = Vec::with_capacity(runners.iter().map(|runner| runner.moves.len()).sum());
-    for runner in runners {
+/// The lines of all moves in order of their stamps, and those of the end. Each node has its moves and their text.
+pub fn journal(script: &Script<'_>, words: &Words, moved: &[(&[Moved], &Text)], nodes: &[&Node<'_>]) -> Vec<u8> {
+    let mut moves = Vec::with_capacity(moved.iter().map(|(moves, _)| moves.len()).sum());
+    for (own, _) in moved {
         let mut start = 0;
-        for moved in &runner.moves {
+        for moved in *own {
             moves.push((moved.stamp, start, moved.end));
             start = moved.end;
         }
     }
     moves.sort_by_key(|moved| moved.0);
     let (_, first) = crate::begin(script);
-    let room = runners.iter().map(|runner| runner.out.text.len()).sum();
+    let room = moved.iter().map(|(_, text)| text.len()).sum();
     let mut out = Out { words, text: Text::new(room), post: Nowhere, answered: Vec::new() };
     out.text.add(first);
     for (stamp, start, end) in &moves {
         let node = (stamp & 63) as usize;
-        out.text.add(&runners[node].out.text.bytes()[*start..*end]);
+        out.text.add(&moved[node].1.bytes()[*start..*end]);
     }
-    let nodes: Vec<&Node> = runners.iter().map(|runner| &runner.node).collect();
-    close(script, &nodes, moves.len(), &mut out);
+    close(script, nodes, moves.len(), &mut out);
     out.text.into_bytes()
 }
