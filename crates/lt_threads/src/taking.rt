@@ -7,28 +7,46 @@ ghost use Rattle.lt_runner.specs.Kept.{CouldMove, Grew};
 use lt_runner::{Choice, Found, Gate, Runner, Turned, Worked};
 
 /// Lets the runner take letters until it finds none or has sent one, and tells to which nodes, a bit each.
+#[tactic(auto, using(crate::proofs::Turns::grew_join))]
 pub(crate) fn take_letters<G: Gate>(runner: &mut Runner, gate: &G) -> (u64, Worked)
     ensures { Grew runner.old runner.new }
 {
     for _ in 0..u64::MAX {
-        match take_one(runner, gate) {
-            Turned::Moved => {}
-            Turned::Quiet => return (0, Worked::Idle),
-            Turned::Full => return (0, Worked::Full),
-            Turned::NoMemory => return (0, Worked::NoMemory),
-        }
-        let reached = runner.reached();
-        if reached != 0 {
-            // A look for the next move gives the rings what waits in the outboxes.
-            runner.find();
-            return (reached, Worked::Idle);
+        if let Some(ended) = take_one(runner, gate) {
+            return ended;
         }
     }
     (0, Worked::Idle)
 }
 
-// Lets the runner take a letter if one is there.
-fn take_one<G: Gate>(runner: &mut Runner, gate: &G) -> Turned
+// Lets the runner take a letter, and tells whether the visit ends so.
+#[tactic(auto, using(crate::proofs::Turns::grew_join))]
+fn take_one<G: Gate>(runner: &mut Runner, gate: &G) -> Option<(u64, Worked)>
+    ensures { Grew runner.old runner.new }
+{
+    match turn_by_mail(runner, gate) {
+        Turned::Moved => send_on(runner),
+        Turned::Quiet => Some((0, Worked::Idle)),
+        Turned::Full => Some((0, Worked::Full)),
+        Turned::NoMemory => Some((0, Worked::NoMemory)),
+    }
+}
+
+// Where letters were sent, a look for the next move gives the rings what waits in the outboxes.
+#[tactic(auto, using(crate::proofs::Turns::seen_grew, crate::proofs::Turns::grew_join))]
+fn send_on(runner: &mut Runner) -> Option<(u64, Worked)>
+    ensures { Grew runner.old runner.new }
+{
+    let reached = runner.reached();
+    if reached == 0 {
+        return None;
+    }
+    runner.find();
+    Some((reached, Worked::Idle))
+}
+
+#[tactic(auto, using(crate::proofs::Turns::seen_grew, crate::proofs::Turns::grew_join))]
+fn turn_by_mail<G: Gate>(runner: &mut Runner, gate: &G) -> Turned
     ensures { Grew runner.old runner.new }
 {
     match runner.find() {
@@ -38,6 +56,7 @@ fn take_one<G: Gate>(runner: &mut Runner, gate: &G) -> Turned
     }
 }
 
+#[tactic(auto, using(crate::proofs::Turns::seen_grew, crate::proofs::Turns::moved_grew))]
 fn take_in_hand<G: Gate>(runner: &mut Runner, gate: &G) -> Turned
     requires chosen { next_choice runner.old ≡ choices.Take }
     requires could { CouldMove runner.old }

@@ -76,21 +76,28 @@ impl Worker {
     }
 }
 
-// Lets the runner take letters, or make any moves, until it finds none or has sent a letter.
+// Lets the runner work, and tells what came of it.
 fn work_on<G: Gate>(runner: &mut Runner, by_mail: bool, gate: &G) -> Visit
     ensures { Grew runner.old runner.new }
 {
     let before = runner.moves();
-    let (reached, worked) = if by_mail {
-        take_letters(runner, gate)
-    } else {
-        work_until_sent(runner, gate)
-    };
+    let (reached, worked) = work(runner, by_mail, gate);
     let moves = runner.moves().saturating_sub(before);
     Visit {
         moves,
         reached,
         worked,
+    }
+}
+
+// Lets the runner take letters, or make any moves, until it finds none or has sent a letter.
+fn work<G: Gate>(runner: &mut Runner, by_mail: bool, gate: &G) -> (u64, Worked)
+    ensures { Grew runner.old runner.new }
+{
+    if by_mail {
+        take_letters(runner, gate)
+    } else {
+        work_until_sent(runner, gate)
     }
 }
 
