@@ -29,13 +29,13 @@ struct Runner<'a> {
 }
 
 impl Runner<'_> {
-    // Makes a move, where there is one.
-    fn turn(&mut self) -> bool {
+    // Makes a move, where there is one; it may be that of a letter alone.
+    fn turn(&mut self, by_mail: bool) -> bool {
         self.out.post.flush();
         self.out.answered.clear();
         if let Some((from, letter)) = self.out.post.take() {
             self.node.take(from, letter, &mut self.out);
-        } else if self.node.ready != 0 {
+        } else if !by_mail && self.node.ready != 0 {
             self.node.act(self.node.ready.trailing_zeros() as u8, &mut self.out);
         } else {
             return false;
@@ -45,9 +45,9 @@ impl Runner<'_> {
     }
 
     // Makes moves until there is none, or a letter was sent; the nodes that letters went to.
-    fn visit(&mut self) -> u64 {
+    fn visit(&mut self, by_mail: bool) -> u64 {
         self.out.post.reached = 0;
-        while self.out.post.reached == 0 && self.turn() {}
+        while self.out.post.reached == 0 && self.turn(by_mail) {}
         self.out.post.flush();
         self.out.post.reached
     }
@@ -85,12 +85,12 @@ fn work(slots: &[Slot<'_>], at: u32) -> Counts {
         }
         let runner = unsafe { &mut *slot.runner.get() };
         let before = runner.moves.len();
-        let reached = runner.visit();
-        let moved = before < runner.moves.len();
+        let reached = runner.visit(outlook.by_mail);
+        let moves = runner.moves.len() - before;
         slot.taken.0.store(false, Ordering::Release);
         counts.visits += 1;
-        counts.vain += usize::from(!moved);
-        outlook.note_visit(node, moved, reached);
+        counts.vain += usize::from(moves == 0);
+        outlook.note_visit(node, moves, reached);
     }
     counts
 }
@@ -138,9 +138,9 @@ pub fn run(text: &[u8], tells: bool) -> Option<Vec<u8>> {
             eprintln!("round {rounds}: {visits} visits, {vain} of them in vain, {refused} claims refused");
         }
         for slot in &mut slots {
-            slot.runner.get_mut().visit();
+            slot.runner.get_mut().visit(false);
         }
-        if !slots.iter_mut().any(|slot| slot.runner.get_mut().turn()) {
+        if !slots.iter_mut().any(|slot| slot.runner.get_mut().turn(false)) {
             break;
         }
     }
