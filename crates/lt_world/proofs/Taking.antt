@@ -1,5 +1,5 @@
 -- A take of a letter, from what its parts do.
-use Rattle.std.proofs.Common.{◌≡◌, ℕ, ◌+◌, ◌-◌, ◌<◌, ◌^◌, List, ◌∷◌, length, drop, arith, refl, sym, ap, subst, ◌∙◌, inl, inr}
+use Rattle.std.proofs.Common.{◌≡◌, ℕ, ◌+◌, ◌-◌, ◌<◌, ◌^◌, List, ◌∷◌, length, drop, refl, sym, ap, subst, ◌∙◌, inl, inr}
 use Rattle.std.specs.Prelude.{IsTrue}
 use Rattle.std.proofs.lemmas.Bool.{cases_eq, eq-eqb, ne_eqb}
 use Rattle.lt_modes.specs.declared.stamp.Stamp.{Stamp}
@@ -15,10 +15,11 @@ use Rattle.lt_desk.specs.OutData.{OutData}
 use Rattle.lt_node.specs.NodeData.{NodeData, NodeDoes, state_of}
 use Rattle.lt_inbox.specs.Mail.{MailData, SameLetters, IsTaken, mail_in, sent_of}
 use Rattle.lt_inbox.proofs.Marks.{one_own, one_other}
-use Rattle.lt_world.specs.Fields.{IsNodeOf, IsWorld, IsOpened, Holds, node_at}
+use Rattle.lt_world.specs.Fields.{IsNodeOf, IsWorld, IsOpened, Holds, OnlyMemory, node_at}
 use Rattle.lt_world.specs.Moving.{CanTake}
 use Rattle.lt_world.proofs.Bridge.{Did, did, world_put}
 use Rattle.lt_world.proofs.Premises.{can_take}
+use Rattle.lt_world.proofs.Moves.{opened_same}
 
 -- a take that is enabled, whose letter is in hand
 pub record InHand (script : ScriptData) (q p : ℕ) (letter : Letter) (nodes : List NodeData) (boxes boxes' : MailData) (had : OutData) (run : List Logged) : Type 0 where
@@ -129,31 +130,12 @@ take_left script q p letter nodes boxes boxes' had run h front put = record {
         world_put script (opened w q (Take p)) p q (letter ∷ mail_in boxes p q) nodes boxes (record boxes { sent = sent_of p q letter ∷ boxes.sent; free = boxes.free - 1 }) h.world refl
         (one_own p q letter boxes.sent) (λ a b apart. one_other p q letter boxes.sent a b apart)
 
--- a letter that was taken and put before the others again: the letters are as they were
-pub returned : (p q : ℕ) (letter again : Letter) (boxes popped kept now : MailData) → IsTaken p q letter boxes popped → SameLetters popped kept → again ≡ letter
-    → now ≡ record kept { sent = sent_of p q again ∷ kept.sent; free = kept.free - 1 } → SameLetters boxes now
-returned p q letter again boxes popped kept now taken same e put = subst (SameLetters boxes) (sym put) (record {
-  receivers = same.receivers ∙ taken.receivers;
-  letters = λ a b. elim (cases_eq a p) [
-    | inr other ↦ apart a b (λ f g. other f)
-    | inl sender ↦ elim (cases_eq b q) [
-      | inr other ↦ apart a b (λ f g. other g)
-      | inl receiver ↦
-          subst (λ (i : ℕ). mail_in back i b ≡ mail_in boxes i b) (sym sender)
-          (subst (λ (i : ℕ). mail_in back p i ≡ mail_in boxes p i) (sym receiver) own)
-    ]
-  ];
-  room = omega (arith, taken.room, same.room);
-})
-  where
-    back : MailData
-    back = record kept { sent = sent_of p q again ∷ kept.sent; free = kept.free - 1 }
-
-    own : mail_in back p q ≡ mail_in boxes p q
-    own =
-        one_own p q again kept.sent
-        ∙ (ap (λ (l : Letter). l ∷ mail_in kept p q) e
-        ∙ (ap (λ (ls : List Letter). letter ∷ ls) (same.letters p q) ∙ sym taken.front))
-
-    apart : (a b : ℕ) → (a ≡ p → b ≡ q → ⊥) → mail_in back a b ≡ mail_in boxes a b
-    apart a b h = one_other p q again kept.sent a b h ∙ (same.letters a b ∙ taken.others a b h)
+-- where memory is refused once the letter is in hand, it goes back
+pub take_refused : (script : ScriptData) (q p : ℕ) (letter again : Letter) (nodes nodes' : List NodeData) (boxes popped kept now : MailData) (had had' : OutData)
+    (run run' : List Logged) → InHand script q p letter nodes boxes popped had run → OnlyMemory q nodes nodes' → SameLetters popped kept → again ≡ letter
+    → (had'.posts ≡ had.posts) × (had'.events ≡ had.events) → run' ≡ run → now ≡ record kept { sent = sent_of p q again ∷ kept.sent; free = kept.free - 1 }
+    → Holds script nodes' now had' run'
+take_refused script q p letter again nodes nodes' boxes popped kept now had had' run run' hand memory same e sent longer put =
+    take_left script q p again nodes' kept now had' run'
+    (opened_same script q (Take p) nodes nodes' popped kept had had' run run' (take_opened script q p letter nodes boxes popped had run hand) memory same sent longer)
+    (front_same script q p letter again popped kept run run' (mail_is script q p letter nodes boxes popped had run hand) same e longer) put

@@ -67,7 +67,6 @@ impl Network {
 
     // Takes the front letter from the sender to this node in hand, with room for the node to take it. Where memory is
     // refused, it goes back.
-    #[tactic(auto, using(crate::proofs::Taking::returned))]
     pub(super) fn open_take(
         &mut self,
         script: &Script,
