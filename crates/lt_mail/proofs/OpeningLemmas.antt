@@ -4,22 +4,25 @@ use Rattle.std.specs.Prelude.{◌⊎◌, slice_get, slice_index_or, zero, suc}
 use Rattle.std.proofs.lemmas.Bool.{cases_eq}
 use Rattle.std.proofs.lemmas.List.{length_push}
 use Rattle.std.proofs.lemmas.Option.{slice_get_cases, slice_get_within}
-use Rattle.lt_mail.specs.declared.lane.OutLane.{OutLane}
+use Rattle.rtrb.specs.Ring.{producer_capacity}
+use Rattle.lt_desk.specs.declared.letter.Letter.{Letter}
+use Rattle.lt_desk.specs.declared.letter.Post.{Post}
+use Rattle.lt_mail.specs.declared.lane.OutEnd.{OutEnd}
 use Rattle.lt_mail.specs.declared.lane.InLane.{InLane}
 use Rattle.lt_mail.specs.declared.mail.Mail.{Mail}
-use Rattle.lt_mail.specs.Lanes.{sent_by, taken, known, IsLink}
-use Rattle.lt_mail.specs.Words.{seen, out_at, in_at, on_out, on_in, outs_count, ins_count, Both, IsOpenLink, AreLinked}
+use Rattle.lt_mail.specs.Lanes.{OutLane, letters_to, lane_of, sent_by, taken, known, IsLink}
+use Rattle.lt_mail.specs.Words.{seen, out_at, end_at, in_at, on_out, on_in, outs_count, ins_count, Both, IsOpenLink, AreLinked}
 use Rattle.lt_mail.specs.Opening.{IsFresh, Opened, IsNewOut, IsNewIn, AtOne, GainsOut, GainsIn, GainsLink, Opening, AreEmpty}
 
 some_same : {X : Type 0} (x y : X) → Some x ≡ Some y → x ≡ y
 some_same x y e = cc
 
+none_is_some : {X : Type 0} (x : X) → None ≡ Some x → ⊥
+none_is_some x e = absurd (cc)
+
 pushed_cases : {X : Type 0} (xs : List X) (y : X) (j : ℕ) (x : X) → slice_get (xs ++ y ∷ []) j ≡ Some x → (slice_get xs j ≡ Some x) ⊎ ((j ≡ length xs) × (x ≡ y))
 pushed_cases [] y zero x e = inr (refl, some_same x y (sym e))
 pushed_cases [] y (suc j) x e = absurd (none_is_some x e)
-  where
-    none_is_some : {X : Type 0} (x : X) → None ≡ Some x → ⊥
-    none_is_some x e = absurd (cc)
 pushed_cases (z ∷ xs) y zero x e = inl e
 pushed_cases (z ∷ xs) y (suc j) x e = elim (pushed_cases xs y j x e) [
   | inl there ↦ inl there
@@ -49,10 +52,11 @@ before R place ms ns h k n e = elim (cases_eq k place) [
     }
 
 -- what the mail at a place gained
-record WasAt (a b k : ℕ) (out : OutLane) (into : InLane) (ms : List Mail) (n : Mail) : Type 0 where
+record WasAt (a b k : ℕ) (out : OutEnd) (into : InLane) (ms : List Mail) (n : Mail) : Type 0 where
   m : Mail
   there : slice_get ms k ≡ Some m
   me : n.me ≡ m.me
+  waiting : n.waiting.items ≡ m.waiting.items
   out_here : k ≡ a → n.outs.items ≡ m.outs.items ++ out ∷ []
   out_other : k ≢ a → n.outs.items ≡ m.outs.items
   in_here : k ≡ b → n.ins.items ≡ m.ins.items ++ into ∷ []
@@ -63,6 +67,7 @@ was_at capacity a b ms ns h k n e = record {
   m = first.m;
   there = first.there;
   me = late_me ∙ early_me;
+  waiting = late_waiting ∙ early_waiting;
   out_here = λ same. late_outs ∙ (first.here same).1;
   out_other = λ apart. late_outs ∙ ap (λ (m : Mail). m.outs.items) (first.other apart);
   in_here = λ same. (second.here same).2 ∙ ap (λ (items : List InLane). items ++ h.into ∷ []) early_ins;
@@ -87,6 +92,18 @@ was_at capacity a b ms ns h k n e = record {
       | inr apart ↦ ap (λ (m : Mail). m.me) (second.other apart)
     ]
 
+    late_waiting : n.waiting.items ≡ second.m.waiting.items
+    late_waiting = elim (cases_eq k b) [
+      | inl same ↦ (second.here same).3
+      | inr apart ↦ ap (λ (m : Mail). m.waiting.items) (second.other apart)
+    ]
+
+    early_waiting : second.m.waiting.items ≡ first.m.waiting.items
+    early_waiting = elim (cases_eq k a) [
+      | inl same ↦ (first.here same).3
+      | inr apart ↦ ap (λ (m : Mail). m.waiting.items) (first.other apart)
+    ]
+
     early_ins : second.m.ins.items ≡ first.m.ins.items
     early_ins = elim (cases_eq k a) [
       | inl same ↦ (first.here same).2
@@ -99,17 +116,17 @@ was_at capacity a b ms ns h k n e = record {
       | inr apart ↦ ap (λ (m : Mail). m.me) (first.other apart)
     ]
 
-out_cases : (a b k : ℕ) (out : OutLane) (into : InLane) (ms : List Mail) (n : Mail) (w : WasAt a b k out into ms n) (j : ℕ) (lane : OutLane) → out_at n j ≡ Some lane
-    → (out_at w.m j ≡ Some lane) ⊎ ((k ≡ a) × (j ≡ outs_count w.m) × (lane ≡ out))
+out_cases : (a b k : ℕ) (out : OutEnd) (into : InLane) (ms : List Mail) (n : Mail) (w : WasAt a b k out into ms n) (j : ℕ) (lane : OutEnd) → end_at n j ≡ Some lane
+    → (end_at w.m j ≡ Some lane) ⊎ ((k ≡ a) × (j ≡ outs_count w.m) × (lane ≡ out))
 out_cases a b k out into ms n w j lane e = elim (cases_eq k a) [
-  | inl same ↦ elim (pushed_cases w.m.outs.items out j lane (subst (λ (items : List OutLane). slice_get items j ≡ Some lane) (w.out_here same) e)) [
+  | inl same ↦ elim (pushed_cases w.m.outs.items out j lane (subst (λ (items : List OutEnd). slice_get items j ≡ Some lane) (w.out_here same) e)) [
     | inl old ↦ inl old
     | inr new ↦ inr (same, new.0, new.1)
   ]
-  | inr apart ↦ inl (subst (λ (items : List OutLane). slice_get items j ≡ Some lane) (w.out_other apart) e)
+  | inr apart ↦ inl (subst (λ (items : List OutEnd). slice_get items j ≡ Some lane) (w.out_other apart) e)
 ]
 
-in_cases : (a b k : ℕ) (out : OutLane) (into : InLane) (ms : List Mail) (n : Mail) (w : WasAt a b k out into ms n) (j : ℕ) (lane : InLane) → in_at n j ≡ Some lane
+in_cases : (a b k : ℕ) (out : OutEnd) (into : InLane) (ms : List Mail) (n : Mail) (w : WasAt a b k out into ms n) (j : ℕ) (lane : InLane) → in_at n j ≡ Some lane
     → (in_at w.m j ≡ Some lane) ⊎ ((k ≡ b) × (j ≡ ins_count w.m) × (lane ≡ into))
 in_cases a b k out into ms n w j lane e = elim (cases_eq k b) [
   | inl same ↦ elim (pushed_cases w.m.ins.items into j lane (subst (λ (items : List InLane). slice_get items j ≡ Some lane) (w.in_here same) e)) [
@@ -121,8 +138,8 @@ in_cases a b k out into ms n w j lane e = elim (cases_eq k b) [
 
 -- the new ring is between a and b, and each other one as it was
 links_more : (nodes capacity a b : ℕ) (ms ns : List Mail) → Opening nodes capacity a b ms → GainsLink capacity a b ms ns
-    → (k j : ℕ) (x y : Mail) (out : OutLane) (into : InLane) → slice_get ns k ≡ Some x → slice_get ns j ≡ Some y
-    → out_at x j ≡ Some out → in_at y k ≡ Some into → IsLink out into
+    → (k j : ℕ) (x y : Mail) (out : OutEnd) (into : InLane) → slice_get ns k ≡ Some x → slice_get ns j ≡ Some y
+    → end_at x j ≡ Some out → in_at y k ≡ Some into → IsLink out into
 links_more nodes capacity a b ms ns h g k j x y out into x_at y_at out_there into_there =
     by_cases (out_cases a b k g.out g.into ms x sender j out out_there) (in_cases a b j g.out g.into ms y taker k into into_there)
   where
@@ -138,7 +155,7 @@ links_more nodes capacity a b ms ns h g k j x y out into x_at y_at out_there int
     taken_rows : j ≡ b → ins_count taker.m ≡ a
     taken_rows same = h.ins_after j taker.m taker.there (omega (arith, same))
 
-    by_cases : (out_at sender.m j ≡ Some out) ⊎ ((k ≡ a) × (j ≡ outs_count sender.m) × (out ≡ g.out))
+    by_cases : (end_at sender.m j ≡ Some out) ⊎ ((k ≡ a) × (j ≡ outs_count sender.m) × (out ≡ g.out))
         → (in_at taker.m k ≡ Some into) ⊎ ((j ≡ b) × (k ≡ ins_count taker.m) × (into ≡ g.into)) → IsLink out into
     by_cases (inl o) (inl i) = h.links k j sender.m taker.m out into sender.there taker.there o i
     by_cases (inl o) (inr i) =
@@ -149,24 +166,25 @@ links_more nodes capacity a b ms ns h g k j x y out into x_at y_at out_there int
         let row = taken_rows (o.1 ∙ sent_rows o.0) in
         let below = slice_get_within taker.m.ins.items k into i in
         absurd (omega (arith, row, below, o.0))
-    by_cases (inr o) (inr i) = subst (λ (l : OutLane). IsLink l into) (sym o.2) (subst (λ (l : InLane). IsLink g.out l) (sym i.2) g.new.link)
+    by_cases (inr o) (inr i) = subst (λ (l : OutEnd). IsLink l into) (sym o.2) (subst (λ (l : InLane). IsLink g.out l) (sym i.2) g.new.link)
 
 one_more : (nodes capacity a b : ℕ) (ms ns : List Mail) → Opening nodes capacity a b ms → GainsLink capacity a b ms ns → Opening nodes capacity a (b + 1) ns
 one_more nodes capacity a b ms ns h g = record {
   count = g.ins.count ∙ (g.outs.count ∙ h.count);
   me = λ k n there. let w = was k n there in w.me ∙ h.me k w.m w.there;
+  waiting = λ k n there. let w = was k n there in w.waiting ∙ h.waiting k w.m w.there;
   outs_before = λ k n there before. let w = was k n there in
-      ap (λ (items : List OutLane). length items) (w.out_other (λ e. omega (arith, e, before))) ∙ h.outs_before k w.m w.there before;
+      ap (λ (items : List OutEnd). length items) (w.out_other (λ e. omega (arith, e, before))) ∙ h.outs_before k w.m w.there before;
   outs_at = λ n there. let w = was a n there in
-      ap (λ (items : List OutLane). length items) (w.out_here refl) ∙ omega (arith, length_push w.m.outs.items g.out, h.outs_at w.m w.there);
+      ap (λ (items : List OutEnd). length items) (w.out_here refl) ∙ omega (arith, length_push w.m.outs.items g.out, h.outs_at w.m w.there);
   outs_after = λ k n there after. let w = was k n there in
-      ap (λ (items : List OutLane). length items) (w.out_other (λ e. omega (arith, e, after))) ∙ h.outs_after k w.m w.there after;
+      ap (λ (items : List OutEnd). length items) (w.out_other (λ e. omega (arith, e, after))) ∙ h.outs_after k w.m w.there after;
   ins_before = ins_before;
   ins_after = λ k n there after. let w = was k n there in
       ap (λ (items : List InLane). length items) (w.in_other (λ e. omega (arith, e, after))) ∙ h.ins_after k w.m w.there (omega (arith, after));
   new_out = λ k j n lane there e. let w = was k n there in elim (out_cases a b k g.out g.into ms n w j lane e) [
     | inl old ↦ h.new_out k j w.m lane w.there old
-    | inr new ↦ subst (λ (l : OutLane). IsNewOut capacity l) (sym new.2) g.new.new_out
+    | inr new ↦ subst (λ (l : OutEnd). IsNewOut capacity l) (sym new.2) g.new.new_out
   ];
   new_in = λ k j n lane there e. let w = was k n there in elim (in_cases a b k g.out g.into ms n w j lane e) [
     | inl old ↦ h.new_in k j w.m lane w.there old
@@ -190,6 +208,7 @@ next_row : (nodes capacity a : ℕ) (ms : List Mail) → Opening nodes capacity 
 next_row nodes capacity a ms h = record {
   count = h.count;
   me = h.me;
+  waiting = h.waiting;
   outs_before = λ k m there before. elim (cases_eq k a) [
     | inl same ↦ h.outs_at m (subst (λ (p : ℕ). slice_get ms p ≡ Some m) same there)
     | inr apart ↦ h.outs_before k m there (omega (arith, before, apart))
@@ -207,9 +226,10 @@ pub first_row : (nodes capacity : ℕ) (ms : List Mail) → AreEmpty nodes ms �
 first_row nodes capacity ms h = record {
   count = h.count;
   me = λ k m there. (h.each k m there).0;
+  waiting = λ k m there. (h.each k m there).3;
   outs_before = λ k m there before. absurd (omega (arith, before));
-  outs_at = λ m there. ap (λ (items : List OutLane). length items) (h.each 0 m there).1;
-  outs_after = λ k m there after. ap (λ (items : List OutLane). length items) (h.each k m there).1;
+  outs_at = λ m there. ap (λ (items : List OutEnd). length items) (h.each 0 m there).1;
+  outs_after = λ k m there after. ap (λ (items : List OutEnd). length items) (h.each k m there).1;
   ins_before = λ k m there before. absurd (omega (arith, before));
   ins_after = λ k m there after. ap (λ (items : List InLane). length items) (h.each k m there).2;
   new_out = λ k j m lane there e. absurd (no_out j lane m.outs.items (h.each k m there).1 e);
@@ -217,8 +237,8 @@ first_row nodes capacity ms h = record {
   links = λ k j x y out into x_at y_at e i. absurd (no_out j out x.outs.items (h.each k x x_at).1 e);
 }
   where
-    no_out : (j : ℕ) (lane : OutLane) (items : List OutLane) → items ≡ [] → slice_get items j ≡ Some lane → ⊥
-    no_out j lane items none e = absurd (omega (arith, slice_get_within items j lane e, ap (λ (xs : List OutLane). length xs) none))
+    no_out : (j : ℕ) (lane : OutEnd) (items : List OutEnd) → items ≡ [] → slice_get items j ≡ Some lane → ⊥
+    no_out j lane items none e = absurd (omega (arith, slice_get_within items j lane e, ap (λ (xs : List OutEnd). length xs) none))
 
     no_in : (j : ℕ) (lane : InLane) (items : List InLane) → items ≡ [] → slice_get items j ≡ Some lane → ⊥
     no_in j lane items none e = absurd (omega (arith, slice_get_within items j lane e, ap (λ (xs : List InLane). length xs) none))
@@ -229,14 +249,16 @@ fresh nodes capacity ms h k m there = record {
   me = h.me k m there;
   outs = h.outs_before k m there (omega (arith, slice_get_within ms k m there, h.count));
   ins = h.ins_after k m there (omega arith);
-  sent = λ other. nothing_out other (out_at m other) refl;
+  sent = λ other. nothing_out other (end_at m other) refl;
   taken = λ other. nothing_taken other (in_at m other) refl;
   known = λ other. nothing_known other (in_at m other) refl;
 }
   where
-    nothing_out : (j : ℕ) (o : Option OutLane) → out_at m j ≡ o → on_out sent_by o ≡ []
+    nothing_out : (j : ℕ) (o : Option OutEnd) → end_at m j ≡ o → on_out sent_by (lane_of (letters_to j m.waiting.items) o) ≡ []
     nothing_out j None e = refl
-    nothing_out j (Some lane) e = ap seen (h.new_out k j m lane there e).sent
+    nothing_out j (Some end) e =
+        ap seen (ap (λ (letters : List Letter). letters ++ letters_to j m.waiting.items) (h.new_out k j m end there e).unused
+        ∙ ap (λ (posts : List Post). letters_to j posts) (h.waiting k m there))
 
     nothing_taken : (j : ℕ) (o : Option InLane) → in_at m j ≡ o → on_in taken o ≡ []
     nothing_taken j None e = refl
@@ -250,10 +272,16 @@ all_opened : (nodes capacity : ℕ) (ms : List Mail) → 0 < capacity → Openin
 all_opened nodes capacity ms some h = record {
   count = h.count;
   fresh = fresh nodes capacity ms h;
-  places = λ k j m lane there e. (h.new_out k j m lane there e).places;
+  places = λ k j m lane there e. places_at k j m lane there (end_at m j) refl e;
   links = linked;
 }
   where
+    places_at : (k j : ℕ) (m : Mail) (lane : OutLane) → slice_get ms k ≡ Some m → (o : Option OutEnd) → end_at m j ≡ o
+        → lane_of (letters_to j m.waiting.items) o ≡ Some lane → producer_capacity lane.end.ring ≡ capacity
+    places_at k j m lane there None none e = absurd (none_is_some lane e)
+    places_at k j m lane there (Some end) here e =
+        subst (λ (l : OutLane). producer_capacity l.end.ring ≡ capacity) (some_same _ lane e) (h.new_out k j m end there here).places
+
     linked : (a b : ℕ) (x y : Mail) → slice_get ms a ≡ Some x → slice_get ms b ≡ Some y → AreLinked x y
     linked a b x y x_at y_at =
         rw (h.me a x x_at) (rw (h.me b y y_at) (ends (slice_get_cases x.outs.items b).1 (slice_get_cases y.ins.items a).1))
@@ -270,7 +298,7 @@ all_opened nodes capacity ms some h = record {
         b_below : b < nodes
         b_below = omega (arith, slice_get_within ms b y y_at, h.count)
 
-        ends : ((o : OutLane) × (b < outs_count x) × (out_at x b ≡ Some o) × (slice_index_or x.outs.items b o ≡ o)) ⊎ ((outs_count x ≤ b) × (out_at x b ≡ None))
+        ends : ((o : OutEnd) × (b < outs_count x) × (end_at x b ≡ Some o) × (slice_index_or x.outs.items b o ≡ o)) ⊎ ((outs_count x ≤ b) × (end_at x b ≡ None))
             → ((i : InLane) × (a < ins_count y) × (in_at y a ≡ Some i) × (slice_index_or y.ins.items a i ≡ i)) ⊎ ((ins_count y ≤ a) × (in_at y a ≡ None))
             → Both IsOpenLink (out_at x b) (in_at y a)
         ends (inr o) i = absurd (omega (arith, o.0, all_outs, b_below))
