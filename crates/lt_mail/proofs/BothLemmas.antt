@@ -115,3 +115,25 @@ both_met (Some b) (Some c) (Some d) (Some i) (Some j) p f l s k = record { whole
       arith, full, f.places, p.0, p.1, length-append (taken j) (known j), ap (λ (letters : List Letter). length letters) k,
       ap (λ (letters : List Letter). length letters) l.ring_given, ap (λ (letters : List Letter). length letters) s.taken,
     ))
+
+-- all that was done to the two mails
+pub all_met : (out mid last end into seen knowing : Mail) → OutChanges LooksAgain out mid into.me → InChanges Sees into seen out.me
+    → Both KnowsPlaces (out_at mid into.me) (in_at seen out.me) → OutChanges Flushes mid last into.me
+    → OutChanges LooksAgain last end seen.me → InChanges Sees seen knowing last.me → Both KnowsLetters (out_at end seen.me) (in_at knowing last.me)
+    → Both IsMet (out_at end into.me) (in_at knowing out.me) × OutChanges LaneGives out end into.me × InChanges Sees into knowing out.me
+all_met out mid last end into seen knowing looks sees places flushes looks_later sees_later letters = (
+  both_met (out_at mid into.me) (out_at last into.me) (out_at end into.me) (in_at seen out.me) (in_at knowing out.me) places flushes.lane late.lane
+    more.lane (subst (λ (k : ℕ). Both KnowsLetters (out_at end into.me) (in_at knowing k)) same_out
+    (subst (λ (k : ℕ). Both KnowsLetters (out_at end k) (in_at knowing last.me)) sees.me letters)),
+  out_met out mid last end into.me looks flushes late,
+  in_met into seen knowing out.me sees more,
+)
+  where
+    same_out : last.me ≡ out.me
+    same_out = flushes.me ∙ looks.me
+
+    late : OutChanges LooksAgain last end into.me
+    late = subst (λ (k : ℕ). OutChanges LooksAgain last end k) sees.me looks_later
+
+    more : InChanges Sees seen knowing out.me
+    more = subst (λ (k : ℕ). InChanges Sees seen knowing k) same_out sees_later

@@ -215,20 +215,20 @@ kept_one only outs waiting ys zs now others next held marked left n to post h on
     none_free : EndIsFull (slice_get zs post.to)
     none_free = subst (λ (k : ℕ). EndIsFull (slice_get zs k)) at (by_mark (is_held held to) refl)
 
-ends_join : (letter : Letter) (o p q : Option OutEnd) → Alike Looks o p → Alike (GivesOne letter) p q → (t : Bool) (r k : List Letter) (x : Option OutLane)
-    → LaneAt (LaneGoes t false r k) x o → LaneAt (LaneGoes t false r k) x p
-ends_join letter None None q looks gives t r k x h = h
-ends_join letter None (Some y) q looks gives t r k x h = absurd looks
-ends_join letter (Some o) None q looks gives t r k x h = absurd looks
-ends_join letter (Some o) (Some p) q looks gives t r k None h = h
-ends_join letter (Some o) (Some p) q looks gives t r k (Some x) h = record {
+look_first : (o p : Option OutEnd) → Alike Looks o p → (t : Bool) (r k : List Letter) (x : Option OutLane)
+    → LaneAt (LaneGoes t false r k) x o → t ≡ true → LaneAt (LaneGoes t false r k) x p
+look_first None None looks t r k x h tried = h
+look_first None (Some p) looks t r k x h tried = absurd looks
+look_first (Some o) None looks t r k x h tried = absurd looks
+look_first (Some o) (Some p) looks t r k None h tried = h
+look_first (Some o) (Some p) looks t r k (Some x) h tried = record {
   ring = ((looks.0.0.0 ∙ h.ring.0.0, looks.0.0.1 ∙ h.ring.0.1, looks.0.0.2 ∙ h.ring.0.2, looks.0.0.3 ∙ h.ring.0.3), looks.0.1 ∙ h.ring.1);
   all = ap (λ (letters : List Letter). letters ++ (k ++ r)) looks.1 ∙ h.all;
   grew = (h.grew.0, h.grew.1 ∙ sym looks.1);
   places = omega (arith, h.places, looks.2, ap (λ (letters : List Letter). length letters) looks.1);
   free = h.free;
   full = λ marked. absurd (false≢true marked);
-  same = h.same;
+  same = λ untried. absurd (false≢true (sym untried ∙ tried));
 }
 
 -- a letter is given to its ring, which was looked at
@@ -246,10 +246,10 @@ gave_one only outs waiting ys ls zs now others held left n to post h one first a
       (sym is_free)
       (lane_gave (is_tried only post.to) post.letter (letters_to post.to more) (letters_to post.to h.kept) (lane_in outs waiting post.to)
         (slice_get ls post.to) (slice_get zs post.to) tried gives_here
-        (ends_join post.letter (slice_get ys post.to) (slice_get ls post.to) (slice_get zs post.to) looks_here gives_here (is_tried only post.to)
+        (look_first (slice_get ys post.to) (slice_get ls post.to) looks_here (is_tried only post.to)
           (post.letter ∷ letters_to post.to more) (letters_to post.to h.kept) (lane_in outs waiting post.to)
           (subst (λ (b : Bool). LaneAt (LaneGoes (is_tried only post.to) b (post.letter ∷ letters_to post.to more) (letters_to post.to h.kept))
-            (lane_in outs waiting post.to) (slice_get ys post.to)) is_free lane)))))
+            (lane_in outs waiting post.to) (slice_get ys post.to)) is_free lane) tried))))
   where
     is_free : is_held held post.to ≡ false
     is_free = subst (λ (k : ℕ). is_held held k ≡ false) at free
@@ -259,6 +259,9 @@ gave_one only outs waiting ys ls zs now others held left n to post h one first a
 
     gives_here : Alike (GivesOne post.letter) (slice_get ls post.to) (slice_get zs post.to)
     gives_here = subst (λ (k : ℕ). Alike (GivesOne post.letter) (slice_get ls k) (slice_get zs k)) at gives.here
+
+abbrev with_outbox : OutEnd → List Letter → OutLane
+with_outbox end letters = record { end = end; outbox = letters }
 
 lane_ends : (t b : Bool) (k : List Letter) (x : Option OutLane) (y : Option OutEnd) → LaneAt (LaneGoes t b [] k) x y → Alike (Passes t) x (lane_of k y)
 lane_ends t b k None None h = tt
@@ -283,7 +286,7 @@ lane_ends true b k (Some x) (Some y) h = record {
     stops : (k ≡ []) ⊎ (known_free y.ring ≡ 0)
     stops = by_mark b refl
 lane_ends false b k (Some x) (Some y) h =
-    ap (λ (end : OutEnd). record { end = end; outbox = k }) (h.same refl).0 ∙ ap (λ (letters : List Letter). record { end = x.end; outbox = letters }) (sym (append-nil k) ∙ (h.same refl).1)
+    ap (λ (end : OutEnd). with_outbox end k) (h.same refl).0 ∙ ap (λ (letters : List Letter). with_outbox x.end letters) (sym (append-nil k) ∙ (h.same refl).1)
 
 -- all letters were looked at
 pub all_passed : (only : Option ℕ) (outs : List OutEnd) (waiting : List Post) (ys : List OutEnd) (now : List Post) (held : List Bool) (left : ℕ)

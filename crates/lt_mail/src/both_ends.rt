@@ -8,14 +8,16 @@ ghost use Rattle.lt_mail.specs.Changes.{OutChanges, InChanges};
 use crate::mail::Mail;
 
 // Looks at the ring from both of its ends, after which the taking end knows all letters in it.
+#[tactic(auto, using(crate::proofs::BothLemmas::linked_still, crate::proofs::BothLemmas::linked_ends, crate::proofs::BothLemmas::all_met))]
 fn meet(out: &mut Mail, into: &mut Mail)
     requires link { AreLinked out.old into.old }
     ensures met { Both IsMet (out_at out.new into.old.me) (in_at into.new out.old.me) }
     ensures out { OutChanges LaneGives out.old out.new into.old.me }
     ensures into { InChanges Sees into.old into.new out.old.me }
 {
+    let to = into.me;
     see_places(out, into);
-    out.flush_on(into.me);
+    out.flush_on(to);
     see_letters(out, into);
 }
 
