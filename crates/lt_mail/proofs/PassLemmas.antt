@@ -1,6 +1,7 @@
 -- Letters go from the list of those that wait into the rings, one after the other.
 use Rattle.std.proofs.Common.{◌≡◌, ◌≢◌, refl, ap, ℕ, Bool, true, false, ◌+◌, ◌<◌, ◌≤◌, inl, inr, List, [], ◌∷◌, ◌++◌, length, get_or, set, Option, Some, None, sym, subst, arith, ◌∙◌, append-nil, append_assoc, length-set, get_or-set_same, get_or-set_other}
-use Rattle.std.specs.Prelude.{◌⊎◌, ◌==◌, zero, suc, slice_get}
+use Rattle.std.specs.Prelude.{◌⊎◌, ◌==◌, zero, suc, slice_get, replicate}
+use Rattle.std.proofs.lemmas.List.{length-replicate}
 use Rattle.std.specs.List.{filter_map}
 use Rattle.std.proofs.lemmas.List.{length_push}
 use Rattle.std.proofs.lemmas.Bool.{cases_eq, false≢true, eq-eqb, ne_eqb}
@@ -54,6 +55,18 @@ none_passed only outs waiting held left marks free len = record {
       full = λ marked. absurd (false≢true (sym (free node) ∙ marked));
       same = λ _. (refl, refl);
     }
+
+none_marked : (n node : ℕ) → is_held (replicate n false) node ≡ false
+none_marked zero node = refl
+none_marked (suc n) zero = refl
+none_marked (suc n) (suc node) = none_marked n node
+
+-- no node is held back at first
+pub first_passed : (only : Option ℕ) (outs : List OutEnd) (waiting : List Post) (held : List Bool) (left : ℕ) → held ≡ replicate 256 false
+    → length waiting ≡ left → Passing only outs waiting outs waiting held left
+first_passed only outs waiting held left marks len =
+    subst (λ (bits : List Bool). Passing only outs waiting outs waiting bits left) (sym marks)
+    (none_passed only outs waiting (replicate 256 false) left (length-replicate 256 false) (none_marked 256) len)
 
 -- the letter that is looked at next
 record Next (rest kept : List Post) (post : Post) (others : List Post) : Type 0 where
