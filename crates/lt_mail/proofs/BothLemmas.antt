@@ -41,12 +41,12 @@ linked_still out mid last into seen link looks sees flushes =
     subst (λ (k : ℕ). Both IsOpenLink (out_at last k) (in_at seen last.me)) (sym sees.me)
     (subst (λ (k : ℕ). Both IsOpenLink (out_at last into.me) (in_at seen k)) (sym (flushes.me ∙ looks.me))
     (still_linked Flushes (λ (i j : InLane). SameIn i j) (λ x y h. h.ring) (λ x y h. h) (out_at mid into.me) (out_at last into.me) (in_at seen out.me) (in_at seen out.me)
-      flushes.lane (itself (in_at seen out.me) first)
-      first))
+    flushes.lane (itself (in_at seen out.me) first)
+    first))
   where
     first : Both IsOpenLink (out_at mid into.me) (in_at seen out.me)
     first = still_linked LooksAgain Sees (λ x y h. h.ring) (λ x y h. h.ring) (out_at out into.me) (out_at mid into.me) (in_at into out.me) (in_at seen out.me)
-      looks.lane sees.lane link
+        looks.lane sees.lane link
 
     itself : (i : Option InLane) → Both IsOpenLink (out_at mid into.me) i → Both (λ (x y : InLane). SameIn x y) i i
     itself None l = absurd (no_end (out_at mid into.me) l)
@@ -63,8 +63,10 @@ gives (Some a) None c d x y z = absurd x
 gives (Some a) (Some b) None d x y z = absurd y
 gives (Some a) (Some b) (Some c) None x y z = absurd z
 gives (Some a) (Some b) (Some c) (Some d) x y z = record {
-  ring = ((z.ring.0.0 ∙ y.ring.0.0 ∙ x.ring.0.0, z.ring.0.1 ∙ y.ring.0.1 ∙ x.ring.0.1, z.ring.0.2 ∙ y.ring.0.2 ∙ x.ring.0.2, z.ring.0.3 ∙ y.ring.0.3 ∙ x.ring.0.3),
-    z.ring.1 ∙ y.ring.1 ∙ x.ring.1);
+  ring = (
+    (z.ring.0.0 ∙ y.ring.0.0 ∙ x.ring.0.0, z.ring.0.1 ∙ y.ring.0.1 ∙ x.ring.0.1, z.ring.0.2 ∙ y.ring.0.2 ∙ x.ring.0.2, z.ring.0.3 ∙ y.ring.0.3 ∙ x.ring.0.3),
+    z.ring.1 ∙ y.ring.1 ∙ x.ring.1,
+  );
   sent = ap (λ (letters : List Letter). letters ++ outbox_letters d) z.ring_given ∙ (ap (λ (letters : List Letter). ring_given c ++ letters) z.outbox
       ∙ (y.sent ∙ (ap (λ (letters : List Letter). letters ++ outbox_letters b) x.ring_given ∙ ap (λ (letters : List Letter). ring_given a ++ letters) x.outbox)));
   grew = (y.grew.0, ap (λ (letters : List Letter). letters ++ y.grew.0) (sym x.ring_given) ∙ (y.grew.1 ∙ sym z.ring_given));
@@ -86,8 +88,11 @@ sees_join (Some i) (Some j) None x y = absurd y
 sees_join (Some i) (Some j) (Some k) x y = record {
   ring = ((y.ring.0.0 ∙ x.ring.0.0, y.ring.0.1 ∙ x.ring.0.1, y.ring.0.2 ∙ x.ring.0.2, y.ring.0.3 ∙ x.ring.0.3), y.ring.1 ∙ x.ring.1);
   taken = y.taken ∙ x.taken;
-  learnt = (x.learnt.0 ++ y.learnt.0, sym (append_assoc (known i) x.learnt.0 y.learnt.0)
-      ∙ (ap (λ (letters : List Letter). letters ++ y.learnt.0) x.learnt.1 ∙ y.learnt.1));
+  learnt = (
+    x.learnt.0 ++ y.learnt.0,
+    sym (append_assoc (known i) x.learnt.0 y.learnt.0)
+        ∙ (ap (λ (letters : List Letter). letters ++ y.learnt.0) x.learnt.1 ∙ y.learnt.1),
+  );
 }
 
 pub in_met : (a b c : Mail) (from : ℕ) → InChanges Sees a b from → InChanges Sees b c from → InChanges Sees a c from
@@ -112,8 +117,15 @@ both_met (Some b) (Some c) (Some d) (Some i) (Some j) p f l s k = record { whole
     by_stop : (outbox_letters c ≡ []) ⊎ (known_free c.end.ring ≡ 0) → (outbox_letters d ≡ []) ⊎ (0 < length (known j))
     by_stop (inl none) = inl (l.outbox ∙ none)
     by_stop (inr full) = inr (omega (
-      arith, full, f.places, p.0, p.1, length-append (taken j) (known j), ap (λ (letters : List Letter). length letters) k,
-      ap (λ (letters : List Letter). length letters) l.ring_given, ap (λ (letters : List Letter). length letters) s.taken,
+      arith,
+      full,
+      f.places,
+      p.0,
+      p.1,
+      length-append (taken j) (known j),
+      ap (λ (letters : List Letter). length letters) k,
+      ap (λ (letters : List Letter). length letters) l.ring_given,
+      ap (λ (letters : List Letter). length letters) s.taken,
     ))
 
 -- all that was done to the two mails
@@ -123,8 +135,8 @@ pub all_met : (out mid last end into seen knowing : Mail) → OutChanges LooksAg
     → Both IsMet (out_at end into.me) (in_at knowing out.me) × OutChanges LaneGives out end into.me × InChanges Sees into knowing out.me
 all_met out mid last end into seen knowing looks sees places flushes looks_later sees_later letters = (
   both_met (out_at mid into.me) (out_at last into.me) (out_at end into.me) (in_at seen out.me) (in_at knowing out.me) places flushes.lane late.lane
-    more.lane (subst (λ (k : ℕ). Both KnowsLetters (out_at end into.me) (in_at knowing k)) same_out
-    (subst (λ (k : ℕ). Both KnowsLetters (out_at end k) (in_at knowing last.me)) sees.me letters)),
+      more.lane (subst (λ (k : ℕ). Both KnowsLetters (out_at end into.me) (in_at knowing k)) same_out
+      (subst (λ (k : ℕ). Both KnowsLetters (out_at end k) (in_at knowing last.me)) sees.me letters)),
   out_met out mid last end into.me looks flushes late,
   in_met into seen knowing out.me sees more,
 )

@@ -100,9 +100,9 @@ step : (only : Option ℕ) (outs : List OutEnd) (waiting : List Post) (ys zs : L
     → ((node : ℕ) → node ≢ post.to → is_held marked node ≡ is_held held node)
     → ((node : ℕ) → node ≢ post.to → letters_to node (h.kept ++ tail) ≡ letters_to node h.kept)
     → ((more : List Post) → LaneAt (LaneGoes (is_tried only post.to) (is_held held post.to) (post.letter ∷ letters_to post.to more) (letters_to post.to h.kept))
-          (lane_in outs waiting post.to) (slice_get ys post.to)
-        → LaneAt (LaneGoes (is_tried only post.to) (is_held marked post.to) (letters_to post.to more) (letters_to post.to (h.kept ++ tail)))
-          (lane_in outs waiting post.to) (slice_get zs post.to))
+    (lane_in outs waiting post.to) (slice_get ys post.to)
+    → LaneAt (LaneGoes (is_tried only post.to) (is_held marked post.to) (letters_to post.to more) (letters_to post.to (h.kept ++ tail)))
+    (lane_in outs waiting post.to) (slice_get zs post.to))
     → Passing only outs waiting zs next marked n
 step only outs waiting ys zs now others next tail held marked left n post h one first last count marks ends holds letters lane = record {
   rest = at.more;
@@ -165,8 +165,11 @@ lane_gave t letter r k (Some x) (Some y) (Some z) tried gives h = record {
       ∙ (append_assoc (sent y.ring) (letter ∷ []) (k ++ r)
       ∙ (ap (λ (kept : List Letter). sent y.ring ++ letter ∷ (kept ++ r)) none
       ∙ (sym (ap (λ (kept : List Letter). sent y.ring ++ (kept ++ letter ∷ r)) none) ∙ h.all)));
-  grew = (h.grew.0 ++ letter ∷ [], sym (append_assoc (sent x.end.ring) h.grew.0 (letter ∷ []))
-      ∙ (ap (λ (letters : List Letter). letters ++ letter ∷ []) h.grew.1 ∙ sym gives.1));
+  grew = (
+    h.grew.0 ++ letter ∷ [],
+    sym (append_assoc (sent x.end.ring) h.grew.0 (letter ∷ []))
+        ∙ (ap (λ (letters : List Letter). letters ++ letter ∷ []) h.grew.1 ∙ sym gives.1),
+  );
   places = omega (arith, h.places, gives.2, ap (λ (letters : List Letter). length letters) gives.1, length_push (sent y.ring) letter);
   free = λ _ _. none;
   full = λ marked. absurd (false≢true marked);
@@ -194,11 +197,11 @@ left_one only outs waiting ys now others next held left n post h one first last 
     step only outs waiting ys ys now others next (post ∷ []) held held left n post h one first last refl h.marks (λ node apart. refl) (λ node apart. refl)
     (λ node apart. last_other node h.kept post (λ e. apart (sym e)))
     (λ more lane. subst (λ (letters : List Letter). LaneAt (LaneGoes (is_tried only post.to) (is_held held post.to) (letters_to post.to more) letters)
-      (lane_in outs waiting post.to) (slice_get ys post.to)) (sym (last_here post.to h.kept post refl))
-      (lane_kept (is_tried only post.to) (is_held held post.to) (is_held held post.to) post.letter (letters_to post.to more) (letters_to post.to h.kept)
-        (lane_in outs waiting post.to) (slice_get ys post.to) (slice_get ys post.to) (looks_itself (slice_get ys post.to))
-        (λ marked. lane_full (is_tried only post.to) (is_held held post.to) (letters_to post.to h.rest) (letters_to post.to h.kept)
-          (lane_in outs waiting post.to) (slice_get ys post.to) (h.lanes post.to) marked) (λ _. refl) (λ tried. absurd (false≢true (sym untried ∙ tried))) lane))
+    (lane_in outs waiting post.to) (slice_get ys post.to)) (sym (last_here post.to h.kept post refl))
+    (lane_kept (is_tried only post.to) (is_held held post.to) (is_held held post.to) post.letter (letters_to post.to more) (letters_to post.to h.kept)
+    (lane_in outs waiting post.to) (slice_get ys post.to) (slice_get ys post.to) (looks_itself (slice_get ys post.to))
+    (λ marked. lane_full (is_tried only post.to) (is_held held post.to) (letters_to post.to h.rest) (letters_to post.to h.kept)
+    (lane_in outs waiting post.to) (slice_get ys post.to) (h.lanes post.to) marked) (λ _. refl) (λ tried. absurd (false≢true (sym untried ∙ tried))) lane))
 
 -- a letter whose ring has no place stays, and then its node is held back
 pub kept_one : (only : Option ℕ) (outs : List OutEnd) (waiting : List Post) (ys zs : List OutEnd) (now others next : List Post) (held marked : List Bool)
@@ -208,14 +211,14 @@ pub kept_one : (only : Option ℕ) (outs : List OutEnd) (waiting : List Post) (y
 kept_one only outs waiting ys zs now others next held marked left n to post h one first last at below tried looks same full marks =
     subst (λ (bits : List Bool). Passing only outs waiting zs next bits n) (sym marks)
     (step only outs waiting ys zs now others next (post ∷ []) held (set held to true) left n post h one first last looks.count
-      (length-set held to true ∙ h.marks) (λ node apart. looks.others node (λ e. apart (e ∙ at)))
-      (λ node apart. get_or-set_other held to node true false (λ e. apart (e ∙ at))) (λ node apart. last_other node h.kept post (λ e. apart (sym e)))
-      (λ more lane. subst (λ (letters : List Letter). LaneAt (LaneGoes (is_tried only post.to) (is_held (set held to true) post.to) (letters_to post.to more) letters)
-        (lane_in outs waiting post.to) (slice_get zs post.to)) (sym (last_here post.to h.kept post refl))
-        (lane_kept (is_tried only post.to) (is_held held post.to) (is_held (set held to true) post.to) post.letter (letters_to post.to more)
-          (letters_to post.to h.kept) (lane_in outs waiting post.to) (slice_get ys post.to) (slice_get zs post.to)
-          (subst (λ (k : ℕ). Alike Looks (slice_get ys k) (slice_get zs k)) at looks.here) (λ _. none_free)
-          (λ untried. absurd (false≢true (sym untried ∙ tried))) (λ _. held_now) lane)))
+    (length-set held to true ∙ h.marks) (λ node apart. looks.others node (λ e. apart (e ∙ at)))
+    (λ node apart. get_or-set_other held to node true false (λ e. apart (e ∙ at))) (λ node apart. last_other node h.kept post (λ e. apart (sym e)))
+    (λ more lane. subst (λ (letters : List Letter). LaneAt (LaneGoes (is_tried only post.to) (is_held (set held to true) post.to) (letters_to post.to more) letters)
+    (lane_in outs waiting post.to) (slice_get zs post.to)) (sym (last_here post.to h.kept post refl))
+    (lane_kept (is_tried only post.to) (is_held held post.to) (is_held (set held to true) post.to) post.letter (letters_to post.to more)
+    (letters_to post.to h.kept) (lane_in outs waiting post.to) (slice_get ys post.to) (slice_get zs post.to)
+    (subst (λ (k : ℕ). Alike Looks (slice_get ys k) (slice_get zs k)) at looks.here) (λ _. none_free)
+    (λ untried. absurd (false≢true (sym untried ∙ tried))) (λ _. held_now) lane)))
   where
     held_now : is_held (set held to true) post.to ≡ true
     held_now = subst (λ (k : ℕ). is_held (set held to true) k ≡ true) at (get_or-set_same held to true false (omega (arith, below, h.marks)))
@@ -254,15 +257,15 @@ gave_one only outs waiting ys ls zs now others held left n to post h one first a
     (λ node apart. gives.others node (λ e. apart (e ∙ at)) ∙ looks.others node (λ e. apart (e ∙ at))) (λ node apart. refl)
     (λ node apart. ap (λ (posts : List Post). letters_to node posts) (append-nil h.kept))
     (λ more lane. subst (λ (posts : List Post). LaneAt (LaneGoes (is_tried only post.to) (is_held held post.to) (letters_to post.to more) (letters_to post.to posts))
-      (lane_in outs waiting post.to) (slice_get zs post.to)) (sym (append-nil h.kept))
-      (subst (λ (b : Bool). LaneAt (LaneGoes (is_tried only post.to) b (letters_to post.to more) (letters_to post.to h.kept)) (lane_in outs waiting post.to) (slice_get zs post.to))
-      (sym is_free)
-      (lane_gave (is_tried only post.to) post.letter (letters_to post.to more) (letters_to post.to h.kept) (lane_in outs waiting post.to)
-        (slice_get ls post.to) (slice_get zs post.to) tried gives_here
-        (look_first (slice_get ys post.to) (slice_get ls post.to) looks_here (is_tried only post.to)
-          (post.letter ∷ letters_to post.to more) (letters_to post.to h.kept) (lane_in outs waiting post.to)
-          (subst (λ (b : Bool). LaneAt (LaneGoes (is_tried only post.to) b (post.letter ∷ letters_to post.to more) (letters_to post.to h.kept))
-            (lane_in outs waiting post.to) (slice_get ys post.to)) is_free lane) tried))))
+    (lane_in outs waiting post.to) (slice_get zs post.to)) (sym (append-nil h.kept))
+    (subst (λ (b : Bool). LaneAt (LaneGoes (is_tried only post.to) b (letters_to post.to more) (letters_to post.to h.kept)) (lane_in outs waiting post.to) (slice_get zs post.to))
+    (sym is_free)
+    (lane_gave (is_tried only post.to) post.letter (letters_to post.to more) (letters_to post.to h.kept) (lane_in outs waiting post.to)
+    (slice_get ls post.to) (slice_get zs post.to) tried gives_here
+    (look_first (slice_get ys post.to) (slice_get ls post.to) looks_here (is_tried only post.to)
+    (post.letter ∷ letters_to post.to more) (letters_to post.to h.kept) (lane_in outs waiting post.to)
+    (subst (λ (b : Bool). LaneAt (LaneGoes (is_tried only post.to) b (post.letter ∷ letters_to post.to more) (letters_to post.to h.kept))
+    (lane_in outs waiting post.to) (slice_get ys post.to)) is_free lane) tried))))
   where
     is_free : is_held held post.to ≡ false
     is_free = subst (λ (k : ℕ). is_held held k ≡ false) at free
@@ -309,8 +312,8 @@ all_passed only outs waiting ys now held left h none = record {
   lanes = λ node. subst (λ (posts : List Post). Alike (Passes (is_tried only node)) (lane_in outs waiting node) (lane_of (letters_to node posts) (slice_get ys node)))
       (sym (h.items ∙ ap (λ (posts : List Post). posts ++ h.kept) no_rest))
       (lane_ends (is_tried only node) (is_held held node) (letters_to node h.kept) (lane_in outs waiting node) (slice_get ys node)
-        (subst (λ (posts : List Post). LaneAt (LaneGoes (is_tried only node) (is_held held node) (letters_to node posts) (letters_to node h.kept))
-          (lane_in outs waiting node) (slice_get ys node)) no_rest (h.lanes node)));
+      (subst (λ (posts : List Post). LaneAt (LaneGoes (is_tried only node) (is_held held node) (letters_to node posts) (letters_to node h.kept))
+      (lane_in outs waiting node) (slice_get ys node)) no_rest (h.lanes node)));
 }
   where
     is_none : (posts : List Post) → length posts ≡ 0 → posts ≡ []
