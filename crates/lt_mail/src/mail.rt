@@ -144,7 +144,7 @@ impl Mail {
     }
 
     /// Flushes the outbox to each node.
-    #[tactic(auto, using(crate::proofs::FlushLemmas::all_flushed, crate::proofs::FlushLemmas::passed_kept))]
+    #[tactic(auto, using(crate::proofs::FlushLemmas::passed_kept))]
     pub fn flush_all(&mut self)
         ensures sent { (node : ℕ) → sent_to self.new node ≡ sent_to self.old node }
         ensures stops { (node : ℕ) → (waiting_to self.new node ≡ []) ⊎ IsFullTo self.new node }
@@ -171,7 +171,6 @@ fn make_room(waiting: &mut VecDeque<Post>, letters: usize) -> Result<(), AllocEr
 
 // What one lane of a mail does.
 impl Mail {
-    #[tactic(auto, using(crate::proofs::FlushLemmas::put_changes))]
     pub(crate) fn put_on(&mut self, to: u8, letter: Letter)
         requires peer { to < outs_count self.old }
         requires room { HasRoomFor self.old 1 }
