@@ -1,9 +1,8 @@
 -- A ring that is looked at from both of its ends.
-use Rattle.std.proofs.Common.{◌≡◌, ◌≢◌, refl, ap, ℕ, ◌+◌, ◌<◌, ◌≤◌, inl, inr, List, [], ◌++◌, length, Option, Some, None, sym, subst, arith, ◌∙◌, append_assoc, length-append}
+use Rattle.std.proofs.Common.{◌≡◌, refl, ap, ℕ, ◌<◌, inl, inr, List, [], ◌++◌, length, Option, Some, None, sym, subst, arith, ◌∙◌, append_assoc, length-append}
 use Rattle.std.specs.Prelude.{◌⊎◌, slice_get}
 use Rattle.std.proofs.lemmas.Option.{slice_get_within}
-use mathlib.Core.List.{IsPrefix}
-use Rattle.rtrb.specs.Ring.{known_free, producer_capacity, SameProducer, IsPair}
+use Rattle.rtrb.specs.Ring.{known_free}
 use Rattle.lt_desk.specs.declared.letter.Letter.{Letter}
 use Rattle.lt_mail.specs.declared.lane.OutEnd.{OutEnd}
 use Rattle.lt_mail.specs.declared.lane.InLane.{InLane}

@@ -1,6 +1,6 @@
 -- Mails whose letters went into the rings.
-use Rattle.std.proofs.Common.{◌≡◌, ◌≢◌, refl, ap, ℕ, Bool, true, false, ◌+◌, ◌<◌, inl, inr, List, [], ◌∷◌, ◌++◌, length, Option, Some, None, sym, subst, arith, ◌∙◌, append_assoc}
-use Rattle.std.specs.Prelude.{◌⊎◌, ◌==◌, slice_get}
+use Rattle.std.proofs.Common.{◌≡◌, refl, ap, ℕ, Bool, true, false, ◌<◌, inl, inr, List, [], ◌∷◌, ◌++◌, length, Option, Some, None, sym, subst, arith, ◌∙◌, append_assoc}
+use Rattle.std.specs.Prelude.{◌⊎◌, slice_get}
 use Rattle.std.proofs.lemmas.Bool.{eq-eqb, ne_eqb}
 use Rattle.std.proofs.lemmas.Option.{slice_get_cases}
 use Rattle.rtrb.specs.Ring.{known_free, sent}
@@ -10,10 +10,10 @@ use Rattle.lt_mail.specs.declared.lane.OutEnd.{OutEnd}
 use Rattle.lt_mail.specs.declared.lane.InLane.{InLane}
 use Rattle.lt_mail.specs.declared.mail.Mail.{Mail}
 use Rattle.lt_mail.specs.Lanes.{OutLane, letters_to, lane_of, sent_by, outbox_letters}
-use Rattle.lt_mail.specs.Words.{seen, Alike, Both, SameOut, SameIn, SameEnds, out_at, in_at, outs_count, on_out, waiting_to, IsFullTo}
+use Rattle.lt_mail.specs.Words.{seen, Alike, Both, SameOut, SameIn, out_at, in_at, outs_count, on_out, waiting_to, IsFullTo}
 use Rattle.lt_mail.specs.Changes.{OutChanges, KeepsSent, Puts, Flushes}
 use Rattle.lt_mail.specs.Passing.{is_tried, Passes, Passed}
-use Rattle.lt_mail.proofs.MailLemmas.{same_ends_out, same_ends_in}
+use Rattle.lt_mail.proofs.MailLemmas.{same_ends_in}
 use Rattle.lt_mail.proofs.PassLemmas.{last_here, last_other}
 
 lane_sent : (t : Bool) (x y : Option OutLane) → Alike (Passes t) x y → on_out sent_by y ≡ on_out sent_by x

@@ -1,12 +1,12 @@
 -- Mails one after the other: the same ends and the same letters.
-use Rattle.std.proofs.Common.{◌≡◌, refl, ap, ℕ, ◌+◌, ◌<◌, ◌≤◌, List, length, Option, Some, None, sym, subst, arith, ◌∙◌}
+use Rattle.std.proofs.Common.{◌≡◌, refl, ap, ℕ, ◌<◌, ◌≤◌, List, length, Option, Some, None, sym, subst, arith, ◌∙◌}
 use Rattle.std.specs.Prelude.{slice_get}
 use Rattle.lt_desk.specs.declared.letter.Post.{Post}
 use Rattle.lt_mail.specs.declared.lane.OutEnd.{OutEnd}
 use Rattle.lt_mail.specs.declared.lane.InLane.{InLane}
 use Rattle.lt_mail.specs.declared.mail.Mail.{Mail}
 use Rattle.lt_mail.specs.Lanes.{OutLane, ring_given, sent_by, letters_to, lane_of}
-use Rattle.lt_mail.specs.Words.{Both, IsOpenLink, AreLinked, out_at, in_at, on_out, outs_count, ins_count, given_to, HasRoomFor, Alike, SameOut, SameIn, SameEnds}
+use Rattle.lt_mail.specs.Words.{Both, IsOpenLink, AreLinked, out_at, in_at, on_out, given_to, HasRoomFor, Alike, SameOut, SameIn, SameEnds}
 use Rattle.lt_mail.specs.Changes.{KeepsSent}
 
 alike_out : (a b c : Option OutLane) → Alike SameOut a b → Alike SameOut b c → Alike SameOut a c

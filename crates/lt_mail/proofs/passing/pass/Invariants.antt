@@ -1,7 +1,5 @@
 -- The loop over the letters that wait.
 use Rattle.lt_mail.specs.Passing.{Passing}
-use Rattle.std.specs.VecDeque.{deque_capacity, deque_len}
-use Rattle.std.specs.Prelude.{◌≤◌}
 use Rattle.lt_mail.proofs.passing.pass.Given as goal
 
 abbrev pub invariant-loop-left : goal.invariant-loop-left
