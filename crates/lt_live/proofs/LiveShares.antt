@@ -5,7 +5,7 @@ use Rattle.lt_modes.specs.declared.command.Command.{Command}
 use Rattle.lt_modes.specs.Script.{ScriptData}
 use Rattle.lt_law_appended.specs.Commands.{with_commands, AreAt}
 use Rattle.lt_limits.specs.declared.moves.TheConstants.{MAX_MOVES}
-use Rattle.lt_mail.specs.declared.lane.OutLane.{OutLane}
+use Rattle.lt_mail.specs.Lanes.{OutLane}
 use Rattle.lt_mail.specs.declared.lane.InLane.{InLane}
 use Rattle.lt_mail.proofs.MailLemmas.{ends_join}
 use Rattle.lt_mail.specs.Words.{out_at, in_at, Alike, Both, IsOpenLink, SameOut, SameIn}
