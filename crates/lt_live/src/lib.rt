@@ -10,11 +10,13 @@ mod limits;
 mod looking;
 mod opening;
 mod reply;
+mod same;
 mod seats;
 mod session;
 mod starting;
 mod station;
 mod turning;
+mod visiting;
 
 pub use ends::{Seat, Session};
 pub use finishing::finish;
@@ -23,3 +25,4 @@ pub use limits::LETTER_PLACES;
 pub use reply::{Reply, reply_to};
 pub use starting::open;
 pub use station::Station;
+pub use visiting::visit;
