@@ -1,0 +1,13 @@
+-- Lists that go together, place by place.
+use Rattle.std.proofs.Common.{◌≡◌, ◌<◌, ℕ, zero, suc, List, [], ◌∷◌, length, arith}
+use Rattle.std.specs.Prelude.{slice_get, slice_index_or}
+use Rattle.lt_mail.specs.Words.{Alike}
+
+pub alike_each : {X : Type 0} (R : X → X → Type 0) (xs ys : List X) → length ys ≡ length xs
+    → ((k : ℕ) (d : X) → k < length xs → R (slice_index_or xs k d) (slice_index_or ys k d)) → (k : ℕ) → Alike R (slice_get xs k) (slice_get ys k)
+alike_each R [] [] len each zero = tt
+alike_each R [] [] len each (suc k) = tt
+alike_each R [] (y ∷ ys) len each k = absurd (omega (arith, len))
+alike_each R (x ∷ xs) [] len each k = absurd (omega (arith, len))
+alike_each R (x ∷ xs) (y ∷ ys) len each zero = each 0 x (omega arith)
+alike_each R (x ∷ xs) (y ∷ ys) len each (suc k) = alike_each R xs ys (omega (arith, len)) (λ j d below. each (suc j) d (omega (arith, below))) k
