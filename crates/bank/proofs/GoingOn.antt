@@ -1,5 +1,5 @@
 -- Stations and callers that go on stay those of one script.
-use Rattle.std.proofs.Common.{◌≡◌, ℕ, List, map, Option, Some, None, sym, ap, subst, rules, ◌∙◌}
+use Rattle.std.proofs.Common.{◌≡◌, ℕ, List, [], map, Option, Some, None, sym, ap, subst, rules, ◌∙◌}
 use Rattle.std.specs.Prelude.{slice_get, slice_set}
 use Rattle.std.specs.Option.{option_map}
 use Rattle.std.proofs.lemmas.Option.{slice_get-map}
@@ -12,7 +12,8 @@ use Rattle.lt_live.specs.declared.ends.Session.{Session}
 use Rattle.lt_live.specs.Words.{SameSession}
 use Rattle.lt_live.specs.Stations.{StationData}
 use Rattle.lt_live.specs.Live.{AreLive, GoesOn, StationGoesOn, EachSession}
-use Rattle.lt_live.specs.LiveLaws.{LiveLasts}
+use Rattle.lt_live.specs.Opened.{Opened}
+use Rattle.lt_live.specs.LiveLaws.{OpenedAreLive, LiveLasts}
 use Rattle.lt_live.proofs.AlikeLists.{alike_self, alike_join, alike_set}
 use Rattle.lt_live.proofs.LiveShares.{goes_itself}
 use Rattle.lt_live.proofs.Live.{session_itself}
@@ -96,3 +97,17 @@ pub live_goes_on : LiveLasts → (script : ScriptData) (stations later : List St
     → AreLive script stations (map session_of callers) → StationsGoOn stations later → CallersGoOn callers after → AreLive script later (map session_of after)
 live_goes_on lasts script stations later callers after live on same =
     lasts script stations later (map session_of callers) (map session_of after) live on (sessions_same callers after same)
+
+-- and it was of one
+pub live_opened : OpenedAreLive → (script : ScriptData) (limit capacity : ℕ) (stations : List StationData) (sessions : List Session) (callers : List Caller)
+    → script.commands ≡ [] → Opened script limit capacity stations sessions → map session_of callers ≡ sessions → AreLive script stations (map session_of callers)
+live_opened opened script limit capacity stations sessions callers empty is same =
+    subst (λ (all : List Session). AreLive script stations all) (sym same) (opened script limit capacity stations sessions empty is)
+
+-- so the sessions of the callers can be given back with the stations
+pub live_ends : OpenedAreLive → LiveLasts → (script : ScriptData) (limit capacity : ℕ) (stations later : List StationData) (sessions given : List Session)
+    (callers after : List Caller) → script.commands ≡ [] → Opened script limit capacity stations sessions → map session_of callers ≡ sessions
+    → StationsGoOn stations later → CallersGoOn callers after → given ≡ map session_of after → AreLive script later given
+live_ends opened lasts script limit capacity stations later sessions given callers after empty is same on go back =
+    subst (λ (all : List Session). AreLive script later all) (sym back)
+    (live_goes_on lasts script stations later callers after (live_opened opened script limit capacity stations sessions callers empty is same) on go)

@@ -12,12 +12,13 @@ mod threads;
 mod transfers;
 
 ghost use Rattle.std.specs.Prelude.{◌≡◌, []};
+ghost use Rattle.bank.specs.GoingOn.{StationsGoOn, CallersGoOn};
 
 use anyhow::{Result, bail};
-use caller::{callers_of, sessions_of};
+use caller::{Caller, callers_of, sessions_of};
 use lt_checker::Checker;
 use lt_io::{ReaderSource, read_all};
-use lt_live::{finish, law_live_lasts, open};
+use lt_live::{Station, finish, law_live_lasts, open};
 use lt_merge::Run;
 use lt_script::Script;
 use one_thread::{audit, come_to_rest};
@@ -36,7 +37,28 @@ const MOST_MOVES: u32 = 1 << 16;
 
 const PLACES: u32 = 8;
 
-// Lets all callers make their transfers: what is in all accounts at the end, and the run with its script.
+// All callers make their transfers, and then one adds up all accounts.
+#[tactic(auto, using(crate::proofs::GoingOn::stations_join, crate::proofs::GoingOn::callers_join))]
+fn run_day<R: Threads + Sync>(
+    rt: &R,
+    money: &[AtomicU64],
+    stations: &mut Vec<Station>,
+    callers: &mut Vec<Caller>,
+) -> Result<u64>
+    ensures stations { StationsGoOn stations.old.items stations.new.items }
+    ensures callers { CallersGoOn callers.old.items callers.new.items }
+{
+    if !serve(rt, money, stations, callers) {
+        bail!("the callers didn't come to an end");
+    }
+    let Some(sum) = audit(money, stations, callers) else {
+        bail!("nobody could lock the bank");
+    };
+    come_to_rest(stations);
+    Ok(sum)
+}
+
+// The sum at the end of the day, and the run of the day with its script.
 fn trade<R: Threads + Sync>(
     rt: &R,
     alloc: Global,
@@ -48,13 +70,7 @@ fn trade<R: Threads + Sync>(
     law_live_lasts();
     let (mut stations, sessions) = open(alloc, script, MOST_MOVES, PLACES)?;
     let mut callers = callers_of(alloc, sessions)?;
-    if !serve(rt, money, &mut stations, &mut callers) {
-        bail!("the callers didn't come to an end");
-    }
-    let Some(sum) = audit(money, &mut stations, &mut callers) else {
-        bail!("nobody could lock the bank");
-    };
-    come_to_rest(&mut stations);
+    let sum = run_day(rt, money, &mut stations, &mut callers)?;
     let (script, run) = finish(alloc, stations, sessions_of(alloc, callers)?)?;
     Ok((sum, script, run))
 }
