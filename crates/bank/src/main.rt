@@ -37,25 +37,20 @@ const MOST_MOVES: u32 = 1 << 16;
 
 const PLACES: u32 = 8;
 
-// All callers make their transfers, and then one adds up all accounts.
-#[tactic(auto, using(crate::proofs::GoingOn::stations_join, crate::proofs::GoingOn::callers_join))]
+// All callers make their transfers, and then one adds up all accounts: whether they came to an end, and the sum.
 fn run_day<R: Threads + Sync>(
     rt: &R,
     money: &[AtomicU64],
     stations: &mut Vec<Station>,
     callers: &mut Vec<Caller>,
-) -> Result<u64>
+) -> (bool, Option<u64>)
     ensures stations { StationsGoOn stations.old.items stations.new.items }
     ensures callers { CallersGoOn callers.old.items callers.new.items }
 {
-    if !serve(rt, money, stations, callers) {
-        bail!("the callers didn't come to an end");
-    }
-    let Some(sum) = audit(money, stations, callers) else {
-        bail!("nobody could lock the bank");
-    };
+    let done = serve(rt, money, stations, callers);
+    let sum = audit(money, stations, callers);
     come_to_rest(stations);
-    Ok(sum)
+    (done, sum)
 }
 
 // The sum at the end of the day, and the run of the day with its script.
@@ -70,8 +65,11 @@ fn trade<R: Threads + Sync>(
     law_live_lasts();
     let (mut stations, sessions) = open(alloc, script, MOST_MOVES, PLACES)?;
     let mut callers = callers_of(alloc, sessions)?;
-    let sum = run_day(rt, money, &mut stations, &mut callers)?;
-    let (script, run) = finish(alloc, stations, sessions_of(alloc, callers)?)?;
+    let (true, Some(sum)) = run_day(rt, money, &mut stations, &mut callers) else {
+        bail!("the callers didn't come to an end");
+    };
+    let sessions = sessions_of(alloc, callers)?;
+    let (script, run) = finish(alloc, stations, sessions)?;
     Ok((sum, script, run))
 }
 

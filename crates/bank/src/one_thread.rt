@@ -29,7 +29,7 @@ pub fn audit(
     audit_by(money, stations, &mut callers[0])
 }
 
-#[tactic(auto, using(crate::proofs::GoingOn::stations_join, crate::proofs::GoingOn::same_join))]
+#[tactic(auto, using(crate::proofs::GoingOn::same_join))]
 fn audit_by(money: &[AtomicU64], stations: &mut Vec<Station>, caller: &mut Caller) -> Option<u64>
     ensures stations { StationsGoOn stations.old.items stations.new.items }
     ensures caller { CallerGoesOn caller.old caller.new }
@@ -57,7 +57,7 @@ fn call(stations: &mut Vec<Station>, session: &mut Session, command: Command) ->
 
 /// Lets the stations make turns until none of them makes a move in two turns: what one sends in a turn it gives to the ring in
 /// its next one.
-#[tactic(auto, using(crate::proofs::GoingOn::stations_itself, crate::proofs::GoingOn::stations_join))]
+#[tactic(auto, using(crate::proofs::GoingOn::stations_itself))]
 pub fn come_to_rest(stations: &mut Vec<Station>)
     ensures { StationsGoOn stations.old.items stations.new.items }
 {

@@ -1,4 +1,6 @@
 // What callers do, one transfer after the other, and the commands for it.
+ghost use Rattle.std.specs.Prelude.{◌<◌};
+
 use lt_modes::{Command, Mode};
 use std::sync::atomic::{AtomicU64, Ordering};
 
@@ -21,7 +23,9 @@ pub const LOCKS: u32 = 3;
 const AMOUNT: u64 = 5;
 
 // From which account to which the client's transfer of this number is, from 0.
-fn accounts_of(client: u16, number: u32) -> (u8, u8) {
+fn accounts_of(client: u16, number: u32) -> (u8, u8)
+    ensures { (result.0 < 4) × (result.1 < 4) }
+{
     let from = (u32::from(client) + number % 4) % 4;
     (from as u8, ((from + 1) % 4) as u8)
 }
