@@ -66,8 +66,8 @@ impl Caller {
         }
     }
 
-    // Replies come in the order of the commands, one for each, and a lock has none before it is granted. So the third reply
-    // of a transfer says that all three locks are held.
+    // Replies come in the order of the commands, one for each, and a lock has none before it is granted. So the third
+    // reply of a transfer says that all three locks are held.
     fn note_reply(&mut self, money: &[AtomicU64])
         ensures { CallerGoesOn self.old self.new }
     {

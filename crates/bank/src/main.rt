@@ -1,9 +1,9 @@
 //! A bank: an example of how programs call lt_live.
 //!
-//! It reads a script of nodes, sets and clients: the first set is the bank, and the next four are its accounts. Each client
-//! is a caller on a thread of its own that moves money, under locks, while the nodes are at work beside it. Then one caller
-//! adds up all accounts, under a lock of the bank, on one thread with the nodes. The program prints what is in the accounts,
-//! and whether the journal of all this is one of a run.
+//! It reads a script of nodes, sets and clients: the first set is the bank, and the next four are its accounts. Each
+//! client is a caller on a thread of its own that moves money, under locks, while the nodes are at work beside it.
+//! Then one caller adds up all accounts, under a lock of the bank, on one thread with the nodes. The program prints
+//! what is in the accounts, and whether the journal of all this is one of a run.
 #![tactic(auto)]
 
 mod caller;

@@ -55,8 +55,8 @@ fn call(stations: &mut Vec<Station>, session: &mut Session, command: Command) ->
     session.poll()
 }
 
-/// Lets the stations make turns until none of them makes a move in two turns: what one sends in a turn it gives to the ring in
-/// its next one.
+/// Lets the stations make turns until none of them makes a move in two turns: what one sends in a turn it gives to
+/// the ring in its next one.
 #[tactic(auto, using(crate::proofs::GoingOn::stations_itself))]
 pub fn come_to_rest(stations: &mut Vec<Station>)
     ensures { StationsGoOn stations.old.items stations.new.items }

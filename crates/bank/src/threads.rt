@@ -13,8 +13,8 @@ const ROUNDS: u32 = 10_000;
 
 const TIMES: u32 = 1_000;
 
-/// Callers and stations are at work beside each other, in rounds, until all callers are done; false if they aren't after the
-/// last round.
+/// Callers and stations are at work beside each other, in rounds, until all callers are done; false if they aren't
+/// after the last round.
 pub fn serve<R: Threads + Sync>(
     rt: &R,
     money: &[AtomicU64],
