@@ -17,9 +17,9 @@ const FEW_WORKERS: u32 = 3;
 const NODES_PER_WORKER: u32 = 32;
 
 // A move in a node's text: where it ends.
-struct Moved {
-    stamp: Stamp,
-    end: usize,
+pub struct Moved {
+    pub stamp: Stamp,
+    pub end: usize,
 }
 
 struct Runner<'a> {
@@ -29,13 +29,13 @@ struct Runner<'a> {
 }
 
 impl Runner<'_> {
-    // Makes a move, where there is one.
-    fn turn(&mut self) -> bool {
+    // Makes a move, where there is one; it may be that of a letter alone.
+    fn turn(&mut self, by_mail: bool) -> bool {
         self.out.post.flush();
         self.out.answered.clear();
         if let Some((from, letter)) = self.out.post.take() {
             self.node.take(from, letter, &mut self.out);
-        } else if self.node.ready != 0 {
+        } else if !by_mail && self.node.ready != 0 {
             self.node.act(self.node.ready.trailing_zeros() as u8, &mut self.out);
         } else {
             return false;
@@ -45,9 +45,9 @@ impl Runner<'_> {
     }
 
     // Makes moves until there is none, or a letter was sent; the nodes that letters went to.
-    fn visit(&mut self) -> u64 {
+    fn visit(&mut self, by_mail: bool) -> u64 {
         self.out.post.reached = 0;
-        while self.out.post.reached == 0 && self.turn() {}
+        while self.out.post.reached == 0 && self.turn(by_mail) {}
         self.out.post.flush();
         self.out.post.reached
     }
@@ -85,12 +85,12 @@ fn work(slots: &[Slot<'_>], at: u32) -> Counts {
         }
         let runner = unsafe { &mut *slot.runner.get() };
         let before = runner.moves.len();
-        let reached = runner.visit();
-        let moved = before < runner.moves.len();
+        let reached = runner.visit(outlook.by_mail);
+        let moves = runner.moves.len() - before;
         slot.taken.0.store(false, Ordering::Release);
         counts.visits += 1;
-        counts.vain += usize::from(!moved);
-        outlook.note_visit(node, moved, reached);
+        counts.vain += usize::from(moves == 0);
+        outlook.note_visit(node, moves, reached);
     }
     counts
 }
@@ -138,14 +138,16 @@ pub fn run(text: &[u8], tells: bool) -> Option<Vec<u8>> {
             eprintln!("round {rounds}: {visits} visits, {vain} of them in vain, {refused} claims refused");
         }
         for slot in &mut slots {
-            slot.runner.get_mut().visit();
+            slot.runner.get_mut().visit(false);
         }
-        if !slots.iter_mut().any(|slot| slot.runner.get_mut().turn()) {
+        if !slots.iter_mut().any(|slot| slot.runner.get_mut().turn(false)) {
             break;
         }
     }
     let runners: Vec<Runner> = slots.into_iter().map(|slot| slot.runner.into_inner()).collect();
-    Some(journal(&script, &words, &runners))
+    let moved: Vec<_> = runners.iter().map(|runner| (&runner.moves[..], &runner.out.text)).collect();
+    let nodes: Vec<&Node> = runners.iter().map(|runner| &runner.node).collect();
+    Some(journal(&script, &words, &moved, &nodes))
 }
 
 // No letter is sent at the end.
@@ -155,26 +157,25 @@ impl Post for Nowhere {
     fn send(&mut self, _to: u8, _letter: Letter) {}
 }
 
-// The lines of all moves in order of their stamps, and those of the end.
-fn journal(script: &Script<'_>, words: &Words, runners: &[Runner<'_>]) -> Vec<u8> {
-    let mut moves = Vec::with_capacity(runners.iter().map(|runner| runner.moves.len()).sum());
-    for runner in runners {
+/// The lines of all moves in order of their stamps, and those of the end. Each node has its moves and their text.
+pub fn journal(script: &Script<'_>, words: &Words, moved: &[(&[Moved], &Text)], nodes: &[&Node<'_>]) -> Vec<u8> {
+    let mut moves = Vec::with_capacity(moved.iter().map(|(moves, _)| moves.len()).sum());
+    for (own, _) in moved {
         let mut start = 0;
-        for moved in &runner.moves {
+        for moved in *own {
             moves.push((moved.stamp, start, moved.end));
             start = moved.end;
         }
     }
     moves.sort_by_key(|moved| moved.0);
     let (_, first) = crate::begin(script);
-    let room = runners.iter().map(|runner| runner.out.text.len()).sum();
+    let room = moved.iter().map(|(_, text)| text.len()).sum();
     let mut out = Out { words, text: Text::new(room), post: Nowhere, answered: Vec::new() };
     out.text.add(first);
     for (stamp, start, end) in &moves {
         let node = (stamp & 63) as usize;
-        out.text.add(&runners[node].out.text.bytes()[*start..*end]);
+        out.text.add(&moved[node].1.bytes()[*start..*end]);
     }
-    let nodes: Vec<&Node> = runners.iter().map(|runner| &runner.node).collect();
-    close(script, &nodes, moves.len(), &mut out);
+    close(script, nodes, moves.len(), &mut out);
     out.text.into_bytes()
 }

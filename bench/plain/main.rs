@@ -1,7 +1,8 @@
 //! A plain Rust program of the same rules, to measure the proved one against: it proves nothing and checks little. It
 //! takes scripts without faults of both versions from standard input. With the word `run` it runs them on threads, as
 //! the proved one does, and writes the journal; with the words `run counts` it writes to standard error what the
-//! workers came to. With the word `check` it reads a script and a journal, and writes how many moves the journal has,
+//! workers came to. With the word `live` callers submit the commands and poll for replies, over channels of std, and
+//! with `live counts` it writes to standard error how many replies there were. With the word `check` it reads a script and a journal, and writes how many moves the journal has,
 //! or it fails with the first line that is wrong. With any other word, or none, it writes the journal of the first run.
 mod check;
 mod closing;
@@ -9,6 +10,7 @@ mod core;
 mod crew;
 mod desk;
 mod letter;
+mod live;
 mod mail;
 mod modes;
 mod node;
@@ -28,6 +30,7 @@ fn main() -> io::Result<()> {
     let answer = match words.first().map(String::as_str) {
         Some("check") => check::check(&text),
         Some("run") => crew::run(&text, words.len() > 1).ok_or_else(fault),
+        Some("live") => live::run(&text, words.len() > 1).ok_or_else(fault),
         _ => first_run(&text).ok_or_else(fault),
     };
     stdout().write_all(&answer.map_err(io::Error::other)?)

@@ -1,7 +1,7 @@
 //! All sets at one node, and its clients.
 use crate::core::{Asker, Core};
 use crate::letter::{Letter, NONE, stamp};
-use crate::out::{GRANT, NOT_HELD, Out, Post, UNLOCK};
+use crate::out::{GRANT, Out, Post, Reply, UNLOCK};
 use crate::script::{Command, Script};
 
 pub struct Node<'a> {
@@ -9,7 +9,8 @@ pub struct Node<'a> {
     pub me: u8,
     pub clock: u32,
     pub cores: Vec<Core>,
-    /// The number of commands that each of its clients made.
+    /// The commands of each of its clients, and how many of them it made.
+    lists: Vec<Vec<Command>>,
     pub made: Vec<u16>,
     /// The clients that can act, and those that wait, by their places, as bits.
     pub ready: u16,
@@ -24,6 +25,7 @@ impl<'a> Node<'a> {
             me,
             clock: 0,
             cores: (0..script.sets.len()).map(|set| Core::new(script.nodes, me, set as u8)).collect(),
+            lists: clients.iter().map(|client| script.clients[usize::from(*client)].commands.clone()).collect(),
             made: vec![0; clients.len()],
             ready: 0,
             waits: 0,
@@ -36,8 +38,15 @@ impl<'a> Node<'a> {
 
     // The client can act if it has a command left.
     fn note_ready(&mut self, slot: u8) {
-        let client = self.script.of_node[usize::from(self.me)][usize::from(slot)];
-        if usize::from(self.made[usize::from(slot)]) < self.script.clients[usize::from(client)].commands.len() {
+        if usize::from(self.made[usize::from(slot)]) < self.lists[usize::from(slot)].len() {
+            self.ready |= 1 << slot;
+        }
+    }
+
+    /// The command is the last one of the client at this place.
+    pub fn append(&mut self, slot: u8, command: Command) {
+        self.lists[usize::from(slot)].push(command);
+        if self.waits >> slot & 1 == 0 {
             self.ready |= 1 << slot;
         }
     }
@@ -66,7 +75,7 @@ impl<'a> Node<'a> {
         let script = self.script;
         let client = script.of_node[usize::from(self.me)][usize::from(slot)];
         let made = &mut self.made[usize::from(slot)];
-        let command = script.clients[usize::from(client)].commands[usize::from(*made)];
+        let command = self.lists[usize::from(slot)][usize::from(*made)];
         *made += 1;
         self.ready &= !(1 << slot);
         self.clock += 1;
@@ -94,6 +103,7 @@ impl<'a> Node<'a> {
             Command::Lock(_, mode) if core.can_grant(slot, mode) => {
                 core.give(slot, mode, NONE);
                 out.lock_line(&GRANT, client, set, mode);
+                out.post.reply(client, Reply::Granted);
             }
             Command::Lock(_, mode) => {
                 self.waits |= 1 << slot;
@@ -106,9 +116,12 @@ impl<'a> Node<'a> {
                 }
                 out.try_line(client, set, mode, got);
             }
-            Command::Unlock(_, mode) if core.take(slot, mode) => out.lock_line(&UNLOCK, client, set, mode),
-            Command::Unlock(_, mode) => out.lock_line(&NOT_HELD, client, set, mode),
-            Command::Change(_, from, _) if !core.holds(slot, from) => out.lock_line(&NOT_HELD, client, set, from),
+            Command::Unlock(_, mode) if core.take(slot, mode) => {
+                out.lock_line(&UNLOCK, client, set, mode);
+                out.post.reply(client, Reply::Unlocked);
+            }
+            Command::Unlock(_, mode) => out.not_held_line(client, set, mode),
+            Command::Change(_, from, _) if !core.holds(slot, from) => out.not_held_line(client, set, from),
             Command::Change(_, from, to) if core.can_grant(slot, to) => {
                 core.give(slot, to, from);
                 out.change_line(client, set, from, to);

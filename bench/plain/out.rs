@@ -10,7 +10,7 @@ const TAKE: Word = Word::new(b"take");
 pub const GRANT: Word = Word::new(b"grant");
 pub const WAIT: Word = Word::new(b"wait");
 pub const UNLOCK: Word = Word::new(b"unlock");
-pub const NOT_HELD: Word = Word::new(b"not_held");
+const NOT_HELD: Word = Word::new(b"not_held");
 const CHANGE: Word = Word::new(b"change");
 pub const HELD: Word = Word::new(b"held");
 pub const WAITING: Word = Word::new(b"waiting");
@@ -45,9 +45,25 @@ impl Words {
     }
 }
 
-/// What letters are sent by.
+/// What a client is told of a command. Nothing looks into what was polled.
+#[allow(dead_code)]
+#[derive(Clone, Copy)]
+pub enum Reply {
+    Granted,
+    Tried(bool),
+    Unlocked,
+    NotHeld,
+    Changed,
+    Dropped(u32),
+    Busy,
+}
+
+/// What letters are sent by, and replies.
 pub trait Post {
     fn send(&mut self, to: u8, letter: Letter);
+
+    /// A client is told of its command, where somebody hears it.
+    fn reply(&mut self, _client: u16, _reply: Reply) {}
 }
 
 pub struct Out<'a, P> {
@@ -102,15 +118,24 @@ impl<P: Post> Out<'_, P> {
         self.text.end_line();
     }
 
+    pub fn not_held_line(&mut self, client: u16, set: u8, mode: Mode) {
+        self.lock_line(&NOT_HELD, client, set, mode);
+        self.post.reply(client, Reply::NotHeld);
+    }
+
     pub fn change_line(&mut self, client: u16, set: u8, from: Mode, to: Mode) {
         self.lock_words(&CHANGE, client, set, from);
         self.mode(to);
         self.text.end_line();
+        self.post.reply(client, Reply::Changed);
     }
 
     pub fn answer_line(&mut self, ask: &Ask, set: u8) {
         match ask.gives_up {
-            NONE => self.lock_line(&GRANT, ask.client, set, ask.mode),
+            NONE => {
+                self.lock_line(&GRANT, ask.client, set, ask.mode);
+                self.post.reply(ask.client, Reply::Granted);
+            }
             from => self.change_line(ask.client, set, from, ask.mode),
         }
     }
@@ -119,6 +144,7 @@ impl<P: Post> Out<'_, P> {
         self.lock_words(&TRY, client, set, mode);
         self.text.word(&TRUTH[usize::from(got)]);
         self.text.end_line();
+        self.post.reply(client, Reply::Tried(got));
     }
 
     fn clients_line(&mut self, word: &Word, client: u16, other: u16, set: u8) {
@@ -132,11 +158,13 @@ impl<P: Post> Out<'_, P> {
         self.clients_line(&DROP, client, other, set);
         self.text.number(count);
         self.text.end_line();
+        self.post.reply(client, Reply::Dropped(count));
     }
 
     pub fn busy_line(&mut self, client: u16, other: u16, set: u8) {
         self.clients_line(&BUSY, client, other, set);
         self.text.end_line();
+        self.post.reply(client, Reply::Busy);
     }
 
     pub fn copy_line(&mut self, set: u8, ask: &Ask) {

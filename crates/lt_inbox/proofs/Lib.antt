@@ -1,5 +1,5 @@
 pub mod Senders
-pub mod Wires
+pub mod First
+pub mod Marks
 pub mod Delivered
-mod LeastRoom
 pub mod TakeOrder

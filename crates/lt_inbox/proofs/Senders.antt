@@ -1,24 +1,31 @@
 -- The senders of letters that are on their way to one node.
-use Rattle.std.proofs.Common.{◌≡◌, Bool, true, false, ℕ, zero, suc, ◌+◌, ◌-◌, ◌<◌, List, [], ◌∷◌, ◌++◌, length, filter, refl, sym, ap, subst, ◌∙◌, arith, append_assoc}
+use Rattle.std.proofs.Common.{◌≡◌, Bool, true, false, ℕ, zero, suc, ◌+◌, ◌-◌, ◌<◌, List, [], ◌∷◌, ◌++◌, length, filter, replicate, refl, sym, ap, subst, ◌∙◌, arith, append_assoc}
 use Rattle.std.proofs.lemmas.List.{length_push}
-use Rattle.std.specs.Prelude.{if◌then◌else◌, count_by, slice_index_or}
+use Rattle.std.specs.Prelude.{if◌then◌else◌, count_by}
 use Rattle.std.specs.List.{range_with_len}
 use Rattle.std.proofs.lemmas.List.Sums.{count_by-le-length, length-filter, sum_by-cons}
-use Rattle.lt_inbox.specs.Mail.{WireData, no_wire, wire_from, has_letters, sender_count, senders_in}
+use Rattle.lt_inbox.specs.Mail.{has_from, sender_count, senders_in}
 
-counted_first : (wire : WireData) (rest : List WireData) (t : Bool) → has_letters wire ≡ t → sender_count (wire ∷ rest) ≡ (if t then 1 else 0) + sender_count rest
-counted_first wire rest t e = sum_by-cons (λ (w : WireData). if has_letters w then 1 else 0) wire rest ∙ ap (λ (b : Bool). (if b then 1 else 0) + sender_count rest) e
+counted_first : (has : Bool) (rest : List Bool) → sender_count (has ∷ rest) ≡ (if has then 1 else 0) + sender_count rest
+counted_first has rest = sum_by-cons (λ (b : Bool). if b then 1 else 0) has rest
+
+pub none_from : (n p : ℕ) → has_from (replicate n false) p ≡ false
+none_from zero p = refl
+none_from (suc n) zero = refl
+none_from (suc n) (suc p) = none_from n p
+
+pub none_counted : (n : ℕ) → sender_count (replicate n false) ≡ 0
+none_counted zero = refl
+none_counted (suc n) = omega (arith, counted_first false (replicate n false), none_counted n)
 
 -- where one sender has no letter, not all have
-pub fewer_senders : (wires : List WireData) (p : ℕ) → p < length wires → has_letters (wire_from wires p) ≡ false → sender_count wires < length wires
+pub fewer_senders : (senders : List Bool) (p : ℕ) → p < length senders → has_from senders p ≡ false → sender_count senders < length senders
 fewer_senders [] p inside none = absurd (omega (arith, inside))
-fewer_senders (wire ∷ rest) zero inside none = omega (arith, counted_first wire rest false none, count_by-le-length has_letters rest)
-fewer_senders (wire ∷ rest) (suc p) inside none =
-    let more = fewer_senders rest p (omega (arith, inside)) none in
-    elim (has_letters wire) as (λ t. has_letters wire ≡ t → sender_count (wire ∷ rest) < length (wire ∷ rest)) [
-      | true ↦ λ e. omega (arith, counted_first wire rest true e, more)
-      | false ↦ λ e. omega (arith, counted_first wire rest false e, more)
-    ] refl
+fewer_senders (has ∷ rest) zero inside none =
+    let first : sender_count (has ∷ rest) ≡ (if false then 1 else 0) + sender_count rest = counted_first has rest ∙ ap (λ (b : Bool). (if b then 1 else 0) + sender_count rest) none in
+    omega (arith, first, count_by-le-length (λ (b : Bool). b) rest)
+fewer_senders (true ∷ rest) (suc p) inside none = omega (arith, counted_first true rest, fewer_senders rest p (omega (arith, inside)) none)
+fewer_senders (false ∷ rest) (suc p) inside none = omega (arith, counted_first false rest, fewer_senders rest p (omega (arith, inside)) none)
 
 -- the numbers from here on, where some are left
 pub range_more : (k n : ℕ) → k < n → range_with_len k (n - k) ≡ k ∷ range_with_len (k + 1) (n - (k + 1))
@@ -41,24 +48,23 @@ filter_keeps test k n h e =
     ap (filter test) (range_more k n h)
     ∙ ap (λ (b : Bool). if b then k ∷ filter test (range_with_len (k + 1) (n - (k + 1))) else filter test (range_with_len (k + 1) (n - (k + 1)))) e
 
--- senders are as many as lists with letters
-pub senders_counted : (wires : List WireData) → length (senders_in wires) ≡ sender_count wires
-senders_counted wires = length-filter (λ p. has_letters (wire_from wires p)) (range_with_len 0 (length wires)) ∙ from [] wires
+-- senders are as many as marks
+pub senders_counted : (senders : List Bool) → length (senders_in senders) ≡ sender_count senders
+senders_counted senders = length-filter (has_from senders) (range_with_len 0 (length senders)) ∙ from [] senders
   where
-    same : (before : List WireData) (wire : WireData) (rest : List WireData) → slice_index_or (before ++ wire ∷ rest) (length before) no_wire ≡ wire
-    same [] wire rest = refl
-    same (b ∷ before) wire rest = same before wire rest
+    same : (before : List Bool) (has : Bool) (rest : List Bool) → has_from (before ++ has ∷ rest) (length before) ≡ has
+    same [] has rest = refl
+    same (b ∷ before) has rest = same before has rest
 
-    from : (before rest : List WireData) → count_by (λ p. has_letters (wire_from (before ++ rest) p)) (range_with_len (length before) (length rest)) ≡ sender_count rest
+    from : (before rest : List Bool) → count_by (has_from (before ++ rest)) (range_with_len (length before) (length rest)) ≡ sender_count rest
     from before [] = refl
-    from before (wire ∷ rest) =
-        let all = before ++ wire ∷ rest in
-        let here : has_letters (wire_from all (length before)) ≡ has_letters wire = ap has_letters (same before wire rest) in
-        let again : count_by (λ p. has_letters (wire_from all p)) (range_with_len (length before + 1) (length rest)) ≡ sender_count rest =
-        subst (λ (n : ℕ). count_by (λ p. has_letters (wire_from all p)) (range_with_len n (length rest)) ≡ sender_count rest) (length_push before wire)
-        (subst (λ (xs : List WireData). count_by (λ p. has_letters (wire_from xs p)) (range_with_len (length (before ++ wire ∷ [])) (length rest)) ≡ sender_count rest)
-        (append_assoc before (wire ∷ []) rest) (from (before ++ wire ∷ []) rest)) in
-        sum_by-cons (λ p. if has_letters (wire_from all p) then 1 else 0) (length before) (range_with_len (length before + 1) (length rest))
-        ∙ (ap (λ (n : ℕ). (if has_letters (wire_from all (length before)) then 1 else 0) + n) again
-        ∙ (ap (λ (t : Bool). (if t then 1 else 0) + sender_count rest) here
-        ∙ sym (sum_by-cons (λ (w : WireData). if has_letters w then 1 else 0) wire rest)))
+    from before (has ∷ rest) =
+        let all = before ++ has ∷ rest in
+        let again : count_by (has_from all) (range_with_len (length before + 1) (length rest)) ≡ sender_count rest =
+        subst (λ (n : ℕ). count_by (has_from all) (range_with_len n (length rest)) ≡ sender_count rest) (length_push before has)
+        (subst (λ (xs : List Bool). count_by (has_from xs) (range_with_len (length (before ++ has ∷ [])) (length rest)) ≡ sender_count rest)
+        (append_assoc before (has ∷ []) rest) (from (before ++ has ∷ []) rest)) in
+        sum_by-cons (λ p. if has_from all p then 1 else 0) (length before) (range_with_len (length before + 1) (length rest))
+        ∙ (ap (λ (n : ℕ). (if has_from all (length before) then 1 else 0) + n) again
+        ∙ (ap (λ (t : Bool). (if t then 1 else 0) + sender_count rest) (same before has rest)
+        ∙ sym (counted_first has rest)))

@@ -1,25 +1,27 @@
 -- The takes of some receivers, one receiver after another.
-use Rattle.std.proofs.Common.{◌≡◌, ℕ, zero, suc, ◌+◌, ◌-◌, ◌<◌, ◌≤◌, List, [], ◌∷◌, ◌++◌, length, flat_map, refl, ap, ◌∙◌, arith, length-append}
-use Rattle.std.specs.Prelude.{slice_get}
+use Rattle.std.proofs.Common.{◌≡◌, Bool, ℕ, zero, suc, ◌+◌, ◌-◌, ◌<◌, ◌≤◌, List, [], ◌∷◌, ◌++◌, length, map, filter, flat_map, refl, ap, ◌∙◌, arith, length-append}
+use Rattle.std.specs.Prelude.{slice_get, if◌then◌else◌}
+use Rattle.std.specs.List.{range_with_len}
 use Rattle.std.proofs.lemmas.List.{length-map}
 use Rattle.lt_spec.specs.FixedOrder.{Turn, take_turn}
-use Rattle.lt_inbox.specs.Mail.{WireData, inbox_at, sender_count, senders_in, takes_of, takes_from}
+use Rattle.lt_spec.specs.World.{is_some_letter}
+use Rattle.lt_inbox.specs.Mail.{senders_to, sender_count, senders_in, has_from, mail_in, SentData, AreMarked, takes_of, takes_from, takes_by, takes_in}
 use Rattle.lt_inbox.proofs.Senders.{range_more, senders_counted}
 
-pub takes_counted : (q : ℕ) (wires : List WireData) → length (takes_of q wires) ≡ sender_count wires
-takes_counted q wires = length-map (senders_in wires) (take_turn q) ∙ senders_counted wires
+pub takes_counted : (q : ℕ) (senders : List Bool) → length (takes_of q senders) ≡ sender_count senders
+takes_counted q senders = length-map (senders_in senders) (take_turn q) ∙ senders_counted senders
 
 -- those of one receiver come first
-pub takes_next : (inboxes : List (List WireData)) (q : ℕ) → q < length inboxes
-    → takes_from inboxes q (length inboxes - q) ≡ takes_of q (inbox_at inboxes q) ++ takes_from inboxes (q + 1) (length inboxes - (q + 1))
-takes_next inboxes q h = ap (flat_map (λ r. takes_of r (inbox_at inboxes r))) (range_more q (length inboxes) h)
+pub takes_next : (inboxes : List (List Bool)) (q : ℕ) → q < length inboxes
+    → takes_from inboxes q (length inboxes - q) ≡ takes_of q (senders_to inboxes q) ++ takes_from inboxes (q + 1) (length inboxes - (q + 1))
+takes_next inboxes q h = ap (flat_map (λ r. takes_of r (senders_to inboxes r))) (range_more q (length inboxes) h)
 
-pub takes_more : (inboxes : List (List WireData)) (q : ℕ) → q < length inboxes
-    → length (takes_from inboxes q (length inboxes - q)) ≡ sender_count (inbox_at inboxes q) + length (takes_from inboxes (q + 1) (length inboxes - (q + 1)))
+pub takes_more : (inboxes : List (List Bool)) (q : ℕ) → q < length inboxes
+    → length (takes_from inboxes q (length inboxes - q)) ≡ sender_count (senders_to inboxes q) + length (takes_from inboxes (q + 1) (length inboxes - (q + 1)))
 takes_more inboxes q h =
     ap length (takes_next inboxes q h)
-    ∙ (length-append (takes_of q (inbox_at inboxes q)) (takes_from inboxes (q + 1) (length inboxes - (q + 1)))
-    ∙ ap (λ (n : ℕ). n + length (takes_from inboxes (q + 1) (length inboxes - (q + 1)))) (takes_counted q (inbox_at inboxes q)))
+    ∙ (length-append (takes_of q (senders_to inboxes q)) (takes_from inboxes (q + 1) (length inboxes - (q + 1)))
+    ∙ ap (λ (n : ℕ). n + length (takes_from inboxes (q + 1) (length inboxes - (q + 1)))) (takes_counted q (senders_to inboxes q)))
 
 get_front : {X : Type 0} (xs ys : List X) (k : ℕ) → k < length xs → slice_get (xs ++ ys) k ≡ slice_get xs k
 get_front [] ys k h = absurd (omega (arith, h))
@@ -34,17 +36,45 @@ get_back (x ∷ xs) ys (suc k) h =
     get_back xs ys k (omega (arith, h)) ∙ ap (slice_get ys) less
 
 -- the take at a place of this receiver
-pub take_here : (inboxes : List (List WireData)) (q k : ℕ) → q < length inboxes → k < sender_count (inbox_at inboxes q)
-    → slice_get (takes_from inboxes q (length inboxes - q)) k ≡ slice_get (takes_of q (inbox_at inboxes q)) k
+pub take_here : (inboxes : List (List Bool)) (q k : ℕ) → q < length inboxes → k < sender_count (senders_to inboxes q)
+    → slice_get (takes_from inboxes q (length inboxes - q)) k ≡ slice_get (takes_of q (senders_to inboxes q)) k
 take_here inboxes q k h less =
     ap (λ (ts : List Turn). slice_get ts k) (takes_next inboxes q h)
-    ∙ get_front (takes_of q (inbox_at inboxes q)) (takes_from inboxes (q + 1) (length inboxes - (q + 1))) k (omega (arith, less, takes_counted q (inbox_at inboxes q)))
+    ∙ get_front (takes_of q (senders_to inboxes q)) (takes_from inboxes (q + 1) (length inboxes - (q + 1))) k (omega (arith, less, takes_counted q (senders_to inboxes q)))
 
 -- or of a later one
-pub take_later : (inboxes : List (List WireData)) (q k : ℕ) → q < length inboxes → sender_count (inbox_at inboxes q) ≤ k
-    → slice_get (takes_from inboxes q (length inboxes - q)) k ≡ slice_get (takes_from inboxes (q + 1) (length inboxes - (q + 1))) (k - sender_count (inbox_at inboxes q))
+pub take_later : (inboxes : List (List Bool)) (q k : ℕ) → q < length inboxes → sender_count (senders_to inboxes q) ≤ k
+    → slice_get (takes_from inboxes q (length inboxes - q)) k ≡ slice_get (takes_from inboxes (q + 1) (length inboxes - (q + 1))) (k - sender_count (senders_to inboxes q))
 take_later inboxes q k h more =
-    let count = takes_counted q (inbox_at inboxes q) in
+    let count = takes_counted q (senders_to inboxes q) in
     ap (λ (ts : List Turn). slice_get ts k) (takes_next inboxes q h)
-    ∙ (get_back (takes_of q (inbox_at inboxes q)) (takes_from inboxes (q + 1) (length inboxes - (q + 1))) k (omega (arith, more, count))
+    ∙ (get_back (takes_of q (senders_to inboxes q)) (takes_from inboxes (q + 1) (length inboxes - (q + 1))) k (omega (arith, more, count))
     ∙ ap (λ (n : ℕ). slice_get (takes_from inboxes (q + 1) (length inboxes - (q + 1))) (k - n)) count)
+
+-- the same numbers pass
+pub filter_same : (f g : ℕ → Bool) (k n : ℕ) → ((i : ℕ) → i < k + n → f i ≡ g i) → filter f (range_with_len k n) ≡ filter g (range_with_len k n)
+filter_same f g k zero same = refl
+filter_same f g k (suc n) same =
+    ap (λ (t : Bool). if t then k ∷ filter f (range_with_len (k + 1) n) else filter f (range_with_len (k + 1) n)) (same k (omega arith))
+    ∙ ap (λ (xs : List ℕ). if g k then k ∷ xs else xs) (filter_same f g (k + 1) n (λ i h. same i (omega (arith, h))))
+
+pub flat_map_same : {X : Type 0} (f g : ℕ → List X) (k n : ℕ) → ((i : ℕ) → i < k + n → f i ≡ g i) → flat_map f (range_with_len k n) ≡ flat_map g (range_with_len k n)
+flat_map_same f g k zero same = refl
+flat_map_same {X = X} f g k (suc n) same =
+    ap (λ (xs : List X). xs ++ flat_map f (range_with_len (k + 1) n)) (same k (omega arith))
+    ∙ ap (λ (xs : List X). g k ++ xs) (flat_map_same f g (k + 1) n (λ i h. same i (omega (arith, h))))
+
+-- the takes by the marks are those by the letters
+pub takes_marked : (boxes : List (List Bool)) (sent : List SentData) (free : ℕ) → AreMarked boxes sent
+    → takes_by boxes ≡ takes_in (record { nodes = length boxes; sent = sent; free = free })
+takes_marked boxes sent free h =
+    flat_map_same (λ q. takes_of q (senders_to boxes q)) (λ q. map (take_turn q) (filter (letters_from q) (range_with_len 0 (length boxes)))) 0 (length boxes)
+    (λ q below. ap (map (take_turn q)) (senders_are q (omega (arith, below))))
+  where
+    letters_from : ℕ → ℕ → Bool
+    letters_from q p = is_some_letter (mail_in (record { nodes = length boxes; sent = sent; free = free }) p q)
+
+    senders_are : (q : ℕ) → q < length boxes → senders_in (senders_to boxes q) ≡ filter (letters_from q) (range_with_len 0 (length boxes))
+    senders_are q inside =
+        ap (λ (n : ℕ). filter (has_from (senders_to boxes q)) (range_with_len 0 n)) (h.senders q inside)
+        ∙ filter_same (has_from (senders_to boxes q)) (letters_from q) 0 (length boxes) (λ p below. h.marks p q (omega (arith, below)) inside)

@@ -1,97 +1,111 @@
--- Letters on their way, as the code keeps them: for each receiver one list for each sender.
-use Rattle.std.specs.Prelude.{◌≡◌, ◌<◌, ◌≤◌, ◌+◌, ◌^◌, ℕ, Bool, List, [], ◌∷◌, ◌++◌, if◌then◌else◌, ◌==◌, length, map, filter, flat_map, count_by, slice_index_or, slice_set}
-use Rattle.std.specs.List.{range_with_len, filter_map}
+-- Letters on their way, in the order in which they were sent.
+use Rattle.std.specs.Prelude.{◌≡◌, ◌<◌, ◌≤◌, ◌+◌, ◌++◌, ◌^◌, ◌&&◌, ℕ, Bool, false, List, [], ◌∷◌, Option, Some, None, if◌then◌else◌, ◌==◌, length, map, filter, flat_map, count_by, slice_index_or, slice_set}
+use Rattle.std.specs.List.{range_with_len, filter_map, remove}
 use Rattle.lt_modes.specs.State.{Letter}
 use Rattle.lt_modes.specs.Made.{Post}
 use Rattle.lt_spec.specs.World.{is_some_letter, letter_for}
 use Rattle.lt_spec.specs.FixedOrder.{Turn, take_turn}
 
--- the letters from one sender, the oldest first, and for how many there is room
-pub record WireData : Type 0 where
-  pub letters : List Letter
-  pub room : ℕ
+-- a letter on its way
+pub record SentData : Type 0 where
+  pub sender : ℕ
+  pub receiver : ℕ
+  pub letter : Letter
 
-abbrev pub no_wire : WireData
-no_wire = record { letters = []; room = 0 }
+-- the letters on their way between so many nodes, the oldest first, and for how many more there is room
+pub record MailData : Type 0 where
+  pub nodes : ℕ
+  pub sent : List SentData
+  pub free : ℕ
 
--- the list of the sender with this number
-abbrev pub wire_from : List WireData → ℕ → WireData
-wire_from wires p = slice_index_or wires p no_wire
+-- whether it goes from p to q
+abbrev pub goes : ℕ → ℕ → SentData → Bool
+goes p q one = one.sender == p && one.receiver == q
 
-abbrev pub letters_from : List WireData → ℕ → List Letter
-letters_from wires p = (wire_from wires p).letters
+abbrev pub letter_between : ℕ → ℕ → SentData → Option Letter
+letter_between p q one = if goes p q one then Some one.letter else None
 
-abbrev pub has_letters : WireData → Bool
-has_letters wire = is_some_letter wire.letters
-
--- a list with one letter more
-abbrev pub longer : WireData → Letter → WireData
-longer wire letter = record wire { letters = wire.letters ++ letter ∷ [] }
-
--- from how many senders letters are on their way
-abbrev pub sender_count : List WireData → ℕ
-sender_count wires = count_by has_letters wires
-
--- the senders of letters that are on their way
-abbrev pub senders_in : List WireData → List ℕ
-senders_in wires = filter (λ p. has_letters (wire_from wires p)) (range_with_len 0 (length wires))
-
--- the lists of the receiver with this number
-abbrev pub inbox_at : List (List WireData) → ℕ → List WireData
-inbox_at inboxes q = slice_index_or inboxes q []
-
--- a list for each ordered pair of nodes, whose number a byte holds
-pub record AreSquare (inboxes : List (List WireData)) : Type 0 where
-  pub few : length inboxes < 2 ^ 8
-  pub senders : (q : ℕ) → q < length inboxes → length (inbox_at inboxes q) ≡ length inboxes
-
--- the list of letters from p to q
-abbrev pub wire_between : List (List WireData) → ℕ → ℕ → WireData
-wire_between inboxes p q = wire_from (inbox_at inboxes q) p
+-- those that go from p to q
+abbrev pub letters_between : ℕ → ℕ → List SentData → List Letter
+letters_between p q sent = filter_map (letter_between p q) sent
 
 -- the letters from p to q
-abbrev pub mail_in : List (List WireData) → ℕ → ℕ → List Letter
-mail_in inboxes p q = (wire_between inboxes p q).letters
+abbrev pub mail_in : MailData → ℕ → ℕ → List Letter
+mail_in mail p q = letters_between p q mail.sent
 
--- with this list from p to q
-abbrev pub put_wire : List (List WireData) → ℕ → ℕ → WireData → List (List WireData)
-put_wire inboxes p q wire = slice_set inboxes q (slice_set (inbox_at inboxes q) p wire)
+abbrev pub sent_of : ℕ → ℕ → Letter → SentData
+sent_of p q letter = record { sender = p; receiver = q; letter = letter }
+
+-- the place of the oldest letter from p to q
+pub record IsFirst (p q : ℕ) (sent : List SentData) (k : ℕ) : Type 0 where
+  pub below : k < length sent
+  pub first : (one : SentData) → one ≡ slice_index_or sent k one → letters_between p q sent ≡ one.letter ∷ letters_between p q (remove sent k)
+  pub others : (a b : ℕ) → (a ≡ p → b ≡ q → ⊥) → letters_between a b (remove sent k) ≡ letters_between a b sent
+
+-- whether the sender with this number has letters on their way
+abbrev pub has_from : List Bool → ℕ → Bool
+has_from senders p = slice_index_or senders p false
+
+-- how many senders have
+abbrev pub sender_count : List Bool → ℕ
+sender_count senders = count_by (λ has. has) senders
+
+-- which senders have
+abbrev pub senders_in : List Bool → List ℕ
+senders_in senders = filter (has_from senders) (range_with_len 0 (length senders))
+
+-- the senders to the receiver with this number
+abbrev pub senders_to : List (List Bool) → ℕ → List Bool
+senders_to boxes q = slice_index_or boxes q []
+
+abbrev pub has_between : List (List Bool) → ℕ → ℕ → Bool
+has_between boxes p q = has_from (senders_to boxes q) p
+
+-- with this mark for the letters from p to q
+abbrev pub put_mark : List (List Bool) → ℕ → ℕ → Bool → List (List Bool)
+put_mark boxes p q has = slice_set boxes q (slice_set (senders_to boxes q) p has)
+
+-- for each ordered pair of nodes, whose number a byte holds, whether letters are on their way
+pub record AreMarked (boxes : List (List Bool)) (sent : List SentData) : Type 0 where
+  pub few : length boxes < 2 ^ 8
+  pub senders : (q : ℕ) → q < length boxes → length (senders_to boxes q) ≡ length boxes
+  pub marks : (p q : ℕ) → p < length boxes → q < length boxes → has_between boxes p q ≡ is_some_letter (letters_between p q sent)
 
 -- the takes of one receiver, by sender
-abbrev pub takes_of : ℕ → List WireData → List Turn
-takes_of q wires = map (take_turn q) (senders_in wires)
+abbrev pub takes_of : ℕ → List Bool → List Turn
+takes_of q senders = map (take_turn q) (senders_in senders)
 
 -- the takes of so many receivers from q on
-abbrev pub takes_from : List (List WireData) → ℕ → ℕ → List Turn
-takes_from inboxes q count = flat_map (λ r. takes_of r (inbox_at inboxes r)) (range_with_len q count)
+abbrev pub takes_from : List (List Bool) → ℕ → ℕ → List Turn
+takes_from boxes q count = flat_map (λ r. takes_of r (senders_to boxes r)) (range_with_len q count)
+
+-- the takes of all
+abbrev pub takes_by : List (List Bool) → List Turn
+takes_by boxes = takes_from boxes 0 (length boxes)
 
 -- all takes, by receiver and then by sender
-abbrev pub takes_in : List (List WireData) → List Turn
-takes_in inboxes = takes_from inboxes 0 (length inboxes)
+abbrev pub takes_in : MailData → List Turn
+takes_in mail =
+    flat_map (λ q. map (take_turn q) (filter (λ p. is_some_letter (mail_in mail p q)) (range_with_len 0 mail.nodes))) (range_with_len 0 mail.nodes)
 
--- the same letters, for which there may be more room
-pub record SameLetters (old new : List (List WireData)) : Type 0 where
-  pub receivers : length new ≡ length old
-  pub senders : (q : ℕ) → length (inbox_at new q) ≡ length (inbox_at old q)
+-- the same letters, and there may be room for more
+pub record SameLetters (old new : MailData) : Type 0 where
+  pub receivers : new.nodes ≡ old.nodes
   pub letters : (p q : ℕ) → mail_in new p q ≡ mail_in old p q
-  pub room : (p q : ℕ) → (wire_between old p q).room ≤ (wire_between new p q).room
-
--- there is room for so many letters more from p to each node
-abbrev pub HasRoomFrom : ℕ → ℕ → List (List WireData) → Type 0
-HasRoomFrom p room inboxes = (q : ℕ) → q < length inboxes
-    → length (mail_in inboxes p q) + room ≤ (wire_between inboxes p q).room
-
--- for each sender a number of letters, for which there is room to each node
-pub record HaveLeast (inboxes : List (List WireData)) (least : List ℕ) : Type 0 where
-  pub count : length least ≡ length inboxes
-  pub room : (p : ℕ) → p < length inboxes → HasRoomFrom p (slice_index_or least p 0) inboxes
+  pub room : old.free ≤ new.free
 
 -- the letters of these posts that go from p to q
 abbrev pub letters_of : ℕ → List Post → ℕ → ℕ → List Letter
 letters_of p posts a b = if a == p then filter_map (letter_for b) posts else []
 
 -- the letters of p were put behind those that were on their way
-pub record AreDelivered (p : ℕ) (posts : List Post) (old new : List (List WireData)) : Type 0 where
-  pub receivers : length new ≡ length old
-  pub senders : (q : ℕ) → length (inbox_at new q) ≡ length (inbox_at old q)
-  pub letters : (a b : ℕ) → b < length old → mail_in new a b ≡ mail_in old a b ++ letters_of p posts a b
+pub record AreDelivered (p : ℕ) (posts : List Post) (old new : MailData) : Type 0 where
+  pub receivers : new.nodes ≡ old.nodes
+  pub letters : (a b : ℕ) → mail_in new a b ≡ mail_in old a b ++ letters_of p posts a b
+
+-- the front letter from p to q is on its way no more, which makes room for one
+pub record IsTaken (p q : ℕ) (letter : Letter) (old new : MailData) : Type 0 where
+  pub receivers : new.nodes ≡ old.nodes
+  pub front : mail_in old p q ≡ letter ∷ mail_in new p q
+  pub others : (a b : ℕ) → (a ≡ p → b ≡ q → ⊥) → mail_in new a b ≡ mail_in old a b
+  pub room : new.free ≡ old.free + 1

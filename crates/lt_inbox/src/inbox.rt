@@ -1,39 +1,38 @@
-ghost use Rattle.std.specs.Prelude.{◌≡◌, ◌<◌, ◌+◌, ◌≤◌, ◌^◌, ℕ, [], ◌∷◌, ◌++◌, length, slice_get, slice_set, IfOk, IsOk, OnOk};
-ghost use Rattle.lt_desk.specs.LetterSeen.{letter_seen};
-ghost use Rattle.lt_inbox.specs.Mail.{has_letters, wire_from, letters_from, sender_count, senders_in};
+ghost use Rattle.std.specs.Prelude.{◌≡◌, ◌<◌, ◌^◌, ℕ, true, false, length, slice_get, slice_set, IfOk};
+ghost use Rattle.lt_inbox.specs.Mail.{has_from, sender_count, senders_in};
 
-use crate::wire::Wire;
-use lt_desk::Letter;
 use std::alloc::{AllocError, Global};
 use std::marker::Model;
 
-/// The letters that are on their way to one node, by sender.
+/// From whom letters are on their way to one node.
 #[derive(Drop)]
 pub(crate) struct Inbox {
-    wires: Vec<Wire>,
+    // By sender.
+    has: Vec<bool>,
     // From how many senders letters are on their way.
     senders: u8,
 }
 
 impl Model for Inbox {
-    ghost use Rattle.std.specs.Prelude.{◌≡◌, ◌<◌, ◌^◌, List, length};
-    ghost use Rattle.lt_inbox.specs.Mail.{WireData, sender_count};
+    ghost use Rattle.std.specs.Prelude.{◌≡◌, ◌<◌, ◌^◌, Bool, List, length};
+    ghost use Rattle.lt_inbox.specs.Mail.{sender_count};
 
-    ghost Value = { List WireData };
+    ghost Value = { List Bool };
 
-    ghost view = { λ i. i.wires.items };
+    ghost view = { λ i. i.has.items };
 
-    ghost invariant = { λ i. (length i.wires.items < 2 ^ 8) × (i.senders ≡ sender_count i.wires.items) };
+    ghost invariant = { λ i. (length i.has.items < 2 ^ 8) × (i.senders ≡ sender_count i.has.items) };
 }
 
 impl Inbox {
     /// An inbox without letters, for so many senders.
+    #[tactic(auto, using(crate::proofs::Senders::none_from, crate::proofs::Senders::none_counted))]
     pub(crate) fn new(alloc: Global, nodes: u8) -> Result<Inbox, AllocError>
         ensures count { IfOk result (λ inbox. length inbox ≡ nodes) }
-        ensures empty { IfOk result (λ inbox. (p : ℕ) → letters_from inbox p ≡ []) }
+        ensures empty { IfOk result (λ inbox. (p : ℕ) → has_from inbox p ≡ false) }
     {
-        let wires = wires_of(alloc, nodes)?;
-        Ok(Inbox { wires, senders: 0 })
+        let has = vec![in alloc; false; usize::from(nodes)]?;
+        Ok(Inbox { has, senders: 0 })
     }
 
     /// From how many senders letters are on their way.
@@ -48,104 +47,64 @@ impl Inbox {
     pub(crate) fn sender(&self, k: u32) -> Option<u8>
         ensures { result ≡ slice_get (senders_in self.now) k }
     {
-        sender_at(&self.wires, k)
+        sender_at(&self.has, k)
     }
 
     /// Whether a letter is on its way from this sender.
     pub(crate) fn has_from(&self, sender: u8) -> bool
         requires { sender < length self.now }
-        ensures { result ≡ has_letters (wire_from self.now sender) }
+        ensures { result ≡ has_from self.now sender }
     {
-        self.wires[usize::from(sender)].has_letters()
+        self.has[usize::from(sender)]
     }
 
-    /// For how many further letters from this sender there is room.
-    pub(crate) fn spare(&self, sender: u8) -> usize
-        requires { sender < length self.now }
-        ensures { length (letters_from self.now sender) + result ≡ (wire_from self.now sender).room }
-    {
-        self.wires[usize::from(sender)].spare()
-    }
-
-    /// Makes room for so many further letters from this sender.
-    pub(crate) fn reserve(&mut self, sender: u8, letters: usize) -> Result<(), AllocError>
+    /// Whether letters of this sender are on their way now.
+    pub(crate) fn set(&mut self, sender: u8, has: bool)
         requires { sender < length self.old }
-        ensures senders { length self.new ≡ length self.old }
-        ensures letters { (p : ℕ) → letters_from self.new p ≡ letters_from self.old p }
-        ensures room { OnOk result (length (letters_from self.old sender) + letters ≤ (wire_from self.new sender).room) }
-        ensures room_kept { (p : ℕ) → (wire_from self.old p).room ≤ (wire_from self.new p).room }
-        ensures full { length (letters_from self.old sender) + letters ≤ (wire_from self.old sender).room → IsOk result }
+        ensures { self.new ≡ slice_set self.old sender has }
     {
-        self.wires[usize::from(sender)].reserve(letters)
+        if has {
+            self.mark(sender);
+        } else {
+            self.clear(sender);
+        }
     }
 
-    /// Puts a letter of this sender behind its others.
+    /// Letters of this sender are on their way.
     #[tactic(auto, using(crate::proofs::Senders::fewer_senders))]
-    pub(crate) fn push(&mut self, sender: u8, letter: Letter)
-        requires inside { sender < length self.old }
-        requires room { length (letters_from self.old sender) < (wire_from self.old sender).room }
-        ensures { self.new ≡ slice_set self.old sender (record (wire_from self.old sender) { letters = letters_from self.old sender ++ letter_seen letter ∷ [] }) }
+    pub(crate) fn mark(&mut self, sender: u8)
+        requires { sender < length self.old }
+        ensures { self.new ≡ slice_set self.old sender true }
     {
-        let wire = &mut self.wires[usize::from(sender)];
-        if !wire.has_letters() {
+        let has = &mut self.has[usize::from(sender)];
+        if !*has {
             self.senders += 1;
         }
-        wire.push(letter);
+        *has = true;
     }
 
-    /// Takes the front letter of this sender.
-    pub(crate) fn pop(&mut self, sender: u8) -> Letter
-        requires inside { sender < length self.old }
-        requires some { 0 < length (letters_from self.old sender) }
-        ensures front { letters_from self.old sender ≡ letter_seen result ∷ letters_from self.new sender }
-        ensures rest { self.new ≡ slice_set self.old sender (record (wire_from self.old sender) { letters = letters_from self.new sender }) }
-        ensures place { length (letters_from self.new sender) < (wire_from self.new sender).room }
+    /// No letter of this sender is on its way.
+    fn clear(&mut self, sender: u8)
+        requires { sender < length self.old }
+        ensures { self.new ≡ slice_set self.old sender false }
     {
-        let wire = &mut self.wires[usize::from(sender)];
-        let letter = wire.pop();
-        if !wire.has_letters() {
+        let has = &mut self.has[usize::from(sender)];
+        if *has {
             self.senders -= 1;
         }
-        letter
+        *has = false;
     }
-
-    /// Puts a letter of this sender before its others.
-    #[tactic(auto, using(crate::proofs::Senders::fewer_senders))]
-    pub(crate) fn put_back(&mut self, sender: u8, letter: Letter)
-        requires inside { sender < length self.old }
-        requires room { length (letters_from self.old sender) < (wire_from self.old sender).room }
-        ensures { self.new ≡ slice_set self.old sender (record (wire_from self.old sender) { letters = letter_seen letter ∷ letters_from self.old sender }) }
-    {
-        let wire = &mut self.wires[usize::from(sender)];
-        if !wire.has_letters() {
-            self.senders += 1;
-        }
-        wire.put_back(letter);
-    }
-}
-
-// So many lists without letters.
-fn wires_of(alloc: Global, nodes: u8) -> Result<Vec<Wire>, AllocError>
-    ensures count { IfOk result (λ wires. length wires.items ≡ nodes) }
-    ensures empty { IfOk result (λ wires. (p : ℕ) → letters_from wires.items p ≡ []) }
-    ensures none { IfOk result (λ wires. sender_count wires.items ≡ 0) }
-{
-    let mut wires = Vec::new(alloc);
-    for _ in 0..nodes {
-        wires.push(Wire::new(alloc))?;
-    }
-    Ok(wires)
 }
 
 // The sender at place `k` of those that have letters.
 #[tactic(auto, using(crate::proofs::Senders::filter_skips, crate::proofs::Senders::filter_keeps))]
-fn sender_at(wires: &[Wire], k: u32) -> Option<u8>
-    requires { length wires.now < 2 ^ 8 }
-    ensures { result ≡ slice_get (senders_in wires.now) k }
+fn sender_at(has: &[bool], k: u32) -> Option<u8>
+    requires { length has.now < 2 ^ 8 }
+    ensures { result ≡ slice_get (senders_in has.now) k }
 {
     let mut left = k;
-    for sender in 0..wires.len() as u8 {
-        if wires[usize::from(sender)].has_letters() {
+    for sender in 0..has.len() as u8 {
+        if has[usize::from(sender)] {
             if left == 0 {
                 return Some(sender);
             }

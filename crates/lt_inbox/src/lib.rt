@@ -1,10 +1,10 @@
-//! The letters that are on their way between the nodes of one thread: for each receiver a list for each sender.
+//! The letters that are on their way between the nodes of one thread, with one room for all.
 #![tactic(auto)]
 
 mod inbox;
 mod inboxes;
+mod sent;
 mod takes;
-mod wire;
 
 pub use inboxes::Inboxes;
 pub use takes::Take;

@@ -1,5 +1,5 @@
 ghost use Rattle.std.specs.Prelude.{◌≡◌, ◌<◌, ◌^◌, length, slice_get, option_map};
-ghost use Rattle.lt_inbox.specs.Mail.{takes_in, takes_of};
+ghost use Rattle.lt_inbox.specs.Mail.{takes_by, takes_of};
 ghost use Rattle.lt_inbox.specs.Takes.{turn_of};
 
 use crate::inbox::Inbox;
@@ -15,7 +15,7 @@ pub struct Take {
 #[tactic(auto, using(crate::proofs::TakeOrder::takes_more))]
 pub(crate) fn count(inboxes: &[Inbox]) -> u32
     requires { length inboxes.now < 2 ^ 8 }
-    ensures count { result ≡ length (takes_in inboxes.now) }
+    ensures count { result ≡ length (takes_by inboxes.now) }
     ensures few { result < 2 ^ 16 }
 {
     let mut takes = 0;
@@ -29,7 +29,7 @@ pub(crate) fn count(inboxes: &[Inbox]) -> u32
 #[tactic(auto, using(crate::proofs::TakeOrder::take_here, crate::proofs::TakeOrder::take_later))]
 pub(crate) fn at(inboxes: &[Inbox], k: u32) -> Option<Take>
     requires { length inboxes.now < 2 ^ 8 }
-    ensures { option_map turn_of result ≡ slice_get (takes_in inboxes.now) k }
+    ensures { option_map turn_of result ≡ slice_get (takes_by inboxes.now) k }
 {
     let mut left = k;
     for receiver in 0..inboxes.len() {

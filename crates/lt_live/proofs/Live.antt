@@ -7,6 +7,7 @@ use Rattle.lt_modes.specs.Script.{ScriptData}
 use Rattle.lt_spec.specs.Families.{home}
 use Rattle.lt_law_appended.specs.Commands.{with_commands, AreAt}
 use Rattle.lt_mail.specs.Words.{Alike, SameEnds}
+use Rattle.lt_pool.specs.Items.{ContinuesAt}
 use Rattle.lt_runner.specs.declared.parts.Parts.{Parts}
 use Rattle.lt_runner.specs.declared.turning.Turned.{Turned}
 use Rattle.lt_threads.specs.Together.{EachIs}
@@ -14,13 +15,13 @@ use Rattle.lt_live.specs.declared.ends.Session.{Session}
 use Rattle.lt_live.specs.declared.ends.Seat.{Seat}
 use Rattle.lt_live.specs.declared.limits.TheConstants.{LETTER_PLACES}
 use Rattle.lt_live.specs.Words.{SameSession}
-use Rattle.lt_live.specs.Stations.{StationData, IsStation, StationTurns}
+use Rattle.lt_live.specs.Stations.{StationData, IsStation, StationTurns, StaySeated}
 use Rattle.lt_live.specs.Opened.{runner_of}
 use Rattle.lt_live.specs.Live.{GoesOn, StationGoesOn, EachStation}
 use Rattle.lt_live.specs.LiveLaws.{OpenedAreLive, LiveLasts, OneStationLasts, OneSessionLasts}
 use Rattle.lt_live.proofs.Linked.{session_stays}
 use Rattle.lt_live.proofs.AlikeLists.{alike_before, alike_after, alike_len, alike_self, alike_set}
-use Rattle.lt_live.proofs.LiveShares.{goes_itself, first_shares, shares_last}
+use Rattle.lt_live.proofs.LiveShares.{goes_itself, goes_join, first_shares, shares_last}
 
 pub opened_are_live : OpenedAreLive
 opened_are_live script limit capacity stations sessions empty opened = record {
@@ -103,3 +104,15 @@ turn_goes_on turned a seats b later h station =
       limit = same.limit ∙ ap (λ (p : Parts). p.limit) mid;
       ends = subst (λ (p : Parts). SameEnds p.mail b.mail) mid same.ends;
     }
+
+-- a station in a pool, after a turn
+pub turns_on : (firsts : List StationData) (node : ℕ) (a b : StationData) → ContinuesAt StationGoesOn firsts node a → GoesOn a.runner b.runner → StaySeated a.seats b.seats
+    → ContinuesAt StationGoesOn firsts node b
+turns_on firsts node a b h goes stay = (
+  h.0,
+  h.1,
+  record {
+    runner = goes_join h.0.runner a.runner b.runner h.2.runner goes;
+    seated = λ s seated. stay s (h.2.seated s seated);
+  },
+)

@@ -5,8 +5,9 @@ use Rattle.lt_modes.specs.declared.command.Command.{Command}
 use Rattle.lt_modes.specs.Script.{ScriptData}
 use Rattle.lt_law_appended.specs.Commands.{with_commands, AreAt}
 use Rattle.lt_limits.specs.declared.moves.TheConstants.{MAX_MOVES}
-use Rattle.lt_mail.specs.declared.lane.OutLane.{OutLane}
+use Rattle.lt_mail.specs.Lanes.{OutLane}
 use Rattle.lt_mail.specs.declared.lane.InLane.{InLane}
+use Rattle.lt_mail.proofs.MailLemmas.{ends_join}
 use Rattle.lt_mail.specs.Words.{out_at, in_at, Alike, Both, IsOpenLink, SameOut, SameIn}
 use Rattle.lt_runner.specs.declared.parts.Parts.{Parts}
 use Rattle.lt_threads.specs.Together.{EachIs}
@@ -17,6 +18,22 @@ use Rattle.lt_live.specs.Live.{GoesOn}
 
 pub goes_itself : (a : Parts) → GoesOn a a
 goes_itself a = record { script = refl; own = λ own. own; me = refl; limit = refl; ends = ends_same a.mail }
+
+pub goes_join : (a b c : Parts) → GoesOn a b → GoesOn b c → GoesOn a c
+goes_join a b c h k =
+    let commands = b.node.script.commands in
+    let later = c.node.script.commands in
+    let to_b : AreAt a.node.script a.node.me commands → AreAt b.node.script b.node.me commands = λ own.
+    subst (λ (me : ℕ). AreAt b.node.script me commands) (sym h.me) (subst (λ (s : ScriptData). AreAt s a.node.me commands) (sym h.script) own) in
+    let of_b : AreAt b.node.script b.node.me later → AreAt a.node.script a.node.me later = λ own.
+    subst (λ (s : ScriptData). AreAt s a.node.me later) h.script (subst (λ (me : ℕ). AreAt b.node.script me later) h.me own) in
+    record {
+      script = k.script ∙ ap (λ (s : ScriptData). with_commands s later) h.script;
+      own = λ own. of_b (k.own (to_b (h.own own)));
+      me = k.me ∙ h.me;
+      limit = k.limit ∙ h.limit;
+      ends = ends_join a.mail b.mail c.mail h.ends k.ends;
+    }
 
 -- at the start of a script without commands
 pub first_shares : (script : ScriptData) (capacity limit : ℕ) (rs : List Parts) → IsFirstCrew script capacity limit rs → script.commands ≡ [] → AreShares script rs

@@ -9,3 +9,5 @@ pub mod Opened
 pub mod Live
 pub mod LiveLaws
 pub mod Finished
+pub mod Same
+pub mod Visits

@@ -11,11 +11,13 @@ mod looking;
 mod opening;
 mod parting;
 mod reply;
+mod same;
 mod seats;
 mod session;
 mod starting;
 mod station;
 mod turning;
+mod visiting;
 
 pub use ends::{Seat, Session};
 pub use finishing::finish;
@@ -24,3 +26,4 @@ pub use limits::LETTER_PLACES;
 pub use reply::{Reply, reply_to};
 pub use starting::open;
 pub use station::Station;
+pub use visiting::visit;

@@ -1,4 +1,9 @@
 pub mod WordLemmas
 pub mod MailLemmas
+pub mod PassLemmas
+pub mod PassedLemmas
+pub mod FlushLemmas
+pub mod BothLemmas
 pub mod OpeningLemmas
+pub mod OpenedLemmas
 pub mod FirstMails

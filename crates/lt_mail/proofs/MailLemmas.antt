@@ -1,16 +1,13 @@
--- Mails one after the other: the same ends, the same letters, more room.
-use Rattle.std.proofs.Common.{◌≡◌, refl, ap, ℕ, Bool, true, false, [], ◌+◌, ◌<◌, ◌≤◌, inl, inr, Option, Some, None, sym, subst, arith, ◌∙◌}
-use Rattle.std.specs.Prelude.{◌⊎◌, if◌then◌else◌}
-use Rattle.std.proofs.lemmas.Bool.{cases_eq}
-use Rattle.std.proofs.lemmas.Option.{slice_get_cases}
-use Rattle.lt_mail.specs.declared.lane.OutLane.{OutLane}
+-- Mails one after the other: the same ends and the same letters.
+use Rattle.std.proofs.Common.{◌≡◌, refl, ap, ℕ, ◌<◌, ◌≤◌, List, length, Option, Some, None, sym, subst, arith, ◌∙◌}
+use Rattle.std.specs.Prelude.{slice_get}
+use Rattle.lt_desk.specs.declared.letter.Post.{Post}
+use Rattle.lt_mail.specs.declared.lane.OutEnd.{OutEnd}
 use Rattle.lt_mail.specs.declared.lane.InLane.{InLane}
 use Rattle.lt_mail.specs.declared.mail.Mail.{Mail}
-use Rattle.rtrb.specs.Ring.{known_free}
-use Rattle.lt_mail.specs.Lanes.{outbox_letters}
-use Rattle.lt_mail.specs.Words.{Both, IsOpenLink, AreLinked, out_at, in_at, on_out, outs_count, given_to, waiting_to, IsFullTo, HasRoomAt, HasRoomFor, Alike, SameOut, SameIn, SameEnds}
-use Rattle.lt_mail.specs.Changes.{OutChanges, Stays, Flushes, KeepsSent, Reserved, Flushed}
-use Rattle.lt_mail.proofs.WordLemmas.{flushes_stop}
+use Rattle.lt_mail.specs.Lanes.{OutLane, ring_given, sent_by, letters_to, lane_of}
+use Rattle.lt_mail.specs.Words.{Both, IsOpenLink, AreLinked, out_at, in_at, on_out, given_to, HasRoomFor, Alike, SameOut, SameIn, SameEnds}
+use Rattle.lt_mail.specs.Changes.{KeepsSent}
 
 alike_out : (a b c : Option OutLane) → Alike SameOut a b → Alike SameOut b c → Alike SameOut a c
 alike_out None None None h k = tt
@@ -45,55 +42,6 @@ kept_join a b c h k = record {
   ends = ends_join a b c h.ends k.ends;
 }
 
--- no other outbox changed, so none has less room
-pub room_stays : (to : ℕ) (a b : Mail) → OutChanges Stays a b to → (node further : ℕ) → HasRoomAt further (out_at a node) → HasRoomAt further (out_at b node)
-room_stays to a b h node further room = elim (cases_eq node to) [
-  | inl e ↦ subst (λ (n : ℕ). HasRoomAt further (out_at a n) → HasRoomAt further (out_at b n)) (sym e) (here (out_at a to) (out_at b to) h.lane) room
-  | inr apart ↦ subst (λ (o : Option OutLane). HasRoomAt further o) (sym (h.others node apart)) room
-]
-  where
-    here : (x y : Option OutLane) → Both Stays x y → HasRoomAt further x → HasRoomAt further y
-    here None y q room = absurd q
-    here (Some x) None q room = absurd q
-    here (Some x) (Some y) q room = omega (arith, room, q.len, q.kept)
-
-pub one_more_reserved : (letters first : ℕ) (a b c : Mail) → Reserved letters first a b → OutChanges Stays b c first → KeepsSent b c
-    → ((node : ℕ) → given_to c node ≡ given_to b node) → HasRoomAt letters (out_at c first) → Reserved letters (first + 1) a c
-one_more_reserved letters first a b c h lane kept given room = record {
-  kept = kept_join a b c h.kept kept;
-  given = λ node. given node ∙ h.given node;
-  room = λ node below. elim (cases_eq node first) [
-    | inl e ↦ subst (λ (n : ℕ). HasRoomAt letters (out_at c n)) (sym e) room
-    | inr apart ↦ subst (λ (o : Option OutLane). HasRoomAt letters o) (sym (lane.others node apart)) (h.room node (omega (arith, below, apart)))
-  ];
-  room_kept = λ node further room. room_stays first b c lane node further (h.room_kept node further room);
-}
-
-pub all_reserved : (letters first : ℕ) (a b : Mail) → Reserved letters first a b → outs_count a ≤ first → HasRoomFor b letters
-all_reserved letters first a b h whole node = elim (slice_get_cases b.outs.items node).1 [
-  | inl there ↦ h.room node (omega (arith, there.1, h.kept.ends.counts.0, whole))
-  | inr past ↦ subst (λ (o : Option OutLane). HasRoomAt letters o) (sym past.1) tt
-]
-
--- an empty outbox, or a ring that is known to be full
-abbrev Stopped : Option OutLane → Type 0
-Stopped o = (on_out outbox_letters o ≡ []) ⊎ ((lane : OutLane) × (o ≡ Some lane) × (known_free lane.ring ≡ 0))
-
-pub one_more_flushed : (first : ℕ) (a b c : Mail) → Flushed first a b → OutChanges Flushes b c first → KeepsSent b c → Flushed (first + 1) a c
-one_more_flushed first a b c h lane kept = record {
-  kept = kept_join a b c h.kept kept;
-  stops = λ node below. elim (cases_eq node first) [
-    | inl e ↦ subst (λ (n : ℕ). Stopped (out_at c n)) (sym e) (flushes_stop b c first lane)
-    | inr apart ↦ subst (λ (o : Option OutLane). Stopped o) (sym (lane.others node apart)) (h.stops node (omega (arith, below, apart)))
-  ];
-}
-
-pub all_flushed : (a b : Mail) → Flushed (outs_count b) a b → (node : ℕ) → (waiting_to b node ≡ []) ⊎ IsFullTo b node
-all_flushed a b h node = elim (slice_get_cases b.outs.items node).1 [
-  | inl there ↦ h.stops node there.1
-  | inr past ↦ inl (ap (λ (o : Option OutLane). on_out outbox_letters o) past.1)
-]
-
 -- ends that are linked stay so
 pub links_last : (a b x y : Mail) → SameEnds a b → SameEnds x y → AreLinked a x → AreLinked b y
 links_last a b x y h k l =
@@ -108,11 +56,11 @@ links_last a b x y h k l =
     linked (Some o) (Some i) (Some p) (Some j) u v e =
         ((v.0.0 ∙ e.0.0 ∙ sym u.0.0, v.0.1 ∙ e.0.1 ∙ sym u.0.1, v.0.2 ∙ e.0.2 ∙ sym u.0.2, v.0.3 ∙ e.0.3 ∙ sym u.0.3), subst (λ (n : ℕ). 0 < n) (sym u.1) e.1)
 
-same_ends_out : (o : Option OutLane) → Alike SameOut o o
+pub same_ends_out : (o : Option OutLane) → Alike SameOut o o
 same_ends_out None = tt
 same_ends_out (Some lane) = ((refl, refl, refl, refl), refl)
 
-same_ends_in : (o : Option InLane) → Alike SameIn o o
+pub same_ends_in : (o : Option InLane) → Alike SameIn o o
 same_ends_in None = tt
 same_ends_in (Some lane) = ((refl, refl, refl, refl), refl)
 
@@ -121,8 +69,29 @@ ends_same m = record { me = refl; counts = (refl, refl); outs = λ node. same_en
 
 -- with room for more letters there is room for fewer
 pub fewer_letters : (m : Mail) (more fewer : ℕ) → fewer ≤ more → HasRoomFor m more → HasRoomFor m fewer
-fewer_letters m more fewer less h node = here (out_at m node) (h node)
+fewer_letters m more fewer less h = omega (arith, h, less)
+
+-- the mail with the same ends and the same letters that wait
+pub same_mail : (a b : Mail) → b.me ≡ a.me → b.outs.items ≡ a.outs.items → b.ins.items ≡ a.ins.items → b.waiting.items ≡ a.waiting.items
+    → KeepsSent a b × ((node : ℕ) → given_to b node ≡ given_to a node)
+same_mail a b me outs ins waiting = (
+  record {
+    sent = λ node. ap (on_out sent_by) (same_out node);
+    ins = same_in;
+    ends = record {
+      me = me;
+      counts = (ap (λ (ends : List OutEnd). length ends) outs, ap (λ (lanes : List InLane). length lanes) ins);
+      outs = λ node. subst (λ (o : Option OutLane). Alike SameOut (out_at a node) o) (sym (same_out node)) (same_ends_out (out_at a node));
+      ins = λ node. subst (λ (o : Option InLane). Alike SameIn (in_at a node) o) (sym (same_in node)) (same_ends_in (in_at a node));
+    };
+  },
+  λ node. ap (on_out ring_given) (same_out node),
+)
   where
-    here : (o : Option OutLane) → HasRoomAt more o → HasRoomAt fewer o
-    here None room = tt
-    here (Some lane) room = omega (arith, room, less)
+    same_out : (node : ℕ) → out_at b node ≡ out_at a node
+    same_out node =
+        ap (λ (o : Option OutEnd). lane_of (letters_to node b.waiting.items) o) (ap (λ (ends : List OutEnd). slice_get ends node) outs)
+        ∙ ap (λ (posts : List Post). lane_of (letters_to node posts) (slice_get a.outs.items node)) waiting
+
+    same_in : (node : ℕ) → in_at b node ≡ in_at a node
+    same_in node = ap (λ (lanes : List InLane). slice_get lanes node) ins

@@ -1,25 +1,25 @@
--- One ring more, and the mails when all rings are made.
-use Rattle.std.proofs.Common.{◌≡◌, ◌≢◌, ℕ, ◌+◌, ◌<◌, ◌≤◌, inl, inr, List, [], ◌∷◌, ◌++◌, Option, Some, None, length, refl, sym, ap, subst, arith, ◌∙◌}
-use Rattle.std.specs.Prelude.{◌⊎◌, slice_get, slice_index_or, zero, suc}
+-- One ring more.
+use Rattle.std.proofs.Common.{◌≡◌, ◌≢◌, ℕ, ◌+◌, ◌<◌, inl, inr, List, [], ◌∷◌, ◌++◌, Option, Some, None, length, refl, sym, ap, subst, arith, ◌∙◌}
+use Rattle.std.specs.Prelude.{◌⊎◌, slice_get, zero, suc}
 use Rattle.std.proofs.lemmas.Bool.{cases_eq}
 use Rattle.std.proofs.lemmas.List.{length_push}
-use Rattle.std.proofs.lemmas.Option.{slice_get_cases, slice_get_within}
-use Rattle.lt_mail.specs.declared.lane.OutLane.{OutLane}
+use Rattle.std.proofs.lemmas.Option.{slice_get_within}
+use Rattle.lt_mail.specs.declared.lane.OutEnd.{OutEnd}
 use Rattle.lt_mail.specs.declared.lane.InLane.{InLane}
 use Rattle.lt_mail.specs.declared.mail.Mail.{Mail}
-use Rattle.lt_mail.specs.Lanes.{sent_by, taken, known, IsLink}
-use Rattle.lt_mail.specs.Words.{seen, out_at, in_at, on_out, on_in, outs_count, ins_count, Both, IsOpenLink, AreLinked}
-use Rattle.lt_mail.specs.Opening.{IsFresh, Opened, IsNewOut, IsNewIn, AtOne, GainsOut, GainsIn, GainsLink, Opening, AreEmpty}
+use Rattle.lt_mail.specs.Lanes.{IsLink}
+use Rattle.lt_mail.specs.Words.{end_at, in_at, outs_count, ins_count, Both}
+use Rattle.lt_mail.specs.Opening.{IsNewOut, IsNewIn, AtOne, GainsOut, GainsIn, GainsLink, Opening, AreEmpty}
 
-some_same : {X : Type 0} (x y : X) → Some x ≡ Some y → x ≡ y
+pub some_same : {X : Type 0} (x y : X) → Some x ≡ Some y → x ≡ y
 some_same x y e = cc
+
+pub none_is_some : {X : Type 0} (x : X) → None ≡ Some x → ⊥
+none_is_some x e = absurd (cc)
 
 pushed_cases : {X : Type 0} (xs : List X) (y : X) (j : ℕ) (x : X) → slice_get (xs ++ y ∷ []) j ≡ Some x → (slice_get xs j ≡ Some x) ⊎ ((j ≡ length xs) × (x ≡ y))
 pushed_cases [] y zero x e = inr (refl, some_same x y (sym e))
 pushed_cases [] y (suc j) x e = absurd (none_is_some x e)
-  where
-    none_is_some : {X : Type 0} (x : X) → None ≡ Some x → ⊥
-    none_is_some x e = absurd (cc)
 pushed_cases (z ∷ xs) y zero x e = inl e
 pushed_cases (z ∷ xs) y (suc j) x e = elim (pushed_cases xs y j x e) [
   | inl there ↦ inl there
@@ -49,10 +49,11 @@ before R place ms ns h k n e = elim (cases_eq k place) [
     }
 
 -- what the mail at a place gained
-record WasAt (a b k : ℕ) (out : OutLane) (into : InLane) (ms : List Mail) (n : Mail) : Type 0 where
+record WasAt (a b k : ℕ) (out : OutEnd) (into : InLane) (ms : List Mail) (n : Mail) : Type 0 where
   m : Mail
   there : slice_get ms k ≡ Some m
   me : n.me ≡ m.me
+  waiting : n.waiting.items ≡ m.waiting.items
   out_here : k ≡ a → n.outs.items ≡ m.outs.items ++ out ∷ []
   out_other : k ≢ a → n.outs.items ≡ m.outs.items
   in_here : k ≡ b → n.ins.items ≡ m.ins.items ++ into ∷ []
@@ -63,6 +64,7 @@ was_at capacity a b ms ns h k n e = record {
   m = first.m;
   there = first.there;
   me = late_me ∙ early_me;
+  waiting = late_waiting ∙ early_waiting;
   out_here = λ same. late_outs ∙ (first.here same).1;
   out_other = λ apart. late_outs ∙ ap (λ (m : Mail). m.outs.items) (first.other apart);
   in_here = λ same. (second.here same).2 ∙ ap (λ (items : List InLane). items ++ h.into ∷ []) early_ins;
@@ -87,6 +89,18 @@ was_at capacity a b ms ns h k n e = record {
       | inr apart ↦ ap (λ (m : Mail). m.me) (second.other apart)
     ]
 
+    late_waiting : n.waiting.items ≡ second.m.waiting.items
+    late_waiting = elim (cases_eq k b) [
+      | inl same ↦ (second.here same).3
+      | inr apart ↦ ap (λ (m : Mail). m.waiting.items) (second.other apart)
+    ]
+
+    early_waiting : second.m.waiting.items ≡ first.m.waiting.items
+    early_waiting = elim (cases_eq k a) [
+      | inl same ↦ (first.here same).3
+      | inr apart ↦ ap (λ (m : Mail). m.waiting.items) (first.other apart)
+    ]
+
     early_ins : second.m.ins.items ≡ first.m.ins.items
     early_ins = elim (cases_eq k a) [
       | inl same ↦ (first.here same).2
@@ -99,17 +113,17 @@ was_at capacity a b ms ns h k n e = record {
       | inr apart ↦ ap (λ (m : Mail). m.me) (first.other apart)
     ]
 
-out_cases : (a b k : ℕ) (out : OutLane) (into : InLane) (ms : List Mail) (n : Mail) (w : WasAt a b k out into ms n) (j : ℕ) (lane : OutLane) → out_at n j ≡ Some lane
-    → (out_at w.m j ≡ Some lane) ⊎ ((k ≡ a) × (j ≡ outs_count w.m) × (lane ≡ out))
+out_cases : (a b k : ℕ) (out : OutEnd) (into : InLane) (ms : List Mail) (n : Mail) (w : WasAt a b k out into ms n) (j : ℕ) (lane : OutEnd) → end_at n j ≡ Some lane
+    → (end_at w.m j ≡ Some lane) ⊎ ((k ≡ a) × (j ≡ outs_count w.m) × (lane ≡ out))
 out_cases a b k out into ms n w j lane e = elim (cases_eq k a) [
-  | inl same ↦ elim (pushed_cases w.m.outs.items out j lane (subst (λ (items : List OutLane). slice_get items j ≡ Some lane) (w.out_here same) e)) [
+  | inl same ↦ elim (pushed_cases w.m.outs.items out j lane (subst (λ (items : List OutEnd). slice_get items j ≡ Some lane) (w.out_here same) e)) [
     | inl old ↦ inl old
     | inr new ↦ inr (same, new.0, new.1)
   ]
-  | inr apart ↦ inl (subst (λ (items : List OutLane). slice_get items j ≡ Some lane) (w.out_other apart) e)
+  | inr apart ↦ inl (subst (λ (items : List OutEnd). slice_get items j ≡ Some lane) (w.out_other apart) e)
 ]
 
-in_cases : (a b k : ℕ) (out : OutLane) (into : InLane) (ms : List Mail) (n : Mail) (w : WasAt a b k out into ms n) (j : ℕ) (lane : InLane) → in_at n j ≡ Some lane
+in_cases : (a b k : ℕ) (out : OutEnd) (into : InLane) (ms : List Mail) (n : Mail) (w : WasAt a b k out into ms n) (j : ℕ) (lane : InLane) → in_at n j ≡ Some lane
     → (in_at w.m j ≡ Some lane) ⊎ ((k ≡ b) × (j ≡ ins_count w.m) × (lane ≡ into))
 in_cases a b k out into ms n w j lane e = elim (cases_eq k b) [
   | inl same ↦ elim (pushed_cases w.m.ins.items into j lane (subst (λ (items : List InLane). slice_get items j ≡ Some lane) (w.in_here same) e)) [
@@ -121,8 +135,8 @@ in_cases a b k out into ms n w j lane e = elim (cases_eq k b) [
 
 -- the new ring is between a and b, and each other one as it was
 links_more : (nodes capacity a b : ℕ) (ms ns : List Mail) → Opening nodes capacity a b ms → GainsLink capacity a b ms ns
-    → (k j : ℕ) (x y : Mail) (out : OutLane) (into : InLane) → slice_get ns k ≡ Some x → slice_get ns j ≡ Some y
-    → out_at x j ≡ Some out → in_at y k ≡ Some into → IsLink out into
+    → (k j : ℕ) (x y : Mail) (out : OutEnd) (into : InLane) → slice_get ns k ≡ Some x → slice_get ns j ≡ Some y
+    → end_at x j ≡ Some out → in_at y k ≡ Some into → IsLink out into
 links_more nodes capacity a b ms ns h g k j x y out into x_at y_at out_there into_there =
     by_cases (out_cases a b k g.out g.into ms x sender j out out_there) (in_cases a b j g.out g.into ms y taker k into into_there)
   where
@@ -138,7 +152,7 @@ links_more nodes capacity a b ms ns h g k j x y out into x_at y_at out_there int
     taken_rows : j ≡ b → ins_count taker.m ≡ a
     taken_rows same = h.ins_after j taker.m taker.there (omega (arith, same))
 
-    by_cases : (out_at sender.m j ≡ Some out) ⊎ ((k ≡ a) × (j ≡ outs_count sender.m) × (out ≡ g.out))
+    by_cases : (end_at sender.m j ≡ Some out) ⊎ ((k ≡ a) × (j ≡ outs_count sender.m) × (out ≡ g.out))
         → (in_at taker.m k ≡ Some into) ⊎ ((j ≡ b) × (k ≡ ins_count taker.m) × (into ≡ g.into)) → IsLink out into
     by_cases (inl o) (inl i) = h.links k j sender.m taker.m out into sender.there taker.there o i
     by_cases (inl o) (inr i) =
@@ -149,24 +163,25 @@ links_more nodes capacity a b ms ns h g k j x y out into x_at y_at out_there int
         let row = taken_rows (o.1 ∙ sent_rows o.0) in
         let below = slice_get_within taker.m.ins.items k into i in
         absurd (omega (arith, row, below, o.0))
-    by_cases (inr o) (inr i) = subst (λ (l : OutLane). IsLink l into) (sym o.2) (subst (λ (l : InLane). IsLink g.out l) (sym i.2) g.new.link)
+    by_cases (inr o) (inr i) = subst (λ (l : OutEnd). IsLink l into) (sym o.2) (subst (λ (l : InLane). IsLink g.out l) (sym i.2) g.new.link)
 
 one_more : (nodes capacity a b : ℕ) (ms ns : List Mail) → Opening nodes capacity a b ms → GainsLink capacity a b ms ns → Opening nodes capacity a (b + 1) ns
 one_more nodes capacity a b ms ns h g = record {
   count = g.ins.count ∙ (g.outs.count ∙ h.count);
   me = λ k n there. let w = was k n there in w.me ∙ h.me k w.m w.there;
+  waiting = λ k n there. let w = was k n there in w.waiting ∙ h.waiting k w.m w.there;
   outs_before = λ k n there before. let w = was k n there in
-      ap (λ (items : List OutLane). length items) (w.out_other (λ e. omega (arith, e, before))) ∙ h.outs_before k w.m w.there before;
+      ap (λ (items : List OutEnd). length items) (w.out_other (λ e. omega (arith, e, before))) ∙ h.outs_before k w.m w.there before;
   outs_at = λ n there. let w = was a n there in
-      ap (λ (items : List OutLane). length items) (w.out_here refl) ∙ omega (arith, length_push w.m.outs.items g.out, h.outs_at w.m w.there);
+      ap (λ (items : List OutEnd). length items) (w.out_here refl) ∙ omega (arith, length_push w.m.outs.items g.out, h.outs_at w.m w.there);
   outs_after = λ k n there after. let w = was k n there in
-      ap (λ (items : List OutLane). length items) (w.out_other (λ e. omega (arith, e, after))) ∙ h.outs_after k w.m w.there after;
+      ap (λ (items : List OutEnd). length items) (w.out_other (λ e. omega (arith, e, after))) ∙ h.outs_after k w.m w.there after;
   ins_before = ins_before;
   ins_after = λ k n there after. let w = was k n there in
       ap (λ (items : List InLane). length items) (w.in_other (λ e. omega (arith, e, after))) ∙ h.ins_after k w.m w.there (omega (arith, after));
   new_out = λ k j n lane there e. let w = was k n there in elim (out_cases a b k g.out g.into ms n w j lane e) [
     | inl old ↦ h.new_out k j w.m lane w.there old
-    | inr new ↦ subst (λ (l : OutLane). IsNewOut capacity l) (sym new.2) g.new.new_out
+    | inr new ↦ subst (λ (l : OutEnd). IsNewOut capacity l) (sym new.2) g.new.new_out
   ];
   new_in = λ k j n lane there e. let w = was k n there in elim (in_cases a b k g.out g.into ms n w j lane e) [
     | inl old ↦ h.new_in k j w.m lane w.there old
@@ -190,6 +205,7 @@ next_row : (nodes capacity a : ℕ) (ms : List Mail) → Opening nodes capacity 
 next_row nodes capacity a ms h = record {
   count = h.count;
   me = h.me;
+  waiting = h.waiting;
   outs_before = λ k m there before. elim (cases_eq k a) [
     | inl same ↦ h.outs_at m (subst (λ (p : ℕ). slice_get ms p ≡ Some m) same there)
     | inr apart ↦ h.outs_before k m there (omega (arith, before, apart))
@@ -207,9 +223,10 @@ pub first_row : (nodes capacity : ℕ) (ms : List Mail) → AreEmpty nodes ms �
 first_row nodes capacity ms h = record {
   count = h.count;
   me = λ k m there. (h.each k m there).0;
+  waiting = λ k m there. (h.each k m there).3;
   outs_before = λ k m there before. absurd (omega (arith, before));
-  outs_at = λ m there. ap (λ (items : List OutLane). length items) (h.each 0 m there).1;
-  outs_after = λ k m there after. ap (λ (items : List OutLane). length items) (h.each k m there).1;
+  outs_at = λ m there. ap (λ (items : List OutEnd). length items) (h.each 0 m there).1;
+  outs_after = λ k m there after. ap (λ (items : List OutEnd). length items) (h.each k m there).1;
   ins_before = λ k m there before. absurd (omega (arith, before));
   ins_after = λ k m there after. ap (λ (items : List InLane). length items) (h.each k m there).2;
   new_out = λ k j m lane there e. absurd (no_out j lane m.outs.items (h.each k m there).1 e);
@@ -217,65 +234,11 @@ first_row nodes capacity ms h = record {
   links = λ k j x y out into x_at y_at e i. absurd (no_out j out x.outs.items (h.each k x x_at).1 e);
 }
   where
-    no_out : (j : ℕ) (lane : OutLane) (items : List OutLane) → items ≡ [] → slice_get items j ≡ Some lane → ⊥
-    no_out j lane items none e = absurd (omega (arith, slice_get_within items j lane e, ap (λ (xs : List OutLane). length xs) none))
+    no_out : (j : ℕ) (lane : OutEnd) (items : List OutEnd) → items ≡ [] → slice_get items j ≡ Some lane → ⊥
+    no_out j lane items none e = absurd (omega (arith, slice_get_within items j lane e, ap (λ (xs : List OutEnd). length xs) none))
 
     no_in : (j : ℕ) (lane : InLane) (items : List InLane) → items ≡ [] → slice_get items j ≡ Some lane → ⊥
     no_in j lane items none e = absurd (omega (arith, slice_get_within items j lane e, ap (λ (xs : List InLane). length xs) none))
-
--- the mail of a node when all rings are made
-fresh : (nodes capacity : ℕ) (ms : List Mail) → Opening nodes capacity nodes 0 ms → (k : ℕ) (m : Mail) → slice_get ms k ≡ Some m → IsFresh nodes k m
-fresh nodes capacity ms h k m there = record {
-  me = h.me k m there;
-  outs = h.outs_before k m there (omega (arith, slice_get_within ms k m there, h.count));
-  ins = h.ins_after k m there (omega arith);
-  sent = λ other. nothing_out other (out_at m other) refl;
-  taken = λ other. nothing_taken other (in_at m other) refl;
-  known = λ other. nothing_known other (in_at m other) refl;
-}
-  where
-    nothing_out : (j : ℕ) (o : Option OutLane) → out_at m j ≡ o → on_out sent_by o ≡ []
-    nothing_out j None e = refl
-    nothing_out j (Some lane) e = ap seen (h.new_out k j m lane there e).sent
-
-    nothing_taken : (j : ℕ) (o : Option InLane) → in_at m j ≡ o → on_in taken o ≡ []
-    nothing_taken j None e = refl
-    nothing_taken j (Some lane) e = ap seen (h.new_in k j m lane there e).taken
-
-    nothing_known : (j : ℕ) (o : Option InLane) → in_at m j ≡ o → on_in known o ≡ []
-    nothing_known j None e = refl
-    nothing_known j (Some lane) e = ap seen (h.new_in k j m lane there e).known
-
-all_opened : (nodes capacity : ℕ) (ms : List Mail) → 0 < capacity → Opening nodes capacity nodes 0 ms → Opened nodes capacity ms
-all_opened nodes capacity ms some h = record {
-  count = h.count;
-  fresh = fresh nodes capacity ms h;
-  places = λ k j m lane there e. (h.new_out k j m lane there e).places;
-  links = linked;
-}
-  where
-    linked : (a b : ℕ) (x y : Mail) → slice_get ms a ≡ Some x → slice_get ms b ≡ Some y → AreLinked x y
-    linked a b x y x_at y_at =
-        rw (h.me a x x_at) (rw (h.me b y y_at) (ends (slice_get_cases x.outs.items b).1 (slice_get_cases y.ins.items a).1))
-      where
-        all_outs : outs_count x ≡ nodes
-        all_outs = (fresh nodes capacity ms h a x x_at).outs
-
-        all_ins : ins_count y ≡ nodes
-        all_ins = (fresh nodes capacity ms h b y y_at).ins
-
-        a_below : a < nodes
-        a_below = omega (arith, slice_get_within ms a x x_at, h.count)
-
-        b_below : b < nodes
-        b_below = omega (arith, slice_get_within ms b y y_at, h.count)
-
-        ends : ((o : OutLane) × (b < outs_count x) × (out_at x b ≡ Some o) × (slice_index_or x.outs.items b o ≡ o)) ⊎ ((outs_count x ≤ b) × (out_at x b ≡ None))
-            → ((i : InLane) × (a < ins_count y) × (in_at y a ≡ Some i) × (slice_index_or y.ins.items a i ≡ i)) ⊎ ((ins_count y ≤ a) × (in_at y a ≡ None))
-            → Both IsOpenLink (out_at x b) (in_at y a)
-        ends (inr o) i = absurd (omega (arith, o.0, all_outs, b_below))
-        ends (inl o) (inr i) = absurd (omega (arith, i.0, all_ins, a_below))
-        ends (inl o) (inl i) = rw o.2 (rw i.2 (h.links a b x y o.0 i.0 x_at y_at o.2 i.2, omega (arith, some, (h.new_out a b x o.0 x_at o.2).places)))
 
 -- where the places are told by other names
 pub one_more_at : (nodes capacity a b from to : ℕ) (ms ns : List Mail) → from ≡ a → to ≡ b → Opening nodes capacity a b ms
@@ -285,6 +248,3 @@ one_more_at nodes capacity a b from to ms ns is_a is_b h g =
 
 pub row_ends : (nodes capacity a b : ℕ) (ms : List Mail) → b ≡ nodes → Opening nodes capacity a b ms → Opening nodes capacity (a + 1) 0 ms
 row_ends nodes capacity a b ms all h = next_row nodes capacity a ms (subst (λ (n : ℕ). Opening nodes capacity a n ms) all h)
-
-pub rows_end : (nodes capacity a : ℕ) (ms : List Mail) → a ≡ nodes → 0 < capacity → Opening nodes capacity a 0 ms → Opened nodes capacity ms
-rows_end nodes capacity a ms all some h = all_opened nodes capacity ms some (subst (λ (n : ℕ). Opening nodes capacity n 0 ms) all h)

@@ -6,10 +6,9 @@ use mathlib.Core.List.{IsPrefix}
 use Rattle.lt_desk.specs.declared.letter.Letter.{Letter}
 use Rattle.lt_desk.specs.LetterSeen.{letter_seen}
 use Rattle.rtrb.specs.Ring.{known_free}
-use Rattle.lt_mail.specs.declared.lane.OutLane.{OutLane}
 use Rattle.lt_mail.specs.declared.lane.InLane.{InLane}
 use Rattle.lt_mail.specs.declared.mail.Mail.{Mail}
-use Rattle.lt_mail.specs.Lanes.{ring_given, outbox_letters, known}
+use Rattle.lt_mail.specs.Lanes.{OutLane, ring_given, outbox_letters, known}
 use Rattle.lt_mail.specs.Words.{seen, out_at, in_at, on_out, on_in, given_to, waiting_to, known_from, IsFullTo, Both}
 use Rattle.lt_mail.specs.Changes.{OutChanges, InChanges, Flushes, Takes, Saw}
 use Rattle.lt_mail.specs.Both.{LaneGives, Sees}
@@ -28,7 +27,7 @@ flushes_given a b to h = here (out_at a to) (out_at b to) h.lane
 pub flushes_stop : (a b : Mail) (to : ℕ) → OutChanges Flushes a b to → (waiting_to b to ≡ []) ⊎ IsFullTo b to
 flushes_stop a b to h = here (out_at a to) (out_at b to) refl h.lane
   where
-    full : (y : OutLane) → out_at b to ≡ Some y → (outbox_letters y ≡ []) ⊎ (known_free y.ring ≡ 0) → (seen (outbox_letters y) ≡ []) ⊎ IsFullTo b to
+    full : (y : OutLane) → out_at b to ≡ Some y → (outbox_letters y ≡ []) ⊎ (known_free y.end.ring ≡ 0) → (seen (outbox_letters y) ≡ []) ⊎ IsFullTo b to
     full y now (inl e) = inl (ap seen e)
     full y now (inr none) = inr (y, now, none)
 

@@ -1,9 +1,9 @@
 -- What two mails did that looked at a ring from both ends.
-use Rattle.std.specs.Prelude.{◌≡◌, ◌<◌, ◌⊎◌, [], ◌++◌, length}
+use Rattle.std.specs.Prelude.{◌≡◌, ◌+◌, ◌<◌, ◌⊎◌, [], ◌++◌, length}
+use Rattle.rtrb.specs.Ring.{known_free, producer_capacity}
 use mathlib.Core.List.{IsPrefix}
-use Rattle.lt_mail.specs.declared.lane.OutLane.{OutLane}
 use Rattle.lt_mail.specs.declared.lane.InLane.{InLane}
-use Rattle.lt_mail.specs.Lanes.{ring_given, outbox_letters, sent_by, taken, known}
+use Rattle.lt_mail.specs.Lanes.{OutLane, ring_given, outbox_letters, sent_by, taken, known}
 use Rattle.lt_mail.specs.Words.{SameOut, SameIn}
 
 -- letters may have gone from the outbox to the ring
@@ -22,3 +22,18 @@ pub record Sees (x y : InLane) : Type 0 where
 pub record IsMet (out : OutLane) (into : InLane) : Type 0 where
   pub whole : taken into ++ known into ≡ ring_given out
   pub moves : (outbox_letters out ≡ []) ⊎ (0 < length (known into))
+
+-- the sending end may know more places to be free
+pub record LooksAgain (x y : OutLane) : Type 0 where
+  pub ring : SameOut x y
+  pub ring_given : ring_given y ≡ ring_given x
+  pub outbox : outbox_letters y ≡ outbox_letters x
+
+-- all free places of the ring, which has some, are known
+abbrev pub KnowsPlaces : OutLane → InLane → Type 0
+KnowsPlaces out into =
+    (0 < producer_capacity out.end.ring) × (known_free out.end.ring + length (ring_given out) ≡ producer_capacity out.end.ring + length (taken into))
+
+-- all letters in the ring are known
+abbrev pub KnowsLetters : OutLane → InLane → Type 0
+KnowsLetters out into = taken into ++ known into ≡ ring_given out

@@ -1,14 +1,12 @@
 -- What one lane of a mail did, and that no other did anything.
 use Rattle.std.specs.Prelude.{◌≡◌, ◌≢◌, ◌+◌, ◌≤◌, ◌<◌, ◌⊎◌, Bool, ℕ, [], ◌∷◌, ◌++◌, Option, Some, None, MatchBool, length}
-use Rattle.std.specs.VecDeque.{deque_len, deque_capacity}
 use mathlib.Core.List.{IsPrefix}
 use Rattle.rtrb.specs.Ring.{producer_capacity, known_free}
 use Rattle.lt_desk.specs.declared.letter.Letter.{Letter}
-use Rattle.lt_mail.specs.declared.lane.OutLane.{OutLane}
 use Rattle.lt_mail.specs.declared.lane.InLane.{InLane}
 use Rattle.lt_mail.specs.declared.mail.Mail.{Mail}
-use Rattle.lt_mail.specs.Lanes.{ring_given, outbox_letters, sent_by, taken, known}
-use Rattle.lt_mail.specs.Words.{sent_to, given_to, waiting_to, IsFullTo, HasRoomAt, SameEnds, out_at, in_at, outs_count, ins_count, Both, SameOut, SameIn}
+use Rattle.lt_mail.specs.Lanes.{OutLane, ring_given, outbox_letters, sent_by, taken, known}
+use Rattle.lt_mail.specs.Words.{sent_to, SameEnds, out_at, in_at, outs_count, ins_count, Both, SameOut, SameIn}
 
 -- one lane that sends went from the one to the other in this way
 pub record OutChanges (R : OutLane → OutLane → Type 0) (a b : Mail) (to : ℕ) : Type 0 where
@@ -31,24 +29,15 @@ pub record Puts (letter : Letter) (x y : OutLane) : Type 0 where
   pub ring : SameOut x y
   pub sent : sent_by y ≡ sent_by x ++ letter ∷ []
   pub ring_given : ring_given y ≡ ring_given x
-  pub len : deque_len y.outbox ≡ deque_len x.outbox + 1
-  pub room : deque_capacity y.outbox ≡ deque_capacity x.outbox
 
 -- letters went from the outbox to the ring
 pub record Flushes (x y : OutLane) : Type 0 where
   pub ring : SameOut x y
   pub sent : sent_by y ≡ sent_by x
   pub grew : IsPrefix (ring_given x) (ring_given y)
-  pub first : length (ring_given y) < producer_capacity y.ring → outbox_letters y ≡ []
-  pub stops : (outbox_letters y ≡ []) ⊎ (known_free y.ring ≡ 0)
-
--- no letter went anywhere, and the outbox has no less room
-pub record Stays (x y : OutLane) : Type 0 where
-  pub ring : SameOut x y
-  pub sent : sent_by y ≡ sent_by x
-  pub ring_given : ring_given y ≡ ring_given x
-  pub len : deque_len y.outbox ≡ deque_len x.outbox
-  pub kept : deque_capacity x.outbox ≤ deque_capacity y.outbox
+  pub places : known_free x.end.ring + length (ring_given x) ≤ known_free y.end.ring + length (ring_given y)
+  pub first : length (ring_given y) < producer_capacity y.end.ring → outbox_letters y ≡ []
+  pub stops : (outbox_letters y ≡ []) ⊎ (known_free y.end.ring ≡ 0)
 
 -- the letter was taken
 pub record Takes (letter : Letter) (x y : InLane) : Type 0 where
@@ -84,15 +73,3 @@ pub record KeepsSent (a b : Mail) : Type 0 where
   pub sent : (node : ℕ) → sent_to b node ≡ sent_to a node
   pub ins : (node : ℕ) → in_at b node ≡ in_at a node
   pub ends : SameEnds a b
-
--- the outboxes to the first nodes have room for so many further letters, and none has less room
-pub record Reserved (letters first : ℕ) (a b : Mail) : Type 0 where
-  pub kept : KeepsSent a b
-  pub given : (node : ℕ) → given_to b node ≡ given_to a node
-  pub room : (node : ℕ) → node < first → HasRoomAt letters (out_at b node)
-  pub room_kept : (node further : ℕ) → HasRoomAt further (out_at a node) → HasRoomAt further (out_at b node)
-
--- the outboxes to the first nodes were flushed
-pub record Flushed (first : ℕ) (a b : Mail) : Type 0 where
-  pub kept : KeepsSent a b
-  pub stops : (node : ℕ) → node < first → (waiting_to b node ≡ []) ⊎ IsFullTo b node

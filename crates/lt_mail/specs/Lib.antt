@@ -2,4 +2,5 @@ pub mod Lanes
 pub mod Words
 pub mod Changes
 pub mod Both
+pub mod Passing
 pub mod Opening

@@ -5,16 +5,20 @@ use Rattle.rtrb.specs.Ring.{known_free, producer_capacity, SameProducer, SameCon
 use Rattle.lt_modes.specs.State as rules
 use Rattle.lt_desk.specs.declared.letter.Letter.{Letter}
 use Rattle.lt_desk.specs.LetterSeen.{letter_seen}
-use Rattle.lt_mail.specs.declared.lane.OutLane.{OutLane}
+use Rattle.lt_mail.specs.declared.lane.OutEnd.{OutEnd}
 use Rattle.lt_mail.specs.declared.lane.InLane.{InLane}
 use Rattle.lt_mail.specs.declared.mail.Mail.{Mail}
-use Rattle.lt_mail.specs.Lanes.{ring_given, outbox_letters, sent_by, taken, known, IsLink}
+use Rattle.lt_mail.specs.Lanes.{OutLane, lane_in, ring_given, outbox_letters, sent_by, taken, known, IsLink}
 
 abbrev pub seen : List Letter → List rules.Letter
 seen letters = map letter_seen letters
 
+abbrev pub end_at : Mail → ℕ → Option OutEnd
+end_at m node = slice_get m.outs.items node
+
+-- the end of the ring to the node, with the letters that wait for a place in it
 abbrev pub out_at : Mail → ℕ → Option OutLane
-out_at m node = slice_get m.outs.items node
+out_at m node = lane_in m.outs.items m.waiting.items node
 
 abbrev pub in_at : Mail → ℕ → Option InLane
 in_at m node = slice_get m.ins.items node
@@ -34,11 +38,11 @@ abbrev pub on_in : (InLane → List Letter) → Option InLane → List rules.Let
 on_in letters None = []
 on_in letters (Some lane) = seen (letters lane)
 
--- the letters that were sent to the node: those that its ring was ring_given, and then those in its outbox
+-- the letters that were sent to the node: those that its ring was given, and then those in its outbox
 abbrev pub sent_to : Mail → ℕ → List rules.Letter
 sent_to m node = on_out sent_by (out_at m node)
 
--- the letters to the node that its ring was ring_given
+-- the letters to the node that its ring was given
 abbrev pub given_to : Mail → ℕ → List rules.Letter
 given_to m node = on_out ring_given (out_at m node)
 
@@ -64,7 +68,7 @@ if_from from letter node = if node == from then letter ∷ [] else []
 
 abbrev pub places_of : Option OutLane → ℕ
 places_of None = 0
-places_of (Some lane) = producer_capacity lane.ring
+places_of (Some lane) = producer_capacity lane.end.ring
 
 -- how many letters the ring to the node has places for
 abbrev pub places_to : Mail → ℕ → ℕ
@@ -72,7 +76,7 @@ places_to m node = places_of (out_at m node)
 
 -- what this end knows of the ring to the node: it has no free place
 abbrev pub IsFullTo : Mail → ℕ → Type 0
-IsFullTo m node = (lane : OutLane) × (out_at m node ≡ Some lane) × (known_free lane.ring ≡ 0)
+IsFullTo m node = (lane : OutLane) × (out_at m node ≡ Some lane) × (known_free lane.end.ring ≡ 0)
 
 -- both are there and go together, or neither is there
 abbrev pub Alike : {X : Type 0} → (X → X → Type 0) → Option X → Option X → Type 0
@@ -88,7 +92,7 @@ Both R (Some x) None = ⊥
 Both R (Some x) (Some y) = R x y
 
 abbrev pub SameOut : OutLane → OutLane → Type 0
-SameOut x y = SameProducer x.ring y.ring
+SameOut x y = SameProducer x.end.ring y.end.ring
 
 abbrev pub SameIn : InLane → InLane → Type 0
 SameIn x y = SameConsumer x.ring y.ring
@@ -100,17 +104,13 @@ pub record SameEnds (a b : Mail) : Type 0 where
   pub outs : (node : ℕ) → Alike SameOut (out_at a node) (out_at b node)
   pub ins : (node : ℕ) → Alike SameIn (in_at a node) (in_at b node)
 
-abbrev pub HasRoomAt : ℕ → Option OutLane → Type 0
-HasRoomAt letters None = Unit {0}
-HasRoomAt letters (Some lane) = deque_len lane.outbox + letters ≤ deque_capacity lane.outbox
-
--- each outbox has room for so many further letters
+-- there is room for so many further letters that wait
 abbrev pub HasRoomFor : Mail → ℕ → Type 0
-HasRoomFor m letters = (node : ℕ) → HasRoomAt letters (out_at m node)
+HasRoomFor m letters = deque_len m.waiting + letters ≤ deque_capacity m.waiting
 
 -- the two ends of one ring, which has places
 abbrev pub IsOpenLink : OutLane → InLane → Type 0
-IsOpenLink out into = IsLink out into × (0 < producer_capacity out.ring)
+IsOpenLink out into = IsLink out.end into × (0 < producer_capacity out.end.ring)
 
 -- the one sends to the other
 abbrev pub AreLinked : Mail → Mail → Type 0

@@ -1,24 +1,50 @@
 // Both ends of a ring at once.
-ghost use Rattle.std.specs.Prelude.{◌≡◌, ◌≢◌, ◌<◌, ◌⊎◌, ℕ, [], ◌++◌, length};
+ghost use Rattle.std.specs.Prelude.{◌≡◌, ◌≢◌, ℕ, [], ◌++◌};
 ghost use mathlib.Core.List.{IsPrefix};
-ghost use Rattle.rtrb.specs.Ring.{producer_capacity, SameProducer, SameConsumer};
-ghost use Rattle.lt_mail.specs.Lanes.{ring_given, outbox_letters, sent_by, taken, known, IsLink};
 ghost use Rattle.lt_mail.specs.Words.{out_at, in_at, sent_to, given_to, waiting_to, taken_from, known_from, SameEnds, Both, AreLinked};
-ghost use Rattle.lt_mail.specs.Both.{IsMet, LaneGives, Sees};
+ghost use Rattle.lt_mail.specs.Both.{IsMet, LaneGives, Sees, LooksAgain, KnowsPlaces, KnowsLetters};
 ghost use Rattle.lt_mail.specs.Changes.{OutChanges, InChanges};
 
-use crate::lane::{InLane, OutLane};
 use crate::mail::Mail;
 
+// Looks at the ring from both of its ends, after which the taking end knows all letters in it.
+#[tactic(auto, using(crate::proofs::BothLemmas::linked_still, crate::proofs::BothLemmas::linked_ends, crate::proofs::BothLemmas::all_met))]
 fn meet(out: &mut Mail, into: &mut Mail)
     requires link { AreLinked out.old into.old }
     ensures met { Both IsMet (out_at out.new into.old.me) (in_at into.new out.old.me) }
     ensures out { OutChanges LaneGives out.old out.new into.old.me }
     ensures into { InChanges Sees into.old into.new out.old.me }
 {
+    let to = into.me;
+    see_places(out, into);
+    out.flush_on(to);
+    see_letters(out, into);
+}
+
+// The sending end learns of each free place.
+#[tactic(auto, using(crate::proofs::BothLemmas::linked_ends))]
+fn see_places(out: &mut Mail, into: &mut Mail)
+    requires link { AreLinked out.old into.old }
+    ensures out { OutChanges LooksAgain out.old out.new into.old.me }
+    ensures into { InChanges Sees into.old into.new out.old.me }
+    ensures places { Both KnowsPlaces (out_at out.new into.old.me) (in_at into.new out.old.me) }
+{
     let sender = &mut out.outs[usize::from(into.me)];
-    let receiver = &mut into.ins[usize::from(out.me)];
-    look_at_both(sender, receiver);
+    let taker = &mut into.ins[usize::from(out.me)];
+    sender.ring.slots_beside(&mut taker.ring);
+}
+
+// The taking end learns of each letter.
+#[tactic(auto, using(crate::proofs::BothLemmas::linked_ends))]
+fn see_letters(out: &mut Mail, into: &mut Mail)
+    requires link { AreLinked out.old into.old }
+    ensures out { OutChanges LooksAgain out.old out.new into.old.me }
+    ensures into { InChanges Sees into.old into.new out.old.me }
+    ensures letters { Both KnowsLetters (out_at out.new into.old.me) (in_at into.new out.old.me) }
+{
+    let sender = &mut out.outs[usize::from(into.me)];
+    let taker = &mut into.ins[usize::from(out.me)];
+    taker.ring.slots_beside(&mut sender.ring);
 }
 
 /// Looks at the ring from one node to another from both of its ends: the outbox is flushed, and then the taking end knows
@@ -39,22 +65,4 @@ pub fn beside(out: &mut Mail, into: &mut Mail)
     ensures moves { known_from into.new out.old.me ≡ [] → waiting_to out.new into.old.me ≡ [] }
 {
     meet(out, into);
-}
-
-// Looks at a ring from both of its ends, after which the taking end knows all letters in it.
-fn look_at_both(out: &mut OutLane, into: &mut InLane)
-    requires link { IsLink out.old into.old }
-    requires places { 0 < producer_capacity out.old.ring }
-    ensures sent { sent_by out.new ≡ sent_by out.old }
-    ensures ring_given { IsPrefix (ring_given out.old) (ring_given out.new) }
-    ensures out_ring { SameProducer out.old.ring out.new.ring }
-    ensures taken { taken into.new ≡ taken into.old }
-    ensures known { IsPrefix (known into.old) (known into.new) }
-    ensures in_ring { SameConsumer into.old.ring into.new.ring }
-    ensures whole { taken into.new ++ known into.new ≡ ring_given out.new }
-    ensures moves { (outbox_letters out.new ≡ []) ⊎ (0 < length (known into.new)) }
-{
-    out.ring.slots_beside(&mut into.ring);
-    out.flush();
-    into.ring.slots_beside(&mut out.ring);
 }

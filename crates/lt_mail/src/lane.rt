@@ -3,13 +3,11 @@ ghost use Rattle.rtrb.specs.Ring.{sent, known_free, producer_capacity};
 
 use lt_desk::Letter;
 use rtrb::{Consumer, Producer};
-use std::collections::VecDeque;
 
-/// The sending end of a ring, and the letters that still wait for a place in it.
+/// The sending end of a ring.
 #[derive(Drop)]
-pub struct OutLane {
+pub struct OutEnd {
     pub(crate) ring: Producer<Letter>,
-    pub(crate) outbox: VecDeque<Letter>,
     // So many letters at least have found or will find a place.
     pub(crate) ghost roomy: { producer_capacity ring ≤ known_free ring + length (sent ring) },
 }

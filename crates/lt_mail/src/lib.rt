@@ -6,6 +6,7 @@ mod lane;
 mod lanes;
 mod mail;
 mod opening;
+mod passing;
 
 pub use both_ends::beside;
 pub use mail::Mail;

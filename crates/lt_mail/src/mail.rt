@@ -1,21 +1,38 @@
-ghost use Rattle.std.specs.Prelude.{◌≡◌, ◌≢◌, ◌+◌, ◌<◌, ◌⊎◌, ℕ, [], ◌∷◌, ◌++◌, length, IfSome, IfNone, IsOk, OnOk, MatchBool};
+ghost use Rattle.std.specs.Prelude.{◌≡◌, ◌≢◌, ◌+◌, ◌≤◌, ◌<◌, ◌⊎◌, ℕ, [], ◌∷◌, ◌++◌, length, IfSome, IfNone, IsOk, OnOk, OnErr, MatchBool};
 ghost use mathlib.Core.List.{IsPrefix};
 ghost use Rattle.lt_desk.specs.LetterSeen.{letter_seen};
-ghost use Rattle.lt_mail.specs.Words.{out_at, in_at, outs_count, ins_count, sent_to, given_to, waiting_to, taken_from, known_from, if_to, if_from, places_to, IsFullTo, HasRoomFor, SameEnds, HasRoomAt};
+ghost use Rattle.lt_mail.specs.Words.{out_at, in_at, outs_count, ins_count, sent_to, given_to, waiting_to, taken_from, known_from, if_to, if_from, places_to, IsFullTo, HasRoomFor, SameEnds};
 ghost use Rattle.std.specs.VecDeque.{deque_len, deque_capacity};
 ghost use Rattle.lt_mail.specs.Both.{Sees};
-ghost use Rattle.lt_mail.specs.Changes.{KeepsSent, OutChanges, InChanges, Puts, Flushes, Stays, Takes, TakesKnown, TakesNone, KnowsNone, Saw};
+ghost use Rattle.lt_mail.specs.Changes.{KeepsSent, OutChanges, InChanges, Puts, Flushes, Takes, TakesKnown, TakesNone, KnowsNone, Saw};
 
-use crate::lane::{InLane, OutLane};
-use lt_desk::Letter;
+use crate::lane::{InLane, OutEnd};
+use crate::passing::pass;
+use lt_desk::{Letter, Post};
 use std::alloc::AllocError;
+use std::collections::VecDeque;
 
 /// The letters that one node sends and takes: an end of a ring for each node, its own included, which stays unused.
 #[derive(Drop)]
 pub struct Mail {
     pub(crate) me: u8,
-    pub(crate) outs: Vec<OutLane>,
+    pub(crate) outs: Vec<OutEnd>,
     pub(crate) ins: Vec<InLane>,
+    // The letters that wait for a place in a ring, in the order in which they were put: the outbox to a node has those
+    // of them that are for the node.
+    pub(crate) waiting: VecDeque<Post>,
+}
+
+// How many places a new list has for so many letters: few sizes, so that the memory of one list serves another, and that
+// one is seldom made anew. A move of a node sends up to 153 letters among 16 nodes, and up to 537 among 64.
+fn places_for(letters: usize) -> usize
+    ensures { letters ≤ result }
+{
+    match letters {
+        0..=160 => 160,
+        161..=544 => 544,
+        _ => letters,
+    }
 }
 
 // What a node does with its mail.
@@ -52,7 +69,7 @@ impl Mail {
         ensures ins { (node : ℕ) → in_at self.new node ≡ in_at self.old node }
         ensures ends { SameEnds self.old self.new }
     {
-        self.flush_on(usize::from(to));
+        self.flush_on(to);
     }
 
     /// Whether a letter of a node is in its ring, and then known. It looks again, whatever is known.
@@ -110,8 +127,10 @@ impl Mail {
 
 // What all lanes of a mail do.
 impl Mail {
-    /// Makes room in each outbox for so many further letters.
-    #[tactic(auto, using(crate::proofs::MailLemmas::kept_join))]
+    /// Makes room for so many further letters that wait.
+    ///
+    /// Where none waits and there is less room, the list is made anew, so that no memory is copied that no letter was in.
+    #[tactic(auto, using(crate::proofs::MailLemmas::same_mail))]
     pub fn reserve(&mut self, letters: u32) -> Result<(), AllocError>
         ensures sent { (node : ℕ) → sent_to self.new node ≡ sent_to self.old node }
         ensures given { (node : ℕ) → given_to self.new node ≡ given_to self.old node }
@@ -121,56 +140,53 @@ impl Mail {
         ensures ins { (node : ℕ) → in_at self.new node ≡ in_at self.old node }
         ensures ends { SameEnds self.old self.new }
     {
-        for to in 0..self.outs.len() {
-            self.reserve_on(to, letters)?;
-        }
-        Ok(())
+        make_room(&mut self.waiting, letters as usize)
     }
 
     /// Flushes the outbox to each node.
-    #[tactic(auto, using(crate::proofs::MailLemmas::all_flushed))]
+    #[tactic(auto, using(crate::proofs::FlushLemmas::passed_kept))]
     pub fn flush_all(&mut self)
         ensures sent { (node : ℕ) → sent_to self.new node ≡ sent_to self.old node }
         ensures stops { (node : ℕ) → (waiting_to self.new node ≡ []) ⊎ IsFullTo self.new node }
         ensures ins { (node : ℕ) → in_at self.new node ≡ in_at self.old node }
         ensures ends { SameEnds self.old self.new }
     {
-        for to in 0..self.outs.len() {
-            self.flush_on(to);
-        }
+        pass(&mut self.outs, &mut self.waiting, None);
     }
+}
+
+fn make_room(waiting: &mut VecDeque<Post>, letters: usize) -> Result<(), AllocError>
+    ensures items { waiting.new.items ≡ waiting.old.items }
+    ensures len { deque_len waiting.new ≡ deque_len waiting.old }
+    ensures room { OnOk result (deque_len waiting.new + letters ≤ deque_capacity waiting.new) }
+    ensures kept { deque_capacity waiting.old ≤ deque_capacity waiting.new }
+    ensures full { OnErr result (deque_capacity waiting.old < deque_len waiting.old + letters) }
+{
+    if waiting.is_empty() && waiting.capacity() < letters {
+        let alloc = *waiting.allocator();
+        *waiting = VecDeque::with_capacity(alloc, places_for(letters))?;
+    }
+    waiting.reserve(letters)
 }
 
 // What one lane of a mail does.
 impl Mail {
-    pub(crate) fn reserve_on(&mut self, to: usize, letters: u32) -> Result<(), AllocError>
-        requires { to < outs_count self.old }
-        ensures lane { OutChanges Stays self.old self.new to }
-        ensures given { (node : ℕ) → given_to self.new node ≡ given_to self.old node }
-        ensures kept { KeepsSent self.old self.new }
-        ensures room { OnOk result (HasRoomAt letters (out_at self.new to)) }
-        ensures full { HasRoomAt letters (out_at self.old to) → IsOk result }
-    {
-        let lane = &mut self.outs[to];
-        lane.reserve(letters)
-    }
-
     pub(crate) fn put_on(&mut self, to: u8, letter: Letter)
         requires peer { to < outs_count self.old }
-        requires room { IfSome (out_at self.old to) (λ lane. deque_len lane.outbox < deque_capacity lane.outbox) }
-        ensures { OutChanges (Puts letter) self.old self.new to }
+        requires room { HasRoomFor self.old 1 }
+        ensures lane { OutChanges (Puts letter) self.old self.new to }
+        ensures room { (letters : ℕ) → HasRoomFor self.old (letters + 1) → HasRoomFor self.new letters }
     {
-        let lane = &mut self.outs[usize::from(to)];
-        lane.put(letter);
+        self.waiting.push_back_reserved(Post { to, letter });
     }
 
-    pub(crate) fn flush_on(&mut self, to: usize)
+    #[tactic(auto, using(crate::proofs::FlushLemmas::one_flushed, crate::proofs::FlushLemmas::passed_kept))]
+    pub(crate) fn flush_on(&mut self, to: u8)
         requires { to < outs_count self.old }
         ensures lane { OutChanges Flushes self.old self.new to }
         ensures kept { KeepsSent self.old self.new }
     {
-        let lane = &mut self.outs[to];
-        lane.flush();
+        pass(&mut self.outs, &mut self.waiting, Some(to));
     }
 
     pub(crate) fn has_letter_on(&mut self, from: u8) -> bool

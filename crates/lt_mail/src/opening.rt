@@ -1,7 +1,7 @@
 ghost use Rattle.std.specs.Prelude.{◌≤◌, ◌<◌, ◌+◌, IfOk, OnOk, vec_len};
 ghost use Rattle.lt_mail.specs.Opening.{AreEmpty, Opened, Opening, AtOne, GainsOut, GainsIn, GainsLink, IsNewLink};
 
-use crate::lane::{InLane, OutLane};
+use crate::lane::{InLane, OutEnd};
 use crate::mail::Mail;
 use rtrb::RingBuffer;
 use std::alloc::{AllocError, Global};
@@ -10,12 +10,12 @@ use std::collections::VecDeque;
 /// The most letters that a ring may have places for.
 pub const MAX_CAPACITY: u32 = 1_024;
 
-fn add_out(mails: &mut Vec<Mail>, from: usize, lane: OutLane) -> Result<(), AllocError>
+fn add_out(mails: &mut Vec<Mail>, from: usize, end: OutEnd) -> Result<(), AllocError>
     requires { from < vec_len mails.old }
-    ensures { OnOk result (AtOne (GainsOut lane) from mails.old.items mails.new.items) }
+    ensures { OnOk result (AtOne (GainsOut end) from mails.old.items mails.new.items) }
 {
     let mail = &mut mails[from];
-    mail.outs.push(lane)?;
+    mail.outs.push(end)?;
     Ok(())
 }
 
@@ -29,15 +29,11 @@ fn add_in(mails: &mut Vec<Mail>, to: usize, lane: InLane) -> Result<(), AllocErr
 }
 
 // The two ends of a new ring.
-fn new_link(alloc: Global, capacity: u32) -> Result<(OutLane, InLane), AllocError>
+fn new_link(alloc: Global, capacity: u32) -> Result<(OutEnd, InLane), AllocError>
     ensures { IfOk result (λ lanes. IsNewLink capacity lanes.0 lanes.1) }
 {
     let (sender, taker) = RingBuffer::new(alloc, capacity as usize)?;
-    let out = OutLane {
-        ring: sender,
-        outbox: VecDeque::new(alloc),
-    };
-    Ok((out, InLane { ring: taker }))
+    Ok((OutEnd { ring: sender }, InLane { ring: taker }))
 }
 
 // A ring from the one node to the other.
@@ -84,6 +80,7 @@ fn empty_mails(alloc: Global, nodes: u8) -> Result<Vec<Mail>, AllocError>
             me: node,
             outs: Vec::new(alloc),
             ins: Vec::new(alloc),
+            waiting: VecDeque::new(alloc),
         })?;
     }
     Ok(mails)

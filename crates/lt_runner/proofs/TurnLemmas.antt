@@ -10,7 +10,7 @@ use Rattle.lt_spec.specs.NodeMove.{NodeState}
 use Rattle.lt_node.specs.NodeData.{state_of}
 use Rattle.lt_mail.specs.Lanes.{outbox_letters}
 use Rattle.lt_mail.specs.Words.{on_out, out_at, waiting_to, IsFullTo}
-use Rattle.lt_mail.specs.declared.lane.OutLane.{OutLane}
+use Rattle.lt_mail.specs.Lanes.{OutLane}
 use Rattle.lt_runner.specs.declared.choice.Choice.TheVariants.{Nothing, Act, Take}
 use Rattle.lt_runner.specs.declared.turning.Turned.{Turned}
 use Rattle.lt_runner.specs.declared.turning.Turned.TheVariants.{Moved, Quiet, Full, NoMemory}

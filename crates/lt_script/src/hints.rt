@@ -5,7 +5,7 @@ ghost use Rattle.lt_script.specs.Hints.{slot_of};
 ///
 /// A name has one of 256 slots, and a slot keeps the place that was noted in it last. Names may have a slot in
 /// common, so whoever is told a place looks whether the name stands there: a wrong guess costs time alone.
-#[derive(Debug, Drop)]
+#[derive(Clone, Copy, Debug)]
 pub struct Hints {
     places: [u8; 256],
 }

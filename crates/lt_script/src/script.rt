@@ -88,7 +88,7 @@ impl Script {
         })
     }
 
-    /// The same script once more, with names yet to be looked up.
+    /// The same script once more.
     pub fn copy(&self, alloc: Global) -> Result<Script, AllocError>
         ensures { IfOk result (λ s. s ≡ self.now) }
     {
@@ -101,12 +101,12 @@ impl Script {
             sets,
             clients,
             commands,
-            set_hints: Hints::new(),
-            client_hints: Hints::new(),
+            set_hints: self.set_hints,
+            client_hints: self.client_hints,
         })
     }
 
-    /// The same nodes, sets and clients, and no commands, with names yet to be looked up.
+    /// The same nodes, sets and clients, and no commands.
     pub fn without_commands(&self, alloc: Global) -> Result<Script, AllocError>
         ensures { IfOk result (λ s. s ≡ record self.now { commands = [] }) }
     {
@@ -118,8 +118,8 @@ impl Script {
             sets,
             clients,
             commands: Vec::new(alloc),
-            set_hints: Hints::new(),
-            client_hints: Hints::new(),
+            set_hints: self.set_hints,
+            client_hints: self.client_hints,
         })
     }
 

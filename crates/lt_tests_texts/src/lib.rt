@@ -2,22 +2,16 @@
 #![tactic(auto)]
 
 #[cfg(test)]
-mod gen;
-
-#[cfg(test)]
 mod journal;
-
 #[cfg(test)]
 mod journal_example;
-
 #[cfg(test)]
 mod journal_reading;
-
+#[cfg(test)]
+mod made;
 #[cfg(test)]
 mod script;
-
 #[cfg(test)]
 mod summary;
-
 #[cfg(test)]
 mod words;

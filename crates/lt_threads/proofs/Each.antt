@@ -3,7 +3,7 @@ use Rattle.std.proofs.Common.{◌≡◌, ◌≢◌, ◌<◌, ◌+◌, ℕ, zero,
 use Rattle.std.specs.Prelude.{slice_get, slice_set}
 use Rattle.lt_mail.specs.Words.{out_at, in_at, Alike, SameOut, SameIn, SameEnds}
 use Rattle.lt_mail.specs.declared.mail.Mail.{Mail}
-use Rattle.lt_mail.specs.declared.lane.OutLane.{OutLane}
+use Rattle.lt_mail.specs.Lanes.{OutLane}
 use Rattle.lt_mail.specs.declared.lane.InLane.{InLane}
 use Rattle.lt_runner.specs.declared.parts.Hand.{Hand}
 use Rattle.lt_runner.specs.declared.parts.Parts.{Parts}

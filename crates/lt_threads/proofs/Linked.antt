@@ -3,7 +3,7 @@ use Rattle.std.proofs.Common.{◌≡◌, ◌≢◌, ◌<◌, ℕ, List, [], ◌�
 use Rattle.std.specs.Prelude.{slice_get}
 use Rattle.std.proofs.lemmas.Option.{slice_get_within}
 use Rattle.lt_mail.specs.Words.{out_at, in_at, Alike, Both, IsOpenLink, SameOut, SameIn}
-use Rattle.lt_mail.specs.declared.lane.OutLane.{OutLane}
+use Rattle.lt_mail.specs.Lanes.{OutLane}
 use Rattle.lt_mail.specs.declared.lane.InLane.{InLane}
 use Rattle.lt_runner.specs.declared.parts.Parts.{Parts}
 use Rattle.lt_runner.specs.Kept.{SameRunner, AsSeen}

@@ -6,8 +6,10 @@ use Rattle.lt_modes.specs.Script.{ScriptData}
 use Rattle.lt_script.specs.Script.{IsScript}
 use Rattle.lt_lists.proofs.Members.{some_equal}
 use Rattle.lt_limits.specs.declared.moves.TheConstants.{MAX_MOVES}
+use Rattle.lt_desk.specs.declared.letter.Letter.{Letter}
 use Rattle.lt_mail.specs.declared.mail.Mail.{Mail}
-use Rattle.lt_mail.specs.declared.lane.OutLane.{OutLane}
+use Rattle.lt_mail.specs.declared.lane.OutEnd.{OutEnd}
+use Rattle.lt_mail.specs.Lanes.{OutLane, lane_of, letters_to}
 use Rattle.lt_mail.specs.Words.{out_at, in_at, places_of, IsOpenLink, Both}
 use Rattle.lt_mail.specs.Opening.{Opened, IsFresh}
 use Rattle.lt_runner.specs.declared.parts.Parts.{Parts}
@@ -89,11 +91,12 @@ one_more script capacity limit k left rs d p h below starts = record {
         (record { script_is = starts.script_is; me = starts.me; limit_is = starts.limit_is; log = starts.log; mail = mail }))
 
 -- a ring to each node, with these places
-places_at : (capacity : ℕ) (lanes : List OutLane) (other : ℕ) → other < length lanes
-    → ((lane : OutLane) → slice_get lanes other ≡ Some lane → places_of (Some lane) ≡ capacity) → places_of (slice_get lanes other) ≡ capacity
-places_at capacity [] other below h = absurd (omega (arith, below))
-places_at capacity (lane ∷ lanes) zero below h = h lane refl
-places_at capacity (lane ∷ lanes) (suc other) below h = places_at capacity lanes other (omega (arith, below)) h
+places_at : (capacity : ℕ) (letters : List Letter) (ends : List OutEnd) (other : ℕ) → other < length ends
+    → ((lane : OutLane) → lane_of letters (slice_get ends other) ≡ Some lane → places_of (Some lane) ≡ capacity)
+    → places_of (lane_of letters (slice_get ends other)) ≡ capacity
+places_at capacity letters [] other below h = absurd (omega (arith, below))
+places_at capacity letters (end ∷ ends) zero below h = h (record { end = end; outbox = letters }) refl
+places_at capacity letters (end ∷ ends) (suc other) below h = places_at capacity letters ends other (omega (arith, below)) h
 
 pub first_crew : (script : ScriptData) (capacity limit : ℕ) (left : List Mail) (rs : List Parts) → IsScript script → limit ≤ MAX_MOVES
     → Starting script capacity limit script.nodes left rs → IsFirstCrew script capacity limit rs
@@ -121,5 +124,6 @@ first_crew script capacity limit left rs is_script few h = record {
   places = λ k other p e below.
       let mail = (h.each k p e).mail in
       let fresh = h.opened.fresh k p.mail mail in
-      places_at capacity p.mail.outs.items other (omega (arith, fresh.outs, below)) (λ lane there. h.opened.places k other p.mail lane mail there);
+      places_at capacity (letters_to other p.mail.waiting.items) p.mail.outs.items other (omega (arith, fresh.outs, below))
+      (λ lane there. h.opened.places k other p.mail lane mail there);
 }

@@ -10,7 +10,7 @@ use Rattle.lt_mail.specs.Words.{Alike}
 use Rattle.lt_runner.specs.declared.parts.Parts.{Parts}
 use Rattle.lt_runner.specs.declared.choice.Choice.TheVariants as choices
 use Rattle.lt_runner.specs.Choices.{next_choice}
-use Rattle.lt_runner.specs.Kept.{RunnerInvariant, AsSeen, Grew, TurnEnds}
+use Rattle.lt_runner.specs.Kept.{RunnerInvariant, SameRunner, AsSeen, MovedOne, Grew, TurnEnds}
 use Rattle.lt_runner.specs.declared.turning.Turned.{Turned}
 use Rattle.lt_runner.specs.declared.turning.Turned.TheVariants.{Moved, Quiet, Full, NoMemory}
 use Rattle.lt_threads.specs.Together.{EachIs}
@@ -29,6 +29,13 @@ pub grew_join : (a b c : Parts) → Grew a b → Grew b c → Grew a c
 grew_join a b c h k = record {
   same = same_join a b c h.same k.same;
   log = (h.log.0 ++ k.log.0, sym (append_assoc a.log.entries h.log.0 k.log.0) ∙ (ap (λ (log : List Logged). log ++ k.log.0) h.log.1 ∙ k.log.1));
+}
+
+-- one move more
+pub moved_grew : (a b c : Parts) → Grew a b → SameRunner b c → MovedOne b c → Grew a c
+moved_grew a b c h s k = record {
+  same = same_join a b c h.same s;
+  log = (h.log.0 ++ k.0 ∷ [], sym (append_assoc a.log.entries h.log.0 (k.0 ∷ [])) ∙ (ap (λ (log : List Logged). log ++ k.0 ∷ []) h.log.1 ∙ sym k.1));
 }
 
 longer : (a b : Parts) → Grew a b → length a.log.entries ≤ length b.log.entries

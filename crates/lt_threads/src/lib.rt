@@ -12,6 +12,7 @@ mod rounds;
 mod settling;
 mod sharing;
 mod starting;
+mod taking;
 mod threads;
 mod waiting;
 mod worker;

@@ -5,13 +5,22 @@ const FEW_WORKERS: u8 = 3;
 
 const NODES_PER_WORKER: u8 = 32;
 
+// A visit for a command is short if it made fewer moves than this and a letter was sent.
+const SHORT: u32 = 16;
+
+// After so many short visits a worker that may leave gives its nodes up to the others.
+const MOST_SHORT: u32 = 4;
+
 /// What a worker knows of the nodes, a bit each, and where it looks next.
 ///
-/// It is chosen for speed alone: letters come before commands, so that a token stays where its clients are.
+/// It is chosen for speed alone: letters come before commands, and commands at one node before those at the next, so that a
+/// token stays where its clients are.
 #[derive(Clone, Copy)]
 pub(crate) struct Outlook {
-    // The node from which on it looks for the next one.
+    // The node from which on it looks for the next one with mail.
     at: u8,
+    // It doesn't leave for short visits.
+    stays: bool,
     // The nodes that its runners sent letters to.
     mail: u64,
     // The nodes that may have another move.
@@ -26,12 +35,15 @@ pub(crate) struct Outlook {
     refused: u32,
     // The nodes with mail that another worker had when they were claimed, and that weren't claimed since.
     owed: u64,
+    // Short visits.
+    short: u32,
 }
 
 impl Outlook {
     pub(crate) fn new(at: u8) -> Outlook {
         Outlook {
             at,
+            stays: at == 0,
             mail: 0,
             acts: u64::MAX,
             full: 0,
@@ -39,13 +51,20 @@ impl Outlook {
             vain: 0,
             refused: 0,
             owed: 0,
+            short: 0,
         }
     }
 
-    /// Whether the worker has tried often enough. While another worker has a node with its mail, visits in vain don't
-    /// end it.
+    /// Whether the worker has tried often enough, or is in the way of the others. While another worker has a node with
+    /// its mail, it ends for neither.
     pub(crate) fn is_over(&self, count: u8, patience: u32) -> bool {
-        self.vain >= u32::from(count) && self.owed == 0 || self.refused >= patience
+        self.owed == 0 && (self.vain >= u32::from(count) || self.leaves())
+            || self.refused >= patience
+    }
+
+    // Whether its visits for commands were short too often. It first sees to its mail.
+    fn leaves(&self) -> bool {
+        !self.stays && self.short >= MOST_SHORT && self.mail == 0
     }
 
     /// The next of so many nodes.
@@ -60,12 +79,17 @@ impl Outlook {
         let node = if self.by_mail {
             first_from(self.mail, self.at, count)
         } else {
-            first_from(self.acts, self.at, count)
+            first_from(self.acts, 0, count)
         };
         self.mail &= !bit(node);
         self.acts &= !bit(node);
         self.at = if node + 1 < count { node + 1 } else { 0 };
         node
+    }
+
+    /// Whether it looks at the node for letters alone.
+    pub(crate) fn is_by_mail(&self) -> bool {
+        self.by_mail
     }
 
     /// Another worker has the node.
@@ -82,8 +106,11 @@ impl Outlook {
         self.owed &= !bit(node);
     }
 
-    /// The node made moves, and sent letters to the nodes that were reached.
-    pub(crate) fn note_moves(&mut self, node: u8, reached: u64) {
+    /// The node made so many moves, and sent letters to the nodes that were reached.
+    pub(crate) fn note_moves(&mut self, node: u8, moves: u32, reached: u64) {
+        if !self.by_mail && moves < SHORT && reached != 0 {
+            self.short = self.short.saturating_add(1);
+        }
         self.vain = 0;
         self.refused = 0;
         self.mail |= reached;

@@ -4,6 +4,7 @@ ghost use Rattle.lt_runner.specs.Kept.{Grew};
 ghost use Rattle.lt_threads.specs.Workers.{IsFree};
 
 use crate::outlook::Outlook;
+use crate::taking::take_letters;
 use lt_pool::{Pool, Post};
 use lt_runner::{Gate, Runner, Worked};
 use std::thread::yield_now;
@@ -19,7 +20,7 @@ pub(crate) struct Worker {
 // What came of a visit.
 #[derive(Clone, Copy)]
 struct Visit {
-    moved: bool,
+    moves: u32,
     // The nodes that letters went to, a bit each.
     reached: u64,
     worked: Worked,
@@ -52,7 +53,7 @@ impl Worker {
             yield_now();
             return;
         };
-        let visit = work_on(&mut runner, gate);
+        let visit = work_on(&mut runner, self.outlook.is_by_mail(), gate);
         pool.give(&mut self.post, node, runner);
         self.note(node, visit);
     }
@@ -62,10 +63,10 @@ impl Worker {
         ensures { self.new.post ≡ self.old.post }
     {
         self.outlook.note_claim(node);
-        if visit.moved {
-            self.outlook.note_moves(node, visit.reached);
-        } else {
+        if visit.moves == 0 {
             self.outlook.note_no_move();
+        } else {
+            self.outlook.note_moves(node, visit.moves, visit.reached);
         }
         match visit.worked {
             Worked::Idle => {}
@@ -75,17 +76,34 @@ impl Worker {
     }
 }
 
-// Lets the runner work until it finds no move or has sent a letter.
-fn work_on<G: Gate>(runner: &mut Runner, gate: &G) -> Visit
+// Lets the runner work, and tells what came of it.
+fn work_on<G: Gate>(runner: &mut Runner, by_mail: bool, gate: &G) -> Visit
     ensures { Grew runner.old runner.new }
 {
     let before = runner.moves();
-    let worked = runner.work_until_sent(gate);
-    let moved = before < runner.moves();
-    let reached = runner.reached();
+    let (reached, worked) = work(runner, by_mail, gate);
+    let moves = runner.moves().saturating_sub(before);
     Visit {
-        moved,
+        moves,
         reached,
         worked,
     }
+}
+
+// Lets the runner take letters, or make any moves, until it finds none or has sent a letter.
+fn work<G: Gate>(runner: &mut Runner, by_mail: bool, gate: &G) -> (u64, Worked)
+    ensures { Grew runner.old runner.new }
+{
+    if by_mail {
+        take_letters(runner, gate)
+    } else {
+        work_until_sent(runner, gate)
+    }
+}
+
+fn work_until_sent<G: Gate>(runner: &mut Runner, gate: &G) -> (u64, Worked)
+    ensures { Grew runner.old runner.new }
+{
+    let worked = runner.work_until_sent(gate);
+    (runner.reached(), worked)
 }

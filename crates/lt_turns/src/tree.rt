@@ -1,5 +1,7 @@
-ghost use Rattle.std.specs.Prelude.{◌≡◌, ◌<◌, ◌*◌, ◌^◌, ◌/◌, ◌+◌, length, IsTrue};
+ghost use Rattle.std.specs.Prelude.{◌≡◌, ◌<◌, ◌*◌, ◌^◌, ◌/◌, ◌+◌, length};
 ghost use Rattle.lt_turns.specs.Turns.{turn_of, winner_at, earlier, comes_before, turn_after, IsFirstAfter, AreWon, AreWonBut};
+
+use crate::slot::Slot;
 
 /// A player that can act, and the number of its turn.
 #[derive(Clone, Copy, Debug)]
@@ -9,11 +11,7 @@ pub(crate) struct Turn {
 }
 
 /// The first turn at or below the node.
-pub(crate) fn winner_at(
-    numbers: &[Option<u32>],
-    winners: &[Option<Turn>],
-    node: usize,
-) -> Option<Turn>
+pub(crate) fn winner_at(numbers: &[Option<u32>], winners: &[Slot], node: usize) -> Slot
     requires count { length winners.now ≡ length numbers.now }
     requires node { node < 2 * length numbers.now }
     requires few { length numbers.now < 2 ^ 16 }
@@ -22,7 +20,19 @@ pub(crate) fn winner_at(
     if node < winners.len() {
         return winners[node];
     }
-    turn_of(numbers, node - winners.len())
+    slot_of(numbers, node - winners.len())
+}
+
+// The player's turn, where it can act.
+fn slot_of(numbers: &[Option<u32>], player: usize) -> Slot
+    requires player { player < length numbers.now }
+    requires few { length numbers.now < 2 ^ 16 }
+    ensures { result ≡ turn_of numbers.now player }
+{
+    match numbers[player] {
+        Some(number) => Slot::of(number, player as u16),
+        None => Slot::none(),
+    }
 }
 
 /// The player's turn, where it can act.
@@ -63,7 +73,7 @@ fn turn_after(here: Turn, turn: Option<Turn>) -> Option<Turn>
 }
 
 /// Goes up from the player to the root and finds the first turn of each node anew, until it is the one that was there.
-pub(crate) fn update(numbers: &[Option<u32>], winners: &mut [Option<Turn>], player: usize)
+pub(crate) fn update(numbers: &[Option<u32>], winners: &mut [Slot], player: usize)
     requires count { length winners.old ≡ length numbers.now }
     requires few { length numbers.now < 2 ^ 16 }
     requires player { player < length numbers.now }
@@ -75,22 +85,12 @@ pub(crate) fn update(numbers: &[Option<u32>], winners: &mut [Option<Turn>], play
     while node > 0 {
         let first = winner_at(numbers, winners, 2 * node);
         let second = winner_at(numbers, winners, 2 * node + 1);
-        let winner = earlier(first, second);
-        if is_same(winner, winners[node]) {
+        let winner = first.earlier(second);
+        if winner.is_same(winners[node]) {
             return;
         }
         winners[node] = winner;
         node /= 2;
-    }
-}
-
-fn is_same(a: Option<Turn>, b: Option<Turn>) -> bool
-    ensures { IsTrue result → a ≡ b }
-{
-    match (a, b) {
-        (Some(a), Some(b)) => a.number == b.number && a.player == b.player,
-        (None, None) => true,
-        _ => false,
     }
 }
 

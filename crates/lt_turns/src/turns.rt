@@ -1,7 +1,8 @@
 ghost use Rattle.std.specs.Prelude.{◌≡◌, ◌<◌, None, ℕ, length, count_by, is_some, slice_index_or, slice_set, IfOk, if◌then◌else◌};
 ghost use Rattle.lt_turns.specs.Turns.{IsFirst, IsNext};
 
-use crate::tree::{Turn, first_after, turn_of, update, winner_at};
+use crate::slot::Slot;
+use crate::tree::{first_after, turn_of, update, winner_at};
 use std::alloc::{AllocError, Global};
 use std::marker::Model;
 
@@ -12,7 +13,7 @@ pub struct Turns {
     numbers: Vec<Option<u32>>,
     // A tree over the players: node 1 is the root, nodes 2k and 2k + 1 stand below node k, and from the number of players
     // on each node is a player. Here is the first turn below each node that isn't a player.
-    winners: Vec<Option<Turn>>,
+    winners: Vec<Slot>,
     // How many players can act.
     count: u32,
 }
@@ -38,7 +39,7 @@ impl Turns {
         let mut winners = Vec::new(alloc);
         for _ in 0..players {
             numbers.push(None)?;
-            winners.push(None)?;
+            winners.push(Slot::none())?;
         }
         Ok(Turns {
             numbers,
@@ -73,10 +74,7 @@ impl Turns {
         if self.numbers.is_empty() {
             return None;
         }
-        match winner_at(&self.numbers, &self.winners, 1) {
-            Some(turn) => Some(turn.player),
-            None => None,
-        }
+        winner_at(&self.numbers, &self.winners, 1).player()
     }
 
     /// The first player of those that come after this one, which can act itself. Goes through all players.

@@ -9,19 +9,19 @@ use Rattle.lt_spec.specs.NodeMove.{node_act, act_stamp}
 use Rattle.lt_spec.specs.World.{world_after, is_enabled, node_move, move_stamp}
 use Rattle.lt_desk.specs.OutData.{OutData}
 use Rattle.lt_node.specs.NodeData.{NodeData, NodeDoes, state_of}
-use Rattle.lt_inbox.specs.Mail.{WireData}
+use Rattle.lt_inbox.specs.Mail.{MailData}
 use Rattle.lt_world.specs.Fields.{IsNodeOf, IsOpened, Holds, node_at}
 use Rattle.lt_world.specs.Moving.{IsWithin, CanAct}
 use Rattle.lt_world.proofs.Bridge.{Did, did}
 use Rattle.lt_world.proofs.Premises.{act_inside, within, can_act}
 
-pub within_before : (script : ScriptData) (q client : ℕ) (nodes : List NodeData) (boxes : List (List WireData)) (had : OutData) (run : List Logged)
+pub within_before : (script : ScriptData) (q client : ℕ) (nodes : List NodeData) (boxes : MailData) (had : OutData) (run : List Logged)
     → Holds script nodes boxes had run → IsTrue (is_enabled script (world_after script run) q (Act client)) → IsWithin (node_at nodes q)
 within_before script q client nodes boxes had run h enabled =
     let below = act_inside script (world_after script run) q client h.is_script enabled in
     within script run q (node_at nodes q) h.is_script h.is_run below (h.world.nodes_are q below)
 
-pub act_opened : (script : ScriptData) (q client : ℕ) (nodes : List NodeData) (boxes : List (List WireData)) (had : OutData) (run : List Logged)
+pub act_opened : (script : ScriptData) (q client : ℕ) (nodes : List NodeData) (boxes : MailData) (had : OutData) (run : List Logged)
     → Holds script nodes boxes had run → IsTrue (is_enabled script (world_after script run) q (Act client)) → length run + 1 < 2 ^ 32
     → IsOpened script q (Act client) nodes boxes had run
 act_opened script q client nodes boxes had run h enabled few = record {
@@ -35,7 +35,7 @@ act_opened script q client nodes boxes had run h enabled few = record {
 }
 
 -- where the command isn't made
-pub act_left : (script : ScriptData) (q client : ℕ) (nodes : List NodeData) (boxes : List (List WireData)) (had : OutData) (run : List Logged)
+pub act_left : (script : ScriptData) (q client : ℕ) (nodes : List NodeData) (boxes : MailData) (had : OutData) (run : List Logged)
     → IsOpened script q (Act client) nodes boxes had run → Holds script nodes boxes had run
 act_left script q client nodes boxes had run h = record {
   is_script = h.is_script;
@@ -45,17 +45,17 @@ act_left script q client nodes boxes had run h = record {
   is_run = h.is_run;
 }
 
-mover : (script : ScriptData) (q client : ℕ) (nodes : List NodeData) (boxes : List (List WireData)) (had : OutData) (run : List Logged)
+mover : (script : ScriptData) (q client : ℕ) (nodes : List NodeData) (boxes : MailData) (had : OutData) (run : List Logged)
     → IsOpened script q (Act client) nodes boxes had run → IsNodeOf script q ((world_after script run).node q) (node_at nodes q)
 mover script q client nodes boxes had run h = h.world.nodes_are q (act_inside script (world_after script run) q client h.is_script h.enabled)
 
-pub acts_now : (script : ScriptData) (q client : ℕ) (nodes : List NodeData) (boxes : List (List WireData)) (had : OutData) (run : List Logged)
+pub acts_now : (script : ScriptData) (q client : ℕ) (nodes : List NodeData) (boxes : MailData) (had : OutData) (run : List Logged)
     → IsOpened script q (Act client) nodes boxes had run → CanAct (node_at nodes q) client
 acts_now script q client nodes boxes had run h =
     can_act script run q client (node_at nodes q) h.is_script h.is_run h.enabled h.few (mover script q client nodes boxes had run h)
 
 -- what the node did is the move
-pub acted : (script : ScriptData) (q client : ℕ) (nodes : List NodeData) (boxes : List (List WireData)) (had out : OutData) (run : List Logged) (n : NodeData)
+pub acted : (script : ScriptData) (q client : ℕ) (nodes : List NodeData) (boxes : MailData) (had out : OutData) (run : List Logged) (n : NodeData)
     → IsOpened script q (Act client) nodes boxes had run
     → NodeDoes (node_act (node_at nodes q).script (node_at nodes q).me client (state_of (node_at nodes q))) (node_at nodes q) had n out
     → Did script q (node_move script (world_after script run) q (Act client)) had n out
@@ -63,7 +63,7 @@ acted script q client nodes boxes had out run n h does =
     did script q ((world_after script run).node q) (λ s x state. node_act s x client state) (node_at nodes q) had n out
     (mover script q client nodes boxes had run h) does
 
-pub act_stamped : (script : ScriptData) (q client : ℕ) (nodes : List NodeData) (boxes : List (List WireData)) (had : OutData) (run : List Logged) (stamp : Stamp)
+pub act_stamped : (script : ScriptData) (q client : ℕ) (nodes : List NodeData) (boxes : MailData) (had : OutData) (run : List Logged) (stamp : Stamp)
     → IsOpened script q (Act client) nodes boxes had run → stamp ≡ act_stamp (node_at nodes q).me (state_of (node_at nodes q))
     → stamp ≡ move_stamp (world_after script run) q (Act client)
 act_stamped script q client nodes boxes had run stamp h at =

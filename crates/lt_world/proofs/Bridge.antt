@@ -2,7 +2,7 @@
 use Rattle.std.proofs.Common.{◌≡◌, ◌≢◌, ℕ, ◌<◌, List, [], ◌++◌, length, inl, inr, refl, sym, ap, subst, ◌∙◌, arith, length-set, get_or-set_same, get_or-set_other}
 use Rattle.std.specs.Prelude.{◌==◌, if◌then◌else◌, slice_set}
 use Rattle.std.specs.List.{filter_map}
-use Rattle.std.proofs.lemmas.Bool.{cases_eq}
+use Rattle.std.proofs.lemmas.Bool.{cases_eq, eq-eqb, ne_eqb}
 use Rattle.lt_modes.specs.Script.{ScriptData}
 use Rattle.lt_modes.specs.State.{Letter}
 use Rattle.lt_lists.specs.Below.{put}
@@ -11,9 +11,8 @@ use Rattle.lt_spec.specs.NodeMove.{NodeState, NodeMade}
 use Rattle.lt_spec.specs.World.{World, put_mail, after_made, letter_for}
 use Rattle.lt_desk.specs.OutData.{OutData}
 use Rattle.lt_node.specs.NodeData.{NodeData, NodeDoes, SameNode, state_of, with_sent}
-use Rattle.lt_inbox.specs.Mail.{WireData, inbox_at, mail_in, put_wire, SameLetters, AreDelivered}
+use Rattle.lt_inbox.specs.Mail.{MailData, mail_in, SameLetters, AreDelivered}
 use Rattle.lt_world.specs.Fields.{no_node, node_at, IsNodeOf, IsWorld, OnlyMemory}
-use Rattle.lt_inbox.proofs.Wires.{senders_put, mail_put}
 
 -- one node of these, with another in its place
 pub node_put : (nodes : List NodeData) (q : ℕ) (d : NodeData) → q < length nodes → node_at (slice_set nodes q d) q ≡ d
@@ -42,7 +41,7 @@ same_node script q state old new is same = record {
 }
 
 -- nothing but memory changed
-pub world_same : (script : ScriptData) (w : World) (q : ℕ) (nodes nodes' : List NodeData) (boxes boxes' : List (List WireData))
+pub world_same : (script : ScriptData) (w : World) (q : ℕ) (nodes nodes' : List NodeData) (boxes boxes' : MailData)
     → IsWorld script nodes boxes w → q < script.nodes → OnlyMemory q nodes nodes' → SameLetters boxes boxes' → IsWorld script nodes' boxes' w
 world_same script w q nodes nodes' boxes boxes' h inside memory same = record {
   node_count = ap length memory.others ∙ (length-set nodes q _ ∙ h.node_count);
@@ -50,31 +49,29 @@ world_same script w q nodes nodes' boxes boxes' h inside memory same = record {
       (nodes_put script w.node w.node nodes q (node_at nodes' q) h.node_count h.nodes_are inside
       (same_node script q (w.node q) (node_at nodes q) (node_at nodes' q) (h.nodes_are q inside) memory.node) (λ k' d. refl) k below);
   receivers = same.receivers ∙ h.receivers;
-  senders = λ k below. same.senders k ∙ h.senders k below;
   mail_is = λ a b la lb. same.letters a b ∙ h.mail_is a b la lb;
 }
 
--- a list of letters was put in place of another
-pub world_put : (script : ScriptData) (w : World) (p q : ℕ) (wire : WireData) (nodes : List NodeData) (boxes : List (List WireData))
-    → IsWorld script nodes boxes w → p < script.nodes → q < script.nodes
-    → IsWorld script nodes (put_wire boxes p q wire) (record w { mail = put_mail w.mail p q wire.letters })
-world_put script w p q wire nodes boxes h hp hq =
-    let inside : q < length boxes = omega (arith, hq, h.receivers) in
-    let within : p < length (inbox_at boxes q) = omega (arith, hp, h.senders q hq) in
-    record {
-      node_count = h.node_count;
-      nodes_are = h.nodes_are;
-      receivers = length-set boxes q _ ∙ h.receivers;
-      senders = λ k below. senders_put boxes p q wire k inside ∙ h.senders k below;
-      mail_is = λ a b la lb. mail_put boxes p q wire inside within a b
-          ∙ put_same (mail_in boxes) w.mail p q wire.letters a b (h.mail_is a b la lb);
-    }
-  where
-    put_same : (f g : ℕ → ℕ → List Letter) (p q : ℕ) (ls : List Letter) (a b : ℕ) → f a b ≡ g a b → put_mail f p q ls a b ≡ put_mail g p q ls a b
-    put_same f g p q ls a b e = ap (λ (l : List Letter). put_mail (λ x y. l) p q ls a b) e
+-- only the letters from p to q changed
+pub world_put : (script : ScriptData) (w : World) (p q : ℕ) (ls : List Letter) (nodes : List NodeData) (boxes boxes' : MailData)
+    → IsWorld script nodes boxes w → boxes'.nodes ≡ boxes.nodes → mail_in boxes' p q ≡ ls
+    → ((a b : ℕ) → (a ≡ p → b ≡ q → ⊥) → mail_in boxes' a b ≡ mail_in boxes a b)
+    → IsWorld script nodes boxes' (record w { mail = put_mail w.mail p q ls })
+world_put script w p q ls nodes boxes boxes' h same put others = record {
+  node_count = h.node_count;
+  nodes_are = h.nodes_are;
+  receivers = same ∙ h.receivers;
+  mail_is = λ a b la lb. elim (cases_eq a p) [
+    | inr other ↦ rw (ne_eqb a p other) (others a b (λ e f. other e) ∙ h.mail_is a b la lb)
+    | inl sender ↦ elim (cases_eq b q) [
+      | inr other ↦ rw (eq-eqb a p sender, ne_eqb b q other) (others a b (λ e f. other f) ∙ h.mail_is a b la lb)
+      | inl receiver ↦ rw (eq-eqb a p sender, eq-eqb b q receiver) (ap (λ (x : ℕ). mail_in boxes' x b) sender ∙ (ap (mail_in boxes' p) receiver ∙ put))
+    ]
+  ];
+}
 
 -- a node made its move, and its letters were delivered
-pub world_moved : (script : ScriptData) (w : World) (q : ℕ) (made : NodeMade) (d : NodeData) (nodes : List NodeData) (boxes boxes' : List (List WireData))
+pub world_moved : (script : ScriptData) (w : World) (q : ℕ) (made : NodeMade) (d : NodeData) (nodes : List NodeData) (boxes boxes' : MailData)
     → IsWorld script nodes boxes w → q < script.nodes → IsNodeOf script q made.node d → AreDelivered q made.posts boxes boxes'
     → IsWorld script (slice_set nodes q d) boxes' (after_made q made w)
 world_moved script w q made d nodes boxes boxes' h inside is sent = record {
@@ -82,8 +79,7 @@ world_moved script w q made d nodes boxes boxes' h inside is sent = record {
   nodes_are = nodes_put script w.node (put w.node q made.node) nodes q d h.node_count h.nodes_are inside
       (subst (λ (n : NodeState). IsNodeOf script q n d) (sym (put-same w.node q made.node)) is) (λ k other. put-other w.node q made.node k other);
   receivers = sent.receivers ∙ h.receivers;
-  senders = λ k below. sent.senders k ∙ h.senders k below;
-  mail_is = λ a b la lb. sent.letters a b (omega (arith, lb, h.receivers))
+  mail_is = λ a b la lb. sent.letters a b
       ∙ ap (λ (ls : List Letter). ls ++ (if a == q then filter_map (letter_for b) made.posts else [])) (h.mail_is a b la lb);
 }
 

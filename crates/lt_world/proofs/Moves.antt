@@ -11,7 +11,7 @@ use Rattle.lt_spec.specs.NodeMove.{NodeMade}
 use Rattle.lt_spec.specs.World.{World, world_after, node_move, opened, move_stamp, after_made, IsRun}
 use Rattle.lt_desk.specs.OutData.{OutData}
 use Rattle.lt_node.specs.NodeData.{NodeData, with_sent}
-use Rattle.lt_inbox.specs.Mail.{WireData, SameLetters, AreDelivered}
+use Rattle.lt_inbox.specs.Mail.{MailData, SameLetters, AreDelivered}
 use Rattle.lt_world.specs.Fields.{IsWorld, IsOpened, Holds, OnlyMemory}
 use Rattle.lt_world.proofs.Bridge.{Did, world_same, world_moved}
 use Rattle.lt_world.proofs.Counts.{moves_inside}
@@ -26,7 +26,7 @@ events_sent : (made : NodeMade) (had out : OutData) → had.events ≡ [] → ou
 events_sent made had out none e = ap (λ (o : OutData). o.events) e ∙ ap (λ (es : List Event). es ++ made.events) none
 
 -- memory may change, and nothing else
-pub opened_same : (script : ScriptData) (q : ℕ) (step : Step) (nodes nodes' : List NodeData) (boxes boxes' : List (List WireData)) (had had' : OutData) (run run' : List Logged)
+pub opened_same : (script : ScriptData) (q : ℕ) (step : Step) (nodes nodes' : List NodeData) (boxes boxes' : MailData) (had had' : OutData) (run run' : List Logged)
     → IsOpened script q step nodes boxes had run → OnlyMemory q nodes nodes' → SameLetters boxes boxes'
     → (had'.posts ≡ had.posts) × (had'.events ≡ had.events) → run' ≡ run → IsOpened script q step nodes' boxes' had' run'
 opened_same script q step nodes nodes' boxes boxes' had had' run run' h memory letters sent same =
@@ -41,26 +41,26 @@ opened_same script q step nodes nodes' boxes boxes' had had' run run' h memory l
       no_events = sent.1 ∙ h.no_events;
     })
 
--- the letters of the move go to nodes that have a list for them
-pub targets : (script : ScriptData) (q : ℕ) (step : Step) (nodes : List NodeData) (boxes : List (List WireData)) (had out : OutData) (run : List Logged) (n : NodeData)
+-- the letters of the move go to nodes of the script
+pub targets : (script : ScriptData) (q : ℕ) (step : Step) (nodes : List NodeData) (boxes : MailData) (had out : OutData) (run : List Logged) (n : NodeData)
     → IsOpened script q step nodes boxes had run → Did script q (node_move script (world_after script run) q step) had n out
-    → All (λ (post : Post). post.to < length boxes) out.posts
+    → All (λ (post : Post). post.to < boxes.nodes) out.posts
 targets script q step nodes boxes had out run n h done =
     subst (λ (k : ℕ). All (λ (post : Post). post.to < k) out.posts) (sym h.world.receivers)
     (subst (λ (ps : List Post). All (λ (post : Post). post.to < script.nodes) ps)
     (sym (posts_sent (node_move script (world_after script run) q step) had out h.no_posts done.sent))
     (posts_inside script run q step h.is_script.some_node h.is_run (moves_inside script (world_after script run) q step h.is_script h.enabled) h.enabled))
 
--- and the one that made it has a list of letters to each node
-pub sender : (script : ScriptData) (q : ℕ) (step : Step) (nodes : List NodeData) (boxes : List (List WireData)) (had : OutData) (run : List Logged) (stamp : Stamp)
+-- and one of them made it
+pub sender : (script : ScriptData) (q : ℕ) (step : Step) (nodes : List NodeData) (boxes : MailData) (had : OutData) (run : List Logged) (stamp : Stamp)
     → IsOpened script q step nodes boxes had run → stamp ≡ move_stamp (world_after script run) q step
-    → stamp.node < length boxes
+    → stamp.node < boxes.nodes
 sender script q step nodes boxes had run stamp h at =
     let mover : stamp.node ≡ q = ap (λ (s : Stamp). s.node) at ∙ stamp_node (world_after script run) q step in
     omega (arith, mover, moves_inside script (world_after script run) q step h.is_script h.enabled, h.world.receivers)
 
 -- the entry of the move
-pub run_moved : (script : ScriptData) (q : ℕ) (step : Step) (nodes : List NodeData) (boxes : List (List WireData)) (had out : OutData) (run run' : List Logged) (n : NodeData) (stamp : Stamp)
+pub run_moved : (script : ScriptData) (q : ℕ) (step : Step) (nodes : List NodeData) (boxes : MailData) (had out : OutData) (run run' : List Logged) (n : NodeData) (stamp : Stamp)
     → IsOpened script q step nodes boxes had run → Did script q (node_move script (world_after script run) q step) had n out
     → stamp ≡ move_stamp (world_after script run) q step
     → run' ≡ run ++ record { made = record { stamp = stamp; step = step }; events = out.events } ∷ []
@@ -73,7 +73,7 @@ run_moved script q step nodes boxes had out run run' n stamp h done at entries =
     (events_sent (node_move script w q step) had out h.no_events done.sent))
 
 -- what a node did, and the letters that were delivered, are the move
-pub holds_moved : (script : ScriptData) (q : ℕ) (step : Step) (nodes nodes' : List NodeData) (boxes boxes' : List (List WireData))
+pub holds_moved : (script : ScriptData) (q : ℕ) (step : Step) (nodes nodes' : List NodeData) (boxes boxes' : MailData)
     (had out out' : OutData) (run run' : List Logged) (n : NodeData) (stamp : Stamp)
     → IsOpened script q step nodes boxes had run → Did script q (node_move script (world_after script run) q step) had n out
     → stamp ≡ move_stamp (world_after script run) q step → nodes' ≡ slice_set nodes q n

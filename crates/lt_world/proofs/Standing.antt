@@ -8,7 +8,7 @@ use Rattle.lt_spec.specs.World.{World, world_after, is_enabled, logged}
 use Rattle.lt_limits.specs.Cut.{moves_of}
 use Rattle.lt_desk.specs.OutData.{OutData}
 use Rattle.lt_node.specs.NodeData.{NodeData}
-use Rattle.lt_inbox.specs.Mail.{WireData}
+use Rattle.lt_inbox.specs.Mail.{MailData}
 use Rattle.lt_world.specs.Fields.{AreCounted, AreAtMost, AreTurns, Holds, Stands}
 use Rattle.lt_world.specs.Network.{run_with}
 use Rattle.lt_world.proofs.Counts.{counted_moved, at_most_moved, moves_inside}
@@ -25,7 +25,7 @@ pub record Moved (script : ScriptData) (limit most most' : ℕ) (moves moves' : 
   pub more : most ≤ most'
   pub longer : run' ≡ run_with script run q step
 
-pub stands_moved : (script : ScriptData) (limit most most' : ℕ) (nodes : List NodeData) (boxes : List (List WireData)) (moves moves' : List ℕ) (turns : List (Option ℕ)) (out : OutData)
+pub stands_moved : (script : ScriptData) (limit most most' : ℕ) (nodes : List NodeData) (boxes : MailData) (moves moves' : List ℕ) (turns : List (Option ℕ)) (out : OutData)
     (run run' : List Logged) (q : ℕ) (step : Step)
     → Moved script limit most most' moves moves' run run' q step → Holds script nodes boxes out run' → AreTurns script turns (world_after script run')
     → Stands script limit most' nodes boxes moves' turns out run'

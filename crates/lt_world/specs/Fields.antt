@@ -12,7 +12,7 @@ use Rattle.lt_node.specs.NodeData.{NodeData, SameNode, state_of}
 use Rattle.lt_merge.specs.Run.{RunData}
 use Rattle.lt_limits.specs.declared.moves.TheConstants.{MAX_MOVES}
 use Rattle.lt_limits.specs.Cut.{moves_of}
-use Rattle.lt_inbox.specs.Mail.{WireData, inbox_at, mail_in, HasRoomFrom}
+use Rattle.lt_inbox.specs.Mail.{MailData, mail_in}
 
 -- what contracts see of a world: its script, how many moves a node may make, and the run so far
 pub record WorldData : Type 0 where
@@ -49,22 +49,21 @@ pub record OnlyMemory (q : ℕ) (old new : List NodeData) : Type 0 where
   pub others : new ≡ slice_set old q (node_at new q)
   pub node : SameNode (node_at old q) (node_at new q)
 
--- there is room for what the node sends out, for which out has room
-pub record InboxRoom (q : ℕ) (inboxes : List (List WireData)) (run : RunData) (out : OutData) : Type 0 where
-  pub letters : HasRoomFrom q out.post_room inboxes
+-- there is room for what a node sends out, for which out has room
+pub record InboxRoom (inboxes : MailData) (run : RunData) (out : OutData) : Type 0 where
+  pub letters : out.post_room ≤ inboxes.free
   pub move : 1 ≤ run.spare
   pub lines : out.event_room ≤ run.room
 
 -- the nodes and the letters on their way are those of this world
-pub record IsWorld (script : ScriptData) (nodes : List NodeData) (inboxes : List (List WireData)) (w : World) : Type 0 where
+pub record IsWorld (script : ScriptData) (nodes : List NodeData) (inboxes : MailData) (w : World) : Type 0 where
   pub node_count : length nodes ≡ script.nodes
   pub nodes_are : (q : ℕ) → q < script.nodes → IsNodeOf script q (w.node q) (node_at nodes q)
-  pub receivers : length inboxes ≡ script.nodes
-  pub senders : (q : ℕ) → q < script.nodes → length (inbox_at inboxes q) ≡ script.nodes
+  pub receivers : inboxes.nodes ≡ script.nodes
   pub mail_is : (p q : ℕ) → p < script.nodes → q < script.nodes → mail_in inboxes p q ≡ w.mail p q
 
 -- the world after this run of the script, between two moves
-pub record Holds (script : ScriptData) (nodes : List NodeData) (inboxes : List (List WireData)) (out : OutData) (run : List Logged) : Type 0 where
+pub record Holds (script : ScriptData) (nodes : List NodeData) (inboxes : MailData) (out : OutData) (run : List Logged) : Type 0 where
   pub is_script : IsScript script
   pub world : IsWorld script nodes inboxes (world_after script run)
   pub no_posts : out.posts ≡ []
@@ -72,7 +71,7 @@ pub record Holds (script : ScriptData) (nodes : List NodeData) (inboxes : List (
   pub is_run : IsRun script run
 
 -- before an enabled move of node q, once it is prepared: a letter that it takes is on its way no more
-pub record IsOpened (script : ScriptData) (q : ℕ) (step : Step) (nodes : List NodeData) (inboxes : List (List WireData)) (out : OutData) (run : List Logged) : Type 0 where
+pub record IsOpened (script : ScriptData) (q : ℕ) (step : Step) (nodes : List NodeData) (inboxes : MailData) (out : OutData) (run : List Logged) : Type 0 where
   pub is_script : IsScript script
   pub is_run : IsRun script run
   pub enabled : IsTrue (is_enabled script (world_after script run) q step)
@@ -102,7 +101,7 @@ pub record AreTurns (script : ScriptData) (turns : List (Option ℕ)) (w : World
   pub count : length turns ≡ length script.clients
   pub turns_are : (c : ℕ) → c < length script.clients → slice_index_or turns c None ≡ turn_of script w c
 
-pub record Stands (script : ScriptData) (limit most : ℕ) (nodes : List NodeData) (inboxes : List (List WireData)) (moves : List ℕ) (turns : List (Option ℕ)) (out : OutData) (run : List Logged) : Type 0 where
+pub record Stands (script : ScriptData) (limit most : ℕ) (nodes : List NodeData) (inboxes : MailData) (moves : List ℕ) (turns : List (Option ℕ)) (out : OutData) (run : List Logged) : Type 0 where
   pub holds : Holds script nodes inboxes out run
   pub counted : AreCounted script limit moves run
   pub at_most : AreAtMost script most run

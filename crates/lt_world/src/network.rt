@@ -165,9 +165,9 @@ fn take_at(nodes: &mut Vec<Node>, node: u8, letter: Letter, out: &mut Out) -> St
 
 // Notes the move that its node made, and sends on what it sent out.
 fn record_move(inboxes: &mut Inboxes, run: &mut Run, made: Move, out: &mut Out)
-    requires sender { made.stamp.node < length inboxes.old }
-    requires targets { All (λ (post : rules.Post). post.to < length inboxes.old) out.old.posts }
-    requires room { InboxRoom made.stamp.node inboxes.old run.old out.old }
+    requires sender { made.stamp.node < inboxes.old.nodes }
+    requires targets { All (λ (post : rules.Post). post.to < inboxes.old.nodes) out.old.posts }
+    requires room { InboxRoom inboxes.old run.old out.old }
     requires few { length run.old.entries + 1 < 2 ^ 32 }
     ensures delivered { AreDelivered made.stamp.node out.old.posts inboxes.old inboxes.new }
     ensures entries { run.new.entries ≡ run.old.entries ++ record { made = made; events = out.old.events } ∷ [] }

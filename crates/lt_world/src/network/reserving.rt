@@ -103,49 +103,41 @@ impl Network {
     fn reserve_command(&mut self, node: u8) -> Result<(), AllocError>
         requires node { node < length self.old.nodes.items }
         requires within { IsWithin (node_at self.old.nodes.items node) }
-        requires sender { node < length self.old.inboxes }
         ensures nodes { OnlyMemory node self.old.nodes.items self.new.nodes.items }
         ensures letters { SameLetters self.old.inboxes self.new.inboxes }
         ensures entries { self.new.run.entries ≡ self.old.run.entries }
         ensures out { (self.new.out.posts ≡ self.old.out.posts) × (self.new.out.events ≡ self.old.out.events) }
         ensures room { OnOk result (RoomToAct (node_at self.new.nodes.items node) self.new.out) }
-        ensures send { OnOk result (InboxRoom node self.new.inboxes self.new.run self.new.out) }
+        ensures send { OnOk result (InboxRoom self.new.inboxes self.new.run self.new.out) }
     {
         self.nodes[usize::from(node)].reserve(&mut self.out)?;
-        reserve_all(&mut self.inboxes, &mut self.run, node, &self.out)
+        reserve_all(&mut self.inboxes, &mut self.run, &self.out)
     }
 
     // Makes room for this node to take the letter.
     fn reserve_letter(&mut self, node: u8, letter: &mut Letter) -> Result<(), AllocError>
         requires node { node < length self.old.nodes.items }
         requires takes { CanTake (node_at self.old.nodes.items node) (letter_seen letter.old) }
-        requires sender { node < length self.old.inboxes }
         ensures nodes { OnlyMemory node self.old.nodes.items self.new.nodes.items }
         ensures letters { SameLetters self.old.inboxes self.new.inboxes }
         ensures entries { self.new.run.entries ≡ self.old.run.entries }
         ensures out { (self.new.out.posts ≡ self.old.out.posts) × (self.new.out.events ≡ self.old.out.events) }
         ensures letter { letter_seen letter.new ≡ letter_seen letter.old }
         ensures room { OnOk result (RoomToTake (node_at self.new.nodes.items node) letter.new self.new.out) }
-        ensures send { OnOk result (InboxRoom node self.new.inboxes self.new.run self.new.out) }
+        ensures send { OnOk result (InboxRoom self.new.inboxes self.new.run self.new.out) }
     {
         self.nodes[usize::from(node)].reserve_for(letter, &mut self.out)?;
-        reserve_all(&mut self.inboxes, &mut self.run, node, &self.out)
+        reserve_all(&mut self.inboxes, &mut self.run, &self.out)
     }
 }
 
 // Makes room for what a node sends out, for which `out` has room.
-fn reserve_all(
-    inboxes: &mut Inboxes,
-    run: &mut Run,
-    sender: u8,
-    out: &Out,
-) -> Result<(), AllocError>
-    requires { sender < length inboxes.old }
+fn reserve_all(inboxes: &mut Inboxes, run: &mut Run, out: &Out) -> Result<(), AllocError>
     ensures letters { SameLetters inboxes.old inboxes.new }
     ensures entries { run.new.entries ≡ run.old.entries }
-    ensures send { OnOk result (InboxRoom sender inboxes.new run.new out.now) }
+    ensures send { OnOk result (InboxRoom inboxes.new run.new out.now) }
 {
-    inboxes.reserve_from(sender, out.post_room())?;
+    inboxes.reserve(out.post_room())?;
     let lines = u32::try_from(out.event_room()).map_err(|_| AllocError)?;
     run.reserve(lines)
 }

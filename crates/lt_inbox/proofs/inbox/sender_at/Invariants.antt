@@ -1,9 +1,9 @@
 use Rattle.std.proofs.Common.{◌≡◌, ◌-◌, length, filter}
 use Rattle.std.specs.Prelude.{slice_get}
 use Rattle.std.specs.List.{range_with_len}
-use Rattle.lt_inbox.specs.Mail.{has_letters, wire_from, senders_in}
+use Rattle.lt_inbox.specs.Mail.{has_from, senders_in}
 use Rattle.lt_inbox.proofs.inbox.sender_at.Given as goal
 
 abbrev pub invariant-loop-sender : goal.invariant-loop-sender
 invariant-loop-sender l =
-    slice_get (filter (λ p. has_letters (wire_from l.wires p)) (range_with_len l.sender (length l.wires - l.sender))) l.left ≡ slice_get (senders_in l.wires) l.k
+    slice_get (filter (has_from l.has) (range_with_len l.sender (length l.has - l.sender))) l.left ≡ slice_get (senders_in l.has) l.k

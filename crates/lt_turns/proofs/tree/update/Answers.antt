@@ -16,7 +16,9 @@ loop-node-preserved c =
 pub returns-then-is_same-clause-won : goal.returns-then-is_same-clause-won
 returns-then-is_same-clause-won c =
     let l = c.loop-node in
+    let kept = c.index-winners-node.result in
     won_already c.args.numbers.now l.winners l.node l.invariant.won
-    (inner_at c.args.numbers.now l.winners l.node _ (omega (arith, l.invariant.count, l.invariant.inside))
+    (inner_at c.args.numbers.now l.winners l.node kept (omega (arith, l.invariant.count, l.invariant.inside))
+    ∙ (sym c.index-winners-node.is
     ∙ (sym (c.is_same.ensures c.if-is_same.true)
-    ∙ (c.earlier-winner.ensures ∙ ap₂ earlier c.winner_at-first.ensures c.winner_at-second.ensures)))
+    ∙ (c.earlier-winner.ensures ∙ ap₂ earlier c.winner_at-first.ensures c.winner_at-second.ensures))))

@@ -1,7 +1,8 @@
--- One more outbox is flushed.
-use Rattle.lt_mail.proofs.MailLemmas.{one_more_flushed}
+-- Each outbox stops where it is empty or its ring is full.
+use Rattle.lt_mail.proofs.FlushLemmas.{all_flushed}
 use Rattle.lt_mail.proofs.mail.Mail.flush_all.Goals as goal
 
-pub loop-to-preserved : goal.loop-to-preserved
-loop-to-preserved c =
-    one_more_flushed c.loop-to.to c.args.self.now c.loop-to.self c.flush_on.new.self c.loop-to.invariant c.flush_on.ensures.lane c.flush_on.ensures.kept
+pub returns-clause-stops : goal.returns-clause-stops
+returns-clause-stops c =
+    all_flushed c.args.self.now
+    (record { me = c.args.self.now.me; outs = c.pass.new.outs; ins = c.args.self.now.ins; waiting = c.pass.new.waiting }) c.pass.ensures

@@ -1,4 +1,4 @@
-use Rattle.std.proofs.Common.{arith, length, ap}
+use Rattle.std.proofs.Common.{arith}
 use Rattle.lt_modes.specs.declared.moves.Step.TheVariants.{Take}
 use Rattle.lt_desk.specs.LetterSeen.{letter_seen}
 use Rattle.lt_world.proofs.Moves.{opened_same}
@@ -14,8 +14,7 @@ reserve_letter-requires-clause-takes c =
       holds = c.requires.holds;
       enabled = c.requires.enabled;
       few = c.requires.few;
-      front = c.pop_front-letter.ensures.front;
-      popped = c.pop_front-letter.ensures.rest;
+      taken = c.pop_front-letter.ensures;
     } in
     let opened = take_opened c.args.script.now c.args.node c.args.sender letter n.nodes.items n.inboxes popped n.out n.run.entries hand in
     let front = mail_is c.args.script.now c.args.node c.args.sender letter n.nodes.items n.inboxes popped n.out n.run.entries hand in
@@ -30,15 +29,12 @@ returns-clause-reserved c =
       holds = c.requires.holds;
       enabled = c.requires.enabled;
       few = c.requires.few;
-      front = c.pop_front-letter.ensures.front;
-      popped = c.pop_front-letter.ensures.rest;
+      taken = c.pop_front-letter.ensures;
     } in
     let opened = take_opened c.args.script.now c.args.node c.args.sender letter n.nodes.items n.inboxes popped n.out n.run.entries hand in
     let front = mail_is c.args.script.now c.args.node c.args.sender letter n.nodes.items n.inboxes popped n.out n.run.entries hand in
     let new = c.reserve_letter.new.self in
     let did = c.in_default.ensures in
-    let place = did.letters.room c.args.sender c.args.node in
-    let same = ap length (did.letters.letters c.args.sender c.args.node) in
     record {
       opened = opened_same c.args.script.now c.args.node (Take c.args.sender) n.nodes.items new.nodes.items popped new.inboxes n.out new.out n.run.entries new.run.entries
           opened did.nodes did.letters did.out did.entries;
@@ -46,7 +42,7 @@ returns-clause-reserved c =
         did.room,
         front_same c.args.script.now c.args.node c.args.sender letter (letter_seen c.reserve_letter.new.letter) popped new.inboxes n.run.entries new.run.entries
             front did.letters did.letter did.entries,
-        omega (arith, c.pop_front-letter.ensures.place, place, same),
+        omega (arith, c.pop_front-letter.ensures.room, did.letters.room),
       );
       send = did.send;
     }

@@ -1,0 +1,89 @@
+ghost use Rattle.std.specs.Prelude.{◌≡◌, ◌<◌, ◌+◌, ℕ, [], ◌∷◌, length, IfSome, IfNone};
+ghost use Rattle.std.specs.VecDeque.{deque_capacity};
+ghost use Rattle.lt_desk.specs.LetterSeen.{letter_seen};
+ghost use Rattle.lt_spec.specs.World.{is_some_letter};
+ghost use Rattle.lt_inbox.specs.Mail.{IsFirst, goes, letters_between, sent_of};
+
+use lt_desk::Letter;
+use std::collections::VecDeque;
+use std::marker::Model;
+
+/// A letter on its way.
+#[derive(Drop)]
+pub(crate) struct Sent {
+    sender: u8,
+    receiver: u8,
+    letter: Letter,
+}
+
+impl Model for Sent {
+    ghost use Rattle.lt_desk.specs.LetterSeen.{letter_seen};
+    ghost use Rattle.lt_spec.specs.World.{is_some_letter};
+    ghost use Rattle.lt_inbox.specs.Mail.{SentData};
+
+    ghost Value = { SentData };
+
+    ghost view = { λ s. record { sender = s.sender; receiver = s.receiver; letter = letter_seen s.letter } };
+}
+
+impl Sent {
+    pub(crate) fn new(sender: u8, receiver: u8, letter: Letter) -> Sent
+        ensures { result ≡ sent_of sender receiver (letter_seen letter) }
+    {
+        Sent {
+            sender,
+            receiver,
+            letter,
+        }
+    }
+
+    fn goes(&self, sender: u8, receiver: u8) -> bool
+        ensures { result ≡ goes sender receiver self.now }
+    {
+        self.sender == sender && self.receiver == receiver
+    }
+
+    fn into_letter(self) -> Letter
+        ensures { letter_seen result ≡ self.letter }
+    {
+        self.letter
+    }
+}
+
+// The place of the oldest letter from the sender to the receiver.
+#[tactic(auto, using(crate::proofs::First::first_at, crate::proofs::First::none_more))]
+fn first_between(sent: &VecDeque<Sent>, sender: u8, receiver: u8) -> Option<usize>
+    ensures first { IfSome result (IsFirst sender receiver sent.now.items) }
+    ensures none { IfNone result (letters_between sender receiver sent.now.items ≡ []) }
+{
+    for place in 0..sent.len() {
+        if sent[place].goes(sender, receiver) {
+            return Some(place);
+        }
+    }
+    None
+}
+
+/// Whether a letter is on its way from the sender to the receiver.
+pub(crate) fn is_any_between(sent: &VecDeque<Sent>, sender: u8, receiver: u8) -> bool
+    ensures { result ≡ is_some_letter (letters_between sender receiver sent.now.items) }
+{
+    first_between(sent, sender, receiver).is_some()
+}
+
+/// Takes the oldest letter from the sender to the receiver.
+pub(crate) fn take_first(sent: &mut VecDeque<Sent>, sender: u8, receiver: u8) -> Letter
+    requires { 0 < length (letters_between sender receiver sent.old.items) }
+    ensures front { letters_between sender receiver sent.old.items ≡ letter_seen result ∷ letters_between sender receiver sent.new.items }
+    ensures others { (a b : ℕ) → (a ≡ sender → b ≡ receiver → ⊥) → letters_between a b sent.new.items ≡ letters_between a b sent.old.items }
+    ensures count { length sent.new.items + 1 ≡ length sent.old.items }
+    ensures room { deque_capacity sent.new ≡ deque_capacity sent.old }
+{
+    let Some(place) = first_between(sent, sender, receiver) else {
+        unreachable!()
+    };
+    match sent.remove(place) {
+        Some(one) => one.into_letter(),
+        None => unreachable!(),
+    }
+}

@@ -1,0 +1,6 @@
+use Rattle.lt_live.proofs.Live.{turns_on}
+use Rattle.lt_live.proofs.visiting.visit.Goals as goal
+
+pub give-requires-clause-item : goal.give-requires-clause-item
+give-requires-clause-item g c =
+    turns_on c.args.pool.now.firsts c.args.node c.in-Ok.station c.turn-turned.new.self c.in-Ok.ensures.item c.turn-turned.ensures.goes_on c.turn-turned.ensures.seated

@@ -1,0 +1,99 @@
+#!/usr/bin/env python3
+"""planted.py CRATE [ROUND]: plants the wrong bodies of tests/bugs/CRATE.edits in a copy of the crates, one to a function,
+and checks the crate there once: prints each bug whose function stays proved, and how many were refused. Where a function
+has several bugs, round 1 plants its first, round 2 its second, and so on. With --log LOG it reads what an earlier check
+of such a copy said. The crates below have to be proved; a check takes longer than one of the crate as it stands."""
+import argparse
+import re
+import subprocess
+import tempfile
+from pathlib import Path
+
+TOP = Path(__file__).resolve().parent.parent
+FUNCTION = re.compile(r'( *)(?:pub(?:\([a-z]+\))? )?(?:const )?fn ([a-z_0-9]+)')
+IMPL = re.compile(r'impl\b(?:<[^>]*>)? (?:[A-Za-z:<>]+ for )?([A-Za-z]+)')
+TOLD = re.compile(r'fn (\S+): (proved|not proved)')
+
+
+def bugs_of(text):
+    """The name, the file and the pairs of an old and a new text of each bug."""
+    bugs = []
+    for line in text.splitlines():
+        word, _, rest = line.partition(' ')
+        rest = rest.strip()
+        if word == 'bug':
+            bugs.append((rest, [], []))
+        elif word == 'file:':
+            bugs[-1][1].append(rest)
+        elif word == 'old:':
+            bugs[-1][2].append([rest])
+        elif word == 'new:':
+            bugs[-1][2][-1].append(rest)
+    return [(name, files[0], pairs) for name, files, pairs in bugs]
+
+
+def function_at(file, text, place):
+    """The function that this place is in: a method after its type, another one after its module."""
+    found = kind = ''
+    for line in text[:place].splitlines():
+        if made := IMPL.match(line):
+            kind = made[1]
+        elif line == '}':
+            kind = ''
+        elif made := FUNCTION.match(line):
+            found = f'{kind if made[1] and kind else Path(file).stem}::{made[2]}'
+    return found
+
+
+def plant(crate, bugs, turn):
+    """The function of each bug of this round, and the texts of the files with those."""
+    planted, seen, texts = {}, {}, {}
+    for name, file, pairs in bugs:
+        text = texts.setdefault(file, (crate / file).read_text())
+        whole = (crate / file).read_text()
+        missed = [old for old, _ in pairs if whole.count(old) != 1]
+        if missed:
+            print(f'{name}: {file} has not once: {missed[0]}')
+            continue
+        function = function_at(file, whole, whole.index(pairs[0][0]))
+        seen[function] = seen.get(function, 0) + 1
+        if seen[function] == turn:
+            planted[name] = function
+            for old, new in pairs:
+                text = text.replace(old, new)
+            texts[file] = text
+    return planted, texts
+
+
+def checked(name, texts):
+    """What a check says of a copy in which the crate's files have these texts."""
+    with tempfile.TemporaryDirectory() as copy:
+        for part in ('crates', 'crates.txt', 'HANDLES'):
+            subprocess.run(['cp', '-a', TOP / part, copy], check=True)
+        crate = Path(copy, 'crates', name)
+        for file, text in texts.items():
+            (crate / file).write_text(text)
+        made = subprocess.run(['rt', 'check', '--jobs', '1'], cwd=crate, capture_output=True, text=True, check=False)
+    return made.stdout + made.stderr
+
+
+def main():
+    words = argparse.ArgumentParser()
+    words.add_argument('crate')
+    words.add_argument('round', type=int, nargs='?', default=1)
+    words.add_argument('--log')
+    words = words.parse_args()
+    bugs = bugs_of((TOP / 'tests' / 'bugs' / f'{words.crate}.edits').read_text())
+    planted, texts = plant(TOP / 'crates' / words.crate, bugs, words.round)
+    said = Path(words.log).read_text() if words.log else checked(words.crate, texts)
+    told = {'::'.join(made[1].split('::')[-2:]): made[2] for made in TOLD.finditer(said)}
+    if not told:
+        print(said)
+    for name, function in planted.items():
+        if told.get(function) != 'not proved':
+            print(f'{name}: {function} {"stays proved" if function in told else "is not told"}')
+    refused = sum(told.get(function) == 'not proved' for function in planted.values())
+    print(f'{words.crate}: {len(planted)} planted, {refused} refused')
+
+
+main()
