@@ -23,10 +23,10 @@ use Rattle.lt_live_serve.proofs.Lasting.{serving_lasts, station_itself, calls_it
 use Rattle.lt_live_serve.proofs.Told.{session_there}
 
 same_hand : (s : Seat) → SameHand s s
-same_hand s = record { hand = refl; client = refl }
+same_hand s = record { client = refl; hand = refl; taken = refl }
 
 hand_join : (a b c : Seat) → SameHand a b → SameHand b c → SameHand a c
-hand_join a b c first second = record { hand = second.hand ∙ first.hand; client = second.client ∙ first.client }
+hand_join a b c first second = record { client = second.client ∙ first.client; hand = second.hand ∙ first.hand; taken = second.taken ∙ first.taken }
 
 only_itself : (a : StationData) → OnlyLooks a a
 only_itself a = record { runner = refl; stay = λ s h. h; hands = alike_self SameHand same_hand a.seats }
@@ -44,7 +44,7 @@ hands_looked log s t old new h k = elim (cases_eq k s.place) [
       subst (λ (j : ℕ). Alike SameHand (slice_get old j) (slice_get new j)) (sym at)
       (subst (λ (o : Option Seat). Alike SameHand o (slice_get new s.place)) (sym h.before)
       (subst (λ (o : Option Seat). Alike SameHand (Some h.x) o) (sym h.now)
-      (record { hand = h.looks.taken.1; client = h.looks.seat.client })))
+      (record { client = h.looks.seat.client; hand = h.looks.taken.1; taken = h.looks.taken.0 })))
   | inr apart ↦ subst (λ (o : Option Seat). Alike SameHand (slice_get old k) o) (sym (h.others k apart)) (alike_self SameHand same_hand old k)
 ]
 
