@@ -1,34 +1,29 @@
 -- Stations make turns, one after the other.
-use Rattle.std.proofs.Common.{◌≡◌, ◌≢◌, ◌<◌, ◌≤◌, ◌+◌, ◌++◌, ℕ, zero, suc, List, [], ◌∷◌, length, get_or, Bool, true, false, Option, Some, None, refl, sym, ap, subst, arith, ◌∙◌, inl, inr}
+use Rattle.std.proofs.Common.{◌≡◌, ◌≢◌, ◌<◌, ◌≤◌, ◌+◌, ℕ, zero, suc, List, [], ◌∷◌, length, get_or, Bool, true, false, Option, Some, None, refl, sym, ap, subst, arith, ◌∙◌, inl, inr}
 use Rattle.std.specs.Prelude.{nat_lt, sum_by, slice_get, slice_set}
 use Rattle.std.proofs.lemmas.Bool.{cases_eq, cases_lt, false≢true, ltb-true, ltb-false}
 use Rattle.std.proofs.lemmas.List.{length-append, length-set}
 use Rattle.std.proofs.lemmas.List.Sums.{sum_by-cons}
 use Rattle.std.proofs.lemmas.Option.{same_Some, slice_get-get_or, slice_get_within}
 use mathlib.Core.List.{IsPrefix}
-use Rattle.lt_modes.specs.declared.command.Command.{Command}
 use Rattle.lt_modes.specs.Script.{ScriptData}
-use Rattle.lt_script.specs.Script.{IsScript}
 use Rattle.lt_mail.specs.Words.{Alike}
 use Rattle.lt_live.specs.Live.{EachStation}
-use Rattle.lt_live.specs.Stations.{StationData, IsStation}
+use Rattle.lt_live.specs.Stations.{StationData}
 use Rattle.lt_live.proofs.AlikeLists.{alike_self}
 use Rattle.lt_live.proofs.Places.{set_here, set_other}
-use Rattle.lt_live_serve.specs.Completing.{appended_at, AreKept, Turns, TurnsAt, AnyTurns, SameCount, SomeGrew, AllTurn}
+use Rattle.lt_live_serve.specs.Completing.{appended_at, IsKept, AreKept, Turns, TurnsAt, AnyTurns, SameCount, SomeGrew, AllTurn}
 
 -- what each station keeps, one after the other
 
 abbrev pub KeptTo : ℕ → List StationData → Type 0
-KeptTo n stations = (k : ℕ) (station : StationData) → k < n → slice_get stations k ≡ Some station
-    → IsStation station.runner station.seats × IsScript station.runner.node.script
+KeptTo n stations = (k : ℕ) (station : StationData) → k < n → slice_get stations k ≡ Some station → IsKept station
 
-pub next_kept : (n : ℕ) (stations : List StationData) (d : StationData) (script : ScriptData) → n < length stations → KeptTo n stations
-    → IsStation (get_or stations n d).runner (get_or stations n d).seats → script ≡ (get_or stations n d).runner.node.script → IsScript script → KeptTo (n + 1) stations
-next_kept n stations d script inside before here is of k station below e = elim (cases_eq k n) [
+pub next_kept : (n : ℕ) (stations : List StationData) (d : StationData) → n < length stations → KeptTo n stations
+    → IsKept (get_or stations n d) → KeptTo (n + 1) stations
+next_kept n stations d inside before here k station below e = elim (cases_eq k n) [
   | inl at ↦
-      subst (λ (s : StationData). IsStation s.runner s.seats × IsScript s.runner.node.script)
-      (same_Some (get_or stations n d) station (sym (slice_get-get_or stations n d inside) ∙ ap (slice_get stations) (sym at) ∙ e))
-      (here, subst IsScript is of)
+      subst IsKept (same_Some (get_or stations n d) station (sym (slice_get-get_or stations n d inside) ∙ ap (slice_get stations) (sym at) ∙ e)) here
   | inr apart ↦ before k station (omega (arith, below, apart)) e
 ]
 

@@ -25,10 +25,12 @@ lack_at script station = length script.commands - appended_at station
 abbrev pub all_lack : ScriptData → List StationData → ℕ
 all_lack script stations = sum_by (lack_at script) stations
 
--- each is a station, of a script
+-- it is a station, and what it appended makes up a script
+abbrev pub IsKept : StationData → Type 0
+IsKept station = IsStation station.runner station.seats × IsScript station.runner.node.script
+
 abbrev pub AreKept : List StationData → Type 0
-AreKept stations = (k : ℕ) (station : StationData) → slice_get stations k ≡ Some station
-    → IsStation station.runner station.seats × IsScript station.runner.node.script
+AreKept stations = (k : ℕ) (station : StationData) → slice_get stations k ≡ Some station → IsKept station
 
 -- the caller's session and its seat know all that is in their rings
 pub record IsBeside (script : ScriptData) (stations : List StationData) (client : ℕ) (c : Caller) : Type 0 where

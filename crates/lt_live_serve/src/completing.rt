@@ -3,7 +3,7 @@ ghost use Rattle.std.specs.Prelude.{◌≡◌, ◌<◌, true, false, nat_lt, len
 ghost use Rattle.lt_script.specs.Script.{IsScript};
 ghost use Rattle.lt_live.specs.Stations.{IsSeated, StaySeated, SeatLooks};
 ghost use Rattle.lt_live_serve.specs.Calls.{Calls, AllSubmitted};
-ghost use Rattle.lt_live_serve.specs.Completing.{LooksTo, LooksAt, AreKept, Turns, TurnsAt, AllTurn, all_lack};
+ghost use Rattle.lt_live_serve.specs.Completing.{LooksTo, LooksAt, IsKept, AreKept, Turns, TurnsAt, AllTurn, all_lack};
 ghost use Rattle.lt_live_serve.specs.Serving.{AreServing, AreComplete};
 
 use crate::callers::Caller;
@@ -95,9 +95,15 @@ fn are_kept(stations: &[Station])
     ensures { AreKept stations.now }
 {
     for place in 0..stations.len() {
-        stations[place].kept();
-        stations[place].script().nodes();
+        is_kept(&stations[place]);
     }
+}
+
+fn is_kept(station: &Station)
+    ensures { IsKept station.now }
+{
+    station.kept();
+    station.script().nodes();
 }
 
 // Each station makes a turn; true where one of them has appended a command.
