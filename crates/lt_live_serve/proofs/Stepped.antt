@@ -1,5 +1,5 @@
 -- Each station takes in a command of each client that has one more.
-use Rattle.std.proofs.Common.{◌≡◌, ◌≢◌, ◌<◌, ◌≤◌, ◌+◌, ◌++◌, ◌⊎◌, ℕ, zero, suc, List, [], ◌∷◌, length, map, Option, Some, None, Bool, true, false, refl, sym, ap, subst, arith, ◌∙◌, inl, inr, append-nil, take_all}
+use Rattle.std.proofs.Common.{◌≡◌, ◌<◌, ◌≤◌, ◌+◌, ◌++◌, ◌⊎◌, ℕ, zero, suc, List, [], ◌∷◌, length, Option, Some, Bool, true, false, refl, sym, ap, subst, arith, ◌∙◌, inl, inr, append-nil, take_all}
 use Rattle.std.specs.Prelude.{slice_get, filter_map}
 use Rattle.std.specs.Option.{option_map}
 use Rattle.std.proofs.lemmas.Bool.{cases_eq, cases_lt}
@@ -11,22 +11,20 @@ use Rattle.lt_modes.specs.Script.{ScriptData}
 use Rattle.lt_script.specs.Script.{IsScript}
 use Rattle.lt_spec.specs.Families.{command_if, commands_of, home}
 use Rattle.lt_law_appended.specs.Commands.{with_commands}
-use Rattle.lt_mail.specs.Words.{Alike}
 use Rattle.lt_runner.specs.declared.parts.Parts.{Parts}
 use Rattle.lt_threads.specs.Shares.{InShares}
 use Rattle.lt_live.specs.declared.ends.Seat.{Seat}
-use Rattle.lt_live.specs.declared.ends.Session.{Session}
 use Rattle.lt_live.specs.Asking.{may_ask, may_append}
 use Rattle.lt_live.specs.Live.{IsSessionOf, StationGoesOn, EachStation}
 use Rattle.lt_live.specs.Opened.{runner_of}
-use Rattle.lt_live.specs.Stations.{StationData, IsSeatOf, SeatTurns, CanNotAppend}
+use Rattle.lt_live.specs.Stations.{StationData, IsSeatOf, SeatTurns}
 use Rattle.lt_live.specs.Words.{submitted, taken, known_commands, in_hand}
-use Rattle.lt_live.proofs.AlikeLists.{alike_before, alike_after, alike_join, alike_len, alike_weaker}
+use Rattle.lt_live.proofs.AlikeLists.{alike_before, alike_after, alike_join, alike_weaker}
 use Rattle.lt_live.proofs.SeatLists.{each_after}
 use Rattle.lt_live_serve.specs.declared.callers.Caller.{Caller}
 use Rattle.lt_live_serve.specs.Calls.{Calls, EachCaller, AllSubmitted, session_of, left_of}
-use Rattle.lt_live_serve.specs.Completing.{appended_at, lack_at, all_lack, AreKept, IsBeside, BesideTo, SameHand, OnlyLooks, LooksTo, Turns, AnyTurns, SameCount, SomeGrew, AllTurn}
-use Rattle.lt_live_serve.specs.Serving.{AreServing, IsCompleteAt, AreComplete}
+use Rattle.lt_live_serve.specs.Completing.{appended_at, lack_at, all_lack, AreKept, IsBeside, BesideTo, SameHand, OnlyLooks, LooksTo, Turns, AnyTurns, SameCount, AllTurn}
+use Rattle.lt_live_serve.specs.Serving.{AreServing, AreComplete}
 use Rattle.lt_live_serve.proofs.Completed.{Within, advances, no_more, no_hand, none_outside, none_apart, same_ask, middle}
 use Rattle.lt_live_serve.proofs.Lasting.{serving_lasts, same_callers}
 use Rattle.lt_live_serve.proofs.Told.{session_there}
@@ -57,7 +55,7 @@ module _ (script : ScriptData) (stations : List StationData) (callers : List Cal
   own = b.station.runner.node.script
 
   seat_of : IsSeatOf b.station.runner b.seat
-  seat_of = (kept (home script client) b.station b.here).0.each c.session.place b.seat b.at
+  seat_of = (kept (home script client) b.station b.here).is_station.each c.session.place b.seat b.at
 
   client_same : b.seat.client ≡ client
   client_same = b.link.0 ∙ session_is.client_is
@@ -145,7 +143,7 @@ module _ (script : ScriptData) (stations : List StationData) (callers : List Cal
 
   no_more_at : IsScript script → (q : ℕ) (x : StationData) → slice_get stations q ≡ Some x → appended_at x ≤ length script.commands
   no_more_at is_script q x here =
-      no_more script x.runner.node.script is_script (h.kept q x here).1 (same_clients q x here) (within q x here)
+      no_more script x.runner.node.script is_script (h.kept q x here).is_script (same_clients q x here) (within q x here)
 
 submitted_on : (callers after : List Caller) → EachCaller Calls callers after → AllSubmitted callers → AllSubmitted after
 submitted_on callers after calls all k c e =
@@ -230,7 +228,7 @@ module _ (script : ScriptData) (more : Bool) (stations a b c : List StationData)
         moved_on = moved script a c k e.session.place d.session.place s t turned.0 y seat turned.1 one here
             (subst (λ (v : Seat). SameHand seat v) seat_is hand)
             (ap runner_of (sym is) ∙ looked.runner)
-            is_script (kept_c (home script k) t.station t.here).1
+            is_script (kept_c (home script k) t.station t.here).is_script
             (same_clients script c after beside_c (home script k) t.station t.here)
             (within script c after beside_c (home script k) t.station t.here) below;
       }
@@ -263,7 +261,7 @@ module _ (script : ScriptData) (more : Bool) (stations a b c : List StationData)
         (ap (λ (commands : List (ℕ × Command)). filter_map (command_if client) commands) same) w.moved_on)
     | inr past ↦
         let clients_same = same_clients script c after beside_c (home script client) station here in
-        none_outside station.runner.node.script client (kept_c (home script client) station here).1 (omega (arith, past, clients_same))
+        none_outside station.runner.node.script client (kept_c (home script client) station here).is_script (omega (arith, past, clients_same))
         ∙ sym (none_outside script client is_script past)
   ]
 

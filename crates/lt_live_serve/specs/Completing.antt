@@ -26,8 +26,9 @@ abbrev pub all_lack : ScriptData → List StationData → ℕ
 all_lack script stations = sum_by (lack_at script) stations
 
 -- it is a station, and what it appended makes up a script
-abbrev pub IsKept : StationData → Type 0
-IsKept station = IsStation station.runner station.seats × IsScript station.runner.node.script
+pub record IsKept (station : StationData) : Type 0 where
+  pub is_station : IsStation station.runner station.seats
+  pub is_script : IsScript station.runner.node.script
 
 abbrev pub AreKept : List StationData → Type 0
 AreKept stations = (k : ℕ) (station : StationData) → slice_get stations k ≡ Some station → IsKept station

@@ -65,12 +65,7 @@ fn look_all(_script: &Script, stations: &mut Vec<Station>, callers: &mut Vec<Cal
     }
 }
 
-fn look_at(
-    _script: &Script,
-    stations: &mut Vec<Station>,
-    callers: &mut Vec<Caller>,
-    client: usize,
-)
+fn look_at(_script: &Script, stations: &mut Vec<Station>, callers: &mut Vec<Caller>, client: usize)
     requires inside { client < length callers.old.items }
     requires serving { AreServing _script.now stations.old.items callers.old.items }
     ensures { LooksAt _script.now client stations.old.items callers.old.items stations.new.items callers.new.items }
@@ -90,7 +85,6 @@ fn look(station: &mut Station, caller: &mut Caller)
 }
 
 // What each station keeps.
-#[tactic(auto, using(crate::proofs::Turned::next_kept, crate::proofs::Turned::all_kept))]
 fn are_kept(stations: &[Station])
     ensures { AreKept stations.now }
 {
@@ -119,11 +113,7 @@ fn turn_all<G: Gate>(stations: &mut Vec<Station>, gate: &G) -> Result<bool, Allo
     Ok(more)
 }
 
-fn turn_at<G: Gate>(
-    stations: &mut Vec<Station>,
-    place: usize,
-    gate: &G,
-) -> Result<bool, AllocError>
+fn turn_at<G: Gate>(stations: &mut Vec<Station>, place: usize, gate: &G) -> Result<bool, AllocError>
     requires { place < length stations.old.items }
     ensures { IfOk result (λ more. TurnsAt more place stations.old.items stations.new.items) }
 {
