@@ -33,7 +33,6 @@ pub(crate) struct Live {
 }
 
 /// The run of the script, whose commands callers submit and whose replies they poll.
-#[tactic(auto, using(crate::proofs::Heard::live_run))]
 pub(crate) fn live_run<R: Threads + Sync, G: Gate>(
     rt: &R,
     alloc: Global,
