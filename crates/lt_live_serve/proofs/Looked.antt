@@ -81,13 +81,13 @@ module _ (script : ScriptData) (client place : ℕ) (stations : List StationData
   stays : (k : ℕ) (e : Caller) → k ≢ client → slice_get callers k ≡ Some e → IsBeside script stations k e → IsBeside script (slice_set stations place y) k e
   stays k e other found b = elim (cases_eq (home script k) place) [
     | inr apart ↦ record {
-      station = b.station;
-      here = set_other stations place y (home script k) apart ∙ b.here;
-      seat = b.seat;
-      at = b.at;
-      link = b.link;
-      beside = b.beside;
-    }
+        station = b.station;
+        here = set_other stations place y (home script k) apart ∙ b.here;
+        seat = b.seat;
+        at = b.at;
+        link = b.link;
+        beside = b.beside;
+      }
     | inl same ↦
         let is : b.station ≡ x = same_Some b.station x (sym b.here ∙ ap (slice_get stations) same ∙ station) in
         let in_x : slice_get x.seats e.session.place ≡ Some b.seat = ap (λ (s : StationData). slice_get s.seats e.session.place) (sym is) ∙ b.at in

@@ -180,6 +180,7 @@ gather_next callers k d inside =
 pub gather_all : (callers : List Caller) (k : ℕ) → k ≤ length callers → length callers ≤ k → gather_below k (heard_at callers) ≡ gather_below (length callers) (heard_at callers)
 gather_all callers k few long = let is : k ≡ length callers = omega (arith, few, long) in ap (λ n. gather_below n (heard_at callers)) is
 
+
 -- the first k replies that the caller polled
 abbrev pub marked_to : Caller → ℕ → List (ℕ × Reply)
 marked_to c k = map (λ (reply : Reply). (c.session.client, reply)) (take k c.heard.items)

@@ -69,7 +69,12 @@ fn look_all(_script: &Script, stations: &mut Vec<Station>, callers: &mut Vec<Cal
     }
 }
 
-fn look_at(_script: &Script, stations: &mut Vec<Station>, callers: &mut Vec<Caller>, client: usize)
+fn look_at(
+    _script: &Script,
+    stations: &mut Vec<Station>,
+    callers: &mut Vec<Caller>,
+    client: usize,
+)
     requires inside { client < length callers.old.items }
     requires serving { AreServing _script.now stations.old.items callers.old.items }
     ensures { LooksAt _script.now client stations.old.items callers.old.items stations.new.items callers.new.items }
@@ -88,7 +93,11 @@ fn turn_all<G: Gate>(stations: &mut Vec<Station>, gate: &G) -> Result<(), AllocE
     Ok(())
 }
 
-fn turn_at<G: Gate>(stations: &mut Vec<Station>, place: usize, gate: &G) -> Result<(), AllocError>
+fn turn_at<G: Gate>(
+    stations: &mut Vec<Station>,
+    place: usize,
+    gate: &G,
+) -> Result<(), AllocError>
     requires { place < length stations.old.items }
     ensures { OnOk result (TurnsAt place stations.old.items stations.new.items) }
 {

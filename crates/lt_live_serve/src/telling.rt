@@ -79,7 +79,10 @@ fn tell_one(station: &mut Station, caller: &mut Caller) -> Result<bool, AllocErr
 
 /// What the callers polled, each reply with its client.
 #[tactic(auto, using(crate::proofs::Told::gather_next, crate::proofs::Told::gather_all))]
-pub(crate) fn gather(alloc: Global, callers: &[Caller]) -> Result<Vec<(u16, Reply)>, AllocError>
+pub(crate) fn gather(
+    alloc: Global,
+    callers: &[Caller],
+) -> Result<Vec<(u16, Reply)>, AllocError>
     ensures { IfOk result (λ polled. polled.items ≡ gather_below (length callers.now) (heard_at callers.now)) }
 {
     let mut polled = Vec::new(alloc);
