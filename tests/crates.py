@@ -1,12 +1,12 @@
 #!/usr/bin/env python3
 """Sees that the tables of docs/ARCHITECTURE.md are those of crates.txt: each crate has one row, and its last column has
 the crates and libraries that it stands on, each once: one that follows from another is left out. With the word --write
-it writes that column anew. It also sees that no chain of crates is longer than 10."""
+it writes that column anew. It also sees that no chain of crates is longer than 11."""
 import re
 import sys
 from pathlib import Path
 
-MOST_IN_CHAIN = 10
+MOST_IN_CHAIN = 11
 TOP = Path(__file__).resolve().parent.parent
 PAGE = TOP / 'docs' / 'ARCHITECTURE.md'
 ROW = re.compile(r'\| (?P<crate>[a-z][a-z_]*) \| (?P<what>[^|]*) \| ?(?P<below>[^|]*?) ?\|')

@@ -3,10 +3,12 @@
 # that the tool draws, with who waits for whom if somebody waits at the end; and if the program is built, it makes each
 # journal, with the right status, accepts it, and refuses it at each line that is exchanged for another; a word that
 # isn't text gets the line of usage, which the wrapper prints too. Of runs that are stuck, lockwaits tells who waits for
-# whom. If a program isn't built, its runs that are left out are counted.
+# whom; and locklive makes a run of each script, whose journal lockrun accepts. If a program isn't built, its runs that are
+# left out are counted.
 cd "$(dirname "$0")/.." || exit 1
 program=crates/lockrun/out/lockrun
 waits=crates/lockwaits/out/lockwaits
+live=crates/locklive/out/locklive
 room=$(mktemp -d) || exit 1
 trap 'rm -rf "$room"' EXIT
 examples=0 failed=0 left_out=0
@@ -47,6 +49,18 @@ refuses_at() {
   fi
 }
 
+# Sees that locklive makes a run of the script: its journal is accepted, and its status says whether somebody waits.
+runs_live() {
+  [ -x $live ] || { left_out=$((left_out + 1)); return; }
+  status=0 live_status=0
+  $live <"$2" >"$room/live" || status=$?
+  if grep -q '^waiting ' "$room/live"; then live_status=3; fi
+  [ $status -eq $live_status ] || fail "$1: the status of locklive is $status, not $live_status"
+  { cat "$2"; echo journal; cat "$room/live"; } >"$room/input"
+  sed -n 's/^end /ok /p' "$room/live" >"$room/wanted"
+  program_says "$1, of locklive" check 0 "$room/wanted"
+}
+
 for script in examples/*.script; do
   name=$(basename "$script" .script)
   journal=examples/$name.journal
@@ -77,6 +91,7 @@ for script in examples/*.script; do
     refuses_at "$name" $k
     k=$((k + 1))
   done
+  runs_live "$name" "$script"
 done
 
 # The lines of nested transactions: what locknest answers, and who waits for whom then.

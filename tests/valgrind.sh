@@ -1,15 +1,17 @@
 #!/bin/sh
 # Runs the proved programs under valgrind, which has to find no error, and at the end no memory that wasn't given back: on
-# each example (`sim first`, `sim 7`, `run`, `order`, `check` of its journal, and who waits for whom), on inputs that are
-# refused, on the stored inputs, and on each case of the folders that are named. A case is a file NAME, the input, with
-# NAME.args beside it, one word on each line; NAME.nest stands for locknest, NAME.waits for lockwaits, any other name for
-# lockrun. NAME.status has the wanted status, if it isn't 0, and NAME.stdout the wanted output, if that is known.
+# each example (`sim first`, `sim 7`, `run`, `order`, `check` of its journal, who waits for whom, and on live sessions), on
+# inputs that are refused, on the stored inputs, and on each case of the folders that are named. A case is a file NAME, the
+# input, with NAME.args beside it, one word on each line; NAME.nest stands for locknest, NAME.waits for lockwaits, NAME.live
+# for locklive, any other name for lockrun. NAME.status has the wanted status, if it isn't 0, and NAME.stdout the wanted
+# output, if that is known.
 top=$(CDPATH='' cd -- "$(dirname -- "$0")/.." && pwd) || exit 1
 lockrun=${LOCKRUN:-$top/crates/lockrun/out/lockrun}
 locknest=${LOCKNEST:-$top/crates/locknest/out/locknest}
 lockwaits=${LOCKWAITS:-$top/crates/lockwaits/out/lockwaits}
+locklive=${LOCKLIVE:-$top/crates/locklive/out/locklive}
 command -v valgrind >/dev/null || { echo "tests/valgrind.sh: valgrind isn't on the PATH" >&2; exit 1; }
-for program in "$lockrun" "$locknest" "$lockwaits"; do
+for program in "$lockrun" "$locknest" "$lockwaits" "$locklive"; do
   [ -x "$program" ] || { echo "tests/valgrind.sh: run ./build first" >&2; exit 1; }
 done
 room=$(mktemp -d) || exit 1
@@ -50,6 +52,7 @@ for script in "$top"/examples/*.script; do
   under "$script" "$name, sim 7" x "$lockrun" sim 7
   under "$script" "$name, run" x "$lockrun" run
   under "$script" "$name, order" 0 "$lockrun" order
+  under "$script" "$name, locklive" x "$locklive"
   { cat "$script"; echo journal; cat "$journal"; } >"$room/input"
   under "$room/input" "$name, check" 0 "$lockrun" check
   under "$room/input" "$name, lockwaits" 0 "$lockwaits"
@@ -65,6 +68,7 @@ done
 
 under "$top/crates/lockrun/stdin" 'the stored input' 0 "$lockrun" sim first && same "$top/crates/lockrun/stdout" 'the stored input'
 under "$top/crates/locknest/stdin" 'the nested input' 0 "$locknest" && same "$top/crates/locknest/stdout" 'the nested input'
+under "$top/crates/locklive/stdin" 'the stored live input' 0 "$locklive" && same "$top/crates/locklive/stdout" 'the stored live input'
 under /dev/null 'a word for locknest' 1 "$locknest" x
 under /dev/null 'no nested line' 0 "$locknest"
 under "$top/crates/lockrun/stdin" 'a line that is not nested' 2 "$locknest"
@@ -72,6 +76,7 @@ under /dev/null 'no command' 1 "$lockrun"
 under /dev/null 'make' 0 "$lockrun" make 16 64 256 7 && cp "$room/printed" "$room/script"
 under "$room/script" 'a made script, sim 7' 0 "$lockrun" sim 7
 under "$room/script" 'a made script, run' 0 "$lockrun" run
+under "$room/script" 'a made script, locklive' 0 "$locklive"
 head -c 2000000 /dev/zero | tr '\0' '\n' >"$room/input"
 under "$room/input" 'a long input' 2 "$lockrun" run
 under "$room/input" 'a long input, check' 2 "$lockrun" check
@@ -84,12 +89,17 @@ done
 under /dev/null 'a word for lockwaits' 1 "$lockwaits" x
 under /dev/null 'no journal' 2 "$lockwaits"
 under "$room/input" 'a long input, lockwaits' 2 "$lockwaits"
+under /dev/null 'a word for locklive' 1 "$locklive" x
+under /dev/null 'no script' 2 "$locklive"
+under "$room/input" 'a long input, locklive' 2 "$locklive"
+{ printf 'nodes 1\nset s\nclient a at 0\nclient b at 0\n'; yes 'b lock s read' | head -n 2049; } >"$room/many"
+under "$room/many" 'too many commands of a client' 10 "$locklive"
 
 for folder; do
   for args in "$folder"/*.args; do
     case=${args%.args}
     program=$lockrun
-    case $case in *.nest) program=$locknest ;; *.waits) program=$lockwaits ;; esac
+    case $case in *.nest) program=$locknest ;; *.waits) program=$lockwaits ;; *.live) program=$locklive ;; esac
     set --
     while IFS= read -r word; do set -- "$@" "$word"; done <"$args"
     status=0

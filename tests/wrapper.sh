@@ -1,6 +1,6 @@
 #!/bin/sh
-# Tests of the wrappers `lockrun`, `lockwaits` and `locknest`, with programs and a toolchain that are stand-ins: each
-# tells what it was given. A terminal is made by `script` (util-linux). Prints what failed, and the number of tests.
+# Tests of the wrappers `lockrun`, `lockwaits`, `locknest` and `locklive`, with programs and a toolchain that are stand-ins:
+# each tells what it was given. A terminal is made by `script` (util-linux). Prints what failed, and the number of tests.
 here=$(CDPATH='' cd -- "$(dirname -- "$0")/.." && pwd) || exit 1
 room=$(mktemp -d) || exit 1
 trap 'rm -rf "$room"' EXIT
@@ -9,7 +9,7 @@ tests=0 failed=0
 
 # A copy of the wrapper with a program that was built, and a second one with none.
 make_top() {
-  mkdir -p "$1/tools" "$1/crates/lockrun/src" && cp "$here/lockrun" "$here/lockwaits" "$here/locknest" "$1/" &&
+  mkdir -p "$1/tools" "$1/crates/lockrun/src" && cp "$here/lockrun" "$here/lockwaits" "$here/locknest" "$here/locklive" "$1/" &&
     cp "$here/tools/wrapper" "$here/tools/sources" "$here/tools/explain" "$here/tools/explain.awk" "$1/tools/" &&
     printf 'lockrun:\n' >"$1/crates.txt" && : >"$1/crates/lockrun/src/main.rt" &&
     cp "$here/build" "$1/" && cp "$here/tools/seeds" "$1/tools/"
@@ -379,6 +379,43 @@ waits_on_a_terminal() {
 status 2' "$(on_terminal "'$waits/lockwaits' <'$room/refused'; echo status \$?")"
 }
 if [ "$(on_terminal 'test -t 2 && echo yes')" = yes ]; then waits_on_a_terminal; fi
+
+# locklive takes no words, and explains a script that is refused.
+live=$room/live
+make_top "$live" && mkdir -p "$live/crates/locklive/out" "$live/crates/locklive/src" && : >"$live/crates/locklive/src/main.rt"
+expect 'locklive, unproved' 'locklive: not proved: no program is built from these sources (./build proves and builds it)
+locklive: read fault
+status 4' "$(PATH=$with_rt && said "$live/locklive" </)"
+printf '%s\n' '#!/bin/sh
+input=$(cat) || { echo "locklive: read fault" >&2; exit 4; }
+case $input in
+  "# fault"*) echo "locklive: line 5: S10" >&2; exit 2 ;;
+  "# many"*) echo "locklive: too many commands of client 3" >&2; exit 10 ;;
+esac
+echo "<$input>"' >"$live/crates/locklive/out/locklive" && chmod +x "$live/crates/locklive/out/locklive"
+printf 'crates.txt\ncrates/locklive/src\ncrates/locklive/src/main.rt\n' >"$live/crates/locklive/out/sources"
+expect 'locklive' '<nodes 1
+set s>
+status 0' "$(printf 'nodes 1\nset s\n' | said "$live/locklive")"
+expect 'locklive, too many commands' 'locklive: too many commands of client 3
+status 10' "$(echo '# many' | said "$live/locklive")"
+for words in run 'a.script' 'one two'; do
+  # shellcheck disable=SC2086 # a call may be more words
+  expect "locklive with words: $words" 'locklive: usage: locklive
+status 1' "$(said "$live/locklive" $words </dev/null)"
+done
+expect 'locklive --version' "locklive $(sed -n 's/^version=//p' "$here/locklive")
+status 0" "$(said "$live/locklive" --version)"
+expect 'locklive --help names the status of a share' 1 "$("$live/locklive" --help | grep -c ' 10  a client has more commands')"
+live_on_a_terminal() {
+  printf '# fault\nnodes 1\nset s\nclient a at 0\na lock s reed\n' >"$room/refused"
+  expect 'locklive, refused, on a terminal' 'locklive: line 5: S10
+  a lock s reed
+           ^^^^
+  not a mode: intention_read, read, upgrade, intention_write or write
+status 2' "$(on_terminal "'$live/locklive' <'$room/refused'; echo status \$?")"
+}
+if [ "$(on_terminal 'test -t 2 && echo yes')" = yes ]; then live_on_a_terminal; fi
 
 # Each fault: the script, the line, the fault, the place of the caret, and how many carets there are.
 fault() {

@@ -6,6 +6,7 @@ mod benches;
 mod callers;
 mod calling;
 mod completing;
+mod first;
 mod limits;
 mod live;
 mod opening;

@@ -8,6 +8,7 @@ ghost use Rattle.lt_live_serve.specs.Over.{IsFirstOver};
 ghost use Rattle.lt_live_serve.specs.Runs.{LiveRun};
 
 use crate::completing::complete_all;
+use crate::first::first_round;
 use crate::opening::begin;
 use crate::rounds::rounds;
 use crate::running::run_on;
@@ -33,7 +34,6 @@ pub(crate) struct Live {
 }
 
 /// The run of the script, whose commands callers submit and whose replies they poll.
-#[tactic(auto, using(crate::proofs::Heard::live_run))]
 pub(crate) fn live_run<R: Threads + Sync, G: Gate>(
     rt: &R,
     alloc: Global,
@@ -48,6 +48,7 @@ pub(crate) fn live_run<R: Threads + Sync, G: Gate>(
     law_promised();
     law_ordered();
     let (mut stations, mut callers) = begin(alloc, script)?;
+    first_round(rt, script, &mut stations, &mut callers, gate);
     rounds(rt, script, &mut stations, &mut callers, gate);
     complete_all(script, &mut stations, &mut callers, gate)?;
     let (mut stations, ending) = run_on(rt, alloc, script, stations, &callers, gate)?;

@@ -58,7 +58,7 @@ fn submit_one(callers: &mut [Caller]) -> bool
     false
 }
 
-fn round<R: Threads + Sync, G: Gate>(
+pub(crate) fn round<R: Threads + Sync, G: Gate>(
     rt: &R,
     stations: &mut [Station],
     callers: &mut [Caller],

@@ -5,3 +5,5 @@
 mod live;
 #[cfg(test)]
 mod pool;
+#[cfg(test)]
+mod serving;
