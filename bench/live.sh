@@ -1,6 +1,6 @@
 #!/bin/sh
 # Prints how many commands a second go from `submit` to a polled reply, by processor time, user and system together, for
-# scripts of 1, 4 and 16 nodes with 4 clients on each and 4,096 commands in all: of `locklive`, and beside it of another
+# scripts of 1, 4 and 16 nodes with 4 clients on each and 1,024 commands in all: of `locklive`, and beside it of another
 # program of the same rules, whose first word is `live`, such as the plain one of bench/plain. It is the least time of 15
 # runs, in turn; that of the same script without commands is taken off.
 # usage: bench/live.sh OTHER [PROGRAM [TIMES]]: the programs are one word each; PROGRAM is the one that ./build makes, if
@@ -14,7 +14,7 @@ done
 python3 - "$program" "$other" "$top" "${3:-15}" <<'END_OF_SCRIPT'
 import os, subprocess, sys, tempfile
 program, other, top, times = sys.argv[1:4] + [int(sys.argv[4])]
-COMMANDS = 4096
+COMMANDS = 1024
 
 def taken(command, text):
     """The processor time of a run, in seconds."""

@@ -94,6 +94,13 @@ impl Station<'_> {
             self.turn();
         }
     }
+
+    // Makes moves until there is none, and whether there was one.
+    fn work(&mut self) -> bool {
+        let moved = self.turn();
+        while self.turn() {}
+        moved
+    }
 }
 
 // Callers and stations at work beside each other.
@@ -154,9 +161,7 @@ pub fn run(text: &[u8], tells: bool) -> Option<Vec<u8>> {
     while callers.iter_mut().any(Caller::submit) {
         round(&mut callers, &mut stations);
     }
-    while stations.iter_mut().any(Station::turn) {
-        round(&mut [], &mut stations);
-    }
+    while stations.iter_mut().fold(false, |moved, station| station.work() || moved) {}
     callers.iter_mut().for_each(|caller| while caller.poll() {});
     if tells {
         eprintln!("{} replies", callers.iter().map(|caller| caller.polled.len()).sum::<usize>());
