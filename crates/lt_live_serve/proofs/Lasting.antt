@@ -1,5 +1,5 @@
 -- Stations and callers stay those of the script.
-use Rattle.std.proofs.Common.{rules, ◌≡◌, ◌≢◌, ◌<◌, ◌≤◌, ◌+◌, ℕ, zero, suc, List, [], ◌∷◌, length, map, Option, Some, None, refl, sym, ap, subst, arith, ◌∙◌, inl, inr}
+use Rattle.std.proofs.Common.{rules, ◌≡◌, ◌<◌, ◌≤◌, ◌+◌, ℕ, zero, suc, List, [], ◌∷◌, length, map, Option, Some, None, refl, sym, ap, subst, arith, ◌∙◌, inl, inr}
 use Rattle.std.specs.Prelude.{slice_get, slice_set, slice_index_or}
 use Rattle.std.specs.Option.{option_map}
 use Rattle.std.proofs.lemmas.Bool.{cases_eq}
@@ -7,14 +7,13 @@ use Rattle.std.proofs.lemmas.List.Sums.{sum_by-cons}
 use Rattle.std.proofs.lemmas.Option.{same_Some, slice_get-get_or, slice_get-map, slice_get_within}
 use Rattle.lt_modes.specs.Script.{ScriptData}
 use Rattle.lt_limits.specs.declared.moves.TheConstants.{MAX_MOVES}
-use Rattle.lt_spec.specs.Families.{home}
 use Rattle.lt_law_appended.specs.Commands.{with_commands, AreAt}
-use Rattle.lt_mail.specs.Words.{Alike, SameEnds}
+use Rattle.lt_mail.specs.Words.{Alike}
 use Rattle.lt_mail.proofs.MailLemmas.{ends_join}
 use Rattle.lt_runner.specs.declared.parts.Parts.{Parts}
 use Rattle.lt_threads.specs.Crews.{HasLimit}
 use Rattle.lt_live.specs.declared.ends.Session.{Session}
-use Rattle.lt_live.specs.Live.{AreLive, GoesOn, StationGoesOn, EachStation, EachSession}
+use Rattle.lt_live.specs.Live.{GoesOn, StationGoesOn, EachStation, EachSession}
 use Rattle.lt_live.specs.Opened.{runner_of}
 use Rattle.lt_live.specs.Stations.{StationData, StaySeated}
 use Rattle.lt_live.specs.Words.{SameSession}

@@ -1,10 +1,10 @@
 -- Stations taken apart and put together again.
-use Rattle.std.proofs.Common.{◌≡◌, ◌≢◌, ◌<◌, ◌≤◌, ◌+◌, ◌++◌, ℕ, zero, suc, List, [], ◌∷◌, length, map, get_or, Option, Some, None, refl, sym, ap, subst, arith, ◌∙◌, inl, inr}
+use Rattle.std.proofs.Common.{◌≡◌, ◌<◌, ◌≤◌, ◌+◌, ◌++◌, ℕ, suc, List, [], ◌∷◌, length, map, get_or, Option, Some, None, refl, sym, ap, subst, arith, ◌∙◌, inl, inr}
 use Rattle.std.specs.Prelude.{slice_get}
 use Rattle.std.specs.List.{remove}
 use Rattle.std.specs.Option.{option_map}
 use Rattle.std.proofs.lemmas.Bool.{cases_eq}
-use Rattle.std.proofs.lemmas.List.{length-map}
+use Rattle.std.proofs.lemmas.List.{append_assoc, length-map, map-append}
 use Rattle.std.proofs.lemmas.Option.{same_Some, slice_get-get_or, slice_get-map, slice_get_within}
 use Rattle.lt_modes.specs.Script.{ScriptData}
 use Rattle.lt_script.specs.Script.{IsScript}
@@ -18,10 +18,9 @@ use Rattle.lt_threads.specs.Together.{EachIs, IsCrew}
 use Rattle.lt_threads.specs.Shares.{AreShares}
 use Rattle.lt_threads.proofs.Each.{each_before, each_len}
 use Rattle.lt_live.specs.declared.ends.Seat.{Seat}
-use Rattle.lt_live.specs.declared.ends.Session.{Session}
 use Rattle.lt_live.specs.Live.{GoesOn, StationGoesOn, EachStation}
 use Rattle.lt_live.specs.Opened.{runner_of}
-use Rattle.lt_live.specs.Stations.{StationData, IsStation, StaySeated, IsSeated}
+use Rattle.lt_live.specs.Stations.{StationData, IsStation, IsSeated}
 use Rattle.lt_live.proofs.KeptStations.{station_grew}
 use Rattle.lt_live_serve.specs.declared.benches.Bench.{Bench}
 use Rattle.lt_live_serve.specs.declared.callers.Caller.{Caller}
@@ -93,6 +92,51 @@ pub first_together : (runners : List Parts) (benches : List Bench) (p : Parts) (
 first_together runners benches p b h some first second =
     h.each 0 p b (slice_get-get_or runners 0 p some ∙ ap Some (sym first))
     (slice_get-get_or benches 0 b (some_bench runners benches h some) ∙ ap Some (sym second))
+
+-- what was first is mapped from what was added last
+moved_one : {X Y : Type 0} (f : Y → X) (ys : List Y) (y : Y) (xs all : List X) → map f ys ++ xs ≡ all → 0 < length xs → f y ≡ get_or xs 0 (f y)
+    → map f (ys ++ y ∷ []) ++ remove xs 0 ≡ all
+moved_one f ys y [] all h some e = absurd (omega (arith, some))
+moved_one {X = X} f ys y (x ∷ xs) all h some e =
+    ap (λ (zs : List X). zs ++ xs) (map-append f ys (y ∷ []))
+    ∙ append_assoc (map f ys) (f y ∷ []) xs
+    ∙ ap (λ (z : X). map f ys ++ z ∷ xs) e
+    ∙ h
+
+map_removed : {X Y : Type 0} (f : X → Y) (xs : List X) → map f (remove xs 0) ≡ remove (map f xs) 0
+map_removed f [] = refl
+map_removed f (x ∷ xs) = refl
+
+first_mapped : {X Y : Type 0} (f : X → Y) (xs : List X) (x : X) → 0 < length xs → x ≡ get_or xs 0 x → f x ≡ get_or (map f xs) 0 (f x)
+first_mapped f [] x some e = absurd (omega (arith, some))
+first_mapped f (y ∷ xs) x some e = ap f e
+
+-- the stations that were made, and then the parts that are left
+pub record Puts (stations : List StationData) (left all : List Parts) (benches every : List Bench) : Type 0 where
+  pub runners : map runner_of stations ++ left ≡ all
+  pub seats : map seats_of stations ++ map seats_on benches ≡ map seats_on every
+  pub together : GoTogether left benches
+
+pub next_put : (stations : List StationData) (runners all : List Parts) (benches every : List Bench) (s : StationData)
+    → map runner_of stations ++ runners ≡ all → map seats_of stations ++ map seats_on benches ≡ map seats_on every → GoTogether runners benches → 0 < length runners
+    → (p : Parts) (b : Bench) → p ≡ get_or runners 0 p → b ≡ get_or benches 0 b → s ≡ record { runner = p; seats = b.seats.items }
+    → (later : List StationData) (left : List Parts) (rest : List Bench) → later ≡ stations ++ s ∷ [] → left ≡ remove runners 0 → rest ≡ remove benches 0
+    → Puts later left all rest every
+next_put stations runners all benches every s first second together some p b here there is later left rest pushed gone away =
+    let few = some_bench runners benches together some in
+    let runner : s.runner ≡ get_or runners 0 s.runner = subst (λ (q : Parts). q ≡ get_or runners 0 q) (sym (ap runner_of is)) here in
+    let seats : s.seats ≡ get_or (map seats_on benches) 0 s.seats =
+    subst (λ (q : List Seat). q ≡ get_or (map seats_on benches) 0 q) (sym (ap seats_of is)) (first_mapped seats_on benches b few there) in
+    let made : Puts (stations ++ s ∷ []) (remove runners 0) all (remove benches 0) every = record {
+      runners = moved_one runner_of stations s runners all first some runner;
+      seats =
+          ap (λ (zs : List (List Seat)). map seats_of (stations ++ s ∷ []) ++ zs) (map_removed seats_on benches)
+          ∙ moved_one seats_of stations s (map seats_on benches) (map seats_on every) second (omega (arith, few, length-map benches seats_on)) seats;
+      together = together_removed runners benches together;
+    } in
+    subst (λ (list : List StationData). Puts list left all rest every) (sym pushed)
+    (subst (λ (list : List Parts). Puts (stations ++ s ∷ []) list all rest every) (sym gone)
+    (subst (λ (list : List Bench). Puts (stations ++ s ∷ []) (remove runners 0) all list every) (sym away) made))
 
 -- the seats of runners that made moves meanwhile
 

@@ -1,5 +1,5 @@
 -- Callers poll all replies.
-use Rattle.std.proofs.Common.{◌≡◌, ◌≢◌, ◌<◌, ◌≤◌, ◌+◌, ◌++◌, ◌⊎◌, ℕ, zero, suc, List, [], ◌∷◌, length, map, take, get_or, Option, Some, None, refl, sym, ap, subst, arith, ◌∙◌, inl, inr, append-nil, take_all}
+use Rattle.std.proofs.Common.{◌≡◌, ◌<◌, ◌≤◌, ◌+◌, ◌++◌, ℕ, zero, suc, List, [], ◌∷◌, length, map, take, get_or, Some, refl, sym, ap, subst, arith, ◌∙◌, inl, inr, append-nil, take_all}
 use Rattle.std.specs.Prelude.{slice_get, slice_set, slice_index_or}
 use Rattle.std.specs.Option.{option_map}
 use Rattle.std.proofs.Math.Seq.{map-set_same}
@@ -13,12 +13,11 @@ use Rattle.lt_lists.specs.Below.{gather_below}
 use Rattle.lt_spec.specs.Families.{home}
 use Rattle.lt_spec.specs.Holdings.{lines_of}
 use Rattle.lt_spec.specs.Log.{Logged}
-use Rattle.lt_law_appended.specs.Commands.{with_commands}
 use Rattle.lt_runner.specs.declared.parts.Parts.{Parts}
 use Rattle.lt_live.specs.declared.ends.Seat.{Seat}
 use Rattle.lt_live.specs.declared.ends.Session.{Session}
 use Rattle.lt_live.specs.declared.reply.Reply.{Reply}
-use Rattle.lt_live.specs.Cursor.{lines_before, lines_at, lines_if}
+use Rattle.lt_live.specs.Cursor.{lines_before, lines_at}
 use Rattle.lt_live.specs.Finished.{ServedBy}
 use Rattle.lt_live.specs.Live.{GoesOn, StationGoesOn}
 use Rattle.lt_live.specs.Opened.{runner_of}
@@ -30,7 +29,7 @@ use Rattle.lt_live.proofs.Linked.{session_stays}
 use Rattle.lt_live.proofs.LiveShares.{goes_itself}
 use Rattle.lt_live.proofs.Places.{set_here, set_other}
 use Rattle.lt_live_serve.specs.declared.callers.Caller.{Caller}
-use Rattle.lt_live_serve.specs.Calls.{Calls, session_of, left_of}
+use Rattle.lt_live_serve.specs.Calls.{Calls, session_of}
 use Rattle.lt_live_serve.specs.Serving.{AreServing, HasHeardAll, HaveHeard}
 use Rattle.lt_live_serve.specs.Telling.{Hears, TellsAt, marked, marked_by, heard_at}
 use Rattle.lt_live_serve.proofs.Lasting.{serving_lasts, station_itself, calls_itself, calls_join}
@@ -179,7 +178,6 @@ gather_next callers k d inside =
 
 pub gather_all : (callers : List Caller) (k : ℕ) → k ≤ length callers → length callers ≤ k → gather_below k (heard_at callers) ≡ gather_below (length callers) (heard_at callers)
 gather_all callers k few long = let is : k ≡ length callers = omega (arith, few, long) in ap (λ n. gather_below n (heard_at callers)) is
-
 
 -- the first k replies that the caller polled
 abbrev pub marked_to : Caller → ℕ → List (ℕ × Reply)

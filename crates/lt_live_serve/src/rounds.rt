@@ -24,13 +24,27 @@ pub(crate) fn rounds<R: Threads + Sync, G: Gate>(
     ensures serving { AreServing _script.now stations.new.items callers.new.items }
     ensures submitted { AllSubmitted callers.new.items }
 {
+    rounds_of(rt, _script, stations, callers, gate);
+}
+
+fn rounds_of<R: Threads + Sync, G: Gate>(
+    rt: &R,
+    _script: &Script,
+    stations: &mut [Station],
+    callers: &mut [Caller],
+    gate: &G,
+)
+    requires { AreServing _script.now stations.old callers.old }
+    ensures serving { AreServing _script.now stations.new callers.new }
+    ensures submitted { AllSubmitted callers.new }
+{
     while submit_one(callers) {
         round(rt, stations, callers, gate);
     }
 }
 
 // Submits a command of the first caller that has one.
-#[tactic(auto, using(crate::proofs::Lasting::same_callers, crate::proofs::Lasting::one_called, crate::proofs::Lasting::one_less, crate::proofs::Lasting::next_submitted, crate::proofs::Lasting::all_submitted))]
+#[tactic(auto, using(crate::proofs::Lasting::same_callers, crate::proofs::Lasting::one_called, crate::proofs::Lasting::one_less))]
 fn submit_one(callers: &mut [Caller]) -> bool
     ensures callers { EachCaller Calls callers.old callers.new }
     ensures one { result ≡ true → all_left callers.new < all_left callers.old }

@@ -18,7 +18,7 @@ use std::alloc::{AllocError, Global};
 use std::thread::Threads;
 
 /// Makes all moves that are left, on threads, and tells how the run ended.
-#[tactic(auto, using(crate::proofs::Parted::crew_of, crate::proofs::Parted::go_together, crate::proofs::Parted::serving_moved, crate::proofs::Parted::moved_on))]
+#[tactic(auto, using(crate::proofs::Parted::moved_on))]
 pub(crate) fn run_on<R: Threads + Sync, G: Gate>(
     rt: &R,
     alloc: Global,
@@ -63,7 +63,6 @@ fn move_on<R: Threads + Sync, G: Gate>(
 }
 
 // What each station keeps.
-#[tactic(auto, using(crate::proofs::Parted::next_station, crate::proofs::Parted::all_stations))]
 fn are_stations(stations: &[Station])
     ensures { AreStations stations.now }
 {
@@ -89,7 +88,7 @@ fn take_apart(
     (runners, benches)
 }
 
-#[tactic(auto, using(crate::proofs::Parted::together_removed, crate::proofs::Parted::some_bench, crate::proofs::Parted::first_together))]
+#[tactic(auto, using(crate::proofs::Parted::some_bench, crate::proofs::Parted::first_together))]
 fn put_together(
     mut runners: Vec<Runner>,
     mut benches: Vec<Bench>,

@@ -62,7 +62,7 @@ fn tell(station: &mut Station, caller: &mut Caller) -> Result<(), AllocError>
 }
 
 // Lets the caller poll its next reply; false where it has polled all.
-#[tactic(auto, using(crate::proofs::Told::heard_all, crate::proofs::Told::seated_on, crate::proofs::Told::heard_few))]
+#[tactic(auto, using(crate::proofs::Told::heard_few))]
 fn tell_one(station: &mut Station, caller: &mut Caller) -> Result<bool, AllocError>
     requires { IsSeated caller.old.session station.old.seats }
     ensures hears { Hears station.old caller.old station.new caller.new }
@@ -79,10 +79,7 @@ fn tell_one(station: &mut Station, caller: &mut Caller) -> Result<bool, AllocErr
 
 /// What the callers polled, each reply with its client.
 #[tactic(auto, using(crate::proofs::Told::gather_next, crate::proofs::Told::gather_all))]
-pub(crate) fn gather(
-    alloc: Global,
-    callers: &[Caller],
-) -> Result<Vec<(u16, Reply)>, AllocError>
+pub(crate) fn gather(alloc: Global, callers: &[Caller]) -> Result<Vec<(u16, Reply)>, AllocError>
     ensures { IfOk result (λ polled. polled.items ≡ gather_below (length callers.now) (heard_at callers.now)) }
 {
     let mut polled = Vec::new(alloc);

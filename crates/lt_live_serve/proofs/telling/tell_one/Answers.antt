@@ -7,7 +7,7 @@ use Rattle.lt_live_serve.proofs.telling.tell_one.Goals as goal
 
 pub beside-requires-2 : goal.beside-requires-2
 beside-requires-2 c =
-    seated_on c.beside.new.session c.hear.new.self.session c.beside.new.self.seats c.hear.ensures.calls.session c.beside.ensures.seated
+    seated_on c.beside.new.session c.hear-more.new.self.session c.beside.new.self.seats c.hear-more.ensures.calls.session c.beside.ensures.seated
 
 pub returns-clause-hears : goal.returns-clause-hears
 returns-clause-hears c = record {
@@ -16,20 +16,20 @@ returns-clause-hears c = record {
   seated = c.beside-2.ensures.seated;
   calls = record {
     session = sessions_join c.args.caller.now.session c.beside.new.session c.beside-2.new.session c.beside.ensures.looks.looks.session
-        (sessions_join c.beside.new.session c.hear.new.self.session c.beside-2.new.session c.hear.ensures.calls.session
+        (sessions_join c.beside.new.session c.hear-more.new.self.session c.beside-2.new.session c.hear-more.ensures.calls.session
         c.beside-2.ensures.looks.looks.session);
-    commands = c.hear.ensures.calls.commands;
-    left = c.hear.ensures.calls.left;
+    commands = c.hear-more.ensures.calls.commands;
+    left = c.hear-more.ensures.calls.left;
   };
 }
 
 pub returns-clause-all : goal.returns-clause-all
 returns-clause-all c =
-    IfOk-weaker c.hear.result _ _
+    IfOk-weaker c.hear-more.result _ _
     (λ more told e.
     (told e).0
     ∙ sym c.args.caller.now.hears
     ∙ sym c.beside.ensures.looks.looks.polled
     ∙ heard_all c.args.station.now.runner c.args.caller.now.session c.beside.new.session c.args.station.now.seats c.beside.new.self.seats
     c.kept.ensures c.requires c.beside.ensures.looks (told e).1)
-    c.hear.ensures.none
+    c.hear-more.ensures.none
