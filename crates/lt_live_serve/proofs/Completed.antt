@@ -1,76 +1,69 @@
 -- The commands of each client come to its station.
 use Rattle.std.proofs.Common.{◌≡◌, ◌≢◌, ◌<◌, ◌≤◌, ◌+◌, ◌++◌, ◌⊎◌, ℕ, zero, suc, List, [], ◌∷◌, length, Option, Some, None, Bool, true, false, refl, sym, ap, subst, arith, ◌∙◌, inl, inr, append-nil}
-use Rattle.std.specs.Prelude.{◌==◌, ◌&&◌, nat_lt, slice_get, filter_map, if◌then◌else◌}
+use Rattle.std.specs.Prelude.{◌==◌, nat_lt, slice_get, filter_map, if◌then◌else◌}
 use Rattle.std.specs.List.{AllByRecursion, cons_option}
 use Rattle.std.proofs.lemmas.Bool.{cases_eq, eq-eqb, ne_eqb, false≢true, and_from, lt-ltb}
-use Rattle.std.proofs.lemmas.List.{append_assoc, length-append}
+use Rattle.std.proofs.lemmas.List.{length-append}
 use Rattle.std.proofs.lemmas.List.Elements.{recursion_from_All}
 use Rattle.lt_lists.specs.Below.{sum_below}
 use Rattle.lt_lists.proofs.AllLemmas.{all_weaker}
 use Rattle.lt_lists.proofs.Sums.{sum_below-same, sum_below-none, sum_below-add, sum_below-at, sum_below-one, sum_below-most}
 use Rattle.lt_modes.specs.declared.command.Command.{Command}
+use Rattle.lt_modes.specs.declared.command.Command.TheVariants as command
 use Rattle.lt_modes.specs.Script.{ScriptData}
 use Rattle.lt_script.specs.Script.{IsScript, IsRequest}
 use Rattle.lt_script.specs.declared.limits.TheConstants.{MAX_COMMANDS}
-use Rattle.lt_spec.specs.Families.{command_if, commands_of}
-use Rattle.lt_runner.specs.declared.parts.Parts.{Parts}
-use Rattle.lt_runner.specs.declared.turning.Turned.{Turned}
+use Rattle.lt_spec.specs.Families.{command_if, commands_of, home}
+use Rattle.lt_spec.specs.Log.{Logged}
+use Rattle.lt_law_appended.specs.Commands.{with_commands, AreAt}
 use Rattle.lt_live.specs.declared.ends.Seat.{Seat}
-use Rattle.lt_live.specs.declared.ends.Session.{Session}
 use Rattle.lt_live.specs.Asking.{may_ask, may_append}
-use Rattle.lt_live.specs.Seats.{AreBeside, IsSeat}
-use Rattle.lt_live.specs.Stations.{StationTurns, SeatTurns, HandMayGo, IsSeatOf, CanNotAppend}
-use Rattle.lt_live.specs.Words.{submitted, taken, known_commands, in_hand}
-use Rattle.lt_live.proofs.SeatLists.{each_after}
+use Rattle.lt_live.specs.Stations.{SeatTurns, HandMayGo}
+use Rattle.lt_live.specs.Words.{taken, known_commands, in_hand}
+use Rattle.lt_live_serve.specs.Completing.{SameHand}
 
 -- the taken commands stay where the one in hand goes
 gone_taken : (s t : Seat) → HandMayGo s t → taken t ≡ taken s
 gone_taken s t (inl gone) = ap taken gone
 gone_taken s t (inr still) = ap taken still
 
--- a turn takes a command in, where one was known and none is left in hand
-module _ (turned : Turned) (a b : Parts) (seats later : List Seat) (place : ℕ) (y z : Seat) (s : Session) (h : StationTurns turned a seats b later)
-    (before : slice_get seats place ≡ Some y) (turn : SeatTurns b.log.entries y z) (kept : IsSeatOf a y) (after : IsSeatOf b z) (beside : AreBeside s y)
-    (none : z.hand ≡ None) where
-  abbrev pub old : List Command
-  old = commands_of a.node.script y.client
+some_none : {X : Type 0} (x : X) → Some x ≡ None → ⊥
+some_none x f = cc
 
-  abbrev pub new : List Command
-  new = commands_of b.node.script z.client
-
+-- between two looks a turn took a command in, where there was one
+module _ (log : List Logged) (old new all : List Command) (x y z : Seat) (turn : SeatTurns log x y) (look : SameHand y z)
+    (before : taken x ≡ old ++ in_hand x.hand) (after : taken z ≡ new ++ in_hand z.hand)
+    (rest : (old ++ in_hand x.hand) ++ known_commands x ≡ all) (none : z.hand ≡ None) where
   grown : new ≡ old ++ in_hand turn.held.hand
   grown =
       sym (append-nil new)
       ∙ ap (λ (hand : Option Command). new ++ in_hand hand) (sym none)
-      ∙ sym after.kept.taken
+      ∙ sym after
+      ∙ look.taken
       ∙ turn.tells.on.rest.taken
       ∙ gone_taken turn.held turn.left turn.hand
-      ∙ turn.takes.taken old kept.kept.taken
+      ∙ turn.takes.taken old before
 
-  all : y.hand ≡ None → known_commands y ≡ [] → submitted s ≡ old
-  all no_hand no_known =
-      sym beside.commands
-      ∙ ap (λ (rest : List Command). taken y ++ rest) no_known
-      ∙ append-nil (taken y)
-      ∙ kept.kept.taken
+  none_left : x.hand ≡ None → known_commands x ≡ [] → all ≡ old
+  none_left no_hand no_known =
+      sym rest
+      ∙ ap (λ (more : List Command). (old ++ in_hand x.hand) ++ more) no_known
+      ∙ append-nil (old ++ in_hand x.hand)
       ∙ ap (λ (hand : Option Command). old ++ in_hand hand) no_hand
       ∙ append-nil old
 
-  pub advances : (length old < length new) ⊎ (submitted s ≡ old)
-  advances = by_hand turn.held.hand refl
-    where
-      by_first : (first : Option Command) → y.hand ≡ first → turn.held.hand ≡ None → (length old < length new) ⊎ (submitted s ≡ old)
-      by_first None e held = inr (all e (turn.takes.none e held))
-      by_first (Some command) e held = absurd (some_none command (sym e ∙ sym (ap (λ (x : Seat). x.hand) (turn.takes.stays command e)) ∙ held))
-        where
-          some_none : (x : Command) → Some x ≡ None → ⊥
-          some_none x f = cc
+  by_first : (first : Option Command) → x.hand ≡ first → turn.held.hand ≡ None → all ≡ old
+  by_first None e held = none_left e (turn.takes.none e held)
+  by_first (Some command) e held = absurd (some_none command (sym e ∙ sym (ap (λ (s : Seat). s.hand) (turn.takes.stays command e)) ∙ held))
 
-      by_hand : (hand : Option Command) → turn.held.hand ≡ hand → (length old < length new) ⊎ (submitted s ≡ old)
-      by_hand (Some command) e =
-          let count = ap (λ (xs : List Command). length xs) (grown ∙ ap (λ (hand : Option Command). old ++ in_hand hand) e) in
-          inl (omega (arith, count, length-append old (command ∷ [])))
-      by_hand None e = by_first y.hand refl e
+  by_hand : (hand : Option Command) → turn.held.hand ≡ hand → (length old < length new) ⊎ (all ≡ old)
+  by_hand (Some command) e =
+      let count = ap (λ (xs : List Command). length xs) (grown ∙ ap (λ (hand : Option Command). old ++ in_hand hand) e) in
+      inl (omega (arith, count, length-append old (command ∷ [])))
+  by_hand None e = inr (by_first x.hand refl e)
+
+  pub advances : (length old < length new) ⊎ (all ≡ old)
+  advances = by_hand turn.held.hand refl
 
 -- each number below n is met once
 one_at : (n t : ℕ) → t < n → sum_below n (λ k. if k == t then 1 else 0) ≡ 1
@@ -102,14 +95,39 @@ counted n (request ∷ rest) h =
     by_tests more true false e = cc
     by_tests more false true e = cc
 
-pub all_counted : (script : ScriptData) → IsScript script → sum_below (length script.clients) (λ client. length (commands_of script client)) ≡ length script.commands
-all_counted script is_script =
-    counted (length script.clients) script.commands
-    (all_weaker (IsRequest script.sets script.clients) (λ (request : ℕ × Command). request.0 < length script.clients) (λ request is. is.0) script.commands
-    (recursion_from_All (IsRequest script.sets script.clients) script.commands is_script.requests))
+requests_below : (script : ScriptData) → IsScript script → AllByRecursion (λ (request : ℕ × Command). request.0 < length script.clients) script.commands
+requests_below script is_script =
+    all_weaker (IsRequest script.sets script.clients) (λ (request : ℕ × Command). request.0 < length script.clients) (λ request is. is.0) script.commands
+    (recursion_from_All (IsRequest script.sets script.clients) script.commands is_script.requests)
+
+all_counted : (script : ScriptData) → IsScript script → sum_below (length script.clients) (λ client. length (commands_of script client)) ≡ length script.commands
+all_counted script is_script = counted (length script.clients) script.commands (requests_below script is_script)
+
+-- where no command is the client's it has none
+none_of : (client : ℕ) (commands : List (ℕ × Command)) → AllByRecursion (λ (request : ℕ × Command). request.0 ≢ client) commands
+    → filter_map (command_if client) commands ≡ []
+none_of client [] h = refl
+none_of client (request ∷ rest) h =
+    ap (λ (b : Bool). cons_option (if b then Some request.1 else None) (filter_map (command_if client) rest)) (ne_eqb request.0 client h.0)
+    ∙ none_of client rest h.1
+
+-- so it is of a number that no client has
+pub none_outside : (script : ScriptData) (client : ℕ) → IsScript script → length script.clients ≤ client → commands_of script client ≡ []
+none_outside script client is_script past =
+    none_of client script.commands
+    (all_weaker (λ (request : ℕ × Command). request.0 < length script.clients) (λ (request : ℕ × Command). request.0 ≢ client)
+    (λ request below e. absurd (omega (arith, below, e, past))) script.commands (requests_below script is_script))
+
+-- and of a client of another node
+pub none_apart : (script : ScriptData) (q client : ℕ) (commands : List (ℕ × Command)) → AreAt script q commands → home script client ≢ q
+    → filter_map (command_if client) commands ≡ []
+none_apart script q client commands at apart =
+    none_of client commands
+    (all_weaker (λ (request : ℕ × Command). home script request.0 ≡ q) (λ (request : ℕ × Command). request.0 ≢ client)
+    (λ request here e. apart (sym (ap (home script) e) ∙ here)) commands at)
 
 -- one sum is less than another where one of its numbers is less, and none is more
-pub sum_less : (n i : ℕ) (f g : ℕ → ℕ) → i < n → ((k : ℕ) → k < n → f k ≤ g k) → f i < g i → sum_below n f < sum_below n g
+sum_less : (n i : ℕ) (f g : ℕ → ℕ) → i < n → ((k : ℕ) → k < n → f k ≤ g k) → f i < g i → sum_below n f < sum_below n g
 sum_less zero i f g below most less = absurd (omega (arith, below))
 sum_less (suc n) i f g below most less = elim (cases_eq i n) [
   | inl e ↦
@@ -122,30 +140,52 @@ sum_less (suc n) i f g below most less = elim (cases_eq i n) [
       omega (arith, rest, last)
 ]
 
--- while a client's command is missing, the script of a node has room for it
-pub has_room : (script own : ScriptData) (client : ℕ) → IsScript script → IsScript own → length own.clients ≡ length script.clients → client < length script.clients
-    → ((k : ℕ) → k < length script.clients → length (commands_of own k) ≤ length (commands_of script k))
-    → length (commands_of own client) < length (commands_of script client) → length own.commands < MAX_COMMANDS
-has_room script own client is_script is_own same below most less =
-    let few = is_script.few_commands in
-    let first : sum_below (length script.clients) (λ k. length (commands_of own k)) ≡ length own.commands =
-    ap (λ n. sum_below n (λ k. length (commands_of own k))) (sym same) ∙ all_counted own is_own in
-    omega (
-      arith,
-      few,
-      first,
-      all_counted script is_script,
-      sum_less (length script.clients) client (λ k. length (commands_of own k)) (λ k. length (commands_of script k)) below most less,
-    )
+-- the script of a node has no more commands of a client than the whole one
+abbrev pub Within : ScriptData → ScriptData → Type 0
+Within script own = (k : ℕ) → k < length script.clients → length (commands_of own k) ≤ length (commands_of script k)
 
--- so a command that may be asked doesn't stay in hand
-pub no_hand : (p : Parts) (seat : Seat) → length p.node.script.commands < MAX_COMMANDS
-    → ((command : Command) → seat.hand ≡ Some command → may_ask p.node.script seat.client command ≡ true) → CanNotAppend p seat → seat.hand ≡ None
-no_hand p seat room asks can_not = by_hand seat.hand refl
-  where
-    by_hand : (hand : Option Command) → seat.hand ≡ hand → seat.hand ≡ None
-    by_hand None e = e
-    by_hand (Some command) e =
-        let may = and_from (nat_lt (length p.node.script.commands) MAX_COMMANDS) (may_ask p.node.script seat.client command)
-        (lt-ltb (length p.node.script.commands) MAX_COMMANDS room) (asks command e) in
-        absurd (false≢true (sym (can_not command e) ∙ may))
+module _ (script own : ScriptData) (is_script : IsScript script) (is_own : IsScript own) (same : length own.clients ≡ length script.clients) (within : Within script own) where
+  own_sum : sum_below (length script.clients) (λ k. length (commands_of own k)) ≡ length own.commands
+  own_sum = ap (λ n. sum_below n (λ k. length (commands_of own k))) (sym same) ∙ all_counted own is_own
+
+  -- so it has no more in all
+  pub no_more : length own.commands ≤ length script.commands
+  no_more =
+      let most = sum_below-most (length script.clients) (λ k. length (commands_of own k)) (λ k. length (commands_of script k)) within in
+      omega (arith, most, own_sum, all_counted script is_script)
+
+  -- while a client's command is missing there, it has room for it
+  has_room : (client : ℕ) → client < length script.clients → length (commands_of own client) < length (commands_of script client)
+      → length own.commands < MAX_COMMANDS
+  has_room client below less =
+      let few = is_script.few_commands in
+      let all = sum_less (length script.clients) client (λ k. length (commands_of own k)) (λ k. length (commands_of script k)) below within less in
+      omega (arith, few, all, own_sum, all_counted script is_script)
+
+  -- so a command that may be asked doesn't stay in hand
+  pub no_hand : (client : ℕ) (hand : Option Command) (known : List Command) → client < length script.clients
+      → (commands_of own client ++ in_hand hand) ++ known ≡ commands_of script client
+      → ((command : Command) → hand ≡ Some command → may_ask own client command ≡ true)
+      → ((command : Command) → hand ≡ Some command → may_append own client command ≡ false) → hand ≡ None
+  no_hand client None known below all asks can_not = refl
+  no_hand client (Some command) known below all asks can_not =
+      let count = ap (λ (xs : List Command). length xs) all in
+      let first = length-append (commands_of own client ++ command ∷ []) known in
+      let second = length-append (commands_of own client) (command ∷ []) in
+      let room = has_room client below (omega (arith, count, first, second)) in
+      let may = and_from (nat_lt (length own.commands) MAX_COMMANDS) (may_ask own client command) (lt-ltb (length own.commands) MAX_COMMANDS room) (asks command refl) in
+      absurd (false≢true (sym (can_not command refl) ∙ may))
+
+-- which command may be asked depends on no other command
+pub same_ask : (script : ScriptData) (commands : List (ℕ × Command)) (client : ℕ) (c : Command)
+    → may_ask (with_commands script commands) client c ≡ may_ask script client c
+same_ask script commands client (command.Lock set mode) = refl
+same_ask script commands client (command.Try set mode) = refl
+same_ask script commands client (command.Unlock set mode) = refl
+same_ask script commands client (command.Change set gives_up mode) = refl
+same_ask script commands client (command.DropAll other set) = refl
+
+-- what stands after the first ones
+pub middle : {X : Type 0} (xs : List X) (x : X) (ys : List X) → slice_get ((xs ++ x ∷ []) ++ ys) (length xs) ≡ Some x
+middle [] x ys = refl
+middle (z ∷ xs) x ys = middle xs x ys

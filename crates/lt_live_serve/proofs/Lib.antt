@@ -10,3 +10,5 @@ pub mod Heard
 pub mod Told
 pub mod Completed
 pub mod Looked
+pub mod Turned
+pub mod Stepped

@@ -1,5 +1,5 @@
 -- Callers and their seats look at their rings.
-use Rattle.std.proofs.Common.{◌≡◌, ◌≢◌, ◌<◌, ◌≤◌, ◌+◌, ℕ, List, [], length, map, Option, Some, None, refl, sym, ap, subst, arith, ◌∙◌, inl, inr}
+use Rattle.std.proofs.Common.{◌≡◌, ◌≢◌, ◌≤◌, ◌+◌, ℕ, List, length, Option, Some, refl, sym, ap, subst, arith, ◌∙◌, inl, inr}
 use Rattle.std.specs.Prelude.{slice_get, slice_set}
 use Rattle.std.proofs.lemmas.Bool.{cases_eq}
 use Rattle.std.proofs.lemmas.Option.{same_Some, slice_get_within}
@@ -10,23 +10,23 @@ use Rattle.lt_mail.specs.Words.{Alike}
 use Rattle.lt_runner.specs.declared.parts.Parts.{Parts}
 use Rattle.lt_live.specs.declared.ends.Seat.{Seat}
 use Rattle.lt_live.specs.declared.ends.Session.{Session}
-use Rattle.lt_live.specs.Live.{GoesOn, StationGoesOn, EachStation}
+use Rattle.lt_live.specs.Live.{GoesOn, StationGoesOn}
 use Rattle.lt_live.specs.Stations.{StationData, IsSeated, StaySeated, SeatLooks, EachSeat}
-use Rattle.lt_live.proofs.AlikeLists.{alike_self, alike_set, alike_join, alike_weaker}
+use Rattle.lt_live.proofs.AlikeLists.{alike_self, alike_set, alike_join}
 use Rattle.lt_live.proofs.LiveShares.{goes_itself}
 use Rattle.lt_live.proofs.Places.{set_here, set_other}
 use Rattle.lt_live_serve.specs.declared.callers.Caller.{Caller}
-use Rattle.lt_live_serve.specs.Calls.{Calls, EachCaller, session_of}
-use Rattle.lt_live_serve.specs.Completing.{IsBeside, BesideTo, SameHand, OnlyLooks, LooksTo, LooksAt}
+use Rattle.lt_live_serve.specs.Calls.{Calls}
+use Rattle.lt_live_serve.specs.Completing.{IsBeside, SameHand, OnlyLooks, LooksTo, LooksAt}
 use Rattle.lt_live_serve.specs.Serving.{AreServing}
 use Rattle.lt_live_serve.proofs.Lasting.{serving_lasts, station_itself, calls_itself, calls_join}
 use Rattle.lt_live_serve.proofs.Told.{session_there}
 
 same_hand : (s : Seat) → SameHand s s
-same_hand s = record { hand = refl; client = refl }
+same_hand s = record { client = refl; hand = refl; taken = refl }
 
 hand_join : (a b c : Seat) → SameHand a b → SameHand b c → SameHand a c
-hand_join a b c first second = record { hand = second.hand ∙ first.hand; client = second.client ∙ first.client }
+hand_join a b c first second = record { client = second.client ∙ first.client; hand = second.hand ∙ first.hand; taken = second.taken ∙ first.taken }
 
 only_itself : (a : StationData) → OnlyLooks a a
 only_itself a = record { runner = refl; stay = λ s h. h; hands = alike_self SameHand same_hand a.seats }
@@ -44,7 +44,7 @@ hands_looked log s t old new h k = elim (cases_eq k s.place) [
       subst (λ (j : ℕ). Alike SameHand (slice_get old j) (slice_get new j)) (sym at)
       (subst (λ (o : Option Seat). Alike SameHand o (slice_get new s.place)) (sym h.before)
       (subst (λ (o : Option Seat). Alike SameHand (Some h.x) o) (sym h.now)
-      (record { hand = h.looks.taken.1; client = h.looks.seat.client })))
+      (record { client = h.looks.seat.client; hand = h.looks.taken.1; taken = h.looks.taken.0 })))
   | inr apart ↦ subst (λ (o : Option Seat). Alike SameHand (slice_get old k) o) (sym (h.others k apart)) (alike_self SameHand same_hand old k)
 ]
 
@@ -81,13 +81,13 @@ module _ (script : ScriptData) (client place : ℕ) (stations : List StationData
   stays : (k : ℕ) (e : Caller) → k ≢ client → slice_get callers k ≡ Some e → IsBeside script stations k e → IsBeside script (slice_set stations place y) k e
   stays k e other found b = elim (cases_eq (home script k) place) [
     | inr apart ↦ record {
-        station = b.station;
-        here = set_other stations place y (home script k) apart ∙ b.here;
-        seat = b.seat;
-        at = b.at;
-        link = b.link;
-        beside = b.beside;
-      }
+      station = b.station;
+      here = set_other stations place y (home script k) apart ∙ b.here;
+      seat = b.seat;
+      at = b.at;
+      link = b.link;
+      beside = b.beside;
+    }
     | inl same ↦
         let is : b.station ≡ x = same_Some b.station x (sym b.here ∙ ap (slice_get stations) same ∙ station) in
         let in_x : slice_get x.seats e.session.place ≡ Some b.seat = ap (λ (s : StationData). slice_get s.seats e.session.place) (sym is) ∙ b.at in

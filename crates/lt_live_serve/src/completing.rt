@@ -1,14 +1,12 @@
 // Brings all commands to their stations.
-ghost use Rattle.std.specs.Prelude.{◌≡◌, ◌≢◌, ◌<◌, ℕ, true, false, length, map, OnOk};
+ghost use Rattle.std.specs.Prelude.{◌≡◌, ◌<◌, true, false, nat_lt, length, IfOk, OnOk};
 ghost use Rattle.lt_script.specs.Script.{IsScript};
-ghost use Rattle.lt_live.specs.Live.{EachStation};
-ghost use Rattle.lt_live.specs.Opened.{runner_of};
-ghost use Rattle.lt_live_serve.specs.Calls.{AllSubmitted};
-ghost use Rattle.lt_live_serve.specs.Completing.{IsFull, LooksTo, LooksAt, Turns, TurnsAt};
+ghost use Rattle.lt_live.specs.Stations.{IsSeated, StaySeated, SeatLooks};
+ghost use Rattle.lt_live_serve.specs.Calls.{Calls, AllSubmitted};
+ghost use Rattle.lt_live_serve.specs.Completing.{LooksTo, LooksAt, IsKept, AreKept, Turns, TurnsAt, AllTurn, all_lack};
 ghost use Rattle.lt_live_serve.specs.Serving.{AreServing, AreComplete};
 
 use crate::callers::Caller;
-use crate::over::count_of;
 use lt_live::Station;
 use lt_runner::{Gate, Turned};
 use lt_script::Script;
@@ -27,36 +25,34 @@ pub(crate) fn complete_all<G: Gate>(
     ensures serving { OnOk result (AreServing script.now stations.new.items callers.new.items) }
     ensures complete { OnOk result (AreComplete script.now stations.new.items) }
 {
-    look_all(script, stations, callers);
-    while !are_complete(script, stations) {
-        turn_all(stations, gate)?;
-        look_all(script, stations, callers);
-    }
-    Ok(())
-}
-
-// Whether all commands were appended.
-fn are_complete(script: &Script, stations: &[Station]) -> bool
-    requires { script.now.nodes ≡ length stations.now }
-    ensures all { result ≡ true → (client : ℕ) → client < length script.now.clients → IsFull script.now (map runner_of stations.now) client }
-    ensures some { result ≡ false → (client : ℕ) × (client < length script.now.clients) × (IsFull script.now (map runner_of stations.now) client → ⊥) }
-{
-    for client in 0..script.clients() {
-        if !is_full(script, stations, client) {
-            return false;
+    loop {
+        if !take_more(script, stations, callers, gate)? {
+            return Ok(());
         }
     }
-    true
 }
 
-fn is_full(script: &Script, stations: &[Station], client: u16) -> bool
-    requires nodes { script.now.nodes ≡ length stations.now }
-    requires client { client < length script.now.clients }
-    ensures full { result ≡ true → IsFull script.now (map runner_of stations.now) client }
-    ensures less { result ≡ false → IsFull script.now (map runner_of stations.now) client → ⊥ }
+// Each station takes in a command of each client that has one more; false where no client had.
+fn take_more<G: Gate>(
+    script: &Script,
+    stations: &mut Vec<Station>,
+    callers: &mut Vec<Caller>,
+    gate: &G,
+) -> Result<bool, AllocError>
+    requires kept { IsScript script.now }
+    requires serving { AreServing script.now stations.old.items callers.old.items }
+    requires submitted { AllSubmitted callers.old.items }
+    ensures serving { OnOk result (AreServing script.now stations.new.items callers.new.items) }
+    ensures submitted { OnOk result (AllSubmitted callers.new.items) }
+    ensures more { IfOk result (λ more. more ≡ true → all_lack script.now stations.new.items < all_lack script.now stations.old.items) }
+    ensures none { IfOk result (λ more. more ≡ false → AreComplete script.now stations.new.items) }
 {
-    let home = usize::from(script.home(client));
-    count_of(stations[home].script(), client) == count_of(script, client)
+    look_all(script, stations, callers);
+    are_kept(stations);
+    let more = turn_all(stations, gate)?;
+    look_all(script, stations, callers);
+    are_kept(stations);
+    Ok(more)
 }
 
 // All sessions and their seats look at their rings.
@@ -69,40 +65,68 @@ fn look_all(_script: &Script, stations: &mut Vec<Station>, callers: &mut Vec<Cal
     }
 }
 
-fn look_at(
-    _script: &Script,
-    stations: &mut Vec<Station>,
-    callers: &mut Vec<Caller>,
-    client: usize,
-)
+fn look_at(_script: &Script, stations: &mut Vec<Station>, callers: &mut Vec<Caller>, client: usize)
     requires inside { client < length callers.old.items }
     requires serving { AreServing _script.now stations.old.items callers.old.items }
     ensures { LooksAt _script.now client stations.old.items callers.old.items stations.new.items callers.new.items }
 {
     let home = usize::from(callers[client].home());
-    stations[home].beside(&mut callers[client].session);
+    look(&mut stations[home], &mut callers[client]);
 }
 
-// Each station makes a turn, in which it takes in a command of each client that has one.
-fn turn_all<G: Gate>(stations: &mut Vec<Station>, gate: &G) -> Result<(), AllocError>
-    ensures { OnOk result (EachStation Turns stations.old.items stations.new.items) }
+fn look(station: &mut Station, caller: &mut Caller)
+    requires { IsSeated caller.old.session station.old.seats }
+    ensures looks { SeatLooks station.old.runner.log.entries caller.old.session caller.new.session station.old.seats station.new.seats }
+    ensures stay { StaySeated station.old.seats station.new.seats }
+    ensures runner { station.new.runner ≡ station.old.runner }
+    ensures calls { Calls caller.old caller.new }
+{
+    station.beside(&mut caller.session);
+}
+
+// What each station keeps.
+fn are_kept(stations: &[Station])
+    ensures { AreKept stations.now }
 {
     for place in 0..stations.len() {
-        turn_at(stations, place, gate)?;
+        is_kept(&stations[place]);
     }
-    Ok(())
 }
 
-fn turn_at<G: Gate>(
-    stations: &mut Vec<Station>,
-    place: usize,
-    gate: &G,
-) -> Result<(), AllocError>
-    requires { place < length stations.old.items }
-    ensures { OnOk result (TurnsAt place stations.old.items stations.new.items) }
+fn is_kept(station: &Station)
+    ensures { IsKept station.now }
 {
-    if let Turned::NoMemory = stations[place].turn(gate) {
+    station.kept();
+    station.script().nodes();
+}
+
+// Each station makes a turn; true where one of them has appended a command.
+fn turn_all<G: Gate>(stations: &mut Vec<Station>, gate: &G) -> Result<bool, AllocError>
+    ensures { IfOk result (λ more. AllTurn more stations.old.items stations.new.items) }
+{
+    let mut more = false;
+    for place in 0..stations.len() {
+        if turn_at(stations, place, gate)? {
+            more = true;
+        }
+    }
+    Ok(more)
+}
+
+fn turn_at<G: Gate>(stations: &mut Vec<Station>, place: usize, gate: &G) -> Result<bool, AllocError>
+    requires { place < length stations.old.items }
+    ensures { IfOk result (λ more. TurnsAt more place stations.old.items stations.new.items) }
+{
+    let more = turn(&mut stations[place], gate)?;
+    Ok(more)
+}
+
+fn turn<G: Gate>(station: &mut Station, gate: &G) -> Result<bool, AllocError>
+    ensures { IfOk result (λ more. Turns more station.old station.new) }
+{
+    let before = station.script().commands();
+    if let Turned::NoMemory = station.turn(gate) {
         return Err(AllocError);
     }
-    Ok(())
+    Ok(station.script().commands() > before)
 }

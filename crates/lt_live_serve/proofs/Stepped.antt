@@ -1,0 +1,295 @@
+-- Each station takes in a command of each client that has one more.
+use Rattle.std.proofs.Common.{◌≡◌, ◌<◌, ◌≤◌, ◌+◌, ◌++◌, ◌⊎◌, ℕ, zero, suc, List, [], ◌∷◌, length, Option, Some, Bool, true, false, refl, sym, ap, subst, arith, ◌∙◌, inl, inr, append-nil, take_all}
+use Rattle.std.specs.Prelude.{slice_get, filter_map}
+use Rattle.std.specs.Option.{option_map}
+use Rattle.std.proofs.lemmas.Bool.{cases_eq, cases_lt}
+use Rattle.std.proofs.lemmas.List.{length-append, length-map}
+use Rattle.std.proofs.lemmas.Option.{same_Some, slice_get-map, slice_get_within}
+use mathlib.Core.List.{IsPrefix}
+use Rattle.lt_modes.specs.declared.command.Command.{Command}
+use Rattle.lt_modes.specs.Script.{ScriptData}
+use Rattle.lt_script.specs.Script.{IsScript}
+use Rattle.lt_spec.specs.Families.{command_if, commands_of, home}
+use Rattle.lt_law_appended.specs.Commands.{with_commands}
+use Rattle.lt_runner.specs.declared.parts.Parts.{Parts}
+use Rattle.lt_threads.specs.Shares.{InShares}
+use Rattle.lt_live.specs.declared.ends.Seat.{Seat}
+use Rattle.lt_live.specs.Asking.{may_ask, may_append}
+use Rattle.lt_live.specs.Live.{IsSessionOf, StationGoesOn, EachStation}
+use Rattle.lt_live.specs.Opened.{runner_of}
+use Rattle.lt_live.specs.Stations.{StationData, IsSeatOf, SeatTurns}
+use Rattle.lt_live.specs.Words.{submitted, taken, known_commands, in_hand}
+use Rattle.lt_live.proofs.AlikeLists.{alike_before, alike_after, alike_join, alike_weaker}
+use Rattle.lt_live.proofs.SeatLists.{each_after}
+use Rattle.lt_live_serve.specs.declared.callers.Caller.{Caller}
+use Rattle.lt_live_serve.specs.Calls.{Calls, EachCaller, AllSubmitted, session_of, left_of}
+use Rattle.lt_live_serve.specs.Completing.{appended_at, lack_at, all_lack, AreKept, IsBeside, BesideTo, SameHand, OnlyLooks, LooksTo, Turns, AnyTurns, SameCount, AllTurn}
+use Rattle.lt_live_serve.specs.Serving.{AreServing, AreComplete}
+use Rattle.lt_live_serve.proofs.Completed.{Within, advances, no_more, no_hand, none_outside, none_apart, same_ask, middle}
+use Rattle.lt_live_serve.proofs.Lasting.{serving_lasts, same_callers}
+use Rattle.lt_live_serve.proofs.Told.{session_there}
+use Rattle.lt_live_serve.proofs.Turned.{more_commands, more_appended, falls}
+
+-- what the station of this client knows of its commands, once all were submitted and both ends looked
+record Seen (script : ScriptData) (stations : List StationData) (client place : ℕ) : Type 0 where
+  station : StationData
+  here : slice_get stations (home script client) ≡ Some station
+  seat : Seat
+  at : slice_get station.seats place ≡ Some seat
+  client_is : seat.client ≡ client
+  took : taken seat ≡ commands_of station.runner.node.script client ++ in_hand seat.hand
+  rest : (commands_of station.runner.node.script client ++ in_hand seat.hand) ++ known_commands seat ≡ commands_of script client
+  asks : (command : Command) → seat.hand ≡ Some command → may_ask station.runner.node.script client command ≡ true
+
+share_at : (script : ScriptData) (stations : List StationData) (callers : List Caller) → AreServing script stations callers
+    → (q : ℕ) (x : StationData) → slice_get stations q ≡ Some x → InShares (with_commands script []) q x.runner
+share_at script stations callers serving q x here =
+    serving.live.runners.each q x.runner (slice_get-map runner_of stations q ∙ ap (option_map runner_of) here)
+
+module _ (script : ScriptData) (stations : List StationData) (callers : List Caller) (client : ℕ) (c : Caller) (serving : AreServing script stations callers)
+    (kept : AreKept stations) (found : slice_get callers client ≡ Some c) (left : left_of c ≡ 0) (b : IsBeside script stations client c) where
+  session_is : IsSessionOf (with_commands script []) stations client c.session
+  session_is = serving.live.each client c.session (session_there callers client c found)
+
+  own : ScriptData
+  own = b.station.runner.node.script
+
+  seat_of : IsSeatOf b.station.runner b.seat
+  seat_of = (kept (home script client) b.station b.here).is_station.each c.session.place b.seat b.at
+
+  client_same : b.seat.client ≡ client
+  client_same = b.link.0 ∙ session_is.client_is
+
+  took_is : taken b.seat ≡ commands_of b.station.runner.node.script client ++ in_hand b.seat.hand
+  took_is = seat_of.kept.taken ∙ ap (λ (k : ℕ). commands_of b.station.runner.node.script k ++ in_hand b.seat.hand) client_same
+
+  all : submitted c.session ≡ commands_of script client
+  all = c.submits ∙ take_all c.next c.commands.items (omega (arith, left)) ∙ serving.lists client c found
+
+  rest_is : (commands_of b.station.runner.node.script client ++ in_hand b.seat.hand) ++ known_commands b.seat ≡ commands_of script client
+  rest_is = ap (λ (list : List Command). list ++ known_commands b.seat) (sym took_is) ∙ b.beside.commands ∙ all
+
+  there : (command : Command) → b.seat.hand ≡ Some command
+      → slice_get c.commands.items (length (commands_of b.station.runner.node.script client)) ≡ Some command
+  there command e =
+      ap (λ (list : List Command). slice_get list (length (commands_of b.station.runner.node.script client)))
+      (serving.lists client c found
+      ∙ sym rest_is
+      ∙ ap (λ (hand : Option Command). (commands_of b.station.runner.node.script client ++ in_hand hand) ++ known_commands b.seat) e)
+      ∙ middle (commands_of b.station.runner.node.script client) command (known_commands b.seat)
+
+  asks_is : (command : Command) → b.seat.hand ≡ Some command → may_ask b.station.runner.node.script client command ≡ true
+  asks_is command e =
+      let share = share_at script stations callers serving (home script client) b.station b.here in
+      ap (λ (s : ScriptData). may_ask s client command) share.script_is
+      ∙ same_ask (with_commands script []) b.station.runner.node.script.commands client command
+      ∙ ap (λ (s : ScriptData). may_ask s client command) (sym session_is.script_is)
+      ∙ ap (λ (k : ℕ). may_ask c.session.script k command) (sym session_is.client_is)
+      ∙ c.asks (length (commands_of b.station.runner.node.script client)) command (there command e)
+
+  seen : Seen script stations client c.session.place
+  seen = record {
+    station = b.station;
+    here = b.here;
+    seat = b.seat;
+    at = b.at;
+    client_is = client_same;
+    took = took_is;
+    rest = rest_is;
+    asks = asks_is;
+  }
+
+caller_at : (callers : List Caller) (k : ℕ) → k < length callers → (c : Caller) × (slice_get callers k ≡ Some c)
+caller_at [] k h = absurd (omega (arith, h))
+caller_at (c ∷ rest) zero h = (c, refl)
+caller_at (c ∷ rest) (suc k) h = caller_at rest k (omega (arith, h))
+
+-- all callers and their seats looked, and each station keeps what it keeps
+record AllBeside (script : ScriptData) (stations : List StationData) (callers : List Caller) : Type 0 where
+  serving : AreServing script stations callers
+  kept : AreKept stations
+  none_left : AllSubmitted callers
+  beside : BesideTo script (length callers) stations callers
+
+module _ (script : ScriptData) (stations : List StationData) (callers : List Caller) (h : AllBeside script stations callers) where
+  count : length callers ≡ length script.clients
+  count = sym (length-map callers session_of) ∙ h.serving.live.count
+
+  seen_at : (k : ℕ) (c : Caller) → slice_get callers k ≡ Some c → Seen script stations k c.session.place
+  seen_at k c found =
+      seen script stations callers k c h.serving h.kept found (h.none_left k c found) (h.beside k c (slice_get_within callers k c found) found)
+
+  within : (q : ℕ) (x : StationData) → slice_get stations q ≡ Some x → Within script x.runner.node.script
+  within q x here k below = elim (cases_eq (home script k) q) [
+    | inl at ↦
+        let (c, found) = caller_at callers k (omega (arith, below, count)) in
+        let s = seen_at k c found in
+        let is : s.station ≡ x = same_Some s.station x (sym s.here ∙ ap (slice_get stations) at ∙ here) in
+        subst (λ (v : StationData). length (commands_of v.runner.node.script k) ≤ length (commands_of script k)) is
+        (first_of (commands_of s.station.runner.node.script k) (in_hand s.seat.hand) (known_commands s.seat) (commands_of script k) s.rest)
+    | inr apart ↦
+        let none = none_apart (with_commands script []) q k x.runner.node.script.commands (share_at script stations callers h.serving q x here).own apart in
+        let few = ap (λ (list : List Command). length list) none in
+        omega (arith, few)
+  ]
+    where
+      first_of : (xs ys zs all : List Command) → (xs ++ ys) ++ zs ≡ all → length xs ≤ length all
+      first_of xs ys zs all e =
+          let sum = ap (λ (list : List Command). length list) e in
+          omega (arith, sum, length-append (xs ++ ys) zs, length-append xs ys)
+
+  same_clients : (q : ℕ) (x : StationData) → slice_get stations q ≡ Some x → length x.runner.node.script.clients ≡ length script.clients
+  same_clients q x here = ap (λ (s : ScriptData). length s.clients) (share_at script stations callers h.serving q x here).script_is
+
+  no_more_at : IsScript script → (q : ℕ) (x : StationData) → slice_get stations q ≡ Some x → appended_at x ≤ length script.commands
+  no_more_at is_script q x here =
+      no_more script x.runner.node.script is_script (h.kept q x here).is_script (same_clients q x here) (within q x here)
+
+submitted_on : (callers after : List Caller) → EachCaller Calls callers after → AllSubmitted callers → AllSubmitted after
+submitted_on callers after calls all k c e =
+    let (b, here, on) = alike_before Calls callers after calls k c e in
+    let less = on.left in
+    let none = all k b here in
+    omega (arith, less, none)
+
+pub serving_turned : (script : ScriptData) (more : Bool) (a b : List StationData) (callers : List Caller) → AreServing script a callers → AllTurn more a b
+    → AreServing script b callers
+serving_turned script more a b callers serving turn =
+    serving_lasts script a b callers callers serving (alike_weaker AnyTurns StationGoesOn (λ x y t. t.1.goes) a b turn.each) (same_callers callers)
+
+-- one client, whose station turned between two looks
+module _ (script : ScriptData) (a c : List StationData) (k p q : ℕ) (s : Seen script a k p) (t : Seen script c k q) (some : Bool) (y : StationData) (seat : Seat)
+    (turned : Turns some s.station y) (one : SeatTurns y.runner.log.entries s.seat seat) (at : slice_get y.seats p ≡ Some seat) (look : SameHand seat t.seat)
+    (runner_is : t.station.runner ≡ y.runner) (is_script : IsScript script) (is_own : IsScript t.station.runner.node.script)
+    (same : length t.station.runner.node.script.clients ≡ length script.clients) (fits : Within script t.station.runner.node.script)
+    (below : k < length script.clients) where
+  can_not : (command : Command) → t.seat.hand ≡ Some command → may_append t.station.runner.node.script k command ≡ false
+  can_not command e =
+      ap (λ (r : Parts). may_append r.node.script k command) runner_is
+      ∙ ap (λ (j : ℕ). may_append y.runner.node.script j command) (sym (sym look.client ∙ t.client_is))
+      ∙ turned.turns.hands turned.fits p seat at command (sym look.hand ∙ e)
+
+  moved : (length (commands_of s.station.runner.node.script k) < length (commands_of t.station.runner.node.script k))
+      ⊎ (commands_of script k ≡ commands_of s.station.runner.node.script k)
+  moved =
+      advances y.runner.log.entries (commands_of s.station.runner.node.script k) (commands_of t.station.runner.node.script k) (commands_of script k)
+      s.seat seat t.seat one look s.took t.took s.rest
+      (no_hand script t.station.runner.node.script is_script is_own same fits k t.seat.hand (known_commands t.seat) below t.rest t.asks can_not)
+
+-- the client's station before and after: it has appended more of the client's commands, or had all
+record Went (script : ScriptData) (a c : List StationData) (k : ℕ) : Type 0 where
+  x : StationData
+  z : StationData
+  before : slice_get a (home script k) ≡ Some x
+  now : slice_get c (home script k) ≡ Some z
+  moved_on : (length (commands_of x.runner.node.script k) < length (commands_of z.runner.node.script k))
+      ⊎ (commands_of script k ≡ commands_of x.runner.node.script k)
+
+whole : {X : Type 0} (xs ys : List X) → IsPrefix xs ys → length ys ≡ length xs → ys ≡ xs
+whole {X = X} xs ys h same =
+    let none : h.0 ≡ [] = empty h.0 (let sum = length-append xs h.0 in let all = ap (λ (list : List X). length list) h.1 in omega (arith, sum, all, same)) in
+    sym h.1 ∙ ap (λ (more : List X). xs ++ more) none ∙ append-nil xs
+  where
+    empty : (more : List X) → length more ≡ 0 → more ≡ []
+    empty [] e = refl
+    empty (x ∷ more) e = absurd (cc)
+
+module _ (script : ScriptData) (more : Bool) (stations a b c : List StationData) (callers mid after : List Caller) (is_script : IsScript script)
+    (submits : AllSubmitted callers) (first : LooksTo script (length mid) stations callers a mid) (kept_a : AreKept a) (turn : AllTurn more a b)
+    (second : LooksTo script (length after) b mid c after) (kept_c : AreKept c) where
+  pub all_after : AllSubmitted after
+  all_after = submitted_on mid after second.calls (submitted_on callers mid first.calls submits)
+
+  beside_a : AllBeside script a mid
+  beside_a = record { serving = first.serving; kept = kept_a; none_left = submitted_on callers mid first.calls submits; beside = first.beside }
+
+  beside_c : AllBeside script c after
+  beside_c = record { serving = second.serving; kept = kept_c; none_left = all_after; beside = second.beside }
+
+  went : (k : ℕ) → k < length script.clients → Went script a c k
+  went k below =
+      let (e, found) = caller_at mid k (omega (arith, below, count script a mid beside_a)) in
+      let (d, then, on) = alike_after Calls mid after second.calls k e found in
+      let s = seen_at script a mid beside_a k e found in
+      let t = seen_at script c after beside_c k d then in
+      let (y, at_y, turned) = alike_after AnyTurns a b turn.each (home script k) s.station s.here in
+      let (z, at_z, looked) = alike_after OnlyLooks b c second.looks (home script k) y at_y in
+      let (seat, here, one) = each_after (SeatTurns y.runner.log.entries) s.station.seats y.seats turned.1.turns.each e.session.place s.seat s.at in
+      let (last, there, hand) = each_after SameHand y.seats z.seats looked.hands e.session.place seat here in
+      let is : z ≡ t.station = same_Some z t.station (sym at_z ∙ t.here) in
+      let seat_is : last ≡ t.seat =
+      same_Some last t.seat
+      (sym there ∙ ap (λ (v : StationData). slice_get v.seats e.session.place) is ∙ ap (slice_get t.station.seats) (sym on.session.place) ∙ t.at) in
+      record {
+        x = s.station;
+        z = t.station;
+        before = s.here;
+        now = t.here;
+        moved_on = moved script a c k e.session.place d.session.place s t turned.0 y seat turned.1 one here
+            (subst (λ (v : Seat). SameHand seat v) seat_is hand)
+            (ap runner_of (sym is) ∙ looked.runner)
+            is_script (kept_c (home script k) t.station t.here).is_script
+            (same_clients script c after beside_c (home script k) t.station t.here)
+            (within script c after beside_c (home script k) t.station t.here) below;
+      }
+
+  -- where no station has appended more
+  unchanged : more ≡ false → (q : ℕ) (x z : StationData) → slice_get a q ≡ Some x → slice_get c q ≡ Some z
+      → z.runner.node.script.commands ≡ x.runner.node.script.commands
+  unchanged e q x z here there =
+      let (y, at, turned) = alike_after AnyTurns a b turn.each q x here in
+      let (w, again, count_is) = alike_after SameCount a b (turn.none e) q x here in
+      let (v, now, looked) = alike_after OnlyLooks b c second.looks q y at in
+      let same_y : w ≡ y = same_Some w y (sym again ∙ at) in
+      let same_z : z ≡ v = same_Some z v (sym there ∙ now) in
+      ap (λ (s : StationData). s.runner.node.script.commands) same_z
+      ∙ ap (λ (r : Parts). r.node.script.commands) looked.runner
+      ∙ whole x.runner.node.script.commands y.runner.node.script.commands (more_commands turned.0 x y turned.1) (sym (ap appended_at same_y) ∙ count_is)
+
+  had_all : (k : ℕ) (old new : List Command) → new ≡ old → (length old < length new) ⊎ (commands_of script k ≡ old) → new ≡ commands_of script k
+  had_all k old new same (inl less) = let count_is = ap (λ (list : List Command). length list) same in absurd (omega (arith, less, count_is))
+  had_all k old new same (inr all) = same ∙ sym all
+
+  pub complete : more ≡ false → AreComplete script c
+  complete e client station here = elim (cases_lt client (length script.clients)) [
+    | inl below ↦
+        let w = went client below in
+        let is : w.z ≡ station = same_Some w.z station (sym w.now ∙ here) in
+        let same = unchanged e (home script client) w.x w.z w.before w.now in
+        subst (λ (v : StationData). commands_of v.runner.node.script client ≡ commands_of script client) is
+        (had_all client (commands_of w.x.runner.node.script client) (commands_of w.z.runner.node.script client)
+        (ap (λ (commands : List (ℕ × Command)). filter_map (command_if client) commands) same) w.moved_on)
+    | inr past ↦
+        let clients_same = same_clients script c after beside_c (home script client) station here in
+        none_outside station.runner.node.script client (kept_c (home script client) station here).is_script (omega (arith, past, clients_same))
+        ∙ sym (none_outside script client is_script past)
+  ]
+
+  looks_less : (x y : StationData) → OnlyLooks x y → lack_at script y ≤ lack_at script x
+  looks_less x y h = let same = ap (λ (r : Parts). length r.node.script.commands) h.runner in omega (arith, same)
+
+  turns_less : (x y : StationData) → AnyTurns x y → lack_at script y ≤ lack_at script x
+  turns_less x y h = let grown = more_appended h.0 x y h.1 in omega (arith, grown)
+
+  join_less : (x y z : StationData) → lack_at script y ≤ lack_at script x → lack_at script z ≤ lack_at script y → lack_at script z ≤ lack_at script x
+  join_less x y z h g = omega (arith, h, g)
+
+  each_less : EachStation (λ (x : StationData) (y : StationData). lack_at script y ≤ lack_at script x) stations c
+  each_less =
+      alike_join (λ (x : StationData) (y : StationData). lack_at script y ≤ lack_at script x) join_less stations b c
+      (alike_join (λ (x : StationData) (y : StationData). lack_at script y ≤ lack_at script x) join_less stations a b
+      (alike_weaker OnlyLooks (λ (x : StationData) (y : StationData). lack_at script y ≤ lack_at script x) looks_less stations a first.looks)
+      (alike_weaker AnyTurns (λ (x : StationData) (y : StationData). lack_at script y ≤ lack_at script x) turns_less a b turn.each))
+      (alike_weaker OnlyLooks (λ (x : StationData) (y : StationData). lack_at script y ≤ lack_at script x) looks_less b c second.looks)
+
+  pub fewer : more ≡ true → all_lack script c < all_lack script stations
+  fewer e =
+      let g = turn.some e in
+      let (x, before, look) = alike_before OnlyLooks stations a first.looks g.place g.x g.before in
+      let (z, now, again) = alike_after OnlyLooks b c second.looks g.place g.y g.now in
+      let most = no_more_at script c after beside_c is_script g.place z now in
+      let same_x = ap (λ (r : Parts). length r.node.script.commands) look.runner in
+      let same_z = ap (λ (r : Parts). length r.node.script.commands) again.runner in
+      let less = g.less in
+      let one : lack_at script z < lack_at script x = omega (arith, most, same_x, same_z, less) in
+      falls (lack_at script) stations c each_less g.place x z before now one
