@@ -194,6 +194,24 @@ whole {X = X} xs ys h same =
     empty [] e = refl
     empty (x ∷ more) e = absurd (cc)
 
+same_there : (stations : List StationData) (q : ℕ) (x y : StationData) → slice_get stations q ≡ Some x → slice_get stations q ≡ Some y → x ≡ y
+same_there stations q x y here there = same_Some x y (sym here ∙ there)
+
+looked_seat : (z t : StationData) (p q : ℕ) (seat last found : Seat) → z ≡ t → q ≡ p → slice_get z.seats p ≡ Some last → slice_get t.seats q ≡ Some found
+    → SameHand seat last → SameHand seat found
+looked_seat z t p q seat last found is same there at hand =
+    subst (SameHand seat)
+    (same_Some last found (sym there ∙ ap (λ (v : StationData). slice_get v.seats p) is ∙ ap (slice_get t.seats) (sym same) ∙ at)) hand
+
+looked_runner : (y z t : StationData) → z ≡ t → z.runner ≡ y.runner → t.runner ≡ y.runner
+looked_runner y z t is same = subst (λ (v : StationData). v.runner ≡ y.runner) is same
+
+commands_same : (some : Bool) (x y w v z : StationData) → Turns some x y → w ≡ y → appended_at w ≡ appended_at x → v ≡ z → v.runner ≡ y.runner
+    → z.runner.node.script.commands ≡ x.runner.node.script.commands
+commands_same some x y w v z turned same_y count_is same_z runner_is =
+    ap (λ (r : Parts). r.node.script.commands) (looked_runner y v z same_z runner_is)
+    ∙ whole x.runner.node.script.commands y.runner.node.script.commands (more_commands some x y turned) (sym (ap appended_at same_y) ∙ count_is)
+
 module _ (script : ScriptData) (more : Bool) (stations a b c : List StationData) (callers mid after : List Caller) (is_script : IsScript script)
     (submits : AllSubmitted callers) (first : LooksTo script (length mid) stations callers a mid) (kept_a : AreKept a) (turn : AllTurn more a b)
     (second : LooksTo script (length after) b mid c after) (kept_c : AreKept c) where
@@ -216,18 +234,15 @@ module _ (script : ScriptData) (more : Bool) (stations a b c : List StationData)
       let (z, at_z, looked) = alike_after OnlyLooks b c second.looks (home script k) y at_y in
       let (seat, here, one) = each_after (SeatTurns y.runner.log.entries) s.station.seats y.seats turned.1.turns.each e.session.place s.seat s.at in
       let (last, there, hand) = each_after SameHand y.seats z.seats looked.hands e.session.place seat here in
-      let is : z ≡ t.station = same_Some z t.station (sym at_z ∙ t.here) in
-      let seat_is : last ≡ t.seat =
-      same_Some last t.seat
-      (sym there ∙ ap (λ (v : StationData). slice_get v.seats e.session.place) is ∙ ap (slice_get t.station.seats) (sym on.session.place) ∙ t.at) in
+      let is = same_there c (home script k) z t.station at_z t.here in
       record {
         x = s.station;
         z = t.station;
         before = s.here;
         now = t.here;
         moved_on = moved script a c k e.session.place d.session.place s t turned.0 y seat turned.1 one here
-            (subst (λ (v : Seat). SameHand seat v) seat_is hand)
-            (ap runner_of (sym is) ∙ looked.runner)
+            (looked_seat z t.station e.session.place d.session.place seat last t.seat is on.session.place there t.at hand)
+            (looked_runner y z t.station is looked.runner)
             is_script (kept_c (home script k) t.station t.here).is_script
             (same_clients script c after beside_c (home script k) t.station t.here)
             (within script c after beside_c (home script k) t.station t.here) below;
@@ -240,11 +255,7 @@ module _ (script : ScriptData) (more : Bool) (stations a b c : List StationData)
       let (y, at, turned) = alike_after AnyTurns a b turn.each q x here in
       let (w, again, count_is) = alike_after SameCount a b (turn.none e) q x here in
       let (v, now, looked) = alike_after OnlyLooks b c second.looks q y at in
-      let same_y : w ≡ y = same_Some w y (sym again ∙ at) in
-      let same_z : z ≡ v = same_Some z v (sym there ∙ now) in
-      ap (λ (s : StationData). s.runner.node.script.commands) same_z
-      ∙ ap (λ (r : Parts). r.node.script.commands) looked.runner
-      ∙ whole x.runner.node.script.commands y.runner.node.script.commands (more_commands turned.0 x y turned.1) (sym (ap appended_at same_y) ∙ count_is)
+      commands_same turned.0 x y w v z turned.1 (same_there b q w y again at) count_is (same_there c q v z now there) looked.runner
 
   had_all : (k : ℕ) (old new : List Command) → new ≡ old → (length old < length new) ⊎ (commands_of script k ≡ old) → new ≡ commands_of script k
   had_all k old new same (inl less) = let count_is = ap (λ (list : List Command). length list) same in absurd (omega (arith, less, count_is))
