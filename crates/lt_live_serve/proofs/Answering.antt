@@ -1,6 +1,6 @@
 -- What an answer says: once the journal is written, where there is no run, and where there is a word.
-use Rattle.std.proofs.Common.{◌≡◌, ◌≢◌, ◌<◌, ◌≤◌, ◌+◌, ◌⊎◌, ℕ, List, Option, [], refl, sym, ap, subst, arith, inl, inr, ◌∙◌}
-use Rattle.lt_io.specs.FaultCounts.{CountsFaults, Rose, RoseBy, count_after}
+use Rattle.std.proofs.Common.{◌≡◌, ◌≢◌, ◌<◌, ◌≤◌, ◌+◌, ◌⊎◌, ℕ, List, Option, [], refl, sym, subst, arith, inl, inr}
+use Rattle.lt_io.specs.FaultCounts.{CountsFaults, RoseBy, count_after}
 use Rattle.lt_io.specs.Source.{SourceState}
 use Rattle.lt_io.specs.Whole.{IsReadWhole}
 use Rattle.lt_limits.specs.declared.ending.Ending.{Ending}
@@ -13,8 +13,7 @@ use Rattle.lt_live_serve.specs.declared.served.Served.{Served}
 use Rattle.lt_live_serve.specs.declared.status.Status.{Status}
 use Rattle.lt_live_serve.specs.declared.status.Status.TheVariants.{Done, Stuck, Usage, Refused, TooLong, ReadFault, WriteFault, NoMemory, Cut, Share}
 use Rattle.lt_live_serve.specs.Status.{status_of_end}
-use Rattle.lt_live_serve.specs.Runs.{HasFault, IsOverShare, Journals}
-use Rattle.lt_live_serve.specs.Serves.{Serves, Did, SaysOfSource, SaysOfSink, HasRead, IsEnding, WritesNothing, IsRefusal, IsGood}
+use Rattle.lt_live_serve.specs.Serves.{Serves, Did, SaysOfSource, SaysOfSink, IsEnding, WritesNothing, IsRefusal, IsGood}
 
 at_least : (a b : ℕ) → b ≡ a → a ≤ b
 at_least a b e = omega (arith, e)

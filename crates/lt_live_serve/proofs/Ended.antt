@@ -1,5 +1,5 @@
 -- The run of a crew that made all its moves.
-use Rattle.std.proofs.Common.{◌≡◌, ◌≢◌, ℕ, ◌+◌, ◌<◌, List, [], ◌∷◌, length, take, map, Some, Bool, true, false, refl, sym, ap, subst, arith, ◌∙◌}
+use Rattle.std.proofs.Common.{◌≡◌, ◌≢◌, ℕ, ◌+◌, List, [], ◌∷◌, length, take, Some, Bool, true, false, refl, sym, ap, subst, arith, ◌∙◌}
 use Rattle.std.specs.Prelude.{◌==◌, ◌&&◌, if◌then◌else◌, IsTrue, IsFalse, filter, slice_get}
 use Rattle.std.proofs.lemmas.Bool.{true≢false, false≢true, eq-eqb, and_from}
 use Rattle.std.proofs.lemmas.List.{take_all}
@@ -10,7 +10,6 @@ use Rattle.lt_spec.specs.Log.{Logged}
 use Rattle.lt_spec.specs.World.{world_after, is_of_node, is_at_rest, anyone_waits, IsRun}
 use Rattle.lt_order.specs.Ordered.{IsOrdered}
 use Rattle.lt_law_ordered.specs.OrderedLaws.{OrderedFinish}
-use Rattle.lt_law_promises.specs.Promised.{RunsKeepPromises}
 use Rattle.lt_law_limits.proofs.Within.{whole}
 use Rattle.lt_law_merged.specs.CanMove.{RestIsNoMove}
 use Rattle.lt_limits.specs.declared.ending.Ending.{Ending}
@@ -19,14 +18,11 @@ use Rattle.lt_limits.specs.declared.moves.TheConstants.{MAX_MOVES}
 use Rattle.lt_limits.specs.Endings.{EndsBy}
 use Rattle.lt_limits.specs.Cut.{moves_of, can_move, full_node}
 use Rattle.lt_limits.proofs.LeastFull.{least_full}
-use Rattle.lt_merge.specs.Run.{RunData}
-use Rattle.lt_merge.specs.Merging.{Merges}
 use Rattle.lt_runner.specs.declared.parts.Parts.{Parts}
 use Rattle.lt_runner.specs.Kept.{AsSeen, Grew}
 use Rattle.lt_threads.specs.declared.rounds.Ended.{Ended}
 use Rattle.lt_threads.specs.declared.rounds.Ended.TheVariants as ended
 use Rattle.lt_threads.specs.Crews.{CrewEnds, HasLimit}
-use Rattle.lt_threads.specs.Finished.{AreCrewLogs}
 use Rattle.lt_threads.specs.Rounds.{RoundsEnd, IsCrewCut}
 use Rattle.lt_threads.specs.Threads.{IsThreadRun, StaysWithin, GoesFar}
 use Rattle.lt_threads.specs.Together.{EachIs, IsCrew, crew_run, crew_world}

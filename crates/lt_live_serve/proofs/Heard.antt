@@ -1,10 +1,9 @@
 -- What callers heard, and the live run.
-use Rattle.std.proofs.Common.{◌≡◌, ◌≢◌, ◌<◌, ◌≤◌, ◌+◌, ◌++◌, ◌⊎◌, ℕ, zero, suc, List, [], ◌∷◌, length, map, take, Option, Some, None, refl, sym, ap, subst, arith, ◌∙◌, inl, inr, append-nil, take_all}
+use Rattle.std.proofs.Common.{◌≡◌, ◌<◌, ◌++◌, ℕ, zero, suc, List, [], ◌∷◌, length, map, Some, refl, sym, ap, subst, arith, ◌∙◌}
 use Rattle.std.specs.Prelude.{slice_get, filter}
 use Rattle.std.specs.Option.{option_map}
 use Rattle.std.proofs.lemmas.List.{length-map}
-use Rattle.std.proofs.lemmas.Option.{same_Some, slice_get-map, slice_get_within}
-use Rattle.lt_modes.specs.declared.event.Event.{Event}
+use Rattle.std.proofs.lemmas.Option.{slice_get-map}
 use Rattle.lt_modes.specs.Script.{ScriptData}
 use Rattle.lt_script.specs.Script.{IsScript}
 use Rattle.lt_lists.specs.Below.{gather_below}
@@ -19,9 +18,6 @@ use Rattle.lt_spec.specs.Log.{Logged}
 use Rattle.lt_spec.specs.World.{is_of_node}
 use Rattle.lt_runner.specs.declared.parts.Parts.{Parts}
 use Rattle.lt_live.specs.declared.reply.Reply.{Reply}
-use Rattle.lt_live.specs.declared.ends.Seat.{Seat}
-use Rattle.lt_live.specs.declared.ends.Session.{Session}
-use Rattle.lt_live.specs.Cursor.{lines_before, lines_at, IsCursor}
 use Rattle.lt_live.specs.Opened.{runner_of}
 use Rattle.lt_live.specs.Replies.{replies_in}
 use Rattle.lt_live.specs.Stations.{StationData}
@@ -29,9 +25,9 @@ use Rattle.lt_live.proofs.ReplyLemmas.{replies_in_log}
 use Rattle.lt_live_serve.specs.declared.callers.Caller.{Caller}
 use Rattle.lt_live_serve.specs.Apart.{MovedOn, IsRunOf}
 use Rattle.lt_live_serve.specs.Calls.{session_of}
-use Rattle.lt_live_serve.specs.Runs.{LiveRun, all_replies, replies_below}
+use Rattle.lt_live_serve.specs.Runs.{LiveRun, all_replies}
 use Rattle.lt_live_serve.specs.Serving.{AreServing, HaveHeard}
-use Rattle.lt_live_serve.specs.Telling.{marked, marked_by, heard_at}
+use Rattle.lt_live_serve.specs.Telling.{marked_by, heard_at}
 use Rattle.lt_live_serve.proofs.Ended.{thread_run, not_stuck}
 
 gather_same : {X : Type 0} (n : ℕ) (f g : ℕ → List X) → ((k : ℕ) → k < n → f k ≡ g k) → gather_below n f ≡ gather_below n g

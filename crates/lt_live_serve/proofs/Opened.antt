@@ -1,9 +1,9 @@
 -- A caller for each new session.
-use Rattle.std.proofs.Common.{◌≡◌, ◌≢◌, ◌<◌, ◌≤◌, ◌+◌, ◌++◌, ℕ, zero, suc, List, [], ◌∷◌, length, map, get_or, Some, None, Bool, true, false, refl, sym, ap, subst, arith, ◌∙◌, inl, inr}
-use Rattle.std.specs.Prelude.{◌⊎◌, ◌==◌, slice_get, filter_map, if◌then◌else◌, nat_lt}
+use Rattle.std.proofs.Common.{◌≡◌, ◌<◌, ◌≤◌, ◌++◌, ℕ, zero, suc, List, [], ◌∷◌, length, map, get_or, Some, None, Bool, true, false, refl, sym, ap, subst, arith, ◌∙◌, inl, inr}
+use Rattle.std.specs.Prelude.{◌⊎◌, ◌==◌, slice_get, filter_map, if◌then◌else◌}
 use Rattle.std.specs.List.{AllByRecursion, cons_option}
 use Rattle.std.specs.Option.{option_map}
-use Rattle.std.proofs.lemmas.Bool.{cases_eq, eqb-true, eq-eqb, ne_eqb, false≢true, lt-ltb}
+use Rattle.std.proofs.lemmas.Bool.{eqb-true, ne_eqb, false≢true, lt-ltb}
 use Rattle.std.proofs.lemmas.List.{map-append}
 use Rattle.std.proofs.lemmas.List.Elements.{recursion_from_All}
 use Rattle.std.proofs.lemmas.Option.{same_Some, slice_get-get_or, slice_get-map, slice_get_within}
@@ -15,7 +15,7 @@ use Rattle.lt_spec.specs.Families.{command_if, commands_of}
 use Rattle.lt_law_appended.specs.Commands.{with_commands}
 use Rattle.lt_live.specs.declared.ends.Session.{Session}
 use Rattle.lt_live.specs.Live.{AreLive}
-use Rattle.lt_live.specs.Opened.{Opened, IsNewSession, equal_share, runner_of}
+use Rattle.lt_live.specs.Opened.{Opened, IsNewSession, equal_share}
 use Rattle.lt_live.specs.Stations.{StationData}
 use Rattle.lt_live.specs.Asking.{may_ask}
 use Rattle.lt_live.proofs.AskLemmas.{asks}

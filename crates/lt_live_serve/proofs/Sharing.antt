@@ -1,5 +1,5 @@
 -- No client before has too many commands.
-use Rattle.std.proofs.Common.{◌≡◌, ◌<◌, ◌≤◌, ◌+◌, ℕ, Bool, false, length, subst, arith, inl, inr, sym}
+use Rattle.std.proofs.Common.{◌≡◌, ◌≤◌, ◌+◌, ℕ, false, length, subst, arith, inl, inr, sym}
 use Rattle.std.proofs.lemmas.Bool.{cases_eq}
 use Rattle.lt_modes.specs.Script.{ScriptData}
 use Rattle.lt_live_serve.specs.Over.{is_over, NoneIsOver}
