@@ -5,5 +5,3 @@
 mod live;
 #[cfg(test)]
 mod pool;
-#[cfg(test)]
-mod serving;
