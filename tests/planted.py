@@ -12,7 +12,7 @@ from pathlib import Path
 TOP = Path(__file__).resolve().parent.parent
 FUNCTION = re.compile(r'( *)(?:pub(?:\([a-z]+\))? )?(?:const )?fn ([a-z_0-9]+)')
 IMPL = re.compile(r'impl\b(?:<[^>]*>)? (?:[A-Za-z:<>]+ for )?([A-Za-z]+)')
-TOLD = re.compile(r'fn (\S+): (proved|not proved)')
+TOLD = re.compile(r'^fn (\S+): (proved|not proved|no proof: .*)', re.MULTILINE)
 
 
 def bugs_of(text):
@@ -65,6 +65,12 @@ def plant(crate, bugs, turn):
     return planted, texts
 
 
+def is_refused(said):
+    """Whether this is said of a function whose own body is refused, and not only of one that calls such a function."""
+    faults = said.removeprefix('no proof: ').split('; ')
+    return said == 'not proved' or any('`search` did not' in it or 'gave up' in it for it in faults)
+
+
 def checked(name, texts):
     """What a check says of a copy in which the crate's files have these texts."""
     with tempfile.TemporaryDirectory() as copy:
@@ -90,9 +96,9 @@ def main():
     if not told:
         print(said)
     for name, function in planted.items():
-        if told.get(function) != 'not proved':
-            print(f'{name}: {function} {"stays proved" if function in told else "is not told"}')
-    refused = sum(told.get(function) == 'not proved' for function in planted.values())
+        if not is_refused(told.get(function, '')):
+            print(f'{name}: {function} stays: {told.get(function, "nothing is told")}')
+    refused = sum(is_refused(told.get(function, '')) for function in planted.values())
     print(f'{words.crate}: {len(planted)} planted, {refused} refused')
 
 
