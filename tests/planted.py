@@ -45,11 +45,18 @@ def function_at(file, text, place):
     return found
 
 
+def with_new(file, found):
+    """The file's text with the new texts at these places."""
+    text = file.read_text()
+    for place, old, new in sorted(found, reverse=True):
+        text = text[:place] + new + text[place + len(old):]
+    return text
+
+
 def plant(crate, bugs, turn):
     """The function of each bug of this round, and the texts of the files with those."""
-    planted, seen, texts = {}, {}, {}
+    planted, seen, places = {}, {}, {}
     for name, file, pairs in bugs:
-        text = texts.setdefault(file, (crate / file).read_text())
         whole = (crate / file).read_text()
         missed = [old for old, _ in pairs if whole.count(old) != 1]
         if missed:
@@ -59,10 +66,8 @@ def plant(crate, bugs, turn):
         seen[function] = seen.get(function, 0) + 1
         if seen[function] == turn:
             planted[name] = function
-            for old, new in pairs:
-                text = text.replace(old, new)
-            texts[file] = text
-    return planted, texts
+            places.setdefault(file, []).extend((whole.index(old), old, new) for old, new in pairs)
+    return planted, {file: with_new(crate / file, found) for file, found in places.items()}
 
 
 def is_refused(said):
