@@ -12,7 +12,7 @@ from pathlib import Path
 TOP = Path(__file__).resolve().parent.parent
 FUNCTION = re.compile(r'( *)(?:pub(?:\([a-z]+\))? )?(?:const )?fn ([a-z_0-9]+)')
 IMPL = re.compile(r'impl\b(?:<[^>]*>)? (?:[A-Za-z:<>]+ for )?([A-Za-z]+)')
-TOLD = re.compile(r'fn (\S+): (proved|not proved)')
+TOLD = re.compile(r'^fn (\S+): (proved|not proved|no proof: .*)', re.MULTILINE)
 
 
 def bugs_of(text):
@@ -45,11 +45,18 @@ def function_at(file, text, place):
     return found
 
 
+def with_new(file, found):
+    """The file's text with the new texts at these places."""
+    text = file.read_text()
+    for place, old, new in sorted(found, reverse=True):
+        text = text[:place] + new + text[place + len(old):]
+    return text
+
+
 def plant(crate, bugs, turn):
     """The function of each bug of this round, and the texts of the files with those."""
-    planted, seen, texts = {}, {}, {}
+    planted, seen, places = {}, {}, {}
     for name, file, pairs in bugs:
-        text = texts.setdefault(file, (crate / file).read_text())
         whole = (crate / file).read_text()
         missed = [old for old, _ in pairs if whole.count(old) != 1]
         if missed:
@@ -59,10 +66,14 @@ def plant(crate, bugs, turn):
         seen[function] = seen.get(function, 0) + 1
         if seen[function] == turn:
             planted[name] = function
-            for old, new in pairs:
-                text = text.replace(old, new)
-            texts[file] = text
-    return planted, texts
+            places.setdefault(file, []).extend((whole.index(old), old, new) for old, new in pairs)
+    return planted, {file: with_new(crate / file, found) for file, found in places.items()}
+
+
+def is_refused(said):
+    """Whether this is said of a function whose own body is refused, and not only of one that calls such a function."""
+    faults = said.removeprefix('no proof: ').split('; ')
+    return said == 'not proved' or any('`search` did not' in it or 'gave up' in it for it in faults)
 
 
 def checked(name, texts):
@@ -90,9 +101,9 @@ def main():
     if not told:
         print(said)
     for name, function in planted.items():
-        if told.get(function) != 'not proved':
-            print(f'{name}: {function} {"stays proved" if function in told else "is not told"}')
-    refused = sum(told.get(function) == 'not proved' for function in planted.values())
+        if not is_refused(told.get(function, '')):
+            print(f'{name}: {function} stays: {told.get(function, "nothing is told")}')
+    refused = sum(is_refused(told.get(function, '')) for function in planted.values())
     print(f'{words.crate}: {len(planted)} planted, {refused} refused')
 
 
