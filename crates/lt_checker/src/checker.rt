@@ -45,10 +45,18 @@ impl Checker {
         ensures checker { IfOk result (λ checker. checker ≡ record { script = script.now; feed = Some (new_feed script.now) }) }
         ensures stands { IfOk result (λ checker. StandsFor checker []) }
     {
+        Checker::of(alloc, script.copy(alloc)?)
+    }
+
+    // The same of a script that is given away: in the script itself a name is found at once, in a copy it isn't.
+    pub(crate) fn of(alloc: Global, script: Script) -> Result<Checker, AllocError>
+        ensures checker { IfOk result (λ checker. checker ≡ record { script = script; feed = Some (new_feed script) }) }
+        ensures stands { IfOk result (λ checker. StandsFor checker []) }
+    {
+        let kept = script.copy(alloc)?;
         let reader = Reader::new(alloc, script)?;
-        let script = script.copy(alloc)?;
         Ok(Checker {
-            script,
+            script: kept,
             reader: Some(reader),
             rest: ArrayVec::new(),
         })

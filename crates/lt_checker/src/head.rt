@@ -75,6 +75,10 @@ fn has_journal(line: &[u8]) -> bool
     requires { length line.now ≤ MAX_JOURNAL }
     ensures { IsTrue result → HasJournal line.now }
 {
+    // Most lines are told by their first byte.
+    if !line.is_empty() && line[0] != b'j' && line[0] != b' ' && line[0] != b'\t' {
+        return false;
+    }
     let parts = split(line);
     parts.script < parts.journal
 }

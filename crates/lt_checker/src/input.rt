@@ -66,19 +66,20 @@ fn judged<S: Source>(
         }
     };
     let (_, journal) = bytes.split_at(parts.journal as usize);
-    let told = checked_journal(alloc, source, &script, journal, room)?;
-    Ok(answered(script, parts.lines, told))
+    let kept = script.copy(alloc)?;
+    let told = checked_journal(alloc, source, script, journal, room)?;
+    Ok(answered(kept, parts.lines, told))
 }
 
 // What a checker says of the journal that begins with these bytes and goes on with what is left of the input.
 fn checked_journal<S: Source>(
     alloc: Global,
     source: &mut S,
-    script: &Script,
+    script: Script,
     first: &[u8],
     room: Option<usize>,
 ) -> Result<Result<World, ReplayError>, ReadFailure>
-    ensures told { IfOk result (λ told. (rest : List ℕ) × IsWorldAnswer script.now (checked script.now (lines (first.now ++ rest))) told × IsRest room rest (S.state source.old) (S.state source.new)) }
+    ensures told { IfOk result (λ told. (rest : List ℕ) × IsWorldAnswer script (checked script (lines (first.now ++ rest))) told × IsRest room rest (S.state source.old) (S.state source.new)) }
     ensures err { IfErr result (λ why. FailsRest room why (S.state source.old) (S.state source.new)) }
 {
     let mut checker = begun(alloc, script, first)?;
@@ -87,11 +88,11 @@ fn checked_journal<S: Source>(
 }
 
 // A checker of a journal that begins with these bytes.
-fn begun(alloc: Global, script: &Script, first: &[u8]) -> Result<Checker, AllocError>
-    ensures script { IfOk result (λ checker. checker.script ≡ script.now) }
+fn begun(alloc: Global, script: Script, first: &[u8]) -> Result<Checker, AllocError>
+    ensures script { IfOk result (λ checker. checker.script ≡ script) }
     ensures stands { IfOk result (λ checker. StandsFor checker first.now) }
 {
-    let mut checker = Checker::new(alloc, script)?;
+    let mut checker = Checker::of(alloc, script)?;
     checker.feed(first)?;
     Ok(checker)
 }

@@ -50,15 +50,14 @@ impl Model for Reader {
 
 impl Reader {
     /// Before the first line.
-    pub(crate) fn new(alloc: Global, script: &Script) -> Result<Reader, AllocError>
-        ensures { IfOk result (λ reader. reader ≡ record { script = script.now; reader = first_reader script.now }) }
+    pub(crate) fn new(alloc: Global, script: Script) -> Result<Reader, AllocError>
+        ensures { IfOk result (λ reader. reader ≡ record { script = script; reader = first_reader script }) }
     {
-        let world = World::new(alloc, script, MAX_MOVES)?;
-        let counts = Counts::new(alloc, script)?;
+        let world = World::new(alloc, &script, MAX_MOVES)?;
+        let counts = Counts::new(alloc, &script)?;
         let mut due = VecDeque::new(alloc);
-        push_first(&mut due, script)?;
-        push_closing(alloc, &mut due, script, &world)?;
-        let script = script.copy(alloc)?;
+        push_first(&mut due, &script)?;
+        push_closing(alloc, &mut due, &script, &world)?;
         Ok(Reader {
             alloc,
             script,

@@ -25,7 +25,7 @@ fn read_all(alloc: Global, script: &Script, journal: &Journal) -> Result<Reader,
     ensures script { IfOk result (λ reader. reader.script ≡ script.now) }
     ensures reader { IfOk result (λ reader. reader.reader ≡ reader_after script.now (map (written script.now) journal.now)) }
 {
-    let mut reader = Reader::new(alloc, script)?;
+    let mut reader = Reader::new(alloc, script.copy(alloc)?)?;
     for k in 0..journal.len() {
         let line = write_line(alloc, script, journal.line(k))?;
         reader.take(&line)?;

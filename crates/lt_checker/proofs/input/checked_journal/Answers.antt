@@ -9,7 +9,7 @@ pub returns-clause-told : goal.returns-clause-told
 returns-clause-told g c =
     let first = c.args.first.now in
     let fed = c.in_ok-feed_rest.ensures.rest in
-    let script : c.feed_rest.new.checker.script ≡ c.args.script.now =
+    let script : c.feed_rest.new.checker.script ≡ c.args.script =
     fed.1.script ∙ c.in_ok-checker.ensures.script in (
       fed.0,
       subst (λ (s : ScriptData). IsWorldAnswer s (checked s (lines (first ++ fed.0))) c.end_world.result) script

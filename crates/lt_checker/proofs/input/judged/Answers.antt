@@ -1,4 +1,5 @@
 use Rattle.std.proofs.Common.{rules, ◌≡◌, ◌∙◌, ◌*◌, ◌≤◌, ◌++◌, ℕ, List, length, Ok, take, drop, ap, sym, subst}
+use Rattle.lt_modes.specs.Script.{ScriptData}
 use Rattle.lt_text.specs.Text.{lines}
 use Rattle.lt_script.specs.Reading.{read_of}
 use Rattle.lt_journal.specs.declared.splitting.Parts.{Parts}
@@ -18,13 +19,16 @@ returns-clause-answer g c =
     let rest = heard.0 in
     let same = same_parts bytes rest c.args.room _ _ c.requires.cut heard.2 in
     let parts : c.split-parts.result ≡ input_parts bytes = c.split-parts.ensures in
+    let kept = c.in_ok-kept.kept in
+    let same_script : kept ≡ script = c.in_ok-kept.ensures in
     let read : read_of (take (input_parts bytes).script bytes) ≡ Ok script = search rules in
     let journal : c.split_at.result.1.now ≡ drop (input_parts bytes).journal bytes =
     c.split_at.ensures.back ∙ ap (λ (p : Parts). drop p.journal bytes) parts in (
       rest,
-      c.answered.ensures.answer (bytes ++ rest) (ap read_of same.script ∙ read) (ap (λ (p : Parts). p.lines) (parts ∙ sym same.parts))
+      c.answered.ensures.answer (bytes ++ rest) (ap read_of same.script ∙ (read ∙ ap (λ (s : ScriptData). Ok s) (sym same_script))) (ap (λ (p : Parts). p.lines) (parts ∙ sym same.parts))
+          (subst (λ (s : ScriptData). IsWorldAnswer s (checked s (lines (drop (input_parts (bytes ++ rest)).journal (bytes ++ rest)))) c.in_ok-told.told) (sym same_script)
           (subst (λ (b : List ℕ). IsWorldAnswer script (checked script (lines b)) c.in_ok-told.told)
-          (ap (λ (b : List ℕ). b ++ rest) journal ∙ sym same.journal) heard.1),
+          (ap (λ (b : List ℕ). b ++ rest) journal ∙ sym same.journal) heard.1)),
       heard.2,
     )
 

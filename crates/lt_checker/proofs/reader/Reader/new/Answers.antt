@@ -12,7 +12,7 @@ use Rattle.lt_checker.proofs.reader.Reader.new.Goals as goal
 
 pub invariant_of-result : goal.invariant_of-result
 invariant_of-result c =
-    let script = c.args.script.now in
+    let script = c.args.script in
     let world = c.in_ok-world.world in
     let due = c.push_closing.new.due.items in
     let world_is : world ≡ record { script = script; limit = MAX_MOVES; run = [] } = c.in_ok-world.ensures in
@@ -20,7 +20,7 @@ invariant_of-result c =
     let first : c.push_first.new.due.items ≡ first_lines script.version = c.in_ok-push_first.ensures ∙ ap (λ (t : List Line). t ++ first_lines script.version) c.new-due.ensures.items in
     let due_is : due ≡ first_lines script.version ++ closing_at_rest script [] =
     c.in_ok-push_closing.ensures ∙ ap₂ (λ (t : List Line) (run : List Logged). t ++ closing_at_rest script run) first run_is in
-    let at : first_place script ≡ record { run = world.run; due = due } = λ i. record { run = sym run_is i; due = sym due_is i } in rw c.in_ok-script.ensures (
+    let at : first_place script ≡ record { run = world.run; due = due } = λ i. record { run = sym run_is i; due = sym due_is i } in (
       c.in_ok-counts.ensures.is_script,
       omega arith,
       record {
