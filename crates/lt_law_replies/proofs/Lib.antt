@@ -3,5 +3,5 @@ mod ReplyActs
 mod ReplyMoves
 mod ReplyCommands
 mod ReplySteps
-mod ReplyRuns
+pub mod ReplyRuns
 mod AnswerRows

@@ -45,7 +45,7 @@ targets script client (command.Change set gives_up mode) h = h
 targets script client (command.DropAll other set) h = h
 
 -- a script names what is of it
-whole : (script : ScriptData) → IsScript script → IsWhole script
+pub whole : (script : ScriptData) → IsScript script → IsWhole script
 whole script is_script = record {
   some_node = is_script.some_node;
   homes = is_script.homes;

@@ -18,3 +18,4 @@ pub mod LiveShares
 pub mod Live
 pub mod Settling
 pub mod Finished
+pub mod AnsweredLemmas

@@ -11,3 +11,4 @@ pub mod LiveLaws
 pub mod Finished
 pub mod Same
 pub mod Visits
+pub mod Answered

@@ -1,5 +1,5 @@
-ghost use Rattle.std.specs.Prelude.{◌≡◌, ◌+◌, ◌<◌, ◌≤◌, length};
-ghost use Rattle.rtrb.specs.Ring.{sent, known_free, producer_capacity};
+ghost use Rattle.std.specs.Prelude.{◌≡◌, ◌+◌, ◌<◌, ◌≤◌, length, min};
+ghost use Rattle.rtrb.specs.Ring.{sent, received, known_free, producer_capacity};
 
 use crate::reply::Reply;
 use lt_modes::Command;
@@ -16,12 +16,15 @@ pub struct Session {
     pub(crate) share: u32,
     // How many commands of the share are left.
     pub(crate) left: u32,
+    // How many replies were polled, up to the share.
+    pub(crate) answered: u32,
     pub(crate) commands: Producer<Command>,
     pub(crate) replies: Consumer<Reply>,
     pub(crate) ghost known: { client < length script.clients },
     // So many commands at least have found or will find a place.
     pub(crate) ghost roomy: { producer_capacity commands ≤ known_free commands + length (sent commands) },
     pub(crate) ghost spent: { length (sent commands) + left ≡ share },
+    pub(crate) ghost counted: { answered ≡ min share (length (received replies)) },
 }
 
 /// A station's end of a session.

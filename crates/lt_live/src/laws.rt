@@ -1,5 +1,6 @@
 ghost use Rattle.lt_live.specs.LiveLaws.{OpenedAreLive, LiveLasts, OneStationLasts, OneSessionLasts};
 ghost use Rattle.lt_live.specs.ReplyLaws.{RepliesOfLines, RepliesInLog};
+ghost use Rattle.lt_live.specs.Answered.{PolledInTurn, NoMoreThanSubmitted};
 
 /// What sessions are told are the replies of the run: a station tells them from the log of its node alone.
 pub fn law_told()
@@ -13,4 +14,10 @@ pub fn law_live_lasts()
     ensures last { LiveLasts }
     ensures one_station { OneStationLasts }
     ensures one_session { OneSessionLasts }
+{}
+
+/// A session's replies come in the order of its commands, one for each.
+pub fn law_polled_in_turn()
+    ensures turn { PolledInTurn }
+    ensures no_more { NoMoreThanSubmitted }
 {}

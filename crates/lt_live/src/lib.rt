@@ -21,7 +21,7 @@ mod visiting;
 
 pub use ends::{Seat, Session};
 pub use finishing::finish;
-pub use laws::{law_live_lasts, law_told};
+pub use laws::{law_live_lasts, law_polled_in_turn, law_told};
 pub use limits::LETTER_PLACES;
 pub use reply::{Reply, reply_to};
 pub use starting::open;

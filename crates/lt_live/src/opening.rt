@@ -34,6 +34,7 @@ pub(crate) fn new_session(
         place,
         share,
         left: share,
+        answered: 0,
         commands: sender,
         replies: hearer,
     };

@@ -34,6 +34,15 @@ impl Session {
         self.left
     }
 
+    /// How many commands that were submitted here have no polled reply yet.
+    ///
+    /// A reply that came and wasn't polled doesn't count, and neither does one to a command that was never submitted here.
+    pub fn unanswered(&self) -> u32
+        ensures { result ≡ length (submitted self.now) - length (polled self.now) }
+    {
+        (self.share - self.left).saturating_sub(self.answered)
+    }
+
     /// Whether the command may be submitted here: all that it names is of the script and of its version, and the client whose
     /// locks it drops is of the same node as this one.
     #[tactic(auto, using(crate::proofs::AskLemmas::has_targets, crate::proofs::AskLemmas::has_modes, crate::proofs::AskLemmas::asks))]
@@ -72,6 +81,10 @@ impl Session {
         ensures commands { (submitted self.new ≡ submitted self.old) × (self.new.left ≡ self.old.left) }
         ensures same { SameSession self.old self.new }
     {
-        self.replies.pop().ok()
+        let reply = self.replies.pop().ok()?;
+        if self.answered < self.share {
+            self.answered += 1;
+        }
+        Some(reply)
     }
 }

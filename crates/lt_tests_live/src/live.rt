@@ -94,8 +94,9 @@ fn an_ask_goes_to_the_other_node(rt: HostRuntime) -> Result<(), Fail> {
     for round in 0_u8..4 {
         near.turn(&Open);
         far.turn(&Open);
-        assert_eq!(rt; far.waits(0), round < 3);
+        assert_eq!(rt; (far.waits(0), session.unanswered()), (round < 3, 1));
     }
     assert_eq!(rt; session.poll(), Some(Reply::Granted));
+    assert_eq!(rt; session.unanswered(), 0);
     Ok(())
 }
