@@ -1,4 +1,5 @@
 ghost use Rattle.std.specs.Prelude.{◌≡◌, ◌+◌, ◌≤◌, ◌<◌, [], ◌∷◌, ◌++◌, length, IsOk, OnOk, MatchOption};
+ghost use Rattle.std.specs.VecDeque.{deque_capacity};
 ghost use Rattle.lt_desk.specs.LetterSeen.{post_seen};
 
 use crate::letter::Post;
@@ -40,7 +41,7 @@ impl Out {
         }
     }
 
-    /// Makes room for so many further letters and event lines.
+    /// Makes room for so many further letters and event lines. Where the room is there, nothing changes.
     pub fn reserve(&mut self, letters: u32, events: u32) -> Result<(), AllocError>
         ensures posts { self.new.posts ≡ self.old.posts }
         ensures events { self.new.events ≡ self.old.events }
@@ -48,10 +49,10 @@ impl Out {
         ensures event_room { OnOk result (length self.old.events + events ≤ self.new.event_room) }
         ensures kept { (self.old.post_room ≤ self.new.post_room) × (self.old.event_room ≤ self.new.event_room) }
         ensures full { length self.old.posts + letters ≤ self.old.post_room → length self.old.events + events ≤ self.old.event_room → IsOk result }
+        ensures same { length self.old.posts + letters ≤ self.old.post_room → length self.old.events + events ≤ self.old.event_room → self.new ≡ self.old }
     {
-        self.posts.reserve(letters as usize)?;
-        self.events.reserve(events as usize)?;
-        Ok(())
+        make_room(&mut self.posts, letters as usize)?;
+        make_room(&mut self.events, events as usize)
     }
 
     /// How many letters it has room for in all.
@@ -108,4 +109,18 @@ impl Out {
     {
         self.events.pop_front()
     }
+}
+
+// Makes room for so many further items. Where the room is there, nothing changes.
+fn make_room<T>(items: &mut VecDeque<T>, further: usize) -> Result<(), AllocError>
+    ensures items { items.new.items ≡ items.old.items }
+    ensures kept { deque_capacity items.old ≤ deque_capacity items.new }
+    ensures room { OnOk result (length items.old.items + further ≤ deque_capacity items.new) }
+    ensures full { length items.old.items + further ≤ deque_capacity items.old → IsOk result }
+    ensures same { length items.old.items + further ≤ deque_capacity items.old → deque_capacity items.new ≡ deque_capacity items.old }
+{
+    if further <= items.capacity() - items.len() {
+        return Ok(());
+    }
+    items.reserve(further)
 }

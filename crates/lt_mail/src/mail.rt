@@ -131,7 +131,7 @@ impl Mail {
     ///
     /// Where none waits and there is less room, the list is made anew, so that no memory is copied that no letter was in.
     #[tactic(auto, using(crate::proofs::MailLemmas::same_mail))]
-    pub fn reserve(&mut self, letters: u32) -> Result<(), AllocError>
+    pub fn reserve(&mut self, letters: usize) -> Result<(), AllocError>
         ensures sent { (node : ℕ) → sent_to self.new node ≡ sent_to self.old node }
         ensures given { (node : ℕ) → given_to self.new node ≡ given_to self.old node }
         ensures room { OnOk result (HasRoomFor self.new letters) }
@@ -140,7 +140,7 @@ impl Mail {
         ensures ins { (node : ℕ) → in_at self.new node ≡ in_at self.old node }
         ensures ends { SameEnds self.old self.new }
     {
-        make_room(&mut self.waiting, letters as usize)
+        make_room(&mut self.waiting, letters)
     }
 
     /// Flushes the outbox to each node.

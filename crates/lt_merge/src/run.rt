@@ -52,7 +52,7 @@ impl Run {
     }
 
     /// Makes room for one further move with so many events.
-    pub fn reserve(&mut self, events: u32) -> Result<(), AllocError>
+    pub fn reserve(&mut self, events: usize) -> Result<(), AllocError>
         ensures entries { self.new.entries ≡ self.old.entries }
         ensures spare { OnOk result (1 ≤ self.new.spare) }
         ensures room { OnOk result (events ≤ self.new.room) }
@@ -61,7 +61,7 @@ impl Run {
         ensures full { 1 ≤ self.old.spare → events ≤ self.old.room → IsOk result }
     {
         self.moves.reserve(1)?;
-        self.events.reserve(events as usize)?;
+        self.events.reserve(events)?;
         Ok(())
     }
 

@@ -21,6 +21,7 @@ impl Node {
         ensures out { (out.new.posts ≡ out.old.posts) × (out.new.events ≡ out.old.events) }
         ensures room { OnOk result (RoomToAct self.new out.new) }
         ensures full { RoomToAct self.old out.old → IsOk result }
+        ensures same { RoomToAct self.old out.old → out.new ≡ out.old }
     {
         reserve_each(&mut self.cores)?;
         let sent = most_sent(&self.cores) + 1;
@@ -36,6 +37,7 @@ impl Node {
         ensures out { (out.new.posts ≡ out.old.posts) × (out.new.events ≡ out.old.events) }
         ensures room { OnOk result (RoomToTake self.new letter.new out.new) }
         ensures full { RoomToTake self.old letter.old out.old → IsOk result }
+        ensures same { RoomToTake self.old letter.old out.old → out.new ≡ out.old }
     {
         reserve_for(&mut self.cores[usize::from(letter.set)], letter, out)
     }
@@ -63,6 +65,7 @@ fn reserve_for(core: &mut Core, letter: &mut Letter, out: &mut Out) -> Result<()
     ensures out { (out.new.posts ≡ out.old.posts) × (out.new.events ≡ out.old.events) }
     ensures room { OnOk result (RoomForLetter core.new letter.new out.new) }
     ensures full { RoomForLetter core.old letter.old out.old → IsOk result }
+    ensures same { RoomForLetter core.old letter.old out.old → out.new ≡ out.old }
 {
     core.reserve_for(letter)?;
     let sent = core.most_sent() + 2 + brought(&letter.body);

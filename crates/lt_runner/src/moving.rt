@@ -1,5 +1,5 @@
 // A turn in its parts: a move is looked for, there is room for it, and it is made.
-ghost use Rattle.std.specs.Prelude.{◌≡◌, ◌≢◌, OnOk};
+ghost use Rattle.std.specs.Prelude.{◌≡◌, ◌≢◌, IsOk, OnOk};
 ghost use Rattle.lt_runner.specs.declared.choice.Choice.TheVariants as choices;
 ghost use Rattle.lt_runner.specs.declared.turning.Found.TheVariants as finds;
 ghost use Rattle.lt_runner.specs.Choices.{next_choice};
@@ -30,6 +30,7 @@ impl Runner {
         ensures chosen { next_choice self.new ≡ choice }
         ensures could { CouldMove self.new }
         ensures memory { OnOk result (HasMemoryFor choice self.new) }
+        ensures full { HasMemoryFor choice self.old → IsOk result }
     {
         self.parts.as_mut().reserve(choice)
     }

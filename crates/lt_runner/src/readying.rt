@@ -1,5 +1,5 @@
 // What a runner does before a move.
-ghost use Rattle.std.specs.Prelude.{◌≡◌, ◌≢◌, ◌<◌, None, ℕ, IsTrue, IfSome, IfNone, OnOk, length};
+ghost use Rattle.std.specs.Prelude.{◌≡◌, ◌≢◌, ◌<◌, None, ℕ, IsOk, IsTrue, IfSome, IfNone, OnOk, length};
 ghost use Rattle.lt_limits.specs.Limits.{node_within};
 ghost use Rattle.lt_node.specs.NodeData.{state_of};
 ghost use Rattle.lt_node.specs.Room.{RoomToAct, RoomToTake};
@@ -67,6 +67,7 @@ impl Parts {
         ensures seen { AsSeen self.old self.new }
         ensures hand { self.new.hand ≡ self.old.hand }
         ensures ready { OnOk result (RunnerCanAct self.new) }
+        ensures full { RunnerCanAct self.old → IsOk result }
     {
         self.reserve_for_act()?;
         self.reserve_rest()
@@ -80,6 +81,7 @@ impl Parts {
         ensures kept { RunnerInvariant self.new }
         ensures seen { AsSeen self.old self.new }
         ensures ready { OnOk result (RunnerCanTake self.new) }
+        ensures full { RunnerCanTake self.old → IsOk result }
     {
         self.reserve_for_hand()?;
         self.reserve_rest()
@@ -93,6 +95,8 @@ impl Parts {
         ensures seen { AsSeen self.old self.new }
         ensures hand { self.new.hand ≡ self.old.hand }
         ensures room { OnOk result (RoomToAct self.new.node self.new.out) }
+        ensures full { RoomToAct self.old.node self.old.out → IsOk result × (self.new.out ≡ self.old.out) }
+        ensures rest { (self.new.log ≡ self.old.log) × (self.new.mail ≡ self.old.mail) }
     {
         self.node.reserve(&mut self.out)
     }
@@ -104,6 +108,8 @@ impl Parts {
         ensures kept { RunnerInvariant self.new }
         ensures seen { AsSeen self.old self.new }
         ensures room { OnOk result (IfSome self.new.hand (λ hand. RoomToTake self.new.node hand.letter self.new.out)) }
+        ensures full { IfSome self.old.hand (λ hand. RoomToTake self.old.node hand.letter self.old.out) → IsOk result × (self.new.out ≡ self.old.out) }
+        ensures rest { (self.new.log ≡ self.old.log) × (self.new.mail ≡ self.old.mail) }
     {
         match &mut self.hand {
             None => Ok(()),
@@ -119,11 +125,10 @@ impl Parts {
         ensures hand { self.new.hand ≡ self.old.hand }
         ensures node { (self.new.node ≡ self.old.node) × (self.new.out ≡ self.old.out) }
         ensures room { OnOk result (CanLog self.new) }
+        ensures full { CanLog self.old → IsOk result }
     {
-        let lines = u32::try_from(self.out.event_room()).map_err(|_| AllocError)?;
-        let letters = u32::try_from(self.out.post_room()).map_err(|_| AllocError)?;
-        self.log.reserve(lines)?;
-        self.mail.reserve(letters)
+        self.log.reserve(self.out.event_room())?;
+        self.mail.reserve(self.out.post_room())
     }
 }
 

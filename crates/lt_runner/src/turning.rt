@@ -1,5 +1,5 @@
 // Turns of a runner.
-ghost use Rattle.std.specs.Prelude.{◌≡◌, ◌≢◌, OnOk, length};
+ghost use Rattle.std.specs.Prelude.{◌≡◌, ◌≢◌, IsOk, OnOk, length};
 ghost use Rattle.lt_runner.specs.declared.choice.Choice.TheVariants as choices;
 ghost use Rattle.lt_runner.specs.declared.turning.Found.TheVariants as finds;
 ghost use Rattle.lt_runner.specs.declared.turning.Turned.TheVariants as endings;
@@ -78,6 +78,7 @@ impl Parts {
         ensures chosen { next_choice self.new ≡ choice }
         ensures could { CouldMove self.new }
         ensures memory { OnOk result (HasMemoryFor choice self.new) }
+        ensures full { HasMemoryFor choice self.old → IsOk result }
     {
         match choice {
             Choice::Nothing => Ok(()),

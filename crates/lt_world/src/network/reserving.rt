@@ -138,6 +138,5 @@ fn reserve_all(inboxes: &mut Inboxes, run: &mut Run, out: &Out) -> Result<(), Al
     ensures send { OnOk result (InboxRoom inboxes.new run.new out.now) }
 {
     inboxes.reserve(out.post_room())?;
-    let lines = u32::try_from(out.event_room()).map_err(|_| AllocError)?;
-    run.reserve(lines)
+    run.reserve(out.event_room())
 }

@@ -40,3 +40,10 @@ returns-clause-full c = λ room.
     let sent = c.most_sent-sent.ensures.sum ∙ ap (λ (l : List CoreData). sum_by most_sent l) c.deref.ensures.value
     ∙ sent_kept c.reserve_each.new.cores.items all c.reserve_each.ensures.kept ∙ ap (λ (n : NodeData). sum_by most_sent n.cores) c.self.view_is in
     c.reserve.ensures.full (omega (arith, sent, room.send.posts)) (omega (arith, sent, room.send.events))
+
+pub returns-clause-same : goal.returns-clause-same
+returns-clause-same c = λ room.
+    let all = c.self.inside.cores.items in
+    let sent = c.most_sent-sent.ensures.sum ∙ ap (λ (l : List CoreData). sum_by most_sent l) c.deref.ensures.value
+    ∙ sent_kept c.reserve_each.new.cores.items all c.reserve_each.ensures.kept ∙ ap (λ (n : NodeData). sum_by most_sent n.cores) c.self.view_is in
+    c.reserve.ensures.same (omega (arith, sent, room.send.posts)) (omega (arith, sent, room.send.events))
