@@ -111,8 +111,9 @@ impl Out {
     }
 }
 
-// Makes room for so many further items. Where the room is there, nothing changes.
-fn make_room<T>(items: &mut VecDeque<T>, further: usize) -> Result<(), AllocError>
+// Makes room for so many further items. Where the room is there, nothing changes. Where there are no items, the list is
+// made anew, so that no memory is copied that no item was in.
+fn make_room<T: Drop>(items: &mut VecDeque<T>, further: usize) -> Result<(), AllocError>
     ensures items { items.new.items ≡ items.old.items }
     ensures kept { deque_capacity items.old ≤ deque_capacity items.new }
     ensures room { OnOk result (length items.old.items + further ≤ deque_capacity items.new) }
@@ -122,5 +123,10 @@ fn make_room<T>(items: &mut VecDeque<T>, further: usize) -> Result<(), AllocErro
     if further <= items.capacity() - items.len() {
         return Ok(());
     }
-    items.reserve(further)
+    if !items.is_empty() {
+        return items.reserve(further);
+    }
+    let places = further.max(items.capacity().saturating_mul(2));
+    *items = VecDeque::with_capacity(*items.allocator(), places)?;
+    Ok(())
 }

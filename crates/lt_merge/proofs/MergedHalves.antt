@@ -1,7 +1,7 @@
 -- Logs are merged by halves.
 use Rattle.std.proofs.Common.{◌≡◌, ℕ, ◌+◌, inl, inr, List, [], ◌∷◌, ◌++◌, length, refl, sym, ap, subst, arith, ◌∙◌, take, drop}
 use Rattle.std.specs.Prelude.{◌⊎◌, filter, slice_index_or}
-use Rattle.std.proofs.lemmas.List.{append_assoc, length-append, take-append-drop}
+use Rattle.std.proofs.lemmas.List.{append_assoc, append-nil, length-append, take-append-drop}
 use Rattle.lt_spec.specs.Log.{Logged}
 use Rattle.lt_spec.specs.World.{is_of_node}
 use Rattle.lt_merge.specs.Run.{RunData}
@@ -121,3 +121,21 @@ are_halves logs k h =
         length-append (all_entries (take k logs)) (all_entries (drop k logs)),
       );
     }
+
+pub two_left : (logs : List RunData) (a b : RunData) → length logs ≡ 2 → a ≡ slice_index_or logs 0 a → b ≡ slice_index_or logs 1 b → logs ≡ a ∷ b ∷ []
+two_left [] a b count e f = absurd (omega (arith, count))
+two_left (first ∷ []) a b count e f = absurd (omega (arith, count))
+two_left (first ∷ second ∷ []) a b count e f = ap (λ (l : RunData). l ∷ second ∷ []) (sym e) ∙ ap (λ (l : RunData). a ∷ l ∷ []) (sym f)
+two_left (first ∷ second ∷ third ∷ rest) a b count e f = absurd (omega (arith, count))
+
+-- a log is merged already
+alone_merged : (log : RunData) → AreLogs (log ∷ []) → Merges (log ∷ []) log.entries
+alone_merged log h = record {
+  order = record { rising = h.0; parts = λ x. ap (λ (l : List Logged). filter (is_of_node x) l) (sym (append-nil log.entries)) };
+  count = ap length (sym (append-nil log.entries));
+}
+
+pub two_merged : (first second : RunData) → AreLogs (first ∷ second ∷ []) → Merges (first ∷ second ∷ []) (both_merged first.entries second.entries)
+two_merged first second h =
+    let half = are_halves (first ∷ second ∷ []) 1 h in
+    halves_merged (first ∷ second ∷ []) 1 first.entries second.entries h (alone_merged first half.first) (alone_merged second half.second)

@@ -23,6 +23,7 @@ fn merge_all(alloc: Global, logs: &[Log]) -> Result<Run, AllocError>
     match logs {
         [] => Ok(Run::new(alloc)),
         [log] => merge_two(alloc, log, &Run::new(alloc)),
+        [first, second] => merge_two(alloc, first, second),
         _ => {
             let (front, back) = logs.split_at(logs.len() / 2);
             let first = merge_all(alloc, front)?;
@@ -36,7 +37,7 @@ fn merge_two(alloc: Global, first: &Run, second: &Run) -> Result<Run, AllocError
     requires few { length first.now.entries + length second.now.entries < 2 ^ 32 }
     ensures { IfOk result (λ run. run.entries ≡ both_merged first.now.entries second.now.entries) }
 {
-    let mut run = Run::new(alloc);
+    let mut run = Run::for_both(alloc, first, second)?;
     let mut i = 0;
     let mut k = 0;
     let count = first.len() + second.len();

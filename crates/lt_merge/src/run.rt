@@ -1,4 +1,4 @@
-ghost use Rattle.std.specs.Prelude.{◌≡◌, ◌+◌, ◌<◌, ◌≤◌, ◌^◌, [], ◌∷◌, ◌++◌, Some, length, take, drop, IsOk, OnOk};
+ghost use Rattle.std.specs.Prelude.{◌≡◌, ◌+◌, ◌<◌, ◌≤◌, ◌^◌, [], ◌∷◌, ◌++◌, Some, length, take, drop, IfOk, IsOk, OnOk};
 ghost use Rattle.lt_merge.specs.Run.{just_made, with_event, made_at, events_at};
 ghost use Rattle.lt_merge.specs.Marks.{entries_of, IsLaid, events_bounds};
 
@@ -49,6 +49,26 @@ impl Run {
             moves: Vec::new(alloc),
             events: Vec::new(alloc),
         }
+    }
+
+    /// Makes a run with no moves yet, and room for so many, and for so many events.
+    pub fn with_room(alloc: Global, moves: usize, events: usize) -> Result<Run, AllocError>
+        ensures entries { IfOk result (λ run. run.entries ≡ []) }
+        ensures spare { IfOk result (λ run. moves ≤ run.spare) }
+        ensures room { IfOk result (λ run. events ≤ run.room) }
+    {
+        Ok(Run {
+            moves: Vec::with_capacity(alloc, moves)?,
+            events: Vec::with_capacity(alloc, events)?,
+        })
+    }
+
+    // Makes a run with no moves yet, and room for the moves of both.
+    pub(crate) fn for_both(alloc: Global, first: &Run, second: &Run) -> Result<Run, AllocError>
+        ensures { IfOk result (λ run. run.entries ≡ []) }
+    {
+        let moves = first.moves.len() + second.moves.len();
+        Run::with_room(alloc, moves, first.events.len() + second.events.len())
     }
 
     /// Makes room for one further move with so many events.

@@ -145,11 +145,20 @@ fn begin(
     Ok(Parts {
         node: state,
         mail,
-        log: Log::new(alloc),
+        log: first_log(alloc, script, limit)?,
         out: Out::new(alloc),
         hand: None,
         limit,
         reached: 0,
         idle: false,
     })
+}
+
+// A log with no moves yet, and room for as many as there are commands for each node, with two lines each.
+fn first_log(alloc: Global, script: &Script, limit: u32) -> Result<Log, AllocError>
+    ensures { IfOk result (λ log. log.entries ≡ []) }
+{
+    let moves = script.commands() / u32::from(script.nodes());
+    let moves = moves.min(limit) as usize;
+    Log::with_room(alloc, moves, 2 * moves)
 }

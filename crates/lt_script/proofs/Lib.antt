@@ -8,3 +8,4 @@ pub mod RoundTrip
 pub mod FaultOrder
 pub mod FirstFault
 pub mod RoundTripSets
+pub mod RoundTripClients

@@ -3,7 +3,7 @@ use Rattle.std.proofs.lemmas.Result.{IfOk-weaker}
 use Rattle.lt_spec.specs.Log.{Logged}
 use Rattle.lt_merge.specs.Run.{RunData}
 use Rattle.lt_merge.specs.Merging.{all_entries, AreLogs, Merges, both_merged}
-use Rattle.lt_merge.proofs.MergedHalves.{are_halves, halves_merged, one_left, one_merged}
+use Rattle.lt_merge.proofs.MergedHalves.{are_halves, halves_merged, one_left, one_merged, two_left, two_merged}
 use Rattle.lt_merge.proofs.logs.+merge_all.Goals as goal
 
 pub merge_all-requires : goal.merge_all-requires
@@ -46,6 +46,16 @@ returns-in-len1 t c =
     (λ run is_run. subst (λ (l : List Logged). Merges logs l) (sym (is_run ∙ ap (λ (l : List Logged). both_merged log.entries l) c.new-in-len1.ensures))
     (subst (λ (l : List RunData). Merges l (both_merged log.entries [])) (sym one) (one_merged log (subst AreLogs one c.requires.logs))))
     c.merge_two-in-len1.ensures
+
+pub returns-in-len2 : goal.returns-in-len2
+returns-in-len2 t c =
+    let logs = c.args.logs.now in
+    let first = c.first-item.result in
+    let second = c.second-item.result in
+    let two = two_left logs first second (omega arith) c.first-item.is c.second-item.is in
+    IfOk-weaker c.merge_two-in-len2.result _ _ (λ run is_run. subst (λ (l : List Logged). Merges logs l) (sym is_run)
+    (subst (λ (l : List RunData). Merges l (both_merged first.entries second.entries)) (sym two) (two_merged first second (subst AreLogs two c.requires.logs))))
+    c.merge_two-in-len2.ensures
 
 pub returns-in_ok-second-in_default : goal.returns-in_ok-second-in_default
 returns-in_ok-second-in_default t c =
