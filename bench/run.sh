@@ -1,11 +1,12 @@
 #!/bin/sh
 # Prints the processor time, user and system together, that `run` and `sim first` take with 1, 2 and 4 processors, for a
-# script of 16 nodes and 64 clients and for one of version 2 with 64 nodes and 256 clients, of 4,096 commands each. Beside
-# it stands that of another program of the same rules, such as the plain one of bench/plain. It is the least of 30 runs,
-# in turn, in milliseconds; with it stand the moves made, and what is left of the time if that of the shortest script is
-# taken off, and at the end what is left of the other program's by what is left of this one's. There is also the time of
-# `soak`. Then it prints the threads that one run starts, which strace counts, and the rounds that these are, since each
-# round starts 2 of them, and one more for each 32 nodes; and the most memory that `run` takes with 64 nodes and 256 clients.
+# script of 16 nodes and 64 clients and for one of version 2 with 64 nodes and 256 clients, of 4,096 commands each.
+# Beside it stands that of another program of the same rules, such as the plain one of bench/plain. It is the least of
+# 30 runs, in turn, in milliseconds; with it stand the moves made, and what is left of the time if that of the shortest
+# script is taken off, and at the end what is left of the other program's by what is left of this one's. There is also
+# the time of `soak`, and that of `run` with 64 nodes by the number of moves. Then it prints the threads that one run
+# starts, which strace counts, and the rounds that these are, since each round starts 2 of them, and one more for each
+# 32 nodes; and the most memory that `run` takes with 64 nodes and 256 clients.
 # usage: bench/run.sh OTHER [PROGRAM [TIMES]]: the programs are one word each; PROGRAM is the one that ./build makes, if
 # none is named.
 top=$(CDPATH='' cd -- "$(dirname -- "$0")/.." && pwd) || exit 1
@@ -20,6 +21,9 @@ trap 'rm -rf "$room"' EXIT
 printf 'nodes 1\nset s\n' >"$room/short"
 python3 "$top/tests/drawing.py" 16 64 4096 1 >"$room/16 nodes" || exit 1
 python3 "$top/tests/drawing.py" 64 256 4096 1 2 >"$room/64 nodes" || exit 1
+for commands in 1 256 1024 4096; do
+  python3 "$top/tests/drawing.py" 64 256 $commands 1 2 >"$room/$commands commands" || exit 1
+done
 python3 - "$program" "$other" "$room" "$times" <<'END_OF_SCRIPT'
 import os, shutil, subprocess, sys
 program, other, room, times = sys.argv[1:4] + [int(sys.argv[4])]
@@ -76,6 +80,12 @@ for count in [count for count in (1, 2, 4) if count <= len(processors)]:
     [(ours, _)] = least([[program, 'soak', '7']], 'short')
     row('no script', count, 'soak 7', '', ours, ours - start, '', '', '', '')
 os.sched_setaffinity(0, processors)
+print('run with 64 nodes and 256 clients: what each move beyond those of the first script takes')
+[(start, few)] = least([[program, 'run']], '1 commands')
+for commands in (1, 256, 1024, 4096):
+    [(ours, moves)] = least([[program, 'run']], f'{commands} commands')
+    each = f'{1000 * (ours - start) / (moves - few):.2f} microseconds a move' if moves > few else ''
+    print(f'{commands:5} commands {moves:6} moves {ours:6.2f} ms  {each}')
 for script in ('16 nodes', '64 nodes'):
     for name in (program, other):
         started = threads([name, 'run'], script)
