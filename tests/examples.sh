@@ -140,6 +140,12 @@ parts() {
     fail 'no part of a set and a client'
   answers 'journal-picture: the script has no set none' tools/journal-picture --set none "$script" "$journal"
   answers 'journal-picture: the script has no client none' tools/journal-picture --client none "$script" "$journal"
+  answers 'journal-picture: there is no move from 9 to 5: the journal has 28' \
+    tools/journal-picture --moves 9-5 "$script" "$journal"
+  answers 'journal-picture: there is no move from 29 to 30: the journal has 28' \
+    tools/journal-picture --moves 29-30 "$script" "$journal"
+  answers 'journal-picture: there is no move from 1 to 0: the journal has 28' \
+    tools/journal-picture --moves 1-0 "$script" "$journal"
   awk 'BEGIN {
     print "nodes 1\nset s\nclient a at 0"
     for (k = 1; k <= 251; k++) print "a lock s read\na unlock s read" }' >"$room/long.script"
@@ -155,6 +161,21 @@ parts() {
   done
 }
 parts
+
+# Lines and answers that nest-waits can't follow, or read, and a full disk.
+faults_of_nest_waits() {
+  lines=examples/nested.lines answers=examples/nested.answers
+  answers "nest-waits: $room/none: No such file or directory" tools/nest-waits "$lines" "$room/none"
+  answers 'nest-waits: no answer to seat lock seats write: begin debit' \
+    tools/nest-waits "$lines" examples/nested-ring.answers
+  echo t >"$room/line"
+  answers "nest-waits: the answers can't be those to: t" tools/nest-waits "$room/line" "$answers"
+  echo 't begin in u' >"$room/line"
+  answers 'nest-waits: no transaction u was begun before t' tools/nest-waits "$room/line" "$answers"
+  said=$(tools/nest-waits "$lines" "$answers" 2>&1 >/dev/full)
+  [ "$said" = 'nest-waits: write fault' ] || fail "nest-waits on a full disk: it says: $said"
+}
+faults_of_nest_waits
 
 # The page of all runs is as the tool makes it, and each example has its picture there.
 tools/examples-page >"$room/page" || fail 'no page of all examples'

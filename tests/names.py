@@ -2,7 +2,7 @@
 """Sees that each name that stands in backticks in README.md and docs/ exists: as a file, a crate, an item of a crate,
 or a word of a command or of a format; that it is an item of the crate, or of the file of definitions, that it is said
 to be of; that each clause that docs/PROOFS.md names is one of the call or the law that it is said of, or a field of a
-record that such a clause is; and that the code in docs/READING.md stands in the sources."""
+record that such a clause is; and that the code in docs/READING.md and docs/LIBRARY.md stands in the sources."""
 import re
 import sys
 from functools import cache
@@ -223,8 +223,13 @@ def unknown_clauses(page):
 def unknown_code(page):
     """The faults of a page that shows code: lines that stand in no source."""
     lines = {line.strip() for path in SOURCES for line in path.read_text().splitlines()}
-    for number, line in enumerate(page.read_text().splitlines(), 1):
-        if line.startswith('    ') and line.strip() not in lines:
+    text = page.read_text()
+    fenced = '```rust' in text
+    is_code = False
+    for number, line in enumerate(text.splitlines(), 1):
+        if line.startswith('```'):
+            is_code = line == '```rust'
+        elif (is_code if fenced else line.startswith('    ')) and line.strip() not in lines | {''}:
             yield f'{page.relative_to(TOP)}:{number}: no source has this line'
 
 
@@ -233,7 +238,8 @@ def main():
     known = items() | words()
     faults = [fault for page in PAGES
               for fault in [*unknown_names(page, known), *unknown_files(page), *misplaced_names(page)]]
-    faults += [*unknown_clauses(TOP / 'docs' / 'PROOFS.md'), *unknown_code(TOP / 'docs' / 'READING.md')]
+    faults += [*unknown_clauses(TOP / 'docs' / 'PROOFS.md'), *unknown_code(TOP / 'docs' / 'READING.md'),
+               *unknown_code(TOP / 'docs' / 'LIBRARY.md')]
     for fault in faults:
         print(f'tests/names.py: {fault}')
     print(f'tests/names.py: {len(PAGES)} pages, {len(faults)} faults')

@@ -104,10 +104,11 @@ no_command make 2 3 8
 no_command make 2 3 eight 7
 no_command run now
 no_command order first
-no_command seeds 1
-no_command seeds 1 x
-no_command seeds 1 -2
-no_command seeds 1 2 3
+for words in '' 1 '1 x' '1 -2' '1 2 3'; do
+  # shellcheck disable=SC2086 # a call may be more words
+  expect "no seeds: $words" 'lockrun: usage: seeds FROM TO
+status 1' "$(PATH=$room/no-rt && said "$room/bare/lockrun" seeds $words </dev/null)"
+done
 for words in 'sim 99999999999999999999' 'make 17 1 1 1' 'soak 007' 'check' 'order'; do
   # shellcheck disable=SC2086 # a call may be more words
   expect "a command, or the program says why not: $words" "$(printf '<%s>' $words)
@@ -158,6 +159,7 @@ status 4' "$(said "$top/lockrun" seeds 1 2 </)"
 expect 'seeds on a full disk' 'lockrun: write fault
 status 5' "$(echo x | said sh -c "'$top/lockrun' seeds 1 2 >/dev/full")"
 expect 'seeds, unproved' 'lockrun: not proved: no program is built from these sources (./build proves and builds it)
+lockrun: so each further seed takes as long as the first
 status 3' "$(echo '# stuck' | (PATH=$with_rt && said "$room/bare/lockrun" seeds 1 2) | grep -e '^lockrun' -e '^status [0-9]')"
 expect 'seeds, no toolchain' 'status 127' "$( (PATH=$room/no-rt && said "$room/bare/lockrun" seeds 1 2 </dev/null) | tail -n 1)"
 yes | "$top/lockrun" seeds 1 1 >/dev/null
@@ -245,7 +247,9 @@ status 0' "$(cd / && said "$made/lockrun" run </dev/null)"
 ln -s "$made/build" "$room/link-to-build"
 expect 'the build called by a link' 'status 0' "$(cd / && PATH=$with_build && said "$room/link-to-build" lockrun | tail -n 1)"
 expect 'the build of all programs' 1 "$(PATH=$with_build && said "$made/build" | grep -c 'is proved and linked')"
-expect 'the build of no program' 'build: there is no program lockrum
+expect 'the programs that there are' 'usage: ./build [PROGRAM..]: proves and links these programs, or all if none is named: lockrun
+status 0' "$(PATH=$room/no-rt && said "$made/build" --help)"
+expect 'the build of no program' 'build: there is no program lockrum; ./build --help names them
 status 1' "$(PATH=$with_build && said "$made/build" lockrum)"
 echo refused >"$made/crates/lt_low/src/refused"
 expect "a build that isn't proved" "build: lockrun isn't built
@@ -281,6 +285,11 @@ status 2' "$(on_terminal "'$top/lockrun' sim 7 <'$room/refused'; echo status \$?
     "$(on_terminal "'$top/lockrun' sim 7 <'$room/refused' 2>/dev/null; echo status \$?" | tail -n 1)"
   on_terminal "'$top/lockrun' sim first <'$room/bytes'" >/dev/null
   expect 'bytes of the input, on a terminal' '' "$(cmp "$room/bytes" "$top/crates/lockrun/out/lockrun.input" 2>&1)"
+  expect 'seeds of a script with a fault, on a terminal' 'lockrun: line 5: S10
+  a lock s reed
+           ^^^^
+  not a mode: intention_read, read, upgrade, intention_write or write
+status 2' "$(on_terminal "'$top/lockrun' seeds 1 9 <'$room/refused'; echo status \$?" | sed 's/^lockrun: seed 1  *//')"
   expect 'the status, on a terminal' '<sim><first>
 # stuck
 status 3' "$(on_terminal "echo '# stuck' | '$top/lockrun' sim first; echo status \$?")"
@@ -377,6 +386,15 @@ waits_on_a_terminal() {
            ^^^^
   not a mode: intention_read, read, upgrade, intention_write or write
 status 2' "$(on_terminal "'$waits/lockwaits' <'$room/refused'; echo status \$?")"
+  printf '# bad\nnodes 1\nset s\n# journal\n journal\r\nmove 1 0 act a\nmo\001ve\r\n' >"$room/refused"
+  expect 'lockwaits, a bad journal, on a terminal' 'lockwaits: line 7: journal
+  mo?ve
+  line 2 of the journal: no run that ends at rest goes on so
+status 8' "$(on_terminal "'$waits/lockwaits' <'$room/refused'; echo status \$?")"
+  printf '# bad\nnodes 1\nset s\nset t\njournal\nowner s 0 0\n' >"$room/refused"
+  expect 'lockwaits, a journal too short, on a terminal' 'lockwaits: line 7: journal
+  line 2 of the journal is missing: no run ends here at rest
+status 8' "$(on_terminal "'$waits/lockwaits' <'$room/refused'; echo status \$?")"
 }
 if [ "$(on_terminal 'test -t 2 && echo yes')" = yes ]; then waits_on_a_terminal; fi
 

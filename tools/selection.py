@@ -19,7 +19,10 @@ class Selection:
             raise Fault(f'the script has no set {self.set}')
         if self.client is not None and self.client not in journal.script.node_of:
             raise Fault(f'the script has no client {self.client}')
-        self.last = min(len(journal.moves), self.last or len(journal.moves))
+        count = len(journal.moves)
+        if self.last is not None and not self.first <= min(self.last, count):
+            raise Fault(f'there is no move from {self.first} to {self.last}: the journal has {count}')
+        self.last = count if self.last is None else min(count, self.last)
         self.sent = {}
         for letter in journal.letters:
             self.sent.setdefault(letter.sent.number, []).append(letter)
