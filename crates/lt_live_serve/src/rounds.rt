@@ -105,7 +105,7 @@ fn turn_all<R: Threads + Sync, G: Gate>(rt: &R, stations: &mut [Station], gate: 
 }
 
 // Makes turns, for a while.
-#[tactic(auto, using(crate::proofs::Lasting::station_itself, crate::proofs::Lasting::station_turned))]
+#[tactic(auto, using(lt_live::proofs::Live::station_itself, crate::proofs::Lasting::station_turned))]
 fn turn_often<G: Gate>(station: &mut Station, gate: &G)
     ensures { StationGoesOn station.old station.new }
 {
