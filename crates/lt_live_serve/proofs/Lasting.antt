@@ -16,7 +16,7 @@ use Rattle.lt_live.specs.Live.{GoesOn, StationGoesOn, EachStation, EachSession}
 use Rattle.lt_live.specs.Opened.{runner_of}
 use Rattle.lt_live.specs.Stations.{StationData, StaySeated}
 use Rattle.lt_live.specs.Words.{SameSession}
-use Rattle.lt_live.proofs.AlikeLists.{alike_self, alike_before, alike_set}
+use Rattle.lt_live.proofs.AlikeLists.{alike_self, alike_before, alike_join, alike_set}
 use Rattle.lt_live.proofs.Live.{live_lasts, session_itself, station_itself}
 use Rattle.lt_live.proofs.LiveShares.{goes_join}
 use Rattle.lt_live.proofs.Places.{set_here, set_other}
@@ -91,9 +91,12 @@ same_stations stations = alike_self StationGoesOn station_itself stations
 pub same_callers : (callers : List Caller) → EachCaller Calls callers callers
 same_callers callers = alike_self Calls calls_itself callers
 
-pub serving_called : (script : ScriptData) (stations : List StationData) (callers after : List Caller) → AreServing script stations callers
-    → EachCaller Calls callers after → AreServing script stations after
-serving_called script stations callers after h calls = serving_lasts script stations stations callers after h (same_stations stations) calls
+pub stations_join : (stations mid later : List StationData) → EachStation StationGoesOn stations mid → EachStation StationGoesOn mid later
+    → EachStation StationGoesOn stations later
+stations_join stations mid later first second = alike_join StationGoesOn station_join stations mid later first second
+
+pub callers_join : (callers mid after : List Caller) → EachCaller Calls callers mid → EachCaller Calls mid after → EachCaller Calls callers after
+callers_join callers mid after first second = alike_join Calls calls_join callers mid after first second
 
 -- how many commands are left
 

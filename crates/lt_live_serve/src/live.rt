@@ -48,8 +48,8 @@ pub(crate) fn live_run<R: Threads + Sync, G: Gate>(
     law_promised();
     law_ordered();
     let (mut stations, mut callers) = begin(alloc, script)?;
-    first_round(rt, script, &mut stations, &mut callers, gate);
-    rounds(rt, script, &mut stations, &mut callers, gate);
+    first_round(rt, &mut stations, &mut callers, gate);
+    rounds(rt, &mut stations, &mut callers, gate);
     complete_all(script, &mut stations, &mut callers, gate)?;
     let (mut stations, ending) = run_on(rt, alloc, script, stations, &callers, gate)?;
     tell_all(script, &mut stations, &mut callers)?;
