@@ -27,7 +27,8 @@ use Rattle.lt_spec.specs.NodeMove.{NodeState, NodeMade, node_waits, next_command
 use Rattle.lt_law_accounts.proofs.Asks.{has_stamp-true, has_stamp-own, same_ask-true}
 use Rattle.lt_model.proofs.RuleEffects.{command_rules, CommandRules}
 use Rattle.lt_law_own_lines.specs.WaitingLaws.{OwnAsksKnown, WaitingInCommands, WaitingInTakes, WaitingInActs, WaitingInNodeTakes, KnownWhereSound}
-use Rattle.lt_law_own_lines.proofs.WaitingEffects.{Maker, IsMadeBy, IsOwnMadeBy, IsParkedMadeBy, AreMadeBy, BringsMadeBy, OthersLines, Leaves, leaves, leaving_acts, finish_leaves, drop_leaves, take_leaves}
+use Rattle.lt_law_own_lines.proofs.Makers.{Maker, IsMadeBy, IsOwnMadeBy, IsParkedMadeBy, AreMadeBy, OthersLines}
+use Rattle.lt_law_own_lines.proofs.WaitingEffects.{BringsMadeBy, Leaves, leaves, leaving_acts, finish_leaves, drop_leaves, take_leaves}
 
 -- the client of the first ask with the stamp
 abbrev named : List Ask → Maker

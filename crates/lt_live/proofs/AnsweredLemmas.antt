@@ -1,25 +1,22 @@
 -- What a session polled answers what was submitted there.
-use Rattle.std.proofs.Common.{◌≡◌, ◌<◌, ◌≤◌, ℕ, zero, suc, List, [], ◌∷◌, ◌++◌, length, take, Option, Some, None, refl, sym, ap, subst, ◌∙◌, arith}
+use Rattle.std.proofs.Common.{◌≡◌, ◌<◌, ◌≤◌, ℕ, suc, List, [], ◌∷◌, length, Option, Some, None, refl, sym, ap, subst, ◌∙◌, arith}
 use Rattle.std.specs.Prelude.{slice_get}
 use Rattle.std.specs.Option.{option_and_then}
 use Rattle.std.proofs.Math.Seq.{take-length}
-use Rattle.std.proofs.lemmas.Option.{slice_get_past, slice_get_within}
+use Rattle.std.proofs.lemmas.Option.{slice_get_within}
 use mathlib.Core.List.{IsPrefix}
 use Rattle.lt_modes.specs.declared.command.Command.{Command}
 use Rattle.lt_modes.specs.declared.event.Event.{Event}
-use Rattle.lt_modes.specs.Script.{ScriptData}
 use Rattle.lt_script.proofs.RoundTripSets.{get_in_front}
 use Rattle.lt_spec.specs.Families.{commands_of}
 use Rattle.lt_spec.specs.Holdings.{lines_of}
 use Rattle.lt_spec.specs.Log.{Logged}
 use Rattle.lt_law_own_lines.specs.OwnLines.{replies_of}
-use Rattle.lt_law_replies.specs.Answers.{AnswersAt, AnswersInTurn}
+use Rattle.lt_law_replies.specs.Answers.{AnswersInTurn}
 use Rattle.lt_law_replies.proofs.ReplyRuns.{replies_in_turn}
 use Rattle.lt_live.specs.declared.reply.Reply.{Reply}
-use Rattle.lt_live.specs.declared.ends.Session.{Session}
 use Rattle.lt_live.specs.Replies.{reply_to, replies_in}
 use Rattle.lt_live.specs.Words.{submitted, polled}
-use Rattle.lt_live.specs.Finished.{IsServedRun}
 use Rattle.lt_live.specs.Answered.{IsReplyTo, PolledInTurn, NoMoreThanSubmitted}
 use Rattle.lt_live.proofs.Finished.{whole}
 use Rattle.lt_live.proofs.ReplyLemmas.{replies_of_lines}
@@ -30,7 +27,7 @@ in_prefix xs ys h k x at =
 
 -- a reply is told by a line at its place
 module _ (client : ℕ) (commands given : List Command) (lines : List Event) (k : ℕ) (reply : Reply)
-  (in_turn : AnswersInTurn client commands (replies_of client lines)) (made : IsPrefix commands given) where
+    (in_turn : AnswersInTurn client commands (replies_of client lines)) (made : IsPrefix commands given) where
   by_line : (found : Option Event) → slice_get (replies_of client lines) k ≡ found → option_and_then (reply_to client) found ≡ Some reply
       → (command : Command) × (slice_get given k ≡ Some command) × IsReplyTo client command reply
   by_line None at said = absurd (cc)
@@ -42,11 +39,11 @@ pub polled_in_turn : PolledInTurn
 polled_in_turn first script sessions run served client s here k reply at =
     let one = served.each client s here in
     let turn : AnswersInTurn client (commands_of script client) (replies_of client (lines_of run)) =
-      subst (λ (list : List Logged). AnswersInTurn client (commands_of script client) (replies_of client (lines_of list))) (take-length run)
-        (replies_in_turn script run (whole script served.is_script) served.is_run (length run) client) in
+    subst (λ (list : List Logged). AnswersInTurn client (commands_of script client) (replies_of client (lines_of list))) (take-length run)
+    (replies_in_turn script run (whole script served.is_script) served.is_run (length run) client) in
     let told : slice_get (replies_in client (lines_of run)) k ≡ Some reply = in_prefix (polled s) (replies_in client (lines_of run)) one.replies k reply at in
     by_line client (commands_of script client) (submitted s) (lines_of run) k reply turn one.commands
-      (slice_get (replies_of client (lines_of run)) k) refl (sym (replies_of_lines client (lines_of run) k) ∙ told)
+    (slice_get (replies_of client (lines_of run)) k) refl (sym (replies_of_lines client (lines_of run) k) ∙ told)
 
 -- a list that is no longer than another has at each of its places something of the other
 no_longer : {X Y : Type 0} (xs : List X) (ys : List Y) → ((k : ℕ) (x : X) → slice_get xs k ≡ Some x → k < length ys) → length xs ≤ length ys
@@ -58,5 +55,5 @@ no_longer (x ∷ xs) (y ∷ ys) h =
 pub no_more_than_submitted : NoMoreThanSubmitted
 no_more_than_submitted first script sessions run served client s here =
     no_longer (polled s) (submitted s) (λ k reply at.
-      let answered = polled_in_turn first script sessions run served client s here k reply at in
-      slice_get_within (submitted s) k answered.0 answered.1)
+    let answered = polled_in_turn first script sessions run served client s here k reply at in
+    slice_get_within (submitted s) k answered.0 answered.1)

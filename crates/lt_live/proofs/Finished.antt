@@ -1,5 +1,5 @@
 -- The run that stations made is one in which all sessions were served.
-use Rattle.std.proofs.Common.{◌≡◌, ◌<◌, ◌≤◌, ◌+◌, ◌*◌, ℕ, zero, suc, List, [], ◌∷◌, length, map, Some, filter, refl, sym, ap, subst, arith, ◌∙◌}
+use Rattle.std.proofs.Common.{◌≡◌, ◌<◌, ◌≤◌, ◌+◌, ◌*◌, ℕ, zero, suc, List, length, map, Some, filter, sym, ap, subst, arith, ◌∙◌}
 use Rattle.std.specs.Prelude.{slice_get}
 use Rattle.std.specs.Option.{option_map}
 use Rattle.std.proofs.Math.Nat.{mul-div-le, suc-mul}
@@ -13,6 +13,7 @@ use Rattle.lt_modes.specs.Script.{ScriptData}
 use Rattle.lt_script.specs.Script.{IsScript, IsRequest}
 use Rattle.lt_script.specs.Script as of_script
 use Rattle.lt_script.specs.declared.limits.TheConstants.{MAX_COMMANDS}
+use Rattle.lt_script.proofs.NameLemmas.{element_at}
 use Rattle.lt_lists.specs.Below.{sum_below}
 use Rattle.lt_spec.specs.Families.{commands_of, home}
 use Rattle.lt_spec.specs.Holdings.{lines_of}
@@ -23,7 +24,6 @@ use Rattle.lt_law_appended.specs.Commands.{with_commands}
 use Rattle.lt_runner.specs.declared.parts.Parts.{Parts}
 use Rattle.lt_threads.specs.Shares.{AreShares, ShareScript, AreTooMany, IsSharedRun, commands_in}
 use Rattle.lt_threads.proofs.Shares.{same_in_joined}
-use Rattle.lt_threads.proofs.Shown.{runner_at}
 use Rattle.lt_live.specs.declared.reply.Reply.{Reply}
 use Rattle.lt_live.specs.declared.ends.Session.{Session}
 use Rattle.lt_live.specs.Replies.{replies_in}
@@ -62,13 +62,8 @@ sum_few (suc n) most f h =
     let more : suc n * most ≡ n * most + most = suc-mul n most in
     omega (arith, rest, last, more)
 
-first_few : {X : Type 0} (xs ys : List X) → IsPrefix xs ys → length xs ≤ length ys
+pub first_few : {X : Type 0} (xs ys : List X) → IsPrefix xs ys → length xs ≤ length ys
 first_few xs ys h = let sum = length-append xs h.0 in let all = ap length h.1 in omega (arith, sum, all)
-
-session_at : (sessions : List Session) (k : ℕ) → k < length sessions → (s : Session) × (slice_get sessions k ≡ Some s)
-session_at [] k h = absurd (omega (arith, h))
-session_at (s ∷ rest) zero h = (s, refl)
-session_at (s ∷ rest) (suc k) h = session_at rest k (omega (arith, h))
 
 -- the session of each client at the end, and the runner that served it
 record At (script : ScriptData) (rs : List Parts) (sessions : List Session) (client : ℕ) : Type 0 where
@@ -107,7 +102,7 @@ module _ (script : ScriptData) (stations later : List StationData) (sessions aft
   -- no client has more commands than its share
   few_of : (client : ℕ) → client < length script.clients → length (commands_of (with_commands script (commands_in rs)) client) ≤ equal_share script
   few_of client below =
-      let (s, e) = session_at sessions client (omega (arith, below, settled.live.count, alike_len SaysSame sessions after settled.each)) in
+      let (s, e) = element_at sessions client (omega (arith, below, settled.live.count, alike_len SaysSame sessions after settled.each)) in
       let at = at_end client s e in
       let p = at.runner in
       let own = (shares.each (home script client) p at.here).script_is in
@@ -137,7 +132,7 @@ module _ (script : ScriptData) (stations later : List StationData) (sessions aft
     where
       same : made ≡ with_commands script made.commands
       same =
-          let (p, here) = runner_at rs 0 (omega (arith, shares.some, shares.count)) in
+          let (p, here) = element_at rs 0 (omega (arith, shares.some, shares.count)) in
           (shared.joined.crew.each 0 p here).script_is.rest ∙ ap (λ (x : ScriptData). with_commands x made.commands) (shares.each 0 p here).script_is
 
       each : (client : ℕ) (s : Session) → slice_get sessions client ≡ Some s → IsServed (commands_of made client) (lines_of run) client s

@@ -71,8 +71,12 @@ live_lasts script stations later sessions after h goes same = record {
       };
 }
 
-station_itself : (a : StationData) → StationGoesOn a a
+pub station_itself : (a : StationData) → StationGoesOn a a
 station_itself a = record { runner = goes_itself a.runner; seated = λ s seated. seated }
+
+-- a station whose runner stays
+pub station_same : (x y : StationData) → y.runner ≡ x.runner → StaySeated x.seats y.seats → StationGoesOn x y
+station_same x y same stay = record { runner = subst (λ (p : Parts). GoesOn x.runner p) (sym same) (goes_itself x.runner); seated = stay }
 
 pub session_itself : (s : Session) → SameSession s s
 session_itself s = record { script = refl; client = refl; place = refl; share = refl; commands = ((refl, refl, refl, refl), refl); replies = ((refl, refl, refl, refl), refl) }

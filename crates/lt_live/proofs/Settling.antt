@@ -16,14 +16,13 @@ use Rattle.lt_live.specs.Words.{SameSession, IsLink}
 use Rattle.lt_live.specs.Seats.{IsServed}
 use Rattle.lt_live.specs.Stations.{StationData, IsStation, IsSeated, StaySeated, SeatLooks}
 use Rattle.lt_live.specs.Opened.{runner_of}
-use Rattle.lt_live.specs.Live.{AreLive, GoesOn, StationGoesOn}
+use Rattle.lt_live.specs.Live.{AreLive}
 use Rattle.lt_live.specs.Finished.{ServedBy, SaysSame, ServedAt, SettlesAt, Settling, Settled}
 use Rattle.lt_live.proofs.Places.{set_here, set_other}
 use Rattle.lt_live.proofs.Linked.{link_seat}
 use Rattle.lt_live.proofs.Serving.{is_settled}
 use Rattle.lt_live.proofs.AlikeLists.{alike_self, alike_join, alike_set}
-use Rattle.lt_live.proofs.LiveShares.{goes_itself}
-use Rattle.lt_live.proofs.Live.{session_itself, one_station_lasts, one_session_lasts}
+use Rattle.lt_live.proofs.Live.{session_itself, station_same, one_station_lasts, one_session_lasts}
 
 -- a look at the rings of one session leaves all sessions their ends
 pub look_stays : (log : List Logged) (s t : Session) (old new : List Seat) → SeatLooks log s t old new → StaySeated old new
@@ -48,7 +47,7 @@ look_serves p s t old new station seated h =
 says_itself : (s : Session) → SaysSame s s
 says_itself s = record { same = session_itself s; submitted = refl; polled = refl }
 
-same_sessions : (a b c : Session) → SameSession a b → SameSession b c → SameSession a c
+pub same_sessions : (a b c : Session) → SameSession a b → SameSession b c → SameSession a c
 same_sessions a b c first second = record {
   script = second.script ∙ first.script;
   client = second.client ∙ first.client;
@@ -69,9 +68,6 @@ says_join a b c first second = record {
 module _ (script : ScriptData) (client place : ℕ) (stations : List StationData) (sessions : List Session) (x y : StationData) (s t : Session)
     (h : AreLive script stations sessions) (session : slice_get sessions client ≡ Some s) (at : place ≡ home script client) (station : slice_get stations place ≡ Some x)
     (runner : y.runner ≡ x.runner) (stay : StaySeated x.seats y.seats) (says : SaysSame s t) (served : ServedBy x.runner s.client t) where
-  goes : StationGoesOn x y
-  goes = record { runner = subst (λ (p : Parts). GoesOn x.runner p) (sym runner) (goes_itself x.runner); seated = stay }
-
   was : slice_index_or stations place x ≡ x
   was = same_Some (slice_index_or stations place x) x (sym (slice_get-get_or stations place x (slice_get_within stations place x station)) ∙ station)
 
@@ -83,7 +79,7 @@ module _ (script : ScriptData) (client place : ℕ) (stations : List StationData
 
   pub settles_at : SettlesAt script client stations sessions (slice_set stations place y) (slice_set sessions client t)
   settles_at = record {
-    live = one_session_lasts script (slice_set stations place y) sessions client s t (one_station_lasts script stations sessions place x y h station goes) session says.same;
+    live = one_session_lasts script (slice_set stations place y) sessions client s t (one_station_lasts script stations sessions place x y h station (station_same x y runner stay)) session says.same;
     runners = map-set_same runner_of stations place y x (runner ∙ sym (ap runner_of was));
     each = alike_set SaysSame says_itself sessions client s t session says;
     others = λ k apart. set_other sessions client t k apart;

@@ -62,8 +62,8 @@ fn home_of(session: &Session) -> u8
     session.script().home(session.client())
 }
 
-// The runners of all stations.
-fn take_runners(mut stations: Vec<Station>, mut runners: Vec<Runner>) -> Vec<Runner>
+/// The runners of all stations, in a list that has room for them.
+pub fn take_runners(mut stations: Vec<Station>, mut runners: Vec<Runner>) -> Vec<Runner>
     requires empty { runners.items ≡ [] }
     requires room { length stations.items ≤ vec_capacity runners }
     ensures { result.items ≡ map runner_of stations.items }

@@ -1,13 +1,13 @@
 -- The commands of each client come to its station.
-use Rattle.std.proofs.Common.{◌≡◌, ◌≢◌, ◌<◌, ◌≤◌, ◌+◌, ◌++◌, ◌⊎◌, ℕ, zero, suc, List, [], ◌∷◌, length, Option, Some, None, Bool, true, false, refl, sym, ap, subst, arith, ◌∙◌, inl, inr, append-nil}
-use Rattle.std.specs.Prelude.{◌==◌, nat_lt, slice_get, filter_map, if◌then◌else◌}
+use Rattle.std.proofs.Common.{◌≡◌, ◌≢◌, ◌<◌, ◌≤◌, ◌++◌, ◌⊎◌, ℕ, zero, suc, List, [], ◌∷◌, length, Option, Some, None, Bool, true, false, refl, sym, ap, subst, arith, ◌∙◌, inl, inr, append-nil}
+use Rattle.std.specs.Prelude.{nat_lt, slice_get, filter_map, if◌then◌else◌}
 use Rattle.std.specs.List.{AllByRecursion, cons_option}
-use Rattle.std.proofs.lemmas.Bool.{cases_eq, eq-eqb, ne_eqb, false≢true, and_from, lt-ltb}
+use Rattle.std.proofs.lemmas.Bool.{cases_eq, ne_eqb, false≢true, and_from, lt-ltb}
 use Rattle.std.proofs.lemmas.List.{length-append}
 use Rattle.std.proofs.lemmas.List.Elements.{recursion_from_All}
 use Rattle.lt_lists.specs.Below.{sum_below}
 use Rattle.lt_lists.proofs.AllLemmas.{all_weaker}
-use Rattle.lt_lists.proofs.Sums.{sum_below-same, sum_below-none, sum_below-add, sum_below-at, sum_below-one, sum_below-most}
+use Rattle.lt_lists.proofs.Sums.{sum_below-most}
 use Rattle.lt_modes.specs.declared.command.Command.{Command}
 use Rattle.lt_modes.specs.declared.command.Command.TheVariants as command
 use Rattle.lt_modes.specs.Script.{ScriptData}
@@ -16,6 +16,7 @@ use Rattle.lt_script.specs.declared.limits.TheConstants.{MAX_COMMANDS}
 use Rattle.lt_spec.specs.Families.{command_if, commands_of, home}
 use Rattle.lt_spec.specs.Log.{Logged}
 use Rattle.lt_law_appended.specs.Commands.{with_commands, AreAt}
+use Rattle.lt_threads.proofs.Shares.{counted}
 use Rattle.lt_live.specs.declared.ends.Seat.{Seat}
 use Rattle.lt_live.specs.Asking.{may_ask, may_append}
 use Rattle.lt_live.specs.Stations.{SeatTurns, HandMayGo}
@@ -64,36 +65,6 @@ module _ (log : List Logged) (old new all : List Command) (x y z : Seat) (turn :
 
   pub advances : (length old < length new) ⊎ (all ≡ old)
   advances = by_hand turn.held.hand refl
-
--- each number below n is met once
-one_at : (n t : ℕ) → t < n → sum_below n (λ k. if k == t then 1 else 0) ≡ 1
-one_at n t below =
-    let least : (if t == t then 1 else 0) ≤ sum_below n (λ k. if k == t then 1 else 0) = sum_below-at n t (λ k. if k == t then 1 else 0) below in
-    let here : ◌≡◌ {A = ℕ} (if t == t then 1 else 0) 1 = ap (λ (b : Bool). if b then 1 else 0) (eq-eqb t t refl) in
-    omega (arith, least, here, sum_below-one n t 1)
-
-same_test : (a b : ℕ) → (a == b) ≡ (b == a)
-same_test a b = elim (cases_eq a b) [
-  | inl e ↦ eq-eqb a b e ∙ sym (eq-eqb b a (sym e))
-  | inr d ↦ ne_eqb a b d ∙ sym (ne_eqb b a (λ e. d (sym e)))
-]
-
--- all commands of these clients are counted once
-counted : (n : ℕ) (commands : List (ℕ × Command)) → AllByRecursion (λ (request : ℕ × Command). request.0 < n) commands
-    → sum_below n (λ client. length (filter_map (command_if client) commands)) ≡ length commands
-counted n [] h = sum_below-none n (λ client. 0) (λ k below. refl)
-counted n (request ∷ rest) h =
-    let each = sum_below-same n (λ client. length (filter_map (command_if client) (request ∷ rest)))
-    (λ client. (if client == request.0 then 1 else 0) + length (filter_map (command_if client) rest)) (λ client below.
-    by_tests (filter_map (command_if client) rest) (request.0 == client) (client == request.0) (same_test request.0 client)) in
-    let parts = sum_below-add n (λ client. if client == request.0 then 1 else 0) (λ client. length (filter_map (command_if client) rest)) in
-    omega (arith, each, parts, one_at n request.0 h.0, counted n rest h.1)
-  where
-    by_tests : (more : List Command) (t u : Bool) → t ≡ u → length (cons_option (if t then Some request.1 else None) more) ≡ (if u then 1 else 0) + length more
-    by_tests more true true e = omega arith
-    by_tests more false false e = omega arith
-    by_tests more true false e = cc
-    by_tests more false true e = cc
 
 requests_below : (script : ScriptData) → IsScript script → AllByRecursion (λ (request : ℕ × Command). request.0 < length script.clients) script.commands
 requests_below script is_script =

@@ -1,13 +1,15 @@
 -- What callers heard, and the live run.
-use Rattle.std.proofs.Common.{◌≡◌, ◌<◌, ◌++◌, ℕ, zero, suc, List, [], ◌∷◌, length, map, Some, refl, sym, ap, subst, arith, ◌∙◌}
+use Rattle.std.proofs.Common.{◌≡◌, ◌<◌, ◌++◌, ℕ, zero, suc, List, length, map, Some, refl, sym, ap, subst, arith, ◌∙◌}
 use Rattle.std.specs.Prelude.{slice_get, filter}
 use Rattle.std.specs.Option.{option_map}
 use Rattle.std.proofs.lemmas.List.{length-map}
 use Rattle.std.proofs.lemmas.Option.{slice_get-map}
 use Rattle.lt_modes.specs.Script.{ScriptData}
 use Rattle.lt_script.specs.Script.{IsScript}
+use Rattle.lt_script.proofs.NameLemmas.{element_at}
 use Rattle.lt_lists.specs.Below.{gather_below}
 use Rattle.lt_limits.specs.declared.ending.Ending.{Ending}
+use Rattle.lt_limits.specs.declared.moves.TheConstants.{MAX_MOVES}
 use Rattle.lt_law_limits.proofs.Within.{whole}
 use Rattle.lt_law_merged.specs.CanMove.{RestIsNoMove}
 use Rattle.lt_law_ordered.specs.OrderedLaws.{OrderedFinish}
@@ -17,29 +19,26 @@ use Rattle.lt_spec.specs.Holdings.{lines_of}
 use Rattle.lt_spec.specs.Log.{Logged}
 use Rattle.lt_spec.specs.World.{is_of_node}
 use Rattle.lt_runner.specs.declared.parts.Parts.{Parts}
+use Rattle.lt_threads.specs.Crews.{MovedOn}
+use Rattle.lt_threads.proofs.Ends.{made_run}
 use Rattle.lt_live.specs.declared.reply.Reply.{Reply}
 use Rattle.lt_live.specs.Opened.{runner_of}
 use Rattle.lt_live.specs.Replies.{replies_in}
 use Rattle.lt_live.specs.Stations.{StationData}
 use Rattle.lt_live.proofs.ReplyLemmas.{replies_in_log}
 use Rattle.lt_live_serve.specs.declared.callers.Caller.{Caller}
-use Rattle.lt_live_serve.specs.Apart.{MovedOn, IsRunOf}
+use Rattle.lt_live_serve.specs.Apart.{IsRunOf}
 use Rattle.lt_live_serve.specs.Calls.{session_of}
 use Rattle.lt_live_serve.specs.Runs.{LiveRun, all_replies}
 use Rattle.lt_live_serve.specs.Serving.{AreServing, HaveHeard}
 use Rattle.lt_live_serve.specs.Telling.{marked_by, heard_at}
-use Rattle.lt_live_serve.proofs.Ended.{thread_run, not_stuck}
+use Rattle.lt_live_serve.proofs.Ended.{not_stuck}
 
 gather_same : {X : Type 0} (n : ℕ) (f g : ℕ → List X) → ((k : ℕ) → k < n → f k ≡ g k) → gather_below n f ≡ gather_below n g
 gather_same zero f g h = refl
 gather_same {X = X} (suc n) f g h =
     ap (λ (xs : List X). xs ++ f n) (gather_same n f g (λ k below. h k (omega (arith, below))))
     ∙ ap (λ (xs : List X). gather_below n g ++ xs) (h n (omega arith))
-
-caller_at : (callers : List Caller) (k : ℕ) → k < length callers → (c : Caller) × (slice_get callers k ≡ Some c)
-caller_at [] k h = absurd (omega (arith, h))
-caller_at (c ∷ rest) zero h = (c, refl)
-caller_at (c ∷ rest) (suc k) h = caller_at rest k (omega (arith, h))
 
 module _ (script : ScriptData) (stations : List StationData) (callers : List Caller) (run : List Logged) (is_script : IsScript script)
     (h : AreServing script stations callers) (heard : HaveHeard script (length callers) (map runner_of stations) callers) (made : IsRunOf script (map runner_of stations) run) where
@@ -50,7 +49,7 @@ module _ (script : ScriptData) (stations : List StationData) (callers : List Cal
   replies : (client : ℕ) → client < length script.clients → heard_at callers client ≡ map (λ (reply : Reply). (client, reply)) (replies_in client (lines_of run))
   replies client below =
       let inside : client < length callers = omega (arith, below, count) in
-      let (c, here) = caller_at callers client inside in
+      let (c, here) = element_at callers client inside in
       let there : slice_get (map session_of callers) client ≡ Some c.session = slice_get-map session_of callers client ∙ ap (option_map session_of) here in
       let live = h.live.each client c.session there in
       let station : StationData = live.station in
@@ -75,7 +74,7 @@ pub live_run : RunsKeepPromises → OrderedFinish → RestIsNoMove → (script :
     → IsRunOf script (map runner_of later) run → LiveRun end script run polled
 live_run promises finish rest script end before stations later callers polled run is_script moved_then same h heard told made =
     let moved : MovedOn script end before (map runner_of later) = subst (λ (rs : List Parts). MovedOn script end before rs) (sym same) moved_then in
-    let ran = thread_run script (map runner_of later) run moved.crew h.limits made rest end moved.ends in
+    let ran = made_run rest MAX_MOVES end script (map runner_of later) made.logs run moved.crew h.limits made.are made.merges moved.ends in
     record {
       ran = ran;
       promised = promises script run (whole script is_script) ran.is_run;

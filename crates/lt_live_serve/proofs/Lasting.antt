@@ -1,5 +1,5 @@
 -- Stations and callers stay those of the script.
-use Rattle.std.proofs.Common.{rules, ◌≡◌, ◌<◌, ◌≤◌, ◌+◌, ℕ, zero, suc, List, [], ◌∷◌, length, map, Option, Some, None, refl, sym, ap, subst, arith, ◌∙◌, inl, inr}
+use Rattle.std.proofs.Common.{◌≡◌, ◌<◌, ◌≤◌, ◌+◌, ℕ, zero, suc, List, [], ◌∷◌, length, map, Option, Some, None, refl, sym, ap, subst, arith, ◌∙◌, inl, inr}
 use Rattle.std.specs.Prelude.{slice_get, slice_set, slice_index_or}
 use Rattle.std.specs.Option.{option_map}
 use Rattle.std.proofs.lemmas.Bool.{cases_eq}
@@ -7,9 +7,8 @@ use Rattle.std.proofs.lemmas.List.Sums.{sum_by-cons}
 use Rattle.std.proofs.lemmas.Option.{same_Some, slice_get-get_or, slice_get-map, slice_get_within}
 use Rattle.lt_modes.specs.Script.{ScriptData}
 use Rattle.lt_limits.specs.declared.moves.TheConstants.{MAX_MOVES}
-use Rattle.lt_law_appended.specs.Commands.{with_commands, AreAt}
+use Rattle.lt_law_appended.specs.Commands.{with_commands}
 use Rattle.lt_mail.specs.Words.{Alike}
-use Rattle.lt_mail.proofs.MailLemmas.{ends_join}
 use Rattle.lt_runner.specs.declared.parts.Parts.{Parts}
 use Rattle.lt_threads.specs.Crews.{HasLimit}
 use Rattle.lt_live.specs.declared.ends.Session.{Session}
@@ -17,10 +16,11 @@ use Rattle.lt_live.specs.Live.{GoesOn, StationGoesOn, EachStation, EachSession}
 use Rattle.lt_live.specs.Opened.{runner_of}
 use Rattle.lt_live.specs.Stations.{StationData, StaySeated}
 use Rattle.lt_live.specs.Words.{SameSession}
-use Rattle.lt_live.proofs.AlikeLists.{alike_self, alike_before, alike_set}
-use Rattle.lt_live.proofs.Live.{live_lasts, session_itself}
-use Rattle.lt_live.proofs.LiveShares.{goes_itself}
+use Rattle.lt_live.proofs.AlikeLists.{alike_self, alike_before, alike_join, alike_set}
+use Rattle.lt_live.proofs.Live.{live_lasts, session_itself, station_itself}
+use Rattle.lt_live.proofs.LiveShares.{goes_join}
 use Rattle.lt_live.proofs.Places.{set_here, set_other}
+use Rattle.lt_live.proofs.Settling.{same_sessions}
 use Rattle.lt_live_serve.specs.declared.callers.Caller.{Caller}
 use Rattle.lt_live_serve.specs.Calls.{Calls, EachCaller, AllSubmitted, session_of, left_of, all_left}
 use Rattle.lt_live_serve.specs.Serving.{AreServing}
@@ -33,23 +33,6 @@ mapped_at f (x ∷ xs) (suc k) y e = mapped_at f xs k y e
 
 -- going on, one step after the other
 
-pub station_itself : (a : StationData) → StationGoesOn a a
-station_itself a = record { runner = goes_itself a.runner; seated = λ s seated. seated }
-
-goes_join : (a b c : Parts) → GoesOn a b → GoesOn b c → GoesOn a c
-goes_join a b c first second = record {
-  script = second.script ∙ ap (λ (s : ScriptData). with_commands s c.node.script.commands) first.script;
-  own = λ before.
-      let mid : AreAt b.node.script b.node.me b.node.script.commands =
-      subst (λ (s : ScriptData). AreAt s b.node.me b.node.script.commands) (sym first.script)
-      (subst (λ (q : ℕ). AreAt a.node.script q b.node.script.commands) (sym first.me) (first.own before)) in
-      subst (λ (q : ℕ). AreAt a.node.script q c.node.script.commands) first.me
-      (subst (λ (s : ScriptData). AreAt s b.node.me c.node.script.commands) first.script (second.own mid));
-  me = second.me ∙ first.me;
-  limit = second.limit ∙ first.limit;
-  ends = ends_join a.mail b.mail c.mail first.ends second.ends;
-}
-
 pub station_join : (a b c : StationData) → StationGoesOn a b → StationGoesOn b c → StationGoesOn a c
 station_join a b c first second = record {
   runner = goes_join a.runner b.runner c.runner first.runner second.runner;
@@ -59,22 +42,12 @@ station_join a b c first second = record {
 pub station_turned : (a b c : StationData) → StationGoesOn a b → GoesOn b.runner c.runner → StaySeated b.seats c.seats → StationGoesOn a c
 station_turned a b c first goes seated = station_join a b c first (record { runner = goes; seated = seated })
 
-pub sessions_join : (a b c : Session) → SameSession a b → SameSession b c → SameSession a c
-sessions_join a b c first second = record {
-  script = second.script ∙ first.script;
-  client = second.client ∙ first.client;
-  place = second.place ∙ first.place;
-  share = second.share ∙ first.share;
-  commands = search rules;
-  replies = search rules;
-}
-
 pub calls_itself : (c : Caller) → Calls c c
 calls_itself c = record { session = session_itself c.session; commands = refl; left = omega arith }
 
 pub calls_join : (a b c : Caller) → Calls a b → Calls b c → Calls a c
 calls_join a b c first second = record {
-  session = sessions_join a.session b.session c.session first.session second.session;
+  session = same_sessions a.session b.session c.session first.session second.session;
   commands = second.commands ∙ first.commands;
   left = let x = first.left in let y = second.left in omega (arith, x, y);
 }
@@ -118,9 +91,12 @@ same_stations stations = alike_self StationGoesOn station_itself stations
 pub same_callers : (callers : List Caller) → EachCaller Calls callers callers
 same_callers callers = alike_self Calls calls_itself callers
 
-pub serving_called : (script : ScriptData) (stations : List StationData) (callers after : List Caller) → AreServing script stations callers
-    → EachCaller Calls callers after → AreServing script stations after
-serving_called script stations callers after h calls = serving_lasts script stations stations callers after h (same_stations stations) calls
+pub stations_join : (stations mid later : List StationData) → EachStation StationGoesOn stations mid → EachStation StationGoesOn mid later
+    → EachStation StationGoesOn stations later
+stations_join stations mid later first second = alike_join StationGoesOn station_join stations mid later first second
+
+pub callers_join : (callers mid after : List Caller) → EachCaller Calls callers mid → EachCaller Calls mid after → EachCaller Calls callers after
+callers_join callers mid after first second = alike_join Calls calls_join callers mid after first second
 
 -- how many commands are left
 

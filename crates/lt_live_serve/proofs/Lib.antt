@@ -11,4 +11,5 @@ pub mod Told
 pub mod Completed
 pub mod Looked
 pub mod Turned
+pub mod Beside
 pub mod Stepped

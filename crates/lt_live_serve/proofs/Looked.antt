@@ -7,19 +7,18 @@ use Rattle.lt_modes.specs.Script.{ScriptData}
 use Rattle.lt_spec.specs.Families.{home}
 use Rattle.lt_spec.specs.Log.{Logged}
 use Rattle.lt_mail.specs.Words.{Alike}
-use Rattle.lt_runner.specs.declared.parts.Parts.{Parts}
 use Rattle.lt_live.specs.declared.ends.Seat.{Seat}
 use Rattle.lt_live.specs.declared.ends.Session.{Session}
-use Rattle.lt_live.specs.Live.{GoesOn, StationGoesOn}
+use Rattle.lt_live.specs.Live.{StationGoesOn}
 use Rattle.lt_live.specs.Stations.{StationData, IsSeated, StaySeated, SeatLooks, EachSeat}
 use Rattle.lt_live.proofs.AlikeLists.{alike_self, alike_set, alike_join}
-use Rattle.lt_live.proofs.LiveShares.{goes_itself}
+use Rattle.lt_live.proofs.Live.{station_itself, station_same}
 use Rattle.lt_live.proofs.Places.{set_here, set_other}
 use Rattle.lt_live_serve.specs.declared.callers.Caller.{Caller}
 use Rattle.lt_live_serve.specs.Calls.{Calls}
 use Rattle.lt_live_serve.specs.Completing.{IsBeside, SameHand, OnlyLooks, LooksTo, LooksAt}
 use Rattle.lt_live_serve.specs.Serving.{AreServing}
-use Rattle.lt_live_serve.proofs.Lasting.{serving_lasts, station_itself, calls_itself, calls_join}
+use Rattle.lt_live_serve.proofs.Lasting.{serving_lasts, calls_itself, calls_join}
 use Rattle.lt_live_serve.proofs.Told.{session_there}
 
 same_hand : (s : Seat) → SameHand s s
@@ -47,9 +46,6 @@ hands_looked log s t old new h k = elim (cases_eq k s.place) [
       (record { client = h.looks.seat.client; hand = h.looks.taken.1; taken = h.looks.taken.0 })))
   | inr apart ↦ subst (λ (o : Option Seat). Alike SameHand (slice_get old k) o) (sym (h.others k apart)) (alike_self SameHand same_hand old k)
 ]
-
-goes_looked : (x y : StationData) → OnlyLooks x y → StationGoesOn x y
-goes_looked x y h = record { runner = subst (λ (p : Parts). GoesOn x.runner p) (sym h.runner) (goes_itself x.runner); seated = h.stay }
 
 module _ (script : ScriptData) (client place : ℕ) (stations : List StationData) (callers : List Caller) (x y : StationData) (c d : Caller)
     (h : AreServing script stations callers) (here : slice_get callers client ≡ Some c) (at : place ≡ home script client) (station : slice_get stations place ≡ Some x)
@@ -111,7 +107,7 @@ module _ (script : ScriptData) (client place : ℕ) (stations : List StationData
   pub looks_at : LooksAt script client stations callers (slice_set stations place y) (slice_set callers client d)
   looks_at = record {
     serving = serving_lasts script stations (slice_set stations place y) callers (slice_set callers client d) h
-        (alike_set StationGoesOn station_itself stations place x y station (goes_looked x y only))
+        (alike_set StationGoesOn station_itself stations place x y station (station_same x y runner stay))
         (alike_set Calls calls_itself callers client c d here calls);
     looks = alike_set OnlyLooks only_itself stations place x y station only;
     calls = alike_set Calls calls_itself callers client c d here calls;

@@ -1,11 +1,10 @@
 -- Stations taken apart and put together again.
-use Rattle.std.proofs.Common.{◌≡◌, ◌<◌, ◌≤◌, ◌+◌, ◌++◌, ℕ, suc, List, [], ◌∷◌, length, map, get_or, Option, Some, None, refl, sym, ap, subst, arith, ◌∙◌, inl, inr}
+use Rattle.std.proofs.Common.{◌≡◌, ◌<◌, ◌++◌, ℕ, suc, List, [], ◌∷◌, length, map, get_or, Option, Some, None, refl, sym, ap, subst, arith, ◌∙◌}
 use Rattle.std.specs.Prelude.{slice_get}
 use Rattle.std.specs.List.{remove}
 use Rattle.std.specs.Option.{option_map}
-use Rattle.std.proofs.lemmas.Bool.{cases_eq}
 use Rattle.std.proofs.lemmas.List.{append_assoc, length-map, map-append}
-use Rattle.std.proofs.lemmas.Option.{same_Some, slice_get-get_or, slice_get-map, slice_get_within}
+use Rattle.std.proofs.lemmas.Option.{same_Some, slice_get-get_or, slice_get-map}
 use Rattle.lt_modes.specs.Script.{ScriptData}
 use Rattle.lt_script.specs.Script.{IsScript}
 use Rattle.lt_spec.specs.Families.{commands_of, home}
@@ -14,6 +13,7 @@ use Rattle.lt_law_appended.specs.Commands.{with_commands, AreAt, SameAt}
 use Rattle.lt_mail.specs.Words.{Alike}
 use Rattle.lt_runner.specs.declared.parts.Parts.{Parts}
 use Rattle.lt_runner.specs.Kept.{Grew}
+use Rattle.lt_threads.specs.Crews.{MovedOn}
 use Rattle.lt_threads.specs.Together.{EachIs, IsCrew}
 use Rattle.lt_threads.specs.Shares.{AreShares}
 use Rattle.lt_threads.proofs.Each.{each_before, each_len}
@@ -24,25 +24,10 @@ use Rattle.lt_live.specs.Stations.{StationData, IsStation, IsSeated}
 use Rattle.lt_live.proofs.KeptStations.{station_grew}
 use Rattle.lt_live_serve.specs.declared.benches.Bench.{Bench}
 use Rattle.lt_live_serve.specs.declared.callers.Caller.{Caller}
-use Rattle.lt_live_serve.specs.Apart.{seats_of, seats_on, AreStations, AreParts, GoTogether, MovedOn}
+use Rattle.lt_live_serve.specs.Apart.{seats_of, seats_on, AreParts, GoTogether}
+use Rattle.lt_live_serve.specs.Completing.{AreKept}
 use Rattle.lt_live_serve.specs.Serving.{AreServing, AreComplete}
 use Rattle.lt_live_serve.proofs.Lasting.{mapped_at, serving_lasts, same_callers}
-
--- what each station keeps, one after the other
-
-abbrev pub StationsTo : ℕ → List StationData → Type 0
-StationsTo n stations = (k : ℕ) (station : StationData) → k < n → slice_get stations k ≡ Some station → IsStation station.runner station.seats
-
-pub next_station : (n : ℕ) (stations : List StationData) (d : StationData) → n < length stations → StationsTo n stations
-    → IsStation (get_or stations n d).runner (get_or stations n d).seats → StationsTo (n + 1) stations
-next_station n stations d inside before here k station below e = elim (cases_eq k n) [
-  | inl at ↦ subst (λ (s : StationData). IsStation s.runner s.seats)
-      (same_Some (get_or stations n d) station (sym (slice_get-get_or stations n d inside) ∙ ap (slice_get stations) (sym at) ∙ e)) here
-  | inr apart ↦ before k station (omega (arith, below, apart)) e
-]
-
-pub all_stations : (n : ℕ) (stations : List StationData) → length stations ≤ n → StationsTo n stations → AreStations stations
-all_stations n stations long h k station e = h k station (omega (arith, slice_get_within stations k station e, long)) e
 
 -- the runners are a crew of the script, once each client's commands were appended at its node
 pub crew_of : (script : ScriptData) (stations : List StationData) (callers : List Caller) → IsScript script → AreServing script stations callers
@@ -148,7 +133,7 @@ seats_there stations benches k station b same here there =
     ∙ ap (λ (xs : List (List Seat)). slice_get xs k) (sym same)
     ∙ (slice_get-map seats_of stations k ∙ ap (option_map seats_of) here))
 
-pub go_together : (stations : List StationData) (runners later : List Parts) (benches : List Bench) → AreStations stations → AreParts stations runners benches
+pub go_together : (stations : List StationData) (runners later : List Parts) (benches : List Bench) → AreKept stations → AreParts stations runners benches
     → EachIs Grew runners later → GoTogether later benches
 go_together stations runners later benches kept parts grew = record {
   count =
@@ -168,7 +153,7 @@ go_together stations runners later benches kept parts grew = record {
       let (station, at, is) = mapped_at runner_of stations k old (ap (λ (rs : List Parts). slice_get rs k) parts.runners_are ∙ was) in
       let seats : seats_on b ≡ station.seats = seats_there stations benches k station b parts.benches_are at there in
       subst (λ (seats_now : List Seat). IsStation p seats_now) (sym seats)
-      (station_grew old p station.seats (subst (λ (q : Parts). IsStation q station.seats) is (kept k station at)) grows);
+      (station_grew old p station.seats (subst (λ (q : Parts). IsStation q station.seats) is (kept k station at).is_station) grows);
 }
 
 goes_grown : (a b : Parts) → Grew a b → GoesOn a b

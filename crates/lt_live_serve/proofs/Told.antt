@@ -4,35 +4,36 @@ use Rattle.std.specs.Prelude.{slice_get, slice_set, slice_index_or}
 use Rattle.std.specs.Option.{option_map}
 use Rattle.std.proofs.Math.Seq.{map-set_same}
 use Rattle.std.proofs.lemmas.Bool.{cases_eq}
-use Rattle.std.proofs.lemmas.List.{append_assoc, map-append, length-append, take_more}
+use Rattle.std.proofs.lemmas.List.{append_assoc, map-append, take_more}
 use Rattle.std.proofs.lemmas.Option.{same_Some, slice_get-get_or, slice_get-map, slice_get_within}
-use mathlib.Core.List.{IsPrefix}
 use Rattle.lt_modes.specs.declared.event.Event.{Event}
 use Rattle.lt_modes.specs.Script.{ScriptData}
 use Rattle.lt_lists.specs.Below.{gather_below}
 use Rattle.lt_spec.specs.Families.{home}
 use Rattle.lt_spec.specs.Holdings.{lines_of}
 use Rattle.lt_spec.specs.Log.{Logged}
+use Rattle.lt_law_appended.specs.Commands.{with_commands}
 use Rattle.lt_runner.specs.declared.parts.Parts.{Parts}
 use Rattle.lt_live.specs.declared.ends.Seat.{Seat}
 use Rattle.lt_live.specs.declared.ends.Session.{Session}
 use Rattle.lt_live.specs.declared.reply.Reply.{Reply}
 use Rattle.lt_live.specs.Cursor.{lines_before, lines_at}
 use Rattle.lt_live.specs.Finished.{ServedBy}
-use Rattle.lt_live.specs.Live.{GoesOn, StationGoesOn}
+use Rattle.lt_live.specs.Live.{StationGoesOn}
 use Rattle.lt_live.specs.Opened.{runner_of}
 use Rattle.lt_live.specs.Replies.{replies_in}
-use Rattle.lt_live.specs.Stations.{StationData, IsStation, IsSeated, StaySeated, SeatLooks}
-use Rattle.lt_live.specs.Words.{polled, known_replies, told_to, SameSession}
+use Rattle.lt_live.specs.Stations.{StationData, IsStation, IsSeated, SeatLooks}
+use Rattle.lt_live.specs.Words.{polled, known_replies, told_to}
 use Rattle.lt_live.proofs.AlikeLists.{alike_set}
-use Rattle.lt_live.proofs.Linked.{session_stays}
-use Rattle.lt_live.proofs.LiveShares.{goes_itself}
+use Rattle.lt_live.proofs.Finished.{first_few}
+use Rattle.lt_live.proofs.Live.{station_itself, station_same}
 use Rattle.lt_live.proofs.Places.{set_here, set_other}
+use Rattle.lt_live.proofs.Settling.{home_found, home_inside, station_found, seated_there}
 use Rattle.lt_live_serve.specs.declared.callers.Caller.{Caller}
 use Rattle.lt_live_serve.specs.Calls.{Calls, session_of}
 use Rattle.lt_live_serve.specs.Serving.{AreServing, HasHeardAll, HaveHeard}
 use Rattle.lt_live_serve.specs.Telling.{Hears, TellsAt, marked, marked_by, heard_at}
-use Rattle.lt_live_serve.proofs.Lasting.{serving_lasts, station_itself, calls_itself, calls_join}
+use Rattle.lt_live_serve.proofs.Lasting.{serving_lasts, calls_itself, calls_join}
 
 past_end : (log : List Logged) → lines_at log (length log) ≡ []
 past_end [] = refl
@@ -74,15 +75,12 @@ heard_all p s t old new station seated h none =
       | inr some ↦ absurd (omega (arith, some, ap (λ (replies : List Reply). length replies) none))
     ]
 
-prefix_few : {X : Type 0} (xs ys : List X) → IsPrefix xs ys → length xs ≤ length ys
-prefix_few xs ys h = omega (arith, length-append xs h.0, ap length h.1)
-
 -- what a caller polled are first replies of its client
 pub heard_few : (p : Parts) (client : ℕ) (c : Caller) → ServedBy p client c.session → length c.heard.items ≤ length (replies_in client (lines_of p.log.entries))
 heard_few p client c served =
     omega (
       arith,
-      prefix_few (polled c.session) (replies_in client (lines_of p.log.entries)) served.replies,
+      first_few (polled c.session) (replies_in client (lines_of p.log.entries)) served.replies,
       ap (λ (replies : List Reply). length replies) c.hears,
     )
 
@@ -101,14 +99,41 @@ hears_join a b d c e f first second = record {
 
 -- one caller was told
 
-goes_same : (x y : StationData) → y.runner ≡ x.runner → StaySeated x.seats y.seats → StationGoesOn x y
-goes_same x y same stay = record { runner = subst (λ (p : Parts). GoesOn x.runner p) (sym same) (goes_itself x.runner); seated = stay }
-
-pub caller_found : (callers : List Caller) (client : ℕ) (d : Caller) → client < length callers → d ≡ slice_index_or callers client d → slice_get callers client ≡ Some d
+caller_found : (callers : List Caller) (client : ℕ) (d : Caller) → client < length callers → d ≡ slice_index_or callers client d → slice_get callers client ≡ Some d
 caller_found callers client d inside is = slice_get-get_or callers client d inside ∙ ap Some (sym is)
 
 pub session_there : (callers : List Caller) (client : ℕ) (c : Caller) → slice_get callers client ≡ Some c → slice_get (map session_of callers) client ≡ Some c.session
 session_there callers client c here = slice_get-map session_of callers client ∙ ap (option_map session_of) here
+
+-- the caller of this client, and the station of the client's node
+pub record AtHome (script : ScriptData) (stations : List StationData) (callers : List Caller) (client place : ℕ) (c : Caller) (x : StationData) : Type 0 where
+  pub found : slice_get callers client ≡ Some c
+  pub at : place ≡ home script client
+  pub there : slice_get stations place ≡ Some x
+  pub seated : IsSeated c.session x.seats
+
+-- what is found by the node that the caller tells
+module _ (script : ScriptData) (stations : List StationData) (callers : List Caller) (client place : ℕ) (c : Caller) (serving : AreServing script stations callers)
+    (inside : client < length callers) (is : c ≡ slice_index_or callers client c) (told : place ≡ home c.session.script c.session.client) where
+  session_here : slice_get (map session_of callers) client ≡ Some c.session
+  session_here = session_there callers client c (caller_found callers client c inside is)
+
+  home_at : place ≡ home (with_commands script []) client
+  home_at = home_found (with_commands script []) stations (map session_of callers) client place c.session serving.live session_here told
+
+  pub home_within : place < length stations
+  home_within = home_inside (with_commands script []) stations (map session_of callers) client place c.session serving.live session_here home_at
+
+  pub at_home : (d : Caller) (x : StationData) → d ≡ slice_index_or callers client d → x ≡ slice_index_or stations place x → AtHome script stations callers client place d x
+  at_home d x again is_station =
+      let found = caller_found callers client d inside again in
+      let there = station_found stations place x home_within is_station in
+      record {
+        found = found;
+        at = home_at;
+        there = there;
+        seated = seated_there (with_commands script []) stations (map session_of callers) client place d.session x serving.live (session_there callers client d found) home_at there;
+      }
 
 module _ (script : ScriptData) (client place : ℕ) (stations : List StationData) (callers : List Caller) (x y : StationData) (c d : Caller)
     (h : AreServing script stations callers) (here : slice_get callers client ≡ Some c) (at : place ≡ home script client) (station : slice_get stations place ≡ Some x)
@@ -122,7 +147,7 @@ module _ (script : ScriptData) (client place : ℕ) (stations : List StationData
   pub tells_at : TellsAt script client stations callers (slice_set stations place y) (slice_set callers client d)
   tells_at = record {
     serving = serving_lasts script stations (slice_set stations place y) callers (slice_set callers client d) h
-        (alike_set StationGoesOn station_itself stations place x y station (goes_same x y hears.runner hears.stay))
+        (alike_set StationGoesOn station_itself stations place x y station (station_same x y hears.runner hears.stay))
         (alike_set Calls calls_itself callers client c d here hears.calls);
     runners = same_runners;
     others = λ k apart. set_other callers client d k apart;
@@ -197,7 +222,3 @@ next_marked c xs ys k d inside so_far =
 
 pub all_marked : (c : Caller) (xs : List (ℕ × Reply)) (k : ℕ) → length c.heard.items ≤ k → xs ++ marked_to c k ≡ xs ++ marked c
 all_marked c xs k long = ap (λ (list : List Reply). xs ++ map (λ (reply : Reply). (c.session.client, reply)) list) (take_all k c.heard.items long)
-
--- the middle caller is the first one with its session looked at
-pub seated_on : (s t : Session) (seats : List Seat) → SameSession s t → IsSeated s seats → IsSeated t seats
-seated_on s t seats same seated = session_stays s t seats same seated

@@ -2,7 +2,7 @@
 use Rattle.std.proofs.Common.{◌≡◌, ◌<◌, ◌≤◌, ◌+◌, ℕ, zero, suc, List, [], ◌∷◌, length, get_or, Bool, true, false, Option, Some, None, refl, sym, ap, subst, arith, ◌∙◌, inl, inr}
 use Rattle.std.specs.Prelude.{sum_by, slice_get, slice_set}
 use Rattle.std.proofs.lemmas.Bool.{cases_eq, cases_lt, false≢true, ltb-true, ltb-false}
-use Rattle.std.proofs.lemmas.List.{length-append, length-set}
+use Rattle.std.proofs.lemmas.List.{length-set}
 use Rattle.std.proofs.lemmas.List.Sums.{sum_by-cons}
 use Rattle.std.proofs.lemmas.Option.{same_Some, slice_get-get_or, slice_get_within}
 use mathlib.Core.List.{IsPrefix}
@@ -11,6 +11,7 @@ use Rattle.lt_mail.specs.Words.{Alike}
 use Rattle.lt_live.specs.Live.{EachStation}
 use Rattle.lt_live.specs.Stations.{StationData}
 use Rattle.lt_live.proofs.AlikeLists.{alike_self}
+use Rattle.lt_live.proofs.Finished.{first_few}
 use Rattle.lt_live.proofs.Places.{set_here, set_other}
 use Rattle.lt_live_serve.specs.Completing.{appended_at, IsKept, AreKept, Turns, TurnsAt, AnyTurns, SameCount, SomeGrew, AllTurn}
 
@@ -31,9 +32,6 @@ pub all_kept : (n : ℕ) (stations : List StationData) → length stations ≤ n
 all_kept n stations long h k station e = h k station (omega (arith, slice_get_within stations k station e, long)) e
 
 -- a turn appends commands alone
-
-first_few : {X : Type 0} (xs ys : List X) → IsPrefix xs ys → length xs ≤ length ys
-first_few xs ys h = let sum = length-append xs h.0 in let all = ap length h.1 in omega (arith, sum, all)
 
 pub more_commands : (more : Bool) (a b : StationData) → Turns more a b → IsPrefix a.runner.node.script.commands b.runner.node.script.commands
 more_commands more a b h =

@@ -1,15 +1,11 @@
 -- Stations taken apart, whose runners make moves meanwhile.
 use Rattle.std.specs.Prelude.{◌≡◌, ℕ, List, Some, length, map, slice_get}
 use Rattle.lt_modes.specs.Script.{ScriptData}
-use Rattle.lt_limits.specs.declared.ending.Ending.{Ending}
 use Rattle.lt_merge.specs.Merging.{Merges}
 use Rattle.lt_merge.specs.Run.{RunData}
 use Rattle.lt_spec.specs.Log.{Logged}
-use Rattle.lt_runner.specs.Kept.{Grew}
 use Rattle.lt_runner.specs.declared.parts.Parts.{Parts}
-use Rattle.lt_threads.specs.Crews.{CrewEnds}
 use Rattle.lt_threads.specs.Finished.{AreCrewLogs}
-use Rattle.lt_threads.specs.Together.{EachIs, IsCrew}
 use Rattle.lt_live.specs.declared.ends.Seat.{Seat}
 use Rattle.lt_live.specs.Opened.{runner_of}
 use Rattle.lt_live.specs.Stations.{StationData, IsStation}
@@ -21,10 +17,6 @@ seats_of station = station.seats
 abbrev pub seats_on : Bench → List Seat
 seats_on bench = bench.seats.items
 
--- each is a station
-abbrev pub AreStations : List StationData → Type 0
-AreStations stations = (k : ℕ) (station : StationData) → slice_get stations k ≡ Some station → IsStation station.runner station.seats
-
 -- the stations have these runners, and their seats are on these benches
 pub record AreParts (stations : List StationData) (runners : List Parts) (benches : List Bench) : Type 0 where
   pub runners_are : map runner_of stations ≡ runners
@@ -34,12 +26,6 @@ pub record AreParts (stations : List StationData) (runners : List Parts) (benche
 pub record GoTogether (runners : List Parts) (benches : List Bench) : Type 0 where
   pub count : length benches ≡ length runners
   pub each : (k : ℕ) (p : Parts) (bench : Bench) → slice_get runners k ≡ Some p → slice_get benches k ≡ Some bench → IsStation p (seats_on bench)
-
--- the runners of a script made all moves that there were, which ended so
-pub record MovedOn (script : ScriptData) (end : Ending) (old new : List Parts) : Type 0 where
-  pub crew : IsCrew script new
-  pub grew : EachIs Grew old new
-  pub ends : CrewEnds end script new
 
 -- the moves of these runners, merged
 pub record IsRunOf (script : ScriptData) (runners : List Parts) (run : List Logged) : Type 0 where

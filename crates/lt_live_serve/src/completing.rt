@@ -84,8 +84,8 @@ fn look(station: &mut Station, caller: &mut Caller)
     station.beside(&mut caller.session);
 }
 
-// What each station keeps.
-fn are_kept(stations: &[Station])
+/// What each station keeps.
+pub(crate) fn are_kept(stations: &[Station])
     ensures { AreKept stations.now }
 {
     for place in 0..stations.len() {

@@ -1,24 +1,23 @@
 // The first round, in which each client has a command for its station.
+ghost use Rattle.lt_live.specs.Live.{StationGoesOn, EachStation};
 ghost use Rattle.lt_live_serve.specs.Calls.{Calls, EachCaller};
-ghost use Rattle.lt_live_serve.specs.Serving.{AreServing};
 
 use crate::callers::Caller;
 use crate::rounds::round;
 use lt_live::Station;
 use lt_runner::Gate;
-use lt_script::Script;
 use std::thread::Threads;
 
 /// Submits the first command of each client, and lets stations and callers work beside each other for a round.
+#[tactic(auto, using(crate::proofs::Lasting::callers_join))]
 pub(crate) fn first_round<R: Threads + Sync, G: Gate>(
     rt: &R,
-    _script: &Script,
-    stations: &mut [Station],
-    callers: &mut [Caller],
+    stations: &mut Vec<Station>,
+    callers: &mut Vec<Caller>,
     gate: &G,
 )
-    requires { AreServing _script.now stations.old callers.old }
-    ensures { AreServing _script.now stations.new callers.new }
+    ensures stations { EachStation StationGoesOn stations.old.items stations.new.items }
+    ensures callers { EachCaller Calls callers.old.items callers.new.items }
 {
     submit_first(callers);
     round(rt, stations, callers, gate);

@@ -1,5 +1,5 @@
 // The run of a script whose commands are submitted by callers.
-ghost use Rattle.std.specs.Prelude.{◌≡◌, ◌≤◌, [], None, length, map, vec_capacity, IfOk};
+ghost use Rattle.std.specs.Prelude.{None, map, IfOk};
 ghost use Rattle.lt_script.specs.Script.{IsScript};
 ghost use Rattle.lt_live.specs.Opened.{runner_of};
 ghost use Rattle.lt_threads.specs.Together.{IsCrew};
@@ -17,9 +17,9 @@ use lt_law_merged::law_can_move;
 use lt_law_ordered::law_ordered;
 use lt_law_promises::law_promised;
 use lt_limits::Ending;
-use lt_live::{Reply, Station};
+use lt_live::{Reply, Station, take_runners};
 use lt_merge::{Run, merge};
-use lt_runner::{Gate, Runner};
+use lt_runner::Gate;
 use lt_script::Script;
 use lt_threads::finish;
 use std::alloc::{AllocError, Global};
@@ -48,8 +48,8 @@ pub(crate) fn live_run<R: Threads + Sync, G: Gate>(
     law_promised();
     law_ordered();
     let (mut stations, mut callers) = begin(alloc, script)?;
-    first_round(rt, script, &mut stations, &mut callers, gate);
-    rounds(rt, script, &mut stations, &mut callers, gate);
+    first_round(rt, &mut stations, &mut callers, gate);
+    rounds(rt, &mut stations, &mut callers, gate);
     complete_all(script, &mut stations, &mut callers, gate)?;
     let (mut stations, ending) = run_on(rt, alloc, script, stations, &callers, gate)?;
     tell_all(script, &mut stations, &mut callers)?;
@@ -68,19 +68,6 @@ fn run_of(alloc: Global, script: &Script, stations: Vec<Station>) -> Result<Run,
     ensures { IfOk result (λ run. IsRunOf script.now (map runner_of stations.items) run.entries) }
 {
     let runners = Vec::with_capacity(alloc, stations.len())?;
-    let logs = finish(alloc, script, runners_of(stations, runners))?;
+    let logs = finish(alloc, script, take_runners(stations, runners))?;
     merge(alloc, logs)
-}
-
-// The runners of all stations.
-fn runners_of(mut stations: Vec<Station>, mut runners: Vec<Runner>) -> Vec<Runner>
-    requires empty { runners.items ≡ [] }
-    requires room { length stations.items ≤ vec_capacity runners }
-    ensures { result.items ≡ map runner_of stations.items }
-{
-    while !stations.is_empty() {
-        let (runner, _) = stations.remove(0).into_parts();
-        runners.push_reserved(runner);
-    }
-    runners
 }

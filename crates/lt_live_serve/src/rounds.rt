@@ -2,40 +2,36 @@
 ghost use Rattle.std.specs.Prelude.{◌≡◌, ◌≤◌, ◌<◌, true, false};
 ghost use Rattle.lt_live.specs.Live.{StationGoesOn, EachStation};
 ghost use Rattle.lt_live_serve.specs.Calls.{Calls, EachCaller, AllSubmitted, all_left};
-ghost use Rattle.lt_live_serve.specs.Serving.{AreServing};
 
 use crate::callers::Caller;
 use crate::limits::{TRIES, WORKERS};
 use lt_live::Station;
 use lt_runner::Gate;
-use lt_script::Script;
 use std::thread::{Threads, for_each_mut, join_mut};
 
 /// Lets stations and callers work beside each other, in rounds, until all commands are submitted. Before the first round,
 /// and after each one, the caller of this submits a command itself.
 pub(crate) fn rounds<R: Threads + Sync, G: Gate>(
     rt: &R,
-    _script: &Script,
     stations: &mut Vec<Station>,
     callers: &mut Vec<Caller>,
     gate: &G,
 )
-    requires { AreServing _script.now stations.old.items callers.old.items }
-    ensures serving { AreServing _script.now stations.new.items callers.new.items }
+    ensures stations { EachStation StationGoesOn stations.old.items stations.new.items }
+    ensures callers { EachCaller Calls callers.old.items callers.new.items }
     ensures submitted { AllSubmitted callers.new.items }
 {
-    rounds_of(rt, _script, stations, callers, gate);
+    rounds_of(rt, stations, callers, gate);
 }
 
 fn rounds_of<R: Threads + Sync, G: Gate>(
     rt: &R,
-    _script: &Script,
     stations: &mut [Station],
     callers: &mut [Caller],
     gate: &G,
 )
-    requires { AreServing _script.now stations.old callers.old }
-    ensures serving { AreServing _script.now stations.new callers.new }
+    ensures stations { EachStation StationGoesOn stations.old stations.new }
+    ensures callers { EachCaller Calls callers.old callers.new }
     ensures submitted { AllSubmitted callers.new }
 {
     while submit_one(callers) {
@@ -105,7 +101,7 @@ fn turn_all<R: Threads + Sync, G: Gate>(rt: &R, stations: &mut [Station], gate: 
 }
 
 // Makes turns, for a while.
-#[tactic(auto, using(crate::proofs::Lasting::station_itself, crate::proofs::Lasting::station_turned))]
+#[tactic(auto, using(lt_live::proofs::Live::station_itself, crate::proofs::Lasting::station_turned))]
 fn turn_often<G: Gate>(station: &mut Station, gate: &G)
     ensures { StationGoesOn station.old station.new }
 {

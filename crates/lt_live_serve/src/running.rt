@@ -1,19 +1,20 @@
 // Lets the nodes make all moves that are left.
 ghost use Rattle.std.specs.Prelude.{◌≡◌, ◌≤◌, [], length, map, vec_capacity, IfOk};
 ghost use Rattle.lt_script.specs.Script.{IsScript};
-ghost use Rattle.lt_threads.specs.Together.{IsCrew};
+ghost use Rattle.lt_threads.specs.Crews.{MovedOn};
 ghost use Rattle.lt_live.specs.Opened.{runner_of};
-ghost use Rattle.lt_live_serve.specs.Apart.{AreStations, AreParts, GoTogether, MovedOn};
+ghost use Rattle.lt_live_serve.specs.Apart.{AreParts, GoTogether};
 ghost use Rattle.lt_live_serve.specs.Serving.{AreServing, AreComplete};
 
 use crate::benches::Bench;
 use crate::callers::Caller;
+use crate::completing::are_kept;
 use crate::limits::{PATIENCE, WORKERS};
 use lt_limits::Ending;
 use lt_live::Station;
 use lt_runner::{Gate, Runner};
 use lt_script::Script;
-use lt_threads::{Ended, anyone_waits, run_rounds};
+use lt_threads::run_crew;
 use std::alloc::{AllocError, Global};
 use std::thread::Threads;
 
@@ -36,39 +37,10 @@ pub(crate) fn run_on<R: Threads + Sync, G: Gate>(
     let runners = Vec::with_capacity(alloc, stations.len())?;
     let benches = Vec::with_capacity(alloc, stations.len())?;
     let room = Vec::with_capacity(alloc, stations.len())?;
-    are_stations(&stations);
+    are_kept(&stations);
     let (runners, benches) = take_apart(stations, runners, benches);
-    let (runners, ending) = move_on(rt, alloc, script, runners, gate)?;
+    let (runners, ending) = run_crew(rt, alloc, script, runners, WORKERS, PATIENCE, gate)?;
     Ok((put_together(runners, benches, room), ending))
-}
-
-// Makes all moves that are left.
-fn move_on<R: Threads + Sync, G: Gate>(
-    rt: &R,
-    alloc: Global,
-    script: &Script,
-    runners: Vec<Runner>,
-    gate: &G,
-) -> Result<(Vec<Runner>, Ending), AllocError>
-    requires { IsCrew script.now runners.items }
-    ensures { IfOk result (λ made. MovedOn script.now made.1 runners.items made.0.items) }
-{
-    let (mut runners, ended) = run_rounds(rt, alloc, script, runners, WORKERS, PATIENCE, gate)?;
-    match ended {
-        Ended::NoMemory => Err(AllocError),
-        Ended::Cut(node) => Ok((runners, Ending::Cut { node })),
-        Ended::Rest if anyone_waits(script, &mut runners) => Ok((runners, Ending::Stuck)),
-        Ended::Rest => Ok((runners, Ending::Done)),
-    }
-}
-
-// What each station keeps.
-fn are_stations(stations: &[Station])
-    ensures { AreStations stations.now }
-{
-    for k in 0..stations.len() {
-        stations[k].kept();
-    }
 }
 
 fn take_apart(

@@ -4,6 +4,7 @@ use Rattle.std.specs.Prelude.{◌==◌, ◌&&◌, if◌then◌else◌, filter, s
 use Rattle.std.proofs.lemmas.Bool.{true≢false, eq-eqb, and_from}
 use Rattle.std.proofs.lemmas.List.Sums.{sum_by-cons}
 use Rattle.lt_modes.specs.Script.{ScriptData}
+use Rattle.lt_script.proofs.NameLemmas.{element_at}
 use Rattle.lt_spec.specs.Log.{Logged}
 use Rattle.lt_spec.specs.World.{World, world_after, is_of_node, is_at_rest, anyone_waits}
 use Rattle.lt_merge.specs.Run.{RunData}
@@ -18,12 +19,12 @@ use Rattle.lt_threads.specs.Together.{EachIs, IsCrew, crew_run, crew_world}
 use Rattle.lt_threads.specs.Rounds.{IsCrewCut}
 use Rattle.lt_threads.specs.Finished.{AreCrewLogs}
 use Rattle.lt_threads.specs.Starting.{IsFirstCrew}
-use Rattle.lt_threads.proofs.Each.{each_weaker, each_before}
+use Rattle.lt_threads.proofs.Each.{each_join, each_weaker, each_before}
 use Rattle.lt_threads.proofs.Pushing.{same_world}
-use Rattle.lt_threads.proofs.Shown.{runner_at}
+use Rattle.lt_threads.proofs.Turns.{seen_grew, grew_join}
 use Rattle.lt_limits.specs.declared.ending.Ending.{Ending}
 use Rattle.lt_limits.specs.declared.ending.Ending.TheVariants.{Done, Stuck, Cut}
-use Rattle.lt_threads.specs.Crews.{CrewEnds, HasLimit}
+use Rattle.lt_threads.specs.Crews.{CrewEnds, HasLimit, MovedOn}
 use Rattle.lt_threads.specs.Threads.{IsThreadRun, StaysWithin, GoesFar}
 
 -- limits last
@@ -65,7 +66,7 @@ cut_full limit k script rs logs run crew limits finished merges cut =
 
     made : moves_of k run ≡ limit
     made =
-        let (p, here) = runner_at rs k (omega (arith, cut.below, crew.count)) in
+        let (p, here) = element_at rs k (omega (arith, cut.below, crew.count)) in
         made_by script rs logs run k p finished merges here ∙ (cut.full k p here cut.moves ∙ limits k p here)
 
 ends_by : (limit : ℕ) (over : Ending) (script : ScriptData) (rs : List Parts) (logs : List RunData) (run : List Logged) → IsCrew script rs → HasLimit limit rs
@@ -81,7 +82,7 @@ ends_by limit (Cut k) script rs logs run crew limits finished merges h = cut_ful
 stays_within : (limit : ℕ) (script : ScriptData) (rs : List Parts) (logs : List RunData) (run : List Logged) → IsCrew script rs → HasLimit limit rs
     → AreCrewLogs script rs logs → Merges logs run → StaysWithin limit script run
 stays_within limit script rs logs run crew limits finished merges q below =
-    let (p, here) = runner_at rs q (omega (arith, below, crew.count)) in
+    let (p, here) = element_at rs q (omega (arith, below, crew.count)) in
     omega (arith, made_by script rs logs run q p finished merges here, finished.within q p here, limits q p here)
 
 goes_far : RestIsNoMove → (limit : ℕ) (over : Ending) (script : ScriptData) (rs : List Parts) (logs : List RunData) (run : List Logged) → IsCrew script rs
@@ -98,25 +99,30 @@ goes_far rest limit over script rs logs run crew limits finished merges h q belo
     by_end Done e = resting e.0
     by_end Stuck e = resting e.0
     by_end (Cut k) e =
-        let (p, here) = runner_at rs q (omega (arith, below, crew.count)) in
+        let (p, here) = element_at rs q (omega (arith, below, crew.count)) in
         made_by script rs logs run q p finished merges here ∙ (e.full q p here can ∙ limits q p here)
 
--- from the first crew to the run
-pub thread_run : RestIsNoMove → (capacity limit : ℕ) (over : Ending) (script : ScriptData) (first worked last : List Parts) (logs : List RunData) (run : List Logged)
-    → IsFirstCrew script capacity limit first → EachIs Grew first worked → EachIs AsSeen worked last → IsCrew script last → CrewEnds over script last
-    → AreCrewLogs script last logs → Merges logs run → IsThreadRun limit over script run
-thread_run rest capacity limit over script first worked last logs run starts grew seen crew ends finished merges = record {
+-- the run of a crew that made all its moves
+pub made_run : RestIsNoMove → (limit : ℕ) (over : Ending) (script : ScriptData) (rs : List Parts) (logs : List RunData) (run : List Logged) → IsCrew script rs
+    → HasLimit limit rs → AreCrewLogs script rs logs → Merges logs run → CrewEnds over script rs → IsThreadRun limit over script run
+made_run rest limit over script rs logs run crew limits finished merges ends = record {
   is_run = finished.is_run run merges;
   rising = merges.order.rising;
-  ends = ends_by limit over script last logs run crew limits finished merges ends;
-  within = stays_within limit script last logs run crew limits finished merges;
-  far = goes_far rest limit over script last logs run crew limits finished merges ends;
+  ends = ends_by limit over script rs logs run crew limits finished merges ends;
+  within = stays_within limit script rs logs run crew limits finished merges;
+  far = goes_far rest limit over script rs logs run crew limits finished merges ends;
 }
-  where
-    limits : HasLimit limit last
-    limits =
-        limit_lasts limit worked last (each_weaker AsSeen SameRunner (λ a b h. h.same) worked last seen)
-        (limit_lasts limit first worked (each_weaker Grew SameRunner (λ a b h. h.same) first worked grew) starts.limits)
+
+-- from the first crew to the run
+pub thread_run : RestIsNoMove → (capacity limit : ℕ) (over : Ending) (script : ScriptData) (first last : List Parts) (logs : List RunData) (run : List Logged)
+    → IsFirstCrew script capacity limit first → MovedOn script over first last → AreCrewLogs script last logs → Merges logs run → IsThreadRun limit over script run
+thread_run rest capacity limit over script first last logs run starts moved finished merges =
+    made_run rest limit over script last logs run moved.crew
+    (limit_lasts limit first last (each_weaker Grew SameRunner (λ a b h. h.same) first last moved.grew) starts.limits) finished merges moved.ends
+
+-- what a look leaves as it is goes on with what grew
+pub grew_seen : (old mid new : List Parts) → EachIs Grew old mid → EachIs AsSeen mid new → EachIs Grew old new
+grew_seen old mid new grew seen = each_join Grew grew_join old mid new grew (each_weaker AsSeen Grew seen_grew mid new seen)
 
 -- rest lasts where no runner moved
 pub rest_lasts : (script : ScriptData) (old new : List Parts) → EachIs AsSeen old new → is_at_rest script (crew_world script old) ≡ true

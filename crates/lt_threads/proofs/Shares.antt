@@ -11,6 +11,7 @@ use Rattle.lt_modes.specs.declared.command.Command.{Command}
 use Rattle.lt_modes.specs.Script.{ScriptData}
 use Rattle.lt_script.specs.Script.{IsScript, IsRequest}
 use Rattle.lt_script.specs.declared.limits.TheConstants.{MAX_COMMANDS}
+use Rattle.lt_script.proofs.NameLemmas.{element_at}
 use Rattle.lt_spec.specs.Families.{command_if}
 use Rattle.lt_spec.specs.Log.{Logged}
 use Rattle.lt_merge.specs.Run.{RunData}
@@ -25,7 +26,6 @@ use Rattle.lt_law_appended.proofs.Sharing.{share_is_same}
 use Rattle.lt_runner.specs.declared.parts.Parts.{Parts}
 use Rattle.lt_threads.specs.Shares.{AreShares, ShareScript, AreScripts, commands_in, AreTooMany, IsJoined, IsSharedRun}
 use Rattle.lt_threads.specs.Finished.{AreCrewLogs}
-use Rattle.lt_threads.proofs.Shown.{runner_at}
 
 -- the commands of the runner, if there is one
 abbrev commands_or : Option Parts → List (ℕ × Command)
@@ -66,7 +66,7 @@ same_in_joined script rs h k p here =
 
     at : EachIsAt bare shares
     at q below =
-        let (x, there) = runner_at rs q (omega (arith, below, h.count)) in
+        let (x, there) = element_at rs q (omega (arith, below, h.count)) in
         subst (λ (o : Option Parts). AreAt script q (commands_or o)) (sym there) (h.each q x there).own
 
 pub joined_crew : (script made : ScriptData) (rs : List Parts) → AreShares script rs → made ≡ with_commands script (commands_in rs) → IsScript made
@@ -120,7 +120,7 @@ same_test a b = elim (cases_eq a b) [
 ]
 
 -- all commands of these clients are counted once
-counted : (n : ℕ) (commands : List (ℕ × Command)) → AllByRecursion (λ (request : ℕ × Command). request.0 < n) commands
+pub counted : (n : ℕ) (commands : List (ℕ × Command)) → AllByRecursion (λ (request : ℕ × Command). request.0 < n) commands
     → sum_below n (λ client. length (filter_map (command_if client) commands)) ≡ length commands
 counted n [] h = sum_below-none n (λ client. 0) (λ k below. refl)
 counted n (request ∷ rest) h =

@@ -7,6 +7,7 @@ use Rattle.std.proofs.lemmas.Option.{slice_get-map}
 use Rattle.lt_desk.specs.LetterSeen.{letter_seen}
 use Rattle.lt_modes.specs.Script.{ScriptData}
 use Rattle.lt_modes.specs.State.{Letter}
+use Rattle.lt_script.proofs.NameLemmas.{element_at}
 use Rattle.lt_lists.specs.Below.{any_below}
 use Rattle.lt_lists.proofs.Members.{contains_first}
 use Rattle.lt_lists.proofs.Searches.{any_below_at}
@@ -76,11 +77,6 @@ least_some (suc n) test h = by_test (any_below n test) (test n) refl refl h (lea
     by_test false true e f g again = (n, rw (least_none n test e, f) refl)
     by_test false false e f g again = cc
 
-pub runner_at : (rs : List Parts) (k : ℕ) → k < length rs → (p : Parts) × (slice_get rs k ≡ Some p)
-runner_at [] k h = absurd (omega (arith, h))
-runner_at (p ∷ rest) zero h = (p, refl)
-runner_at (p ∷ rest) (suc k) h = runner_at rest k (omega (arith, h))
-
 pub part_here : (rs : List Parts) (k : ℕ) (p : Parts) → slice_get rs k ≡ Some p → slice_get (map part_of rs) k ≡ Some (part_of p)
 part_here rs k p e = slice_get-map part_of rs k ∙ ap (option_map part_of) e
 
@@ -129,7 +125,7 @@ takes_hand script rs k p seen hand e =
     let from : (hand.from < p.node.script.nodes) × (hand.from ≢ p.node.me) = subst (IsFromPeer p.node.script.nodes p.node.me) e known.hand in
     let below : hand.from < script.nodes = omega (arith, from.0, nodes_same k p.node.script script in_crew.script_is) in
     let apart : hand.from ≢ k = λ same. from.1 (same ∙ sym in_crew.me) in
-    let (x, there) = runner_at rs hand.from (omega (arith, below, s.crew.count)) in
+    let (x, there) = element_at rs hand.from (omega (arith, below, s.crew.count)) in
     let mine : k < script.nodes = omega (arith, known.below, in_crew.me, nodes_same k p.node.script script in_crew.script_is) in
     let in_front : in_hand hand.from p.hand ≡ letter_seen hand.letter ∷ [] =
     ap (in_hand hand.from) e ∙ ap (λ (b : Bool). if b then letter_seen hand.letter ∷ [] else []) (eq-eqb hand.from hand.from refl) in
@@ -157,7 +153,7 @@ no_mail script rs k p seen fetched empty = none_below script.nodes (λ a. has_ma
     none_on a below apart =
         let s = seen.met_crew in
         let in_crew = s.crew.each k p seen.here in
-        let (x, there) = runner_at rs a (omega (arith, below, s.crew.count)) in
+        let (x, there) = element_at rs a (omega (arith, below, s.crew.count)) in
         let known = fetched empty a (λ same. apart (same ∙ in_crew.me)) in
         let waiting = (s.met a k x p tt apart there seen.here).moves empty known in
         let hand : in_hand a p.hand ≡ [] = ap (in_hand a) empty in

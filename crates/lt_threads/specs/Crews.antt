@@ -3,7 +3,8 @@ use Rattle.std.specs.Prelude.{◌≡◌, true, false, ℕ, List, Some, slice_get
 use Rattle.lt_modes.specs.Script.{ScriptData}
 use Rattle.lt_spec.specs.World.{is_at_rest, anyone_waits}
 use Rattle.lt_runner.specs.declared.parts.Parts.{Parts}
-use Rattle.lt_threads.specs.Together.{crew_world}
+use Rattle.lt_runner.specs.Kept.{Grew}
+use Rattle.lt_threads.specs.Together.{EachIs, IsCrew, crew_world}
 use Rattle.lt_threads.specs.Rounds.{IsCrewCut}
 use Rattle.lt_limits.specs.declared.ending.Ending.{Ending}
 use Rattle.lt_limits.specs.declared.ending.Ending.TheVariants.{Done, Stuck, Cut}
@@ -19,3 +20,9 @@ CrewEnds (Cut node) script rs = IsCrewCut node script rs
 -- each runner may make so many moves
 abbrev pub HasLimit : ℕ → List Parts → Type 0
 HasLimit limit rs = (k : ℕ) (p : Parts) → slice_get rs k ≡ Some p → p.limit ≡ limit
+
+-- the runners of a script made all moves that there were, which ended so
+pub record MovedOn (script : ScriptData) (end : Ending) (old new : List Parts) : Type 0 where
+  pub crew : IsCrew script new
+  pub grew : EachIs Grew old new
+  pub ends : CrewEnds end script new

@@ -23,5 +23,5 @@ pub use joining::{JoinError, finish_joined, join_scripts};
 pub use rounds::{Ended, run_rounds};
 pub use sharing::{MAX_WORKERS, crew};
 pub use starting::start_crew;
-pub use threads::run_on_threads;
+pub use threads::{run_crew, run_on_threads};
 pub use waiting::anyone_waits;

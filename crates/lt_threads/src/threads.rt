@@ -4,7 +4,7 @@ ghost use Rattle.lt_threads.specs.Together.{IsCrew, EachIs, SomeCouldMove};
 ghost use Rattle.lt_threads.specs.Rounds.{RoundsEnd};
 ghost use Rattle.lt_runner.specs.Kept.{AsSeen};
 ghost use Rattle.lt_threads.specs.Threads.{IsThreadRun};
-ghost use Rattle.lt_threads.specs.Crews.{CrewEnds};
+ghost use Rattle.lt_threads.specs.Crews.{CrewEnds, MovedOn};
 ghost use Rattle.lt_threads.specs.declared.sharing.TheConstants.{MAX_WORKERS};
 
 use crate::finishing::finish;
@@ -39,11 +39,29 @@ pub fn run_on_threads<R: Threads + Sync, G: Gate>(
 {
     law_can_move();
     let runners = start_crew(alloc, script, capacity, limit)?;
-    let (mut runners, ended) = run_rounds(rt, alloc, script, runners, workers, patience, gate)?;
-    let ending = end_of(script, &mut runners, ended)?;
+    let (runners, ending) = run_crew(rt, alloc, script, runners, workers, patience, gate)?;
     let logs = finish(alloc, script, runners)?;
     let run = merge(alloc, logs)?;
     Ok((ending, run))
+}
+
+/// Lets the runners make all moves that there are, in rounds, and tells how the run ended.
+pub fn run_crew<R: Threads + Sync, G: Gate>(
+    rt: &R,
+    alloc: Global,
+    script: &Script,
+    runners: Vec<Runner>,
+    workers: u8,
+    patience: u32,
+    gate: &G,
+) -> Result<(Vec<Runner>, Ending), AllocError>
+    requires crew { IsCrew script.now runners.items }
+    requires workers { (0 < workers) × (workers ≤ MAX_WORKERS) }
+    ensures { IfOk result (λ made. MovedOn script.now made.1 runners.items made.0.items) }
+{
+    let (mut runners, ended) = run_rounds(rt, alloc, script, runners, workers, patience, gate)?;
+    let ending = end_of(script, &mut runners, ended)?;
+    Ok((runners, ending))
 }
 
 // How rounds that ended so end the run.

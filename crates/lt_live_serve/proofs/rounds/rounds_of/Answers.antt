@@ -1,7 +1,10 @@
 -- After a command more was submitted, and after a round.
 use Rattle.std.proofs.Common.{arith}
-use Rattle.lt_live_serve.proofs.Lasting.{less_left, serving_called, serving_lasts}
+use Rattle.lt_live_serve.proofs.Lasting.{less_left, same_stations, same_callers, stations_join, callers_join}
 use Rattle.lt_live_serve.proofs.rounds.rounds_of.Goals as goal
+
+pub loop-stations-init : goal.loop-stations-init
+loop-stations-init g c = record { stations = same_stations c.args.stations.now; callers = same_callers c.args.callers.now }
 
 pub loop-stations-smaller : goal.loop-stations-smaller
 loop-stations-smaller g c =
@@ -9,13 +12,13 @@ loop-stations-smaller g c =
 
 pub loop-stations-preserved : goal.loop-stations-preserved
 loop-stations-preserved g c =
-    let script = c.args._script.now in
-    let stations = c.loop-stations.stations in
-    let between = c.submit_one.new.callers in
-    serving_lasts script stations c.round.new.stations between c.round.new.callers
-    (serving_called script stations c.loop-stations.callers between c.loop-stations.invariant c.submit_one.ensures.callers)
-    c.round.ensures.stations c.round.ensures.callers
+    let before = c.loop-stations.invariant in
+    record {
+      stations = stations_join c.args.stations.now c.loop-stations.stations c.round.new.stations before.stations c.round.ensures.stations;
+      callers = callers_join c.args.callers.now c.submit_one.new.callers c.round.new.callers
+          (callers_join c.args.callers.now c.loop-stations.callers c.submit_one.new.callers before.callers c.submit_one.ensures.callers) c.round.ensures.callers;
+    }
 
-pub returns-clause-serving : goal.returns-clause-serving
-returns-clause-serving g c =
-    serving_called c.args._script.now c.loop-stations.stations c.loop-stations.callers c.submit_one.new.callers c.loop-stations.invariant c.submit_one.ensures.callers
+pub returns-clause-callers : goal.returns-clause-callers
+returns-clause-callers g c =
+    callers_join c.args.callers.now c.loop-stations.callers c.submit_one.new.callers c.loop-stations.invariant.callers c.submit_one.ensures.callers

@@ -1,10 +1,13 @@
--- Stations and callers are those of the script, and each round has fewer commands left.
-use Rattle.lt_live_serve.specs.Calls.{all_left}
-use Rattle.lt_live_serve.specs.Serving.{AreServing}
+-- Stations and callers went on, and each round has fewer commands left.
+use Rattle.lt_live.specs.Live.{StationGoesOn, EachStation}
+use Rattle.lt_live_serve.specs.Calls.{Calls, EachCaller, all_left}
 use Rattle.lt_live_serve.proofs.rounds.rounds_of.Given as goal
 
 abbrev pub invariant-loop-stations : goal.invariant-loop-stations
-invariant-loop-stations g l = AreServing l._script l.stations l.callers
+invariant-loop-stations g l = record {
+  stations : EachStation StationGoesOn l.initial.stations l.stations;
+  callers : EachCaller Calls l.initial.callers l.callers;
+}
 
 abbrev pub decreases-loop-stations : goal.decreases-loop-stations
 decreases-loop-stations g l = all_left l.callers

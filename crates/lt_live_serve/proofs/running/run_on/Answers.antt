@@ -3,19 +3,19 @@ use Rattle.std.proofs.Common.{List, subst}
 use Rattle.lt_runner.specs.declared.parts.Parts.{Parts}
 use Rattle.lt_threads.specs.Together.{IsCrew}
 use Rattle.lt_live.specs.Stations.{StationData}
-use Rattle.lt_live_serve.specs.Apart.{AreStations}
+use Rattle.lt_live_serve.specs.Completing.{AreKept}
 use Rattle.lt_live_serve.proofs.Parted.{crew_of, go_together, serving_moved}
 use Rattle.lt_live_serve.proofs.running.run_on.Goals as goal
 
-pub move_on-requires-after_bounds : goal.move_on-requires-after_bounds
-move_on-requires-after_bounds g c κs within =
+pub run_crew-requires-clause-crew : goal.run_crew-requires-clause-crew
+run_crew-requires-clause-crew g c κs within =
     subst (λ (runners : List Parts). IsCrew c.args.script.now runners) c.take_apart-runners.ensures.runners_are
     (crew_of c.args.script.now c.args.stations.items c.args._callers.now c.requires.kept c.requires.serving c.requires.complete)
 
 pub put_together-requires-clause-together : goal.put_together-requires-clause-together
 put_together-requires-clause-together g c =
     go_together c.args.stations.items c.take_apart-runners.result.0.items c.in_ok-runners-2.runners.items c.take_apart-runners.result.1.items
-    (subst (λ (stations : List StationData). AreStations stations) c.deref.ensures.value c.are_stations.ensures) c.take_apart-runners.ensures c.in_ok-runners-2.ensures.grew
+    (subst (λ (stations : List StationData). AreKept stations) c.deref.ensures.value c.are_kept.ensures) c.take_apart-runners.ensures c.in_ok-runners-2.ensures.grew
 
 pub returns-clause-serving : goal.returns-clause-serving
 returns-clause-serving g c =

@@ -1,13 +1,14 @@
 -- The session and its seat looked at their rings before and after the poll.
 use Rattle.std.proofs.Common.{sym, ◌∙◌}
 use Rattle.std.proofs.lemmas.Result.{IfOk-weaker}
-use Rattle.lt_live_serve.proofs.Lasting.{sessions_join}
-use Rattle.lt_live_serve.proofs.Told.{heard_all, seated_on}
+use Rattle.lt_live.proofs.Linked.{session_stays}
+use Rattle.lt_live.proofs.Settling.{same_sessions}
+use Rattle.lt_live_serve.proofs.Told.{heard_all}
 use Rattle.lt_live_serve.proofs.telling.tell_one.Goals as goal
 
 pub beside-requires-2 : goal.beside-requires-2
 beside-requires-2 c =
-    seated_on c.beside.new.session c.hear-more.new.self.session c.beside.new.self.seats c.hear-more.ensures.calls.session c.beside.ensures.seated
+    session_stays c.beside.new.session c.hear-more.new.self.session c.beside.new.self.seats c.hear-more.ensures.calls.session c.beside.ensures.seated
 
 pub returns-clause-hears : goal.returns-clause-hears
 returns-clause-hears c = record {
@@ -15,8 +16,8 @@ returns-clause-hears c = record {
   stay = λ s h. c.beside-2.ensures.stay s (c.beside.ensures.stay s h);
   seated = c.beside-2.ensures.seated;
   calls = record {
-    session = sessions_join c.args.caller.now.session c.beside.new.session c.beside-2.new.session c.beside.ensures.looks.looks.session
-        (sessions_join c.beside.new.session c.hear-more.new.self.session c.beside-2.new.session c.hear-more.ensures.calls.session
+    session = same_sessions c.args.caller.now.session c.beside.new.session c.beside-2.new.session c.beside.ensures.looks.looks.session
+        (same_sessions c.beside.new.session c.hear-more.new.self.session c.beside-2.new.session c.hear-more.ensures.calls.session
         c.beside-2.ensures.looks.looks.session);
     commands = c.hear-more.ensures.calls.commands;
     left = c.hear-more.ensures.calls.left;

@@ -3,6 +3,5 @@ use Rattle.lt_threads.proofs.threads.run_on_threads.Goals as goal
 
 pub returns : goal.returns
 returns g c =
-    thread_run c.law_can_move.ensures.rest c.args.capacity c.args.limit c.in_ok-ending.ending c.args.script.now c.in_ok-runners.runners.items c.in_ok-runners-2.runners.items c.end_of.new.runners.items
-    c.in_ok-logs.logs.items c.in_ok-run.run'.entries c.in_ok-runners.ensures c.in_ok-runners-2.ensures.grew c.end_of.ensures.seen c.end_of.ensures.crew c.in_ok-ending.ensures.ends
-    c.in_ok-logs.ensures c.in_ok-run.ensures
+    thread_run c.law_can_move.ensures.rest c.args.capacity c.args.limit c.in_ok-runners-2.ending c.args.script.now c.in_ok-runners.runners.items c.in_ok-runners-2.runners.items
+    c.in_ok-logs.logs.items c.in_ok-run.run'.entries c.in_ok-runners.ensures c.in_ok-runners-2.ensures c.in_ok-logs.ensures c.in_ok-run.ensures
