@@ -123,10 +123,10 @@ def broken(found, case):
     name, program, words, data, _, _ = case
     for what, wanted in [('nobody', 0), ('a reader of 10 bytes', 10)]:
         seen, told = os.pipe()
-        child = subprocess.Popen([program] + words, stdin=subprocess.PIPE, stdout=told, stderr=subprocess.PIPE, env={})
-        os.close(told)
         if not wanted:
             os.close(seen)
+        child = subprocess.Popen([program] + words, stdin=subprocess.PIPE, stdout=told, stderr=subprocess.PIPE, env={})
+        os.close(told)
         try:
             child.stdin.write(data)
         except BrokenPipeError:
