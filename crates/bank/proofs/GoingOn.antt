@@ -1,51 +1,22 @@
 -- Stations and callers that go on stay those of one script.
-use Rattle.std.proofs.Common.{◌≡◌, ℕ, List, [], map, Option, Some, None, sym, ap, subst, rules, ◌∙◌}
+use Rattle.std.proofs.Common.{◌≡◌, ℕ, List, [], map, Option, Some, None, sym, subst}
 use Rattle.std.specs.Prelude.{slice_get, slice_set}
 use Rattle.std.specs.Option.{option_map}
 use Rattle.std.proofs.lemmas.Option.{slice_get-map}
 use Rattle.lt_modes.specs.Script.{ScriptData}
-use Rattle.lt_law_appended.specs.Commands.{with_commands, AreAt}
 use Rattle.lt_mail.specs.Words.{Alike}
-use Rattle.lt_mail.proofs.MailLemmas.{ends_join}
-use Rattle.lt_runner.specs.declared.parts.Parts.{Parts}
 use Rattle.lt_live.specs.declared.ends.Session.{Session}
 use Rattle.lt_live.specs.Words.{SameSession}
 use Rattle.lt_live.specs.Stations.{StationData}
-use Rattle.lt_live.specs.Live.{AreLive, GoesOn, StationGoesOn, EachSession}
+use Rattle.lt_live.specs.Live.{AreLive, StationGoesOn, EachSession}
 use Rattle.lt_live.specs.Opened.{Opened}
 use Rattle.lt_live.specs.LiveLaws.{OpenedAreLive, LiveLasts}
 use Rattle.lt_live.proofs.AlikeLists.{alike_self, alike_join, alike_set}
-use Rattle.lt_live.proofs.LiveShares.{goes_itself}
-use Rattle.lt_live.proofs.Live.{session_itself}
+use Rattle.lt_live.proofs.LiveShares.{goes_join}
+use Rattle.lt_live.proofs.Live.{session_itself, station_itself}
+use Rattle.lt_live.proofs.Settling.{same_sessions}
 use Rattle.bank.specs.declared.caller.Caller.{Caller}
 use Rattle.bank.specs.GoingOn.{session_of, CallerGoesOn, CallersGoOn, StationsGoOn}
-
-pub same_join : (a b c : Session) → SameSession a b → SameSession b c → SameSession a c
-same_join a b c first second = record {
-  script = second.script ∙ first.script;
-  client = second.client ∙ first.client;
-  place = second.place ∙ first.place;
-  share = second.share ∙ first.share;
-  commands = search rules;
-  replies = search rules;
-}
-
-goes_join : (a b c : Parts) → GoesOn a b → GoesOn b c → GoesOn a c
-goes_join a b c first second = record {
-  script = second.script ∙ ap (λ (s : ScriptData). with_commands s c.node.script.commands) first.script;
-  own = λ before.
-      let here : AreAt b.node.script b.node.me b.node.script.commands =
-      subst (λ (q : ℕ). AreAt b.node.script q b.node.script.commands) (sym first.me)
-      (subst (λ (s : ScriptData). AreAt s a.node.me b.node.script.commands) (sym first.script) (first.own before)) in
-      subst (λ (q : ℕ). AreAt a.node.script q c.node.script.commands) first.me
-      (subst (λ (s : ScriptData). AreAt s b.node.me c.node.script.commands) first.script (second.own here));
-  me = second.me ∙ first.me;
-  limit = second.limit ∙ first.limit;
-  ends = ends_join a.mail b.mail c.mail first.ends second.ends;
-}
-
-pub station_itself : (a : StationData) → StationGoesOn a a
-station_itself a = record { runner = goes_itself a.runner; seated = λ s seated. seated }
 
 pub station_join : (a b c : StationData) → StationGoesOn a b → StationGoesOn b c → StationGoesOn a c
 station_join a b c first second = record {
@@ -57,7 +28,7 @@ pub caller_itself : (a : Caller) → CallerGoesOn a a
 caller_itself a = session_itself a.session
 
 pub caller_join : (a b c : Caller) → CallerGoesOn a b → CallerGoesOn b c → CallerGoesOn a c
-caller_join a b c first second = same_join a.session b.session c.session first second
+caller_join a b c first second = same_sessions a.session b.session c.session first second
 
 pub stations_itself : (stations : List StationData) → StationsGoOn stations stations
 stations_itself stations = alike_self StationGoesOn station_itself stations

@@ -29,7 +29,7 @@ pub fn audit(
     audit_by(money, stations, &mut callers[0])
 }
 
-#[tactic(auto, using(crate::proofs::GoingOn::same_join))]
+#[tactic(auto, using(lt_live::proofs::Settling::same_sessions))]
 fn audit_by(money: &[AtomicU64], stations: &mut Vec<Station>, caller: &mut Caller) -> Option<u64>
     ensures stations { StationsGoOn stations.old.items stations.new.items }
     ensures caller { CallerGoesOn caller.old caller.new }
@@ -43,7 +43,7 @@ fn audit_by(money: &[AtomicU64], stations: &mut Vec<Station>, caller: &mut Calle
 }
 
 /// Submits the command, and lets the stations work: its reply, or none where it waits.
-#[tactic(auto, using(crate::proofs::GoingOn::stations_itself, crate::proofs::GoingOn::same_join))]
+#[tactic(auto, using(crate::proofs::GoingOn::stations_itself, lt_live::proofs::Settling::same_sessions))]
 fn call(stations: &mut Vec<Station>, session: &mut Session, command: Command) -> Option<Reply>
     ensures stations { StationsGoOn stations.old.items stations.new.items }
     ensures session { SameSession session.old session.new }

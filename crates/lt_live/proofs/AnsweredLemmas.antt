@@ -18,7 +18,7 @@ use Rattle.lt_live.specs.declared.reply.Reply.{Reply}
 use Rattle.lt_live.specs.Replies.{reply_to, replies_in}
 use Rattle.lt_live.specs.Words.{submitted, polled}
 use Rattle.lt_live.specs.Answered.{IsReplyTo, PolledInTurn, NoMoreThanSubmitted}
-use Rattle.lt_live.proofs.Finished.{whole}
+use Rattle.lt_law_limits.proofs.Within.{whole}
 use Rattle.lt_live.proofs.ReplyLemmas.{replies_of_lines}
 
 in_prefix : {X : Type 0} (xs ys : List X) → IsPrefix xs ys → (k : ℕ) (x : X) → slice_get xs k ≡ Some x → slice_get ys k ≡ Some x

@@ -4,14 +4,10 @@ use Rattle.std.specs.Prelude.{slice_get}
 use Rattle.std.specs.Option.{option_map}
 use Rattle.std.proofs.Math.Nat.{mul-div-le, suc-mul}
 use Rattle.std.proofs.lemmas.List.{length-append}
-use Rattle.std.proofs.lemmas.List.Elements.{All-weaker}
 use Rattle.std.proofs.lemmas.Option.{same_Some, slice_get-map, slice_get_within}
 use mathlib.Core.List.{IsPrefix}
 use Rattle.lt_modes.specs.declared.command.Command.{Command}
-use Rattle.lt_modes.specs.declared.command.Command.TheVariants as command
 use Rattle.lt_modes.specs.Script.{ScriptData}
-use Rattle.lt_script.specs.Script.{IsScript, IsRequest}
-use Rattle.lt_script.specs.Script as of_script
 use Rattle.lt_script.specs.declared.limits.TheConstants.{MAX_COMMANDS}
 use Rattle.lt_script.proofs.NameLemmas.{element_at}
 use Rattle.lt_lists.specs.Below.{sum_below}
@@ -19,7 +15,6 @@ use Rattle.lt_spec.specs.Families.{commands_of, home}
 use Rattle.lt_spec.specs.Holdings.{lines_of}
 use Rattle.lt_spec.specs.Log.{Logged}
 use Rattle.lt_spec.specs.World.{is_of_node}
-use Rattle.lt_model.specs.Homes.{IsWhole, HasTargetsAt}
 use Rattle.lt_law_appended.specs.Commands.{with_commands}
 use Rattle.lt_runner.specs.declared.parts.Parts.{Parts}
 use Rattle.lt_threads.specs.Shares.{AreShares, ShareScript, AreTooMany, IsSharedRun, commands_in}
@@ -33,25 +28,9 @@ use Rattle.lt_live.specs.Stations.{StationData}
 use Rattle.lt_live.specs.Opened.{equal_share, runner_of}
 use Rattle.lt_live.specs.Live.{AreLive, LiveScript}
 use Rattle.lt_live.specs.Finished.{IsServedRun, ServedBy, SaysSame, Settled}
+use Rattle.lt_law_limits.proofs.Within.{whole}
 use Rattle.lt_live.proofs.AlikeLists.{alike_after, alike_len}
 use Rattle.lt_live.proofs.ReplyLemmas.{replies_in_log}
-
-targets : (script : ScriptData) (client : ℕ) (request : Command) → of_script.HasTargets script.sets script.clients client request
-    → HasTargetsAt script client request
-targets script client (command.Lock set mode) h = h
-targets script client (command.Try set mode) h = h
-targets script client (command.Unlock set mode) h = h
-targets script client (command.Change set gives_up mode) h = h
-targets script client (command.DropAll other set) h = h
-
--- a script names what is of it
-pub whole : (script : ScriptData) → IsScript script → IsWhole script
-whole script is_script = record {
-  some_node = is_script.some_node;
-  homes = is_script.homes;
-  commands = All-weaker (IsRequest script.sets script.clients) (λ (request : ℕ × Command). HasTargetsAt script request.0 request.1)
-      (λ request h. targets script request.0 request.1 h.1) script.commands is_script.requests;
-}
 
 -- so many numbers, each of which is at most this one
 sum_few : (n most : ℕ) (f : ℕ → ℕ) → ((k : ℕ) → k < n → f k ≤ most) → sum_below n f ≤ n * most

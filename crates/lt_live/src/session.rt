@@ -34,9 +34,7 @@ impl Session {
         self.left
     }
 
-    /// How many commands that were submitted here have no polled reply yet.
-    ///
-    /// A reply that came and wasn't polled doesn't count, and neither does one to a command that was never submitted here.
+    /// How many commands that were submitted here have no polled reply yet. A reply that came and wasn't polled doesn't count.
     pub fn unanswered(&self) -> u32
         ensures { result ≡ length (submitted self.now) - length (polled self.now) }
     {

@@ -1,5 +1,6 @@
 -- One turn after the other.
-use Rattle.bank.proofs.GoingOn.{station_itself, station_join}
+use Rattle.lt_live.proofs.Live.{station_itself}
+use Rattle.bank.proofs.GoingOn.{station_join}
 use Rattle.bank.proofs.threads.turn.Goals as goal
 
 pub loop-time-init : goal.loop-time-init
