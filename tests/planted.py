@@ -11,7 +11,7 @@ from pathlib import Path
 
 TOP = Path(__file__).resolve().parent.parent
 FUNCTION = re.compile(r'( *)(?:pub(?:\([a-z]+\))? )?(?:const )?fn ([a-z_0-9]+)')
-IMPL = re.compile(r'impl\b(?:<[^>]*>)? (?:([A-Za-z]+)[A-Za-z:<>]* for )?([A-Za-z]+)')
+IMPL = re.compile(r'impl\b(?:<[^>]*>)? (?:([A-Za-z<>]+) for )?([A-Za-z]+)')
 TOLD = re.compile(r'^fn (\S+): (proved|not proved|no proof: .*)', re.MULTILINE)
 
 
@@ -37,7 +37,7 @@ def function_at(file, text, place):
     found = kind = ''
     for line in text[:place].splitlines():
         if made := IMPL.match(line):
-            kind = made[2] + (made[1] or '')
+            kind = made[2] + re.sub('[<>]', '', made[1] or '')
         elif line == '}':
             kind = ''
         elif made := FUNCTION.match(line):
