@@ -5,49 +5,37 @@ ghost use Rattle.lt_script.specs.declared.limits.TheConstants.{MAX_NODES, MAX_NO
 
 mod adding;
 mod naming;
+mod parts;
 
 use crate::declarations::{ClientDecl, SetDecl};
-use crate::hints::Hints;
+use crate::script::parts::Parts;
 use lt_modes::Command;
 use std::alloc::{AllocError, Global};
 use std::marker::Model;
+use std::sync::Arc;
 
 /// The nodes, lock sets and clients of a run, and the commands that the clients make.
 ///
 /// Sets and clients have numbers from 0, as they are declared. A client's commands are its own among all, in order.
+/// A copy shares its parts with the script that it was made of, until something is added to one of the two.
 #[derive(Debug, Drop)]
 pub struct Script {
     version: u8,
     nodes: u8,
-    sets: Vec<SetDecl>,
-    clients: Vec<ClientDecl>,
-    commands: Vec<(u16, Command)>,
-    set_hints: Hints,
-    client_hints: Hints,
+    parts: Arc<Parts>,
 }
 
 impl Model for Script {
     ghost use Rattle.lt_modes.specs.Script.{ScriptData};
-    ghost use Rattle.lt_script.specs.Names.{is_name};
-    ghost use Rattle.lt_script.specs.Script.{IsScript};
 
     ghost Value = { ScriptData };
 
-    ghost view = { λ s. record {
-      version = s.version;
-      nodes = s.nodes;
-      sets = s.sets.items;
-      clients = s.clients.items;
-      commands = s.commands.items;
-    } };
+    ghost use Rattle.lt_script.specs.Script.{IsScript};
+    ghost use Rattle.lt_script.specs.Views.{script_data};
 
-    ghost invariant = { λ s. IsScript (record {
-      version = s.version;
-      nodes = s.nodes;
-      sets = s.sets.items;
-      clients = s.clients.items;
-      commands = s.commands.items;
-    }) };
+    ghost view = { script_data };
+
+    ghost invariant = { λ s. IsScript (script_data s) };
 }
 
 impl Script {
@@ -58,14 +46,11 @@ impl Script {
         ensures { IfOk result
             (λ s. s ≡ record { version = 1; nodes = nodes; sets = []; clients = []; commands = [] }) }
     {
+        let parts = Arc::new(alloc, Parts::new(alloc))?;
         Ok(Script {
             version: 1,
             nodes,
-            sets: Vec::new(alloc),
-            clients: Vec::new(alloc),
-            commands: Vec::new(alloc),
-            set_hints: Hints::new(),
-            client_hints: Hints::new(),
+            parts,
         })
     }
 
@@ -76,14 +61,11 @@ impl Script {
         ensures { IfOk result
             (λ s. s ≡ record { version = 2; nodes = nodes; sets = []; clients = []; commands = [] }) }
     {
+        let parts = Arc::new(alloc, Parts::new(alloc))?;
         Ok(Script {
             version: 2,
             nodes,
-            sets: Vec::new(alloc),
-            clients: Vec::new(alloc),
-            commands: Vec::new(alloc),
-            set_hints: Hints::new(),
-            client_hints: Hints::new(),
+            parts,
         })
     }
 
@@ -91,17 +73,11 @@ impl Script {
     pub fn copy(&self, alloc: Global) -> Result<Script, AllocError>
         ensures { IfOk result (λ s. s ≡ self.now) }
     {
-        let sets = self.sets.to_vec(alloc)?;
-        let clients = self.clients.to_vec(alloc)?;
-        let commands = Vec::from_slice(alloc, &self.commands)?;
+        let parts = Arc::try_clone(&self.parts)?;
         Ok(Script {
             version: self.version,
             nodes: self.nodes,
-            sets,
-            clients,
-            commands,
-            set_hints: self.set_hints,
-            client_hints: self.client_hints,
+            parts,
         })
     }
 
@@ -109,16 +85,12 @@ impl Script {
     pub fn without_commands(&self, alloc: Global) -> Result<Script, AllocError>
         ensures { IfOk result (λ s. s ≡ record self.now { commands = [] }) }
     {
-        let sets = self.sets.to_vec(alloc)?;
-        let clients = self.clients.to_vec(alloc)?;
+        let parts = self.parts.without_commands(alloc)?;
+        let parts = Arc::new(alloc, parts)?;
         Ok(Script {
             version: self.version,
             nodes: self.nodes,
-            sets,
-            clients,
-            commands: Vec::new(alloc),
-            set_hints: self.set_hints,
-            client_hints: self.client_hints,
+            parts,
         })
     }
 
@@ -142,7 +114,7 @@ impl Script {
     pub fn sets(&self) -> u8
         ensures { result ≡ length self.now.sets }
     {
-        self.sets.len() as u8
+        self.parts.sets.len() as u8
     }
 
     /// The number of clients.
@@ -150,21 +122,21 @@ impl Script {
         ensures clients { result ≡ length self.now.clients }
         ensures kept { IsScript self.now }
     {
-        self.clients.len() as u16
+        self.parts.clients.len() as u16
     }
 
     /// The number of commands.
     pub fn commands(&self) -> u32
         ensures { result ≡ length self.now.commands }
     {
-        self.commands.len() as u32
+        self.parts.commands.len() as u32
     }
 
     pub fn set_name(&self, set: u8) -> &[u8]
         requires { set < length self.now.sets }
         ensures { result.now ≡ set_name self.now set }
     {
-        self.sets[usize::from(set)].name()
+        self.parts.sets[usize::from(set)].name()
     }
 
     /// The number of the first set of the set's family.
@@ -174,14 +146,14 @@ impl Script {
         ensures earlier { result ≤ set }
         ensures first { family_at self.now.sets result ≡ result }
     {
-        self.sets[usize::from(set)].family()
+        self.parts.sets[usize::from(set)].family()
     }
 
     pub fn client_name(&self, client: u16) -> &[u8]
         requires { client < length self.now.clients }
         ensures { result.now ≡ client_name self.now client }
     {
-        self.clients[usize::from(client)].name()
+        self.parts.clients[usize::from(client)].name()
     }
 
     /// The client's node.
@@ -189,7 +161,7 @@ impl Script {
         requires { client < length self.now.clients }
         ensures { result ≡ home_at self.now.clients client }
     {
-        self.clients[usize::from(client)].node()
+        self.parts.clients[usize::from(client)].node()
     }
 
     /// A command by its place among all commands, with the client that makes it.
@@ -197,7 +169,7 @@ impl Script {
         requires { place < length self.now.commands }
         ensures { slice_get self.now.commands place ≡ Some result }
     {
-        self.commands[place as usize]
+        self.parts.commands[place as usize]
     }
 
     /// All commands in order, each with the client that makes it.
@@ -205,7 +177,7 @@ impl Script {
         ensures requests { result.now ≡ self.now.commands }
         ensures kept { IsScript self.now }
     {
-        &self.commands
+        &self.parts.commands
     }
 
     /// The sets in order.
@@ -213,21 +185,21 @@ impl Script {
         ensures sets { result.now ≡ self.now.sets }
         ensures kept { IsScript self.now }
     {
-        &self.sets
+        &self.parts.sets
     }
 
     /// The clients in order.
     pub(crate) fn client_declarations(&self) -> &[ClientDecl]
         ensures { result.now ≡ self.now.clients }
     {
-        &self.clients
+        &self.parts.clients
     }
 
     /// The number of clients on the node.
     pub fn load(&self, node: u8) -> u16
         ensures { result ≡ load_of self.now.clients node }
     {
-        load_of(&self.clients, node) as u16
+        load_of(&self.parts.clients, node) as u16
     }
 }
 

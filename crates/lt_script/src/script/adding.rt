@@ -8,6 +8,7 @@ use crate::declarations::{ClientDecl, SetDecl};
 use crate::script::Script;
 use lt_modes::Command;
 use std::alloc::AllocError;
+use std::sync::Arc;
 
 impl Script {
     /// Adds a last set. Its family is its own number, or that of the first set of an earlier family.
@@ -21,10 +22,14 @@ impl Script {
         }) }
         ensures unchanged { OnErr result (self.new ≡ self.old) }
     {
-        let set = SetDecl::new(*self.sets.allocator(), name, family)?;
-        let place = self.sets.len() as u8;
-        self.sets.push(set)?;
-        self.set_hints.note(name, place);
+        self.separate()?;
+        let set = SetDecl::new(*self.parts.sets.allocator(), name, family)?;
+        let Some(parts) = Arc::get_mut(&mut self.parts) else {
+            return Err(AllocError);
+        };
+        let place = parts.sets.len() as u8;
+        parts.sets.push(set)?;
+        parts.set_hints.note(name, place);
         Ok(())
     }
 
@@ -40,10 +45,14 @@ impl Script {
         }) }
         ensures unchanged { OnErr result (self.new ≡ self.old) }
     {
-        let client = ClientDecl::new(*self.clients.allocator(), name, node)?;
-        let place = self.clients.len() as u8;
-        self.clients.push(client)?;
-        self.client_hints.note(name, place);
+        self.separate()?;
+        let client = ClientDecl::new(*self.parts.clients.allocator(), name, node)?;
+        let Some(parts) = Arc::get_mut(&mut self.parts) else {
+            return Err(AllocError);
+        };
+        let place = parts.clients.len() as u8;
+        parts.clients.push(client)?;
+        parts.client_hints.note(name, place);
         Ok(())
     }
 
@@ -56,7 +65,23 @@ impl Script {
             (self.new ≡ record self.old { commands = self.old.commands ++ (client, command) ∷ [] }) }
         ensures unchanged { OnErr result (self.new ≡ self.old) }
     {
-        self.commands.push((client, command))?;
+        self.separate()?;
+        let Some(parts) = Arc::get_mut(&mut self.parts) else {
+            return Err(AllocError);
+        };
+        parts.commands.push((client, command))?;
+        Ok(())
+    }
+
+    // Makes this script the only owner of its parts, by a copy of them where it has to be.
+    fn separate(&mut self) -> Result<(), AllocError>
+        ensures { self.new ≡ self.old }
+    {
+        if Arc::strong_count(&self.parts) != 1 {
+            let alloc = *self.parts.sets.allocator();
+            let parts = self.parts.copy(alloc)?;
+            self.parts = Arc::new(alloc, parts)?;
+        }
         Ok(())
     }
 }

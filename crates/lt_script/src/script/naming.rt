@@ -13,11 +13,11 @@ impl Script {
         ensures number { result ≡ set_number self.now name.now }
         ensures inside { IfSome result (λ set. set < length self.now.sets) }
     {
-        let guess = self.set_hints.guess(name);
+        let guess = self.parts.set_hints.guess(name);
         if self.is_set(guess, name) {
             return Some(guess);
         }
-        let Some(place) = place_of_set(&self.sets, name) else {
+        let Some(place) = place_of_set(&self.parts.sets, name) else {
             return None;
         };
         Some(place as u8)
@@ -28,11 +28,11 @@ impl Script {
         ensures number { result ≡ client_number self.now name.now }
         ensures inside { IfSome result (λ client. client < length self.now.clients) }
     {
-        let guess = u16::from(self.client_hints.guess(name));
+        let guess = u16::from(self.parts.client_hints.guess(name));
         if self.is_client(guess, name) {
             return Some(guess);
         }
-        let Some(place) = place_of_client(&self.clients, name) else {
+        let Some(place) = place_of_client(&self.parts.clients, name) else {
             return None;
         };
         Some(place as u16)
@@ -42,7 +42,7 @@ impl Script {
     fn is_set(&self, set: u8, name: &[u8]) -> bool
         ensures { IsTrue result → (set < length self.now.sets) × (set_number self.now name.now ≡ Some set) }
     {
-        match self.sets.get(usize::from(set)) {
+        match self.parts.sets.get(usize::from(set)) {
             Some(found) => found.is_named(name),
             None => false,
         }
@@ -53,7 +53,7 @@ impl Script {
         ensures { IsTrue result →
             (client < length self.now.clients) × (client_number self.now name.now ≡ Some client) }
     {
-        match self.clients.get(usize::from(client)) {
+        match self.parts.clients.get(usize::from(client)) {
             Some(found) => found.is_named(name),
             None => false,
         }

@@ -1,14 +1,16 @@
-use Rattle.std.proofs.Common.{◌<◌, length, sym, subst}
+use Rattle.std.proofs.Common.{◌<◌, length, sym, subst, ◌∙◌}
 use Rattle.lt_modes.specs.Script.{ScriptData}
 use Rattle.lt_script.specs.declared.limits.TheConstants.{MAX_COMMANDS}
 use Rattle.lt_script.specs.Script.{IsRequest, HasModesOf}
+use Rattle.lt_script.specs.Views.{script_data}
 use Rattle.lt_script.proofs.ScriptLemmas.{command_added}
 use Rattle.lt_script.proofs.script.Script.add_command.Goals as goal
 
 pub invariant_of-self-2 : goal.invariant_of-self-2
 invariant_of-self-2 c =
-    let s : ScriptData = record { version = c.self.inside.version; nodes = c.self.inside.nodes; sets = c.self.inside.sets.items; clients = c.self.inside.clients.items; commands = c.self.inside.commands.items } in
-    let room = subst (λ (v : ScriptData). length v.commands < MAX_COMMANDS) (sym c.self.view_is) c.requires.room in
-    let request = subst (λ (v : ScriptData). IsRequest v.sets v.clients (c.args.client, c.args.command)) (sym c.self.view_is) c.requires.request in
-    let modes = subst (λ (v : ScriptData). HasModesOf v.version c.args.command) (sym c.self.view_is) c.requires.modes in
-    rw c.in_ok-push.ensures.items (command_added s c.args.client c.args.command c.self.invariant room request modes)
+    let s = script_data c.self.inside in
+    let at = c.self.view_is ∙ c.separate.ensures in
+    let room = subst (λ (v : ScriptData). length v.commands < MAX_COMMANDS) (sym at) c.requires.room in
+    let request = subst (λ (v : ScriptData). IsRequest v.sets v.clients (c.args.client, c.args.command)) (sym at) c.requires.request in
+    let modes = subst (λ (v : ScriptData). HasModesOf v.version c.args.command) (sym at) c.requires.modes in
+    rw (c.in_ok-push.ensures.items, c.in-Some.ensures.value) (command_added s c.args.client c.args.command c.self.invariant room request modes)

@@ -1,0 +1,61 @@
+// What the copies of a script share.
+ghost use Rattle.std.specs.Prelude.{◌≡◌, [], IfOk};
+
+use crate::declarations::{ClientDecl, SetDecl};
+use crate::hints::Hints;
+use lt_modes::Command;
+use std::alloc::{AllocError, Global};
+
+/// What a script and its copies share: the sets, the clients and the commands.
+#[derive(Debug, Drop)]
+pub(crate) struct Parts {
+    pub(crate) sets: Vec<SetDecl>,
+    pub(crate) clients: Vec<ClientDecl>,
+    pub(crate) commands: Vec<(u16, Command)>,
+    pub(crate) set_hints: Hints,
+    pub(crate) client_hints: Hints,
+}
+
+impl Parts {
+    pub(crate) fn new(alloc: Global) -> Parts
+        ensures sets { result.sets.items ≡ [] }
+        ensures clients { result.clients.items ≡ [] }
+        ensures commands { result.commands.items ≡ [] }
+    {
+        Parts {
+            sets: Vec::new(alloc),
+            clients: Vec::new(alloc),
+            commands: Vec::new(alloc),
+            set_hints: Hints::new(),
+            client_hints: Hints::new(),
+        }
+    }
+
+    /// The same parts once more.
+    pub(crate) fn copy(&self, alloc: Global) -> Result<Parts, AllocError>
+        ensures sets { IfOk result (λ parts. parts.sets.items ≡ self.now.sets.items) }
+        ensures clients { IfOk result (λ parts. parts.clients.items ≡ self.now.clients.items) }
+        ensures commands { IfOk result (λ parts. parts.commands.items ≡ self.now.commands.items) }
+    {
+        let mut parts = self.without_commands(alloc)?;
+        parts.commands = Vec::from_slice(alloc, &self.commands)?;
+        Ok(parts)
+    }
+
+    /// The same sets and clients, and no commands.
+    pub(crate) fn without_commands(&self, alloc: Global) -> Result<Parts, AllocError>
+        ensures sets { IfOk result (λ parts. parts.sets.items ≡ self.now.sets.items) }
+        ensures clients { IfOk result (λ parts. parts.clients.items ≡ self.now.clients.items) }
+        ensures commands { IfOk result (λ parts. parts.commands.items ≡ []) }
+    {
+        let sets = self.sets.to_vec(alloc)?;
+        let clients = self.clients.to_vec(alloc)?;
+        Ok(Parts {
+            sets,
+            clients,
+            commands: Vec::new(alloc),
+            set_hints: self.set_hints,
+            client_hints: self.client_hints,
+        })
+    }
+}
