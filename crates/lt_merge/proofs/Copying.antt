@@ -20,12 +20,12 @@ copied (entry ∷ rest) zero made events e f =
 copied (entry ∷ rest) (suc k) made events e f = copied rest k made events e f
 
 -- the entry at a place, and those after it
-record Stands (entries : List Logged) (k : ℕ) : Type 0 where
-  entry : Logged
-  here : drop k entries ≡ entry ∷ drop (k + 1) entries
-  made : made_at entries k ≡ Some entry.made
+pub record Stands (entries : List Logged) (k : ℕ) : Type 0 where
+  pub entry : Logged
+  pub here : drop k entries ≡ entry ∷ drop (k + 1) entries
+  pub made : made_at entries k ≡ Some entry.made
 
-stands : (entries : List Logged) (k : ℕ) → k < length entries → Stands entries k
+pub stands : (entries : List Logged) (k : ℕ) → k < length entries → Stands entries k
 stands [] k h = absurd (omega (arith, h))
 stands (entry ∷ rest) zero h = record { entry = entry; here = refl; made = refl }
 stands (entry ∷ rest) (suc k) h =

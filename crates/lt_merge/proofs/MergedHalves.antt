@@ -13,7 +13,7 @@ entries-append : (first second : List RunData) → all_entries (first ++ second)
 entries-append [] second = refl
 entries-append (log ∷ logs) second = ap (λ (l : List Logged). log.entries ++ l) (entries-append logs second) ∙ sym (append_assoc log.entries (all_entries logs) (all_entries second))
 
-both_empty : {X : Type 0} (xs ys : List X) → xs ++ ys ≡ [] → (xs ≡ []) × (ys ≡ [])
+pub both_empty : {X : Type 0} (xs ys : List X) → xs ++ ys ≡ [] → (xs ≡ []) × (ys ≡ [])
 both_empty [] ys e = (refl, e)
 both_empty (x ∷ xs) ys e = absurd (omega (arith, ap length e))
 
