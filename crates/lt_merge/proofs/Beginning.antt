@@ -1,5 +1,5 @@
 -- The heads are found, from the last log to the first.
-use Rattle.std.proofs.Common.{◌≡◌, ℕ, zero, suc, ◌+◌, ◌<◌, ◌≤◌, inl, inr, List, [], ◌∷◌, ◌++◌, length, Some, None, refl, sym, ap, subst, arith, ◌∙◌, take, drop}
+use Rattle.std.proofs.Common.{◌≡◌, ℕ, zero, suc, ◌+◌, ◌<◌, ◌≤◌, inl, inr, List, [], ◌∷◌, ◌++◌, length, Some, None, refl, sym, ap, subst, arith, ◌∙◌, drop}
 use Rattle.std.specs.Prelude.{◌⊎◌, filter, slice_get}
 use Rattle.std.proofs.lemmas.List.{length-append, drop_all}
 use Rattle.lt_spec.specs.Log.{Logged}
@@ -7,10 +7,9 @@ use Rattle.lt_spec.specs.World.{is_of_node}
 use Rattle.lt_merge.specs.declared.heads.Head.{Head}
 use Rattle.lt_merge.specs.Run.{RunData}
 use Rattle.lt_merge.specs.Merging.{AreRising, all_entries, by_node, AreLogs}
-use Rattle.lt_merge.specs.Heads.{entries_in, rest_of, rests_of, IsHeadAt, placed, AreSame, Begins}
+use Rattle.lt_merge.specs.Heads.{entries_in, rest_of, rests_of, IsHeadAt, placed, Begins}
 use Rattle.lt_merge.proofs.Filters.{filter-append}
 use Rattle.lt_merge.proofs.Placing.{placed_same, placed_heads}
-use Rattle.lt_merge.proofs.Taking.{log_with}
 
 -- the log at a place, and those after it
 record LogAt (logs : List RunData) (k : ℕ) : Type 0 where

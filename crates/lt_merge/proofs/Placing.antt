@@ -1,5 +1,5 @@
 -- A head is brought to its place among the others.
-use Rattle.std.proofs.Common.{◌≡◌, ℕ, zero, suc, ◌+◌, ◌<◌, ◌≤◌, inl, inr, List, [], ◌∷◌, ◌++◌, length, Bool, true, false, Some, refl, sym, ap, subst, arith, ◌∙◌, take, drop}
+use Rattle.std.proofs.Common.{◌≡◌, ℕ, zero, suc, ◌<◌, ◌≤◌, inl, inr, List, [], ◌∷◌, ◌++◌, length, true, false, Some, refl, sym, ap, subst, arith, ◌∙◌, take, drop}
 use Rattle.std.specs.Prelude.{◌⊎◌, IsTrue, filter, slice_set, slice_index_or}
 use Rattle.std.specs.List.{AllByRecursion}
 use Rattle.std.proofs.lemmas.Bool.{cond_both, cond-true, cond-false, both_ways}
@@ -13,7 +13,7 @@ use Rattle.lt_spec.specs.World.{is_of_node}
 use Rattle.lt_law_accounts.proofs.AccountFacts.{newer_in_turn}
 use Rattle.lt_merge.specs.declared.heads.Head.{Head}
 use Rattle.lt_merge.specs.Run.{RunData}
-use Rattle.lt_merge.specs.Merging.{all_entries, by_node, AreNodesApart, AreLogs, Merges}
+use Rattle.lt_merge.specs.Merging.{all_entries, by_node, AreNodesApart, AreLogs}
 use Rattle.lt_merge.specs.Heads.{rest_of, rests_of, first_stamp, IsHead, AreInOrder, AreHeads, placed, settled, AreSame}
 use Rattle.lt_merge.proofs.Filters.{filter-append}
 use Rattle.lt_merge.proofs.MergedHalves.{both_empty, join_empty}
@@ -124,8 +124,11 @@ placed_order logs head (other ∷ others) each apart order =
       placed_order logs head others (each.0, each.1.1) (without_second logs head other others apart) order.1,
     ))
     (λ older. let first = head_first older (firsts_beside (rest_of logs head) (rest_of logs other) (all_entries (rests_of logs others)) head.stamp other.stamp each.0 each.1.0 apart.1) in (
-      (first, all_weaker (λ (later : Head). IsTrue (is_newer later.stamp other.stamp)) (λ (later : Head). IsTrue (is_newer later.stamp head.stamp))
-          (λ (later : Head) after. newer_in_turn later.stamp other.stamp head.stamp after first) others order.0),
+      (
+        first,
+        all_weaker (λ (later : Head). IsTrue (is_newer later.stamp other.stamp)) (λ (later : Head). IsTrue (is_newer later.stamp head.stamp))
+            (λ (later : Head) after. newer_in_turn later.stamp other.stamp head.stamp after first) others order.0,
+      ),
       order,
     ))
   where

@@ -1,7 +1,7 @@
-use Rattle.std.proofs.Common.{◌≡◌, ◌∷◌, ◌+◌, List, Some, drop, length, ap, sym, subst, arith, ◌∙◌}
-use Rattle.std.specs.Prelude.{slice_set, slice_get, remove}
+use Rattle.std.proofs.Common.{◌≡◌, ◌∷◌, ◌+◌, List, drop, ap, sym, subst, arith, ◌∙◌}
+use Rattle.std.specs.Prelude.{slice_set, remove}
 use Rattle.lt_merge.specs.declared.heads.Head.{Head}
-use Rattle.lt_merge.specs.Heads.{AreHeads, Advances, IsHeadAt, entries_in, placed, settled}
+use Rattle.lt_merge.specs.Heads.{AreHeads, Advances, IsHeadAt, placed, settled}
 use Rattle.lt_merge.proofs.Taking.{first_inside, log_inside, all_longer, advanced, ended}
 use Rattle.lt_merge.proofs.heads.advance.Goals as goal
 

@@ -1,5 +1,4 @@
-use Rattle.std.proofs.Common.{◌≡◌, ◌+◌, ◌-◌, List, ap, sym, subst, arith, ◌∙◌, ℕ}
-use Rattle.lt_merge.specs.declared.heads.Head.{Head}
+use Rattle.std.proofs.Common.{◌≡◌, ◌+◌, ◌-◌, ap, sym, subst, arith, ◌∙◌, ℕ}
 use Rattle.lt_merge.specs.Heads.{Begins, IsHeadAt, placed, settled}
 use Rattle.lt_merge.proofs.Beginning.{head_found, none_found}
 use Rattle.lt_merge.proofs.heads.heads_of.Goals as goal

@@ -1,11 +1,9 @@
-use Rattle.std.proofs.Common.{◌≡◌, ◌∷◌, ◌++◌, List, drop, take, length, ap, sym, subst, arith, ◌∙◌}
+use Rattle.std.proofs.Common.{◌++◌, List, take, length, ap, sym, subst, arith, ◌∙◌}
 use Rattle.std.specs.Prelude.{slice_get}
 use Rattle.std.proofs.lemmas.List.{append_assoc, length-append}
 use Rattle.lt_spec.specs.Log.{Logged}
-use Rattle.lt_merge.specs.declared.heads.Head.{Head}
-use Rattle.lt_merge.specs.Run.{RunData}
-use Rattle.lt_merge.specs.Merging.{all_entries, Merges}
-use Rattle.lt_merge.specs.Heads.{AreHeads, entries_in, rest_of, rests_of}
+use Rattle.lt_merge.specs.Merging.{Merges}
+use Rattle.lt_merge.specs.Heads.{entries_in, rest_of}
 use Rattle.lt_merge.proofs.Copying.{length_copied}
 use Rattle.lt_merge.proofs.Taking.{head_inside, log_inside, not_empty}
 use Rattle.lt_merge.proofs.logs.merge_heads.Goals as goal

@@ -1,5 +1,4 @@
-use Rattle.std.proofs.Common.{ap, sym, subst, refl, arith, length, ◌<◌, ◌≡◌, Some, ◌∙◌}
-use Rattle.std.specs.Prelude.{slice_get}
+use Rattle.std.proofs.Common.{subst, refl, length, ◌<◌}
 use Rattle.std.proofs.lemmas.Option.{slice_get_read}
 use Rattle.lt_merge.specs.Heads.{entries_in}
 use Rattle.lt_merge.proofs.logs.take_move.Goals as goal
