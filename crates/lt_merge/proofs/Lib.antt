@@ -4,3 +4,6 @@ pub mod MergedHalves
 pub mod Copying
 pub mod Laid
 pub mod Recorded
+pub mod Placing
+pub mod Taking
+pub mod Beginning

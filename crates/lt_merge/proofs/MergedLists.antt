@@ -1,8 +1,7 @@
 -- Two lists of entries, merged by stamps.
-use Rattle.std.proofs.Common.{◌≡◌, ℕ, suc, ◌+◌, ◌<◌, inl, inr, List, [], ◌∷◌, ◌++◌, length, Bool, false, refl, sym, ap, subst, arith, ◌∙◌}
+use Rattle.std.proofs.Common.{◌≡◌, ℕ, suc, ◌+◌, ◌<◌, inl, inr, List, [], ◌∷◌, length, Bool, false, refl, sym, ap, subst, arith, ◌∙◌}
 use Rattle.std.specs.Prelude.{◌⊎◌, ◌&&◌, ◌==◌, nat_lt, if◌then◌else◌, IsTrue, filter, Contains, slice_index_or}
 use Rattle.std.specs.List.{AllByRecursion}
-use Rattle.std.proofs.lemmas.List.{append-nil}
 use Rattle.std.proofs.lemmas.List.Elements.{recursion_from_All, Contains-get_or}
 use Rattle.std.proofs.lemmas.Bool.{cases_order, eq-eqb, lt-ltb, and_from, or_right, both_ways, cond_both}
 use Rattle.lt_modes.specs.declared.stamp.Stamp.{Stamp}
@@ -139,14 +138,3 @@ beside_by_node first second h = recursion_from_All (λ (entry : Logged). AllByRe
         by_side (inr none) = all_weaker (λ (other : Logged). is_of_node entry.made.stamp.node other ≡ false) (AreBeside entry)
             (λ (other : Logged) fails. either_first entry.made.stamp other.made.stamp (λ same. both_ways (is_of_node entry.made.stamp.node other) fails
             (eq-eqb other.made.stamp.node entry.made.stamp.node (sym same)))) second (all_fail (is_of_node entry.made.stamp.node) second none)
-
--- of each node the entries of one list are there, and then those of the other
-pub merged_parts : (x : ℕ) (first second : List Logged) → AreNodesApart first second
-    → filter (is_of_node x) (both_merged first second) ≡ filter (is_of_node x) first ++ filter (is_of_node x) second
-merged_parts x first second h = by_side (h x)
-  where
-    by_side : (filter (is_of_node x) first ≡ []) ⊎ (filter (is_of_node x) second ≡ [])
-        → filter (is_of_node x) (both_merged first second) ≡ filter (is_of_node x) first ++ filter (is_of_node x) second
-    by_side (inl none) = merged-second (is_of_node x) first second none ∙ ap (λ (l : List Logged). l ++ filter (is_of_node x) second) (sym none)
-    by_side (inr none) = merged-first (is_of_node x) first second none
-        ∙ (sym (append-nil (filter (is_of_node x) first)) ∙ ap (λ (l : List Logged). filter (is_of_node x) first ++ l) (sym none))

@@ -1,3 +1,4 @@
 pub mod Run
 pub mod Marks
 pub mod Merging
+pub mod Heads

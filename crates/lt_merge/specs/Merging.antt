@@ -1,5 +1,5 @@
 -- How logs are merged: all their entries, in order of stamps.
-use Rattle.std.specs.Prelude.{◌≡◌, ◌⊎◌, Bool, true, false, ℕ, List, [], ◌∷◌, ◌++◌, if◌then◌else◌, IsTrue, filter, length}
+use Rattle.std.specs.Prelude.{◌≡◌, ◌⊎◌, ℕ, List, [], ◌∷◌, ◌++◌, if◌then◌else◌, IsTrue, filter, length}
 use Rattle.std.specs.List.{AllByRecursion}
 use Rattle.lt_modes.specs.Tells.{is_newer}
 use Rattle.lt_spec.specs.Log.{Logged}
@@ -32,12 +32,6 @@ first_merged entry rest (other ∷ others) =
 abbrev pub both_merged : List Logged → List Logged → List Logged
 both_merged [] second = second
 both_merged (entry ∷ rest) second = first_merged entry (both_merged rest) second
-
--- the next entry is one of the first list
-abbrev pub takes_first : List Logged → List Logged → Bool
-takes_first [] second = false
-takes_first (entry ∷ rest) [] = true
-takes_first (entry ∷ rest) (other ∷ others) = is_newer other.made.stamp entry.made.stamp
 
 -- the entries of all logs, log by log
 abbrev pub all_entries : List RunData → List Logged

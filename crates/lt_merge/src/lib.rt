@@ -1,6 +1,7 @@
 //! Logs and runs: the moves that were made, in order, each with its events.
 #![tactic(auto)]
 
+mod heads;
 mod logs;
 mod run;
 

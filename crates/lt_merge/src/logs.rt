@@ -1,8 +1,10 @@
-ghost use Rattle.std.specs.Prelude.{◌≡◌, ◌+◌, ◌<◌, ◌^◌, [], ◌∷◌, length, drop, IfOk};
+ghost use Rattle.std.specs.Prelude.{◌≡◌, ◌+◌, ◌<◌, ◌^◌, [], ◌∷◌, ◌++◌, length, take, slice_get, IfOk, OnOk};
 ghost use Rattle.lt_modes.specs.declared.moves.Step.TheVariants.{Act};
 ghost use Rattle.lt_merge.specs.Run.{just_made};
-ghost use Rattle.lt_merge.specs.Merging.{all_entries, AreLogs, Merges, both_merged, takes_first};
+ghost use Rattle.lt_merge.specs.Merging.{all_entries, AreLogs, Merges};
+ghost use Rattle.lt_merge.specs.Heads.{Begins, entries_in, rest_of};
 
+use crate::heads::{Head, advance, heads_of};
 use crate::run::{Log, Run};
 use std::alloc::{AllocError, Global};
 
@@ -12,55 +14,34 @@ pub fn merge(alloc: Global, logs: Vec<Log>) -> Result<Run, AllocError>
     requires few { length (all_entries logs.items) < 2 ^ 32 }
     ensures { IfOk result (λ run. Merges logs.items run.entries) }
 {
-    merge_all(alloc, &logs)
+    let run = Run::for_all(alloc, &logs)?;
+    let heads = heads_of(alloc, &logs)?;
+    merge_heads(&logs, heads, run)
 }
 
-fn merge_all(alloc: Global, logs: &[Log]) -> Result<Run, AllocError>
-    requires logs { AreLogs logs.now }
+// Takes the first head's move until there are no more.
+fn merge_heads(logs: &[Log], mut heads: Vec<Head>, mut run: Run) -> Result<Run, AllocError>
+    requires heads { Begins logs.now 0 heads.items }
+    requires empty { run.entries ≡ [] }
     requires few { length (all_entries logs.now) < 2 ^ 32 }
     ensures { IfOk result (λ run. Merges logs.now run.entries) }
 {
-    match logs {
-        [] => Ok(Run::new(alloc)),
-        [log] => merge_two(alloc, log, &Run::new(alloc)),
-        [first, second] => merge_two(alloc, first, second),
-        _ => {
-            let (front, back) = logs.split_at(logs.len() / 2);
-            let first = merge_all(alloc, front)?;
-            let second = merge_all(alloc, back)?;
-            merge_two(alloc, &first, &second)
-        }
-    }
-}
-
-fn merge_two(alloc: Global, first: &Run, second: &Run) -> Result<Run, AllocError>
-    requires few { length first.now.entries + length second.now.entries < 2 ^ 32 }
-    ensures { IfOk result (λ run. run.entries ≡ both_merged first.now.entries second.now.entries) }
-{
-    let mut run = Run::for_both(alloc, first, second)?;
-    let mut i = 0;
-    let mut k = 0;
-    let count = first.len() + second.len();
-    while run.len() < count {
-        if is_next(first, i, second, k) {
-            run.copy_move(first, i)?;
-            i += 1;
-        } else {
-            run.copy_move(second, k)?;
-            k += 1;
-        }
+    while !heads.is_empty() {
+        let head = heads[0];
+        take_move(logs, head, &mut run)?;
+        advance(logs, head, &mut heads);
     }
     Ok(run)
 }
 
-// Whether the move of the first run at place `i` comes before that of the second one at place `k`.
-fn is_next(first: &Run, i: u32, second: &Run, k: u32) -> bool
-    ensures { result ≡ takes_first (drop i first.now.entries) (drop k second.now.entries) }
+// Adds the head's move to the run.
+fn take_move(logs: &[Log], head: Head, run: &mut Run) -> Result<(), AllocError>
+    requires log { head.log < length logs.now }
+    requires place { head.place < length (entries_in (slice_get logs.now head.log)) }
+    requires few { length run.old.entries + 1 < 2 ^ 32 }
+    ensures { OnOk result (run.new.entries ≡ run.old.entries ++ take 1 (rest_of logs.now head)) }
 {
-    if i >= first.len() {
-        return false;
-    }
-    k >= second.len() || second.made(k).stamp.is_newer(first.made(i).stamp)
+    run.copy_move(&logs[head.log], head.place)
 }
 
 #[cfg(test)]

@@ -63,12 +63,17 @@ impl Run {
         })
     }
 
-    // Makes a run with no moves yet, and room for the moves of both.
-    pub(crate) fn for_both(alloc: Global, first: &Run, second: &Run) -> Result<Run, AllocError>
+    // Makes a run with no moves yet, and room for the moves of all logs.
+    pub(crate) fn for_all(alloc: Global, logs: &[Log]) -> Result<Run, AllocError>
         ensures { IfOk result (λ run. run.entries ≡ []) }
     {
-        let moves = first.moves.len() + second.moves.len();
-        Run::with_room(alloc, moves, first.events.len() + second.events.len())
+        let mut moves: usize = 0;
+        let mut events: usize = 0;
+        for log in logs {
+            moves = moves.saturating_add(log.moves.len());
+            events = events.saturating_add(log.events.len());
+        }
+        Run::with_room(alloc, moves, events)
     }
 
     /// Makes room for one further move with so many events.

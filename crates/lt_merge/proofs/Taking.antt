@@ -1,0 +1,195 @@
+-- The entry of the first head is taken, and the log's next one stands for the log.
+use Rattle.std.proofs.Common.{◌≡◌, ℕ, zero, suc, ◌+◌, ◌<◌, ◌≤◌, inl, inr, List, [], ◌∷◌, ◌++◌, length, false, Some, None, refl, sym, ap, subst, arith, ◌∙◌, take, drop}
+use Rattle.std.specs.Prelude.{◌⊎◌, ◌==◌, if◌then◌else◌, IsTrue, filter, Contains, slice_index_or, slice_get}
+use Rattle.std.specs.List.{AllByRecursion}
+use Rattle.std.proofs.lemmas.Bool.{eq-eqb}
+use Rattle.std.proofs.lemmas.List.{length-append}
+use Rattle.std.proofs.lemmas.List.Elements.{recursion_from_All, Contains-get_or}
+use Rattle.lt_modes.specs.declared.stamp.Stamp.{Stamp}
+use Rattle.lt_modes.specs.declared.moves.Move.{Move}
+use Rattle.lt_modes.specs.Tells.{is_newer}
+use Rattle.lt_lists.proofs.AllLemmas.{all_append, all_weaker}
+use Rattle.lt_lists.proofs.Members.{contains_cases, contains_filter, none_in, some_equal}
+use Rattle.lt_spec.specs.Log.{Logged}
+use Rattle.lt_spec.specs.World.{is_of_node}
+use Rattle.lt_law_accounts.proofs.AccountFacts.{newer_in_turn}
+use Rattle.lt_merge.specs.declared.heads.Head.{Head}
+use Rattle.lt_merge.specs.Run.{RunData, made_at}
+use Rattle.lt_merge.specs.Merging.{IsBefore, AreRising, all_entries, AreLogs, Merges}
+use Rattle.lt_merge.specs.Heads.{entries_in, rest_of, rests_of, first_stamp, IsHead, IsHeadAt, AreHeads, placed, AreSame, Advances}
+use Rattle.lt_merge.proofs.Filters.{all_filter, none_passes}
+use Rattle.lt_merge.proofs.Copying.{stands}
+use Rattle.lt_merge.proofs.Placing.{placed_same, placed_heads}
+
+-- a log with these entries
+abbrev pub log_with : List Logged → RunData
+log_with entries = record { entries = entries; spare = 0; room = 0 }
+
+pub same_merges : (first second : List RunData) (run : List Logged) → AreSame first second → Merges first run → Merges second run
+same_merges first second run same h = record {
+  order = record { rising = h.order.rising; parts = λ x. h.order.parts x ∙ same.parts x };
+  count = h.count ∙ same.count;
+}
+
+among_all : (P : Logged → Type 0) (entries : List Logged) (entry : Logged) → AllByRecursion P entries → Contains entries entry → P entry
+among_all P [] entry h among = none_in entry among
+among_all P (first ∷ rest) entry h among = elim (contains_cases first entry rest among) [
+  | inl same ↦ subst P same h.0
+  | inr later ↦ among_all P rest entry h.1 later
+]
+
+-- what holds of all entries holds of others that are the same of each node
+all_same : (P : Logged → Type 0) (run entries : List Logged) → ((x : ℕ) → filter (is_of_node x) run ≡ filter (is_of_node x) entries) → AllByRecursion P entries → AllByRecursion P run
+all_same P run entries same h = recursion_from_All P run (λ k d under. holds (slice_index_or run k d) (Contains-get_or run k d under))
+  where
+    holds : (entry : Logged) → Contains run entry → P entry
+    holds entry among =
+        let x = entry.made.stamp.node in
+        among_all P (filter (is_of_node x) entries) entry (all_filter P (is_of_node x) entries h)
+        (subst (λ (l : List Logged). Contains l entry) (same x) (contains_filter (is_of_node x) run entry among (eq-eqb x x refl)))
+
+-- an entry that is before all others comes first
+least_first : (entry : Logged) (rest : List Logged) (others : List RunData) (run : List Logged) → AllByRecursion (IsBefore entry) (rest ++ all_entries others)
+    → Merges (log_with rest ∷ others) run → Merges (log_with (entry ∷ rest) ∷ others) (entry ∷ run)
+least_first entry rest others run before h = record {
+  order = record {
+    rising = (all_same (IsBefore entry) run (rest ++ all_entries others) (λ x. h.order.parts x) before, h.order.rising);
+    parts = λ x. ap (λ (part : List Logged). if is_of_node x entry then entry ∷ part else part) (h.order.parts x);
+  };
+  count = omega (arith, h.count);
+}
+
+rest_after : (entry : Logged) (entries : List Logged) (stamp : Stamp) → first_stamp entries ≡ Some stamp → IsTrue (is_newer stamp entry.made.stamp) → AreRising entries
+    → AllByRecursion (IsBefore entry) entries
+rest_after entry [] stamp e newer rising = tt
+rest_after entry (first ∷ later) stamp e newer rising =
+    let sooner = subst (λ (s : Stamp). IsTrue (is_newer s entry.made.stamp)) (sym (some_equal first.made.stamp stamp e)) newer in (
+      sooner,
+      all_weaker (IsBefore first) (IsBefore entry)
+          (λ (z : Logged) after. newer_in_turn z.made.stamp first.made.stamp entry.made.stamp after sooner) later rising.0,
+    )
+
+rests_after : (logs : List RunData) (entry : Logged) (others : List Head) → AllByRecursion (IsHead logs) others
+    → AllByRecursion (λ (other : Head). IsTrue (is_newer other.stamp entry.made.stamp)) others → AreLogs (rests_of logs others)
+    → AllByRecursion (IsBefore entry) (all_entries (rests_of logs others))
+rests_after logs entry [] each newer apart = tt
+rests_after logs entry (other ∷ others) each newer apart =
+    all_append (IsBefore entry) (rest_of logs other) (all_entries (rests_of logs others))
+    (rest_after entry (rest_of logs other) other.stamp each.0 newer.0 apart.0) (rests_after logs entry others each.1 newer.1 apart.2)
+
+pub place_inside : (entries : List Logged) (k : ℕ) (stamp : Stamp) → first_stamp (drop k entries) ≡ Some stamp → k < length entries
+place_inside [] zero stamp e = cc
+place_inside [] (suc k) stamp e = cc
+place_inside (entry ∷ rest) zero stamp e = omega arith
+place_inside (entry ∷ rest) (suc k) stamp e = omega (arith, place_inside rest k stamp e)
+
+-- the entries of the head's log after the head
+abbrev later_of : List RunData → Head → List Logged
+later_of logs head = drop (head.place + 1) (entries_in (slice_get logs head.log))
+
+record Took (logs : List RunData) (head : Head) (others : List Head) : Type 0 where
+  apart : AreLogs (log_with (later_of logs head) ∷ rests_of logs others)
+  next : (run : List Logged) → Merges (log_with (later_of logs head) ∷ rests_of logs others) run
+      → Merges (rests_of logs (head ∷ others)) (take 1 (rest_of logs head) ++ run)
+  count : length (all_entries (log_with (later_of logs head) ∷ rests_of logs others)) + 1 ≡ length (all_entries (rests_of logs (head ∷ others)))
+
+took : (logs : List RunData) (head : Head) (others : List Head) → AreHeads logs (head ∷ others) → Took logs head others
+took logs head others h =
+    let entries = entries_in (slice_get logs head.log) in
+    let at = stands entries head.place (place_inside entries head.place head.stamp h.each.0) in
+    let stamp : head.stamp ≡ at.entry.made.stamp = some_equal head.stamp at.entry.made.stamp (sym h.each.0 ∙ ap first_stamp at.here) in
+    let rising = subst AreRising at.here h.apart.0 in
+    let newer = subst (λ (s : Stamp). AllByRecursion (λ (other : Head). IsTrue (is_newer other.stamp s)) others) stamp h.order.0 in
+    let before = all_append (IsBefore at.entry) (later_of logs head) (all_entries (rests_of logs others)) rising.0
+    (rests_after logs at.entry others h.each.1 newer h.apart.2) in
+    record {
+      apart = (rising.1, (λ x. by_side at.entry x (ap (λ (l : List Logged). filter (is_of_node x) l) at.here) (h.apart.1 x)), h.apart.2);
+      next = λ run merged. subst (λ (l : List Logged). Merges (log_with l ∷ rests_of logs others) (take 1 l ++ run)) (sym at.here)
+          (least_first at.entry (later_of logs head) (rests_of logs others) run before merged);
+      count = omega (
+        arith,
+        ap length at.here,
+        length-append (later_of logs head) (all_entries (rests_of logs others)),
+        length-append (rest_of logs head) (all_entries (rests_of logs others)),
+      );
+    }
+  where
+    by_side : (entry : Logged) (x : ℕ) → filter (is_of_node x) (rest_of logs head) ≡ filter (is_of_node x) (entry ∷ later_of logs head)
+        → (filter (is_of_node x) (rest_of logs head) ≡ []) ⊎ (filter (is_of_node x) (all_entries (rests_of logs others)) ≡ [])
+        → (filter (is_of_node x) (later_of logs head) ≡ []) ⊎ (filter (is_of_node x) (all_entries (rests_of logs others)) ≡ [])
+    by_side entry x here (inl none) = inl (none_passes (is_of_node x) entry (later_of logs head) (sym here ∙ none)).1
+    by_side entry x here (inr none) = inr none
+
+pub advanced : (logs : List RunData) (head next : Head) (others : List Head) → AreHeads logs (head ∷ others) → IsHeadAt logs head.log (head.place + 1) (Some next)
+    → Advances logs head (head ∷ others) (placed next others)
+advanced logs head next others h at =
+    let taken = took logs head others h in
+    let same : rest_of logs next ≡ later_of logs head =
+    ap (λ (n : ℕ). drop next.place (entries_in (slice_get logs n))) at.1 ∙ ap (λ (n : ℕ). drop n (entries_in (slice_get logs head.log))) at.2 in
+    let apart : AreLogs (rests_of logs (next ∷ others)) = subst (λ (l : List Logged). AreLogs (log_with l ∷ rests_of logs others)) (sym same) taken.apart in
+    let moved = placed_same logs next others apart in
+    record {
+      are_heads = placed_heads logs next others (at.0, h.each.1) apart h.order.1;
+      next = λ run merged. taken.next run (subst (λ (l : List Logged). Merges (log_with l ∷ rests_of logs others) run) same
+          (same_merges (rests_of logs (placed next others)) (rests_of logs (next ∷ others)) run moved merged));
+      count = omega (arith, moved.count, taken.count, ap (λ (l : List Logged). length (l ++ all_entries (rests_of logs others))) same);
+    }
+
+pub ended : (logs : List RunData) (head : Head) (others : List Head) → AreHeads logs (head ∷ others) → IsHeadAt logs head.log (head.place + 1) None
+    → Advances logs head (head ∷ others) others
+ended logs head others h none =
+    let taken = took logs head others h in
+    record {
+      are_heads = record { each = h.each.1; order = h.order.1; apart = h.apart.2 };
+      next = λ run merged. taken.next run (subst (λ (l : List Logged). Merges (log_with l ∷ rests_of logs others) run) (sym none)
+          (record { order = record { rising = merged.order.rising; parts = λ x. merged.order.parts x }; count = merged.count }));
+      count = omega (arith, taken.count, ap (λ (l : List Logged). length (l ++ all_entries (rests_of logs others))) none);
+    }
+
+pub stamp_at : (entries : List Logged) (k : ℕ) (made : Move) → made_at entries k ≡ Some made → first_stamp (drop k entries) ≡ Some made.stamp
+stamp_at [] zero made e = cc
+stamp_at [] (suc k) made e = cc
+stamp_at (entry ∷ rest) zero made e = ap (λ (m : Move). Some m.stamp) (some_equal entry.made made e)
+stamp_at (entry ∷ rest) (suc k) made e = stamp_at rest k made e
+
+-- the first move is one of its log
+pub first_inside : (logs : List RunData) (head : Head) (others : List Head) → AreHeads logs (head ∷ others) → head.place < length (entries_in (slice_get logs head.log))
+first_inside logs head others h = place_inside (entries_in (slice_get logs head.log)) head.place head.stamp h.each.0
+
+pub log_inside : (logs : List RunData) (k place : ℕ) → place < length (entries_in (slice_get logs k)) → k < length logs
+log_inside [] zero place h = absurd (omega (arith, h))
+log_inside [] (suc k) place h = absurd (omega (arith, h))
+log_inside (log ∷ logs) zero place h = omega arith
+log_inside (log ∷ logs) (suc k) place h = omega (arith, log_inside logs k place h)
+
+-- no log is longer than all together
+pub all_longer : (logs : List RunData) (k : ℕ) → length (entries_in (slice_get logs k)) ≤ length (all_entries logs)
+all_longer [] zero = omega arith
+all_longer [] (suc k) = omega arith
+all_longer (log ∷ logs) zero = omega (arith, length-append log.entries (all_entries logs))
+all_longer (log ∷ logs) (suc k) = omega (arith, all_longer logs k, length-append log.entries (all_entries logs))
+
+some_stamp : (entries : List Logged) (stamp : Stamp) → first_stamp entries ≡ Some stamp → 1 ≤ length entries
+some_stamp [] stamp e = cc
+some_stamp (entry ∷ rest) stamp e = omega arith
+
+pub some_left : (logs : List RunData) (head : Head) (others : List Head) → AreHeads logs (head ∷ others) → 1 ≤ length (all_entries (rests_of logs (head ∷ others)))
+some_left logs head others h =
+    omega (arith, some_stamp (rest_of logs head) head.stamp h.each.0, length-append (rest_of logs head) (all_entries (rests_of logs others)))
+
+pub first_and_others : (heads : List Head) (head : Head) → 0 < length heads → head ≡ slice_index_or heads 0 head → heads ≡ head ∷ drop 1 heads
+first_and_others [] head some e = absurd (omega (arith, some))
+first_and_others (first ∷ others) head some e = ap (λ (h : Head). h ∷ others) (sym e)
+
+pub none_left : (logs : List RunData) (heads : List Head) → length heads ≡ 0 → Merges (rests_of logs heads) []
+none_left logs [] e = record { order = record { rising = tt; parts = λ x. refl }; count = refl }
+none_left logs (head ∷ heads) e = absurd (omega (arith, e))
+
+pub not_empty : (count : ℕ) → (count == 0) ≡ false → 0 < count
+not_empty zero e = cc
+not_empty (suc count) e = omega arith
+
+-- the head that stands first is inside its log
+pub head_inside : (logs : List RunData) (heads : List Head) (head : Head) → AreHeads logs heads → 0 < length heads → head ≡ slice_index_or heads 0 head
+    → head.place < length (entries_in (slice_get logs head.log))
+head_inside logs heads head h some e = first_inside logs head (drop 1 heads) (subst (AreHeads logs) (first_and_others heads head some e) h)
