@@ -432,6 +432,12 @@ live_on_a_terminal() {
            ^^^^
   not a mode: intention_read, read, upgrade, intention_write or write
 status 2' "$(on_terminal "'$live/locklive' <'$room/refused'; echo status \$?")"
+  printf '# many\nnodes 1\nset s\nclient a at 0\nclient b at 0\nclient c at 0\n client d at 0\nd lock s read\nd unlock s read\n' \
+    >"$room/refused"
+  expect 'locklive, too many commands, on a terminal' 'locklive: too many commands of client 3
+   client d at 0
+  line 7: d has 2 commands, and each of 4 clients at most 1024
+status 10' "$(on_terminal "'$live/locklive' <'$room/refused'; echo status \$?")"
 }
 if [ "$(on_terminal 'test -t 2 && echo yes')" = yes ]; then live_on_a_terminal; fi
 
