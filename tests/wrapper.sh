@@ -230,6 +230,8 @@ make_top "$made" && mkdir -p "$made/crates/lt_low/src" && printf 'lt_low:\nlockr
 printf 'run\nnow\n' >"$made/crates/lockrun/args" && : >"$made/crates/lockrun/stdin"
 mkdir "$room/with-build" && printf '%s\n' '#!/bin/sh
 echo "fn low: proved" >&2
+echo "crate lt_low: modules loaded=1" >&2
+echo "logic=proved functions=1" >&2
 echo "library lt_low: modules loaded=1" >&2
 case $(cat ../lt_low/src/refused 2>/dev/null) in refused) exit 1 ;; esac
 mkdir -p out && printf "#!/bin/sh\necho built\n" >out/lockrun && chmod +x out/lockrun
@@ -238,8 +240,10 @@ with_build=$room/with-build:$PATH
 expect 'the build' "build: from nothing, all together takes about an hour on four processors; what was built here before and didn't change isn't proved again
 build: lockrun is made from 2 crates, and each that isn't proved yet is proved first
 fn low: proved
-library lt_low: modules loaded=1
+crate lt_low: modules loaded=1
+logic=proved functions=1
 build: lockrun: 1 of at most 2 crates proved
+library lt_low: modules loaded=1
 build: lockrun is proved and linked: $made/crates/lockrun/out/lockrun
 status 0" "$(PATH=$with_build && said "$made/build" lockrun)"
 expect 'what was built runs' 'built
