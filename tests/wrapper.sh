@@ -230,6 +230,8 @@ make_top "$made" && mkdir -p "$made/crates/lt_low/src" && printf 'lt_low:\nlockr
 printf 'run\nnow\n' >"$made/crates/lockrun/args" && : >"$made/crates/lockrun/stdin"
 mkdir "$room/with-build" && printf '%s\n' '#!/bin/sh
 echo "fn low: proved" >&2
+echo "crate lt_low: modules loaded=1" >&2
+echo "logic=proved functions=1" >&2
 echo "library lt_low: modules loaded=1" >&2
 case $(cat ../lt_low/src/refused 2>/dev/null) in refused) exit 1 ;; esac
 mkdir -p out && printf "#!/bin/sh\necho built\n" >out/lockrun && chmod +x out/lockrun
@@ -238,8 +240,10 @@ with_build=$room/with-build:$PATH
 expect 'the build' "build: from nothing, all together takes about an hour on four processors; what was built here before and didn't change isn't proved again
 build: lockrun is made from 2 crates, and each that isn't proved yet is proved first
 fn low: proved
-library lt_low: modules loaded=1
+crate lt_low: modules loaded=1
+logic=proved functions=1
 build: lockrun: 1 of at most 2 crates proved
+library lt_low: modules loaded=1
 build: lockrun is proved and linked: $made/crates/lockrun/out/lockrun
 status 0" "$(PATH=$with_build && said "$made/build" lockrun)"
 expect 'what was built runs' 'built
@@ -432,6 +436,12 @@ live_on_a_terminal() {
            ^^^^
   not a mode: intention_read, read, upgrade, intention_write or write
 status 2' "$(on_terminal "'$live/locklive' <'$room/refused'; echo status \$?")"
+  printf '# many\nnodes 1\nset s\nclient a at 0\nclient b at 0\nclient c at 0\n client d at 0\nd lock s read\nd unlock s read\n' \
+    >"$room/refused"
+  expect 'locklive, too many commands, on a terminal' 'locklive: too many commands of client 3
+   client d at 0
+  line 7: d has 2 commands, and each of 4 clients at most 1024
+status 10' "$(on_terminal "'$live/locklive' <'$room/refused'; echo status \$?")"
 }
 if [ "$(on_terminal 'test -t 2 && echo yes')" = yes ]; then live_on_a_terminal; fi
 

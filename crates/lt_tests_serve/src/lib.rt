@@ -1,4 +1,5 @@
-//! Tests of public calls, in a crate of their own: a crate is not proved again for its tests.
+//! Tests of the checker and of the top call: a crate apart, so that
+//! none is proved again for its tests.
 #![tactic(auto)]
 
 #[cfg(test)]
