@@ -4,6 +4,7 @@ pub mod Script
 pub mod Forms
 pub mod Faults
 pub mod Reading
+pub mod Steps
 pub mod Printing
 pub mod FaultLaws
 pub mod Hints
