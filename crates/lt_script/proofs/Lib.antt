@@ -1,6 +1,6 @@
 pub mod ScriptLemmas
 pub mod NameLemmas
-pub mod CleanForms
+pub mod StepLemmas
 pub mod ReadLemmas
 pub mod PrintLemmas
 pub mod PrintedLines

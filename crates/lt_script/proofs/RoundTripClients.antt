@@ -7,7 +7,7 @@ use Rattle.std.specs.Fmt.{decimal}
 use Rattle.std.proofs.lemmas.Bool.{eq-eqb, lt-ltb, lt-leb}
 use Rattle.std.proofs.lemmas.List.Sums.{sum_by-append, sum_by-cons}
 use Rattle.lt_modes.specs.Script.{ScriptData, ClientData, client_name, name_of_client, node_of_client, home_at}
-use Rattle.lt_text.specs.Text.{spaced, lines}
+use Rattle.lt_text.specs.Text.{spaced}
 use Rattle.lt_text.specs.Number.{number}
 use Rattle.lt_text.proofs.NumberLemmas.{number_decimal}
 use Rattle.lt_script.specs.Names.{is_name}

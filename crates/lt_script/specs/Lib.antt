@@ -5,6 +5,7 @@ pub mod Views
 pub mod Forms
 pub mod Faults
 pub mod Reading
+pub mod Steps
 pub mod Printing
 pub mod FaultLaws
 pub mod Hints

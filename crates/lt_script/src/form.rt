@@ -1,6 +1,7 @@
-ghost use Rattle.std.specs.Prelude.{◌≡◌, option_map};
+ghost use Rattle.std.specs.Prelude.{◌≡◌, ◌∷◌, option_map};
 ghost use Rattle.lt_text.specs.Text.{words};
 ghost use Rattle.lt_script.specs.Forms.{form_seen, asked_seen, form_of, version_form, nodes_form, set_form, client_form, asked_of, asked_in_two, CommandForm};
+ghost use Rattle.lt_script.specs.Steps.{begins_declaration};
 
 use lt_text::{is, next_word};
 
@@ -56,13 +57,10 @@ pub enum Form<'a> {
     },
 }
 
-/// The form of a line; none if it has none.
-pub fn form_of<'a>(line: &'a [u8]) -> Option<Form<'a>>
-    ensures { option_map form_seen result ≡ form_of (words line.now) }
+/// The form of a line that begins with this word, by what stands after the word; none if it has none.
+pub fn form_of<'a>(word: &'a [u8], rest: &'a [u8]) -> Option<Form<'a>>
+    ensures { option_map form_seen result ≡ form_of (word.now ∷ words rest.now) }
 {
-    let Some((word, rest)) = next_word(line) else {
-        return None;
-    };
     if is(word, "version") {
         version_form(rest)
     } else if is(word, "nodes") {
@@ -74,6 +72,13 @@ pub fn form_of<'a>(line: &'a [u8]) -> Option<Form<'a>>
     } else {
         command_form(word, rest)
     }
+}
+
+/// Whether a line that begins with this word is none of a command.
+pub fn begins_declaration(word: &[u8]) -> bool
+    ensures { result ≡ begins_declaration word.now }
+{
+    is(word, "version") || is(word, "nodes") || is(word, "set") || is(word, "client")
 }
 
 // The form of a line that begins with `version`.
@@ -150,8 +155,8 @@ fn command_form<'a>(client: &'a [u8], line: &'a [u8]) -> Option<Form<'a>>
     Some(Form::Command { client, asked })
 }
 
-// What is asked for in the line behind the client's name.
-fn asked_of<'a>(line: &'a [u8]) -> Option<CommandWords<'a>>
+/// What is asked for in a command's line, by what stands behind the client's name.
+pub fn asked_of<'a>(line: &'a [u8]) -> Option<CommandWords<'a>>
     ensures { option_map asked_seen result ≡ asked_of (words line.now) }
 {
     let Some((verb, rest)) = next_word(line) else {

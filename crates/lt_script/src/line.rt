@@ -1,51 +1,36 @@
-ghost use Rattle.std.specs.Prelude.{◌≡◌, ℕ, None, Some, OnOk};
+ghost use Rattle.std.specs.Prelude.{◌≡◌, ◌<◌, None, Some, length, IfSome, IsTrue};
 ghost use Rattle.std.specs.List.{list_all};
-ghost use Rattle.lt_text.specs.Text.{words};
-ghost use Rattle.lt_script.specs.Script.{is_declared};
-ghost use Rattle.lt_script.specs.Forms.{FormData, form_of, form_seen, asked_seen, NodesForm, SetForm, SetWithForm, ClientForm, CommandForm};
-ghost use Rattle.lt_script.specs.Faults.{Judges, line_fault, form_fault, is_plain_byte, names_unknown, names_no_mode, mode_in, drops_elsewhere, home_of};
+ghost use Rattle.lt_modes.specs.Modes.{mode_of};
+ghost use Rattle.lt_modes.specs.FiveModes.{is_of_version};
+ghost use Rattle.lt_script.specs.Forms.{form_seen, asked_seen, NodesForm, SetForm, SetWithForm, ClientForm, CommandForm};
+ghost use Rattle.lt_script.specs.Faults.{form_fault, is_plain_byte, mode_in};
+ghost use Rattle.lt_script.specs.Steps.{bytes_fault, Resolves, FindsSetAndMode, FindsDrop};
 
 use crate::fault::Fault;
-use crate::form::{CommandWords, Form, form_of};
+use crate::form::{CommandWords, Form};
 use crate::limits::{
     MAX_CLIENTS_OF_NODE, MAX_COMMANDS, MAX_LINE, MAX_SETS, most_clients, most_nodes,
 };
 use crate::name::is_name;
 use crate::script::Script;
-use lt_modes::Mode;
+use lt_modes::{Command, Mode};
 use lt_text::number;
 
-/// The form of a line that isn't skipped, or its first fault after the lines before it, in a script of this version.
-pub fn judge<'a>(version: u8, script: &Option<Script>, line: &'a [u8]) -> Result<Form<'a>, Fault>
-    ensures { Judges result (line_fault version script.now line.now) (form_of (words line.now)) }
+/// The fault of a line's bytes, which comes before those of its words.
+pub fn bytes_fault(line: &[u8]) -> Option<Fault>
+    ensures { result ≡ bytes_fault line.now }
 {
     if !has_plain_bytes(line) {
-        return Err(Fault::Bytes);
-    }
-    if line.len() > MAX_LINE {
-        return Err(Fault::Length);
-    }
-    let Some(form) = form_of(line) else {
-        return Err(Fault::Form);
-    };
-    match form_fault(version, script, form) {
-        Some(fault) => Err(fault),
-        None => Ok(form),
+        Some(Fault::Bytes)
+    } else if line.len() > MAX_LINE {
+        Some(Fault::Length)
+    } else {
+        None
     }
 }
 
-// The first fault of a line of this form.
-fn form_fault(version: u8, script: &Option<Script>, form: Form<'_>) -> Option<Fault>
-    ensures { result ≡ form_fault version script.now (form_seen form.entry) }
-{
-    match script {
-        Some(script) => fault_after_nodes(script, form),
-        None => fault_before_nodes(version, form),
-    }
-}
-
-// The first fault of a line where the line `nodes` was not before it.
-fn fault_before_nodes(version: u8, form: Form<'_>) -> Option<Fault>
+/// The first fault of a line where the line `nodes` was not before it.
+pub fn fault_before_nodes(version: u8, form: Form<'_>) -> Option<Fault>
     ensures { result ≡ form_fault version None (form_seen form.entry) }
 {
     match form {
@@ -65,31 +50,19 @@ fn first_nodes_fault(version: u8, nodes: &[u8]) -> Option<Fault>
     }
 }
 
-// The first fault of a line where the line `nodes` was before it.
-fn fault_after_nodes(script: &Script, form: Form<'_>) -> Option<Fault>
-    ensures { (version : ℕ) → result ≡ form_fault version (Some script.now) (form_seen form.entry) }
-{
-    match form {
-        Form::Version => Some(Fault::Nodes),
-        Form::Nodes { nodes } => later_nodes_fault(script, nodes),
-        Form::Set { name } => set_fault(script, name),
-        Form::SetWith { name, relative } => set_with_fault(script, name, relative),
-        Form::Client { name, node } => client_fault(script, name, node),
-        Form::Command { client, asked } => command_fault(script, client, asked),
-    }
-}
-
-fn later_nodes_fault(_script: &Script, nodes: &[u8]) -> Option<Fault>
-    ensures { (version : ℕ) → result ≡ form_fault version (Some _script.now) (NodesForm nodes.now) }
+/// The fault of a further line `nodes`.
+pub fn later_nodes_fault(_script: &Script, nodes: &[u8]) -> Fault
+    ensures { form_fault _script.now.version (Some _script.now) (NodesForm nodes.now) ≡ Some result }
 {
     match number(nodes) {
-        None | Some(0) => Some(Fault::Number),
-        Some(_) => Some(Fault::Nodes),
+        None | Some(0) => Fault::Number,
+        Some(_) => Fault::Nodes,
     }
 }
 
-fn set_fault(script: &Script, name: &[u8]) -> Option<Fault>
-    ensures { (version : ℕ) → result ≡ form_fault version (Some script.now) (SetForm name.now) }
+/// The first fault of a line that declares a set.
+pub fn set_fault(script: &Script, name: &[u8]) -> Option<Fault>
+    ensures { form_fault script.now.version (Some script.now) (SetForm name.now) ≡ result }
 {
     if !is_name(name) {
         Some(Fault::Name)
@@ -102,8 +75,9 @@ fn set_fault(script: &Script, name: &[u8]) -> Option<Fault>
     }
 }
 
-fn set_with_fault(script: &Script, name: &[u8], relative: &[u8]) -> Option<Fault>
-    ensures { (version : ℕ) → result ≡ form_fault version (Some script.now) (SetWithForm name.now relative.now) }
+/// The first fault of a line that declares a set in the family of another one.
+pub fn set_with_fault(script: &Script, name: &[u8], relative: &[u8]) -> Option<Fault>
+    ensures { form_fault script.now.version (Some script.now) (SetWithForm name.now relative.now) ≡ result }
 {
     if !is_name(name) {
         Some(Fault::Name)
@@ -118,8 +92,9 @@ fn set_with_fault(script: &Script, name: &[u8], relative: &[u8]) -> Option<Fault
     }
 }
 
-fn client_fault(script: &Script, name: &[u8], node: &[u8]) -> Option<Fault>
-    ensures { (version : ℕ) → result ≡ form_fault version (Some script.now) (ClientForm name.now node.now) }
+/// The first fault of a line that declares a client.
+pub fn client_fault(script: &Script, name: &[u8], node: &[u8]) -> Option<Fault>
+    ensures { form_fault script.now.version (Some script.now) (ClientForm name.now node.now) ≡ result }
 {
     let Some(node) = number(node) else {
         return Some(Fault::Number);
@@ -139,55 +114,98 @@ fn client_fault(script: &Script, name: &[u8], node: &[u8]) -> Option<Fault>
     }
 }
 
-fn command_fault(script: &Script, client: &[u8], asked: CommandWords<'_>) -> Option<Fault>
-    ensures { (version : ℕ) → result ≡ form_fault version (Some script.now) (CommandForm client.now (asked_seen asked.entry)) }
+/// The client and the command of a line, by the numbers of what it names, or the line's first fault.
+pub fn request_of(
+    script: &Script,
+    client: &[u8],
+    asked: CommandWords<'_>,
+) -> Result<(u16, Command), Fault>
+    ensures { Resolves script.now (CommandForm client.now (asked_seen asked.entry)) result }
 {
-    if script.client_number(client).is_none() || names_unknown(script, asked) {
-        Some(Fault::Unknown)
-    } else if script.commands() >= MAX_COMMANDS {
-        Some(Fault::Limit)
-    } else if names_no_mode(script.version(), asked) {
-        Some(Fault::Mode)
-    } else if drops_elsewhere(script, client, asked) {
-        Some(Fault::Node)
+    let Some(client) = script.client_number(client) else {
+        return Err(Fault::Unknown);
+    };
+    let command = match asked {
+        CommandWords::Lock { set, mode } => {
+            let (set, mode) = set_and_mode(script, set, mode)?;
+            Command::Lock { set, mode }
+        }
+        CommandWords::Try { set, mode } => {
+            let (set, mode) = set_and_mode(script, set, mode)?;
+            Command::Try { set, mode }
+        }
+        CommandWords::Unlock { set, mode } => {
+            let (set, mode) = set_and_mode(script, set, mode)?;
+            Command::Unlock { set, mode }
+        }
+        CommandWords::Change {
+            set,
+            gives_up,
+            mode,
+        } => {
+            let (set, gives_up) = set_and_mode(script, set, gives_up)?;
+            let Some(mode) = mode_in(script.version(), mode) else {
+                return Err(Fault::Mode);
+            };
+            Command::Change {
+                set,
+                gives_up,
+                mode,
+            }
+        }
+        CommandWords::Drop { client: other, set } => {
+            let (client, set) = client_and_set(script, client, other, set)?;
+            Command::DropAll { client, set }
+        }
+    };
+    Ok((client, command))
+}
+
+// The set and the mode with these names, or the first fault of a command that names them.
+fn set_and_mode(script: &Script, set: &[u8], mode: &[u8]) -> Result<(u8, Mode), Fault>
+    ensures { FindsSetAndMode script.now set.now mode.now result }
+{
+    let Some(set) = script.set_number(set) else {
+        return Err(Fault::Unknown);
+    };
+    if script.commands() >= MAX_COMMANDS {
+        return Err(Fault::Limit);
+    }
+    let Some(mode) = mode_in(script.version(), mode) else {
+        return Err(Fault::Mode);
+    };
+    Ok((set, mode))
+}
+
+// The client and the set with these names, or the first fault of a command by which this client drops that one's locks.
+fn client_and_set(
+    script: &Script,
+    client: u16,
+    other: &[u8],
+    set: &[u8],
+) -> Result<(u16, u8), Fault>
+    requires { client < length script.now.clients }
+    ensures { FindsDrop script.now client other.now set.now result }
+{
+    let Some(other) = script.client_number(other) else {
+        return Err(Fault::Unknown);
+    };
+    let Some(set) = script.set_number(set) else {
+        return Err(Fault::Unknown);
+    };
+    if script.commands() >= MAX_COMMANDS {
+        Err(Fault::Limit)
+    } else if script.home(other) != script.home(client) {
+        Err(Fault::Node)
     } else {
-        None
-    }
-}
-
-// Whether the command names a set or a client that wasn't declared.
-fn names_unknown(script: &Script, asked: CommandWords<'_>) -> bool
-    ensures { result ≡ names_unknown script.now (asked_seen asked.entry) }
-{
-    match asked {
-        CommandWords::Lock { set, .. } => script.set_number(set).is_none(),
-        CommandWords::Try { set, .. } => script.set_number(set).is_none(),
-        CommandWords::Unlock { set, .. } => script.set_number(set).is_none(),
-        CommandWords::Change { set, .. } => script.set_number(set).is_none(),
-        CommandWords::Drop { client, set } => {
-            script.client_number(client).is_none() || script.set_number(set).is_none()
-        }
-    }
-}
-
-// Whether a word in a mode's place is no mode of this version.
-fn names_no_mode(version: u8, asked: CommandWords<'_>) -> bool
-    ensures { result ≡ names_no_mode version (asked_seen asked.entry) }
-{
-    match asked {
-        CommandWords::Lock { mode, .. } => mode_in(version, mode).is_none(),
-        CommandWords::Try { mode, .. } => mode_in(version, mode).is_none(),
-        CommandWords::Unlock { mode, .. } => mode_in(version, mode).is_none(),
-        CommandWords::Change { gives_up, mode, .. } => {
-            mode_in(version, gives_up).is_none() || mode_in(version, mode).is_none()
-        }
-        CommandWords::Drop { .. } => false,
+        Ok((other, set))
     }
 }
 
 // The mode of this version with this word.
 fn mode_in(version: u8, word: &[u8]) -> Option<Mode>
-    ensures { result ≡ mode_in version word.now }
+    ensures mode { result ≡ mode_in version word.now }
+    ensures own { IfSome result (λ mode. (mode_of word.now ≡ Some mode) × IsTrue (is_of_version version mode)) }
 {
     let Some(mode) = Mode::from_word(word) else {
         return None;
@@ -196,27 +214,6 @@ fn mode_in(version: u8, word: &[u8]) -> Option<Mode>
         Some(mode)
     } else {
         None
-    }
-}
-
-// Whether the command drops locks of a client of another node than this client's.
-fn drops_elsewhere(script: &Script, client: &[u8], asked: CommandWords<'_>) -> bool
-    ensures { result ≡ drops_elsewhere script.now (CommandForm client.now (asked_seen asked.entry)) }
-{
-    match asked {
-        CommandWords::Drop { client: other, .. } => home_of(script, other)
-            != home_of(script, client),
-        _ => false,
-    }
-}
-
-// The node of the client with this name; 0 if there is no such client.
-fn home_of(script: &Script, name: &[u8]) -> u8
-    ensures { result ≡ home_of script.now name.now }
-{
-    match script.client_number(name) {
-        Some(client) => script.home(client),
-        None => 0,
     }
 }
 

@@ -1,15 +1,18 @@
-ghost use Rattle.std.specs.Prelude.{◌≡◌, ◌⊎◌, ◌<◌, ◌≤◌, ◌+◌, ◌-◌, ◌^◌, None, Some, false, length, IfOk, OnOk};
+ghost use Rattle.std.specs.Prelude.{◌≡◌, ◌⊎◌, ◌<◌, ◌≤◌, ◌+◌, ◌-◌, ◌^◌, ◌∷◌, None, Some, false, length, IfOk, OnOk};
 ghost use Rattle.lt_text.specs.Text.{lines, words};
-ghost use Rattle.lt_script.specs.Forms.{form_of, form_seen, asked_seen, SetWithForm, ClientForm, CommandForm};
-ghost use Rattle.lt_script.specs.Faults.{declared, form_fault, after_form, named_command, set_at, mode_at};
+ghost use Rattle.lt_script.specs.Forms.{form_seen, asked_seen, SetForm, SetWithForm, ClientForm, CommandForm};
+ghost use Rattle.lt_script.specs.Faults.{declared, form_fault, after_form};
 ghost use Rattle.lt_script.specs.Reading.{TakesLine, Reads, is_skipped, says_version, line_step, script_body, read_of};
+ghost use Rattle.lt_script.specs.Steps.{begins_comment, form_step, words_step};
 
 use crate::fault::{Fault, ReadError, ScriptFault};
-use crate::form::{CommandWords, Form, form_of};
+use crate::form::{CommandWords, Form, asked_of, begins_declaration, form_of};
 use crate::limits::MAX_LINE;
-use crate::line::judge;
+use crate::line::{
+    bytes_fault, client_fault, fault_before_nodes, later_nodes_fault, request_of, set_fault,
+    set_with_fault,
+};
 use crate::script::Script;
-use lt_modes::{Command, Mode};
 use lt_text::{next_line, next_word, number};
 use std::alloc::{AllocError, Global};
 
@@ -98,14 +101,16 @@ fn says_version(line: &[u8]) -> bool
     if line.len() > MAX_LINE {
         return false;
     }
-    match form_of(line) {
+    let Some((word, rest)) = next_word(line) else {
+        return false;
+    };
+    match form_of(word, rest) {
         Some(Form::Version) => true,
         _ => false,
     }
 }
 
 // Adds what the line says, or tells its first fault.
-#[tactic(auto, unfolding(crate::specs::Reading::line_step))]
 fn read_line(
     alloc: Global,
     version: u8,
@@ -115,15 +120,18 @@ fn read_line(
     requires version { (version ≡ 1) ⊎ (version ≡ 2) }
     ensures { IfOk result (λ fault. TakesLine fault script.new (line_step version script.old line.now)) }
 {
-    if is_skipped(line) {
+    let Some((word, rest)) = next_word(line) else {
+        return Ok(None);
+    };
+    if begins_comment(word) {
         return Ok(None);
     }
-    match judge(version, script, line) {
-        Ok(form) => {
-            apply(alloc, version, script, form)?;
-            Ok(None)
-        }
-        Err(fault) => Ok(Some(fault)),
+    if let Some(fault) = bytes_fault(line) {
+        return Ok(Some(fault));
+    }
+    match script {
+        Some(script) => take_line(script, word, rest),
+        None => begin(alloc, version, script, word, rest),
     }
 }
 
@@ -131,29 +139,38 @@ fn is_skipped(line: &[u8]) -> bool
     ensures { result ≡ is_skipped line.now }
 {
     match next_word(line) {
-        Some((word, _)) => !word.is_empty() && word[0] == b'#',
+        Some((word, _)) => begins_comment(word),
         None => true,
     }
 }
 
-// Adds what a line of this form says.
-fn apply(
+fn begins_comment(word: &[u8]) -> bool
+    ensures { result ≡ begins_comment word.now }
+{
+    !word.is_empty() && word[0] == b'#'
+}
+
+// Makes the script that the line `nodes` begins, or tells the first fault of a line with these words.
+fn begin(
     alloc: Global,
     version: u8,
     script: &mut Option<Script>,
-    form: Form<'_>,
-) -> Result<(), AllocError>
+    word: &[u8],
+    rest: &[u8],
+) -> Result<Option<Fault>, AllocError>
     requires version { (version ≡ 1) ⊎ (version ≡ 2) }
-    requires clean { form_fault version script.old (form_seen form) ≡ None }
-    ensures { OnOk result (script.new ≡ Some (after_form (declared version script.old) (form_seen form.entry))) }
+    requires none { script.old ≡ None }
+    ensures { IfOk result
+        (λ fault. TakesLine fault script.new (words_step version script.old (word.now ∷ words rest.now))) }
 {
-    match script {
-        Some(script) => add(script, form),
-        None => {
-            *script = Some(start(alloc, version, form)?);
-            Ok(())
-        }
+    let Some(form) = form_of(word, rest) else {
+        return Ok(Some(Fault::Form));
+    };
+    if let Some(fault) = fault_before_nodes(version, form) {
+        return Ok(Some(fault));
     }
+    *script = Some(start(alloc, version, form)?);
+    Ok(None)
 }
 
 // The script that the line `nodes` begins.
@@ -173,21 +190,82 @@ fn start(alloc: Global, version: u8, form: Form<'_>) -> Result<Script, AllocErro
     }
 }
 
-// Adds what a line after the line `nodes` says.
-fn add(script: &mut Script, form: Form<'_>) -> Result<(), AllocError>
-    requires { form_fault script.old.version (Some script.old) (form_seen form) ≡ None }
-    ensures { OnOk result (script.new ≡ after_form script.old (form_seen form.entry)) }
+// Adds what a line with these words after the line `nodes` says, or tells its first fault.
+fn take_line(script: &mut Script, word: &[u8], rest: &[u8]) -> Result<Option<Fault>, AllocError>
+    ensures { IfOk result (λ fault.
+        TakesLine fault (Some script.new) (words_step script.old.version (Some script.old) (word.now ∷ words rest.now))) }
+{
+    if begins_declaration(word) {
+        let Some(form) = form_of(word, rest) else {
+            return Ok(Some(Fault::Form));
+        };
+        return take_form(script, form);
+    }
+    match asked_of(rest) {
+        Some(asked) => take_command(script, word, asked),
+        None => Ok(Some(Fault::Form)),
+    }
+}
+
+// Adds what a line of this form says, or tells its first fault.
+fn take_form(script: &mut Script, form: Form<'_>) -> Result<Option<Fault>, AllocError>
+    ensures { IfOk result (λ fault.
+        TakesLine fault (Some script.new) (form_step script.old.version (Some script.old) (form_seen form.entry))) }
 {
     match form {
-        Form::Version | Form::Nodes { .. } => unreachable!(),
-        Form::Set { name } => {
-            let family = script.sets();
-            script.add_set(name, family)
-        }
-        Form::SetWith { name, relative } => add_relative(script, name, relative),
-        Form::Client { name, node } => add_client(script, name, node),
-        Form::Command { client, asked } => add_command(script, client, asked),
+        Form::Version => Ok(Some(Fault::Nodes)),
+        Form::Nodes { nodes } => Ok(Some(later_nodes_fault(script, nodes))),
+        Form::Set { name } => take_set(script, name),
+        Form::SetWith { name, relative } => take_relative(script, name, relative),
+        Form::Client { name, node } => take_client(script, name, node),
+        Form::Command { client, asked } => take_command(script, client, asked),
     }
+}
+
+fn take_set(script: &mut Script, name: &[u8]) -> Result<Option<Fault>, AllocError>
+    ensures { IfOk result
+        (λ fault. TakesLine fault (Some script.new) (form_step script.old.version (Some script.old) (SetForm name.now))) }
+{
+    if let Some(fault) = set_fault(script, name) {
+        return Ok(Some(fault));
+    }
+    add_set(script, name)?;
+    Ok(None)
+}
+
+fn take_relative(
+    script: &mut Script,
+    name: &[u8],
+    relative: &[u8],
+) -> Result<Option<Fault>, AllocError>
+    ensures { IfOk result (λ fault.
+        TakesLine fault (Some script.new) (form_step script.old.version (Some script.old) (SetWithForm name.now relative.now))) }
+{
+    if let Some(fault) = set_with_fault(script, name, relative) {
+        return Ok(Some(fault));
+    }
+    add_relative(script, name, relative)?;
+    Ok(None)
+}
+
+fn take_client(script: &mut Script, name: &[u8], node: &[u8]) -> Result<Option<Fault>, AllocError>
+    ensures { IfOk result (λ fault.
+        TakesLine fault (Some script.new) (form_step script.old.version (Some script.old) (ClientForm name.now node.now))) }
+{
+    if let Some(fault) = client_fault(script, name, node) {
+        return Ok(Some(fault));
+    }
+    add_client(script, name, node)?;
+    Ok(None)
+}
+
+// Adds a set in a family of its own.
+fn add_set(script: &mut Script, name: &[u8]) -> Result<(), AllocError>
+    requires { form_fault script.old.version (Some script.old) (SetForm name.now) ≡ None }
+    ensures { OnOk result (script.new ≡ after_form script.old (SetForm name.now)) }
+{
+    let family = script.sets();
+    script.add_set(name, family)
 }
 
 // Adds a set in the family of this one.
@@ -211,61 +289,20 @@ fn add_client(script: &mut Script, name: &[u8], node: &[u8]) -> Result<(), Alloc
     script.add_client(name, node as u8)
 }
 
-fn add_command(
+// Adds the command, or tells its line's first fault.
+fn take_command(
     script: &mut Script,
     client: &[u8],
     asked: CommandWords<'_>,
-) -> Result<(), AllocError>
-    requires { form_fault script.old.version (Some script.old) (CommandForm client.now (asked_seen asked)) ≡ None }
-    ensures { OnOk result
-        (script.new ≡ after_form script.old (CommandForm client.now (asked_seen asked.entry))) }
+) -> Result<Option<Fault>, AllocError>
+    ensures { IfOk result (λ fault. TakesLine fault (Some script.new)
+        (form_step script.old.version (Some script.old) (CommandForm client.now (asked_seen asked.entry)))) }
 {
-    let client = script.client_number(client).unwrap_or(0);
-    let command = command_of(script, asked);
-    script.add_command(client, command)
-}
-
-// The command of words that name declared sets and clients, and modes.
-fn command_of(script: &Script, asked: CommandWords<'_>) -> Command
-    ensures { result ≡ named_command script.now (asked_seen asked.entry) }
-{
-    match asked {
-        CommandWords::Lock { set, mode } => Command::Lock {
-            set: set_at(script, set),
-            mode: mode_at(mode),
-        },
-        CommandWords::Try { set, mode } => Command::Try {
-            set: set_at(script, set),
-            mode: mode_at(mode),
-        },
-        CommandWords::Unlock { set, mode } => Command::Unlock {
-            set: set_at(script, set),
-            mode: mode_at(mode),
-        },
-        CommandWords::Change {
-            set,
-            gives_up,
-            mode,
-        } => Command::Change {
-            set: set_at(script, set),
-            gives_up: mode_at(gives_up),
-            mode: mode_at(mode),
-        },
-        CommandWords::Drop { client, set } => Command::DropAll {
-            client: script.client_number(client).unwrap_or(0),
-            set: set_at(script, set),
-        },
+    match request_of(script, client, asked) {
+        Ok((client, command)) => {
+            script.add_command(client, command)?;
+            Ok(None)
+        }
+        Err(fault) => Ok(Some(fault)),
     }
-}
-
-fn set_at(script: &Script, name: &[u8]) -> u8
-    ensures { result ≡ set_at script.now name.now }
-{
-    script.set_number(name).unwrap_or(0)
-}
-
-fn mode_at(word: &[u8]) -> Mode
-    ensures { result ≡ mode_at word.now }
-{
-    Mode::from_word(word).unwrap_or(Mode::IntentionRead)
 }

@@ -1,0 +1,85 @@
+-- What reading a line comes to, step by step, and what is found out of a command's line.
+use Rattle.std.specs.Prelude.{◌≡◌, ℕ, ◌<◌, ◌==◌, Bool, not, ◌||◌, List, [], ◌∷◌, length, Option, Some, None, is_none, Result, Ok, Err, codes, nat_lt, nat_le, slice_index, IsTrue, if◌then◌else◌}
+use Rattle.std.specs.List.{list_all}
+use Rattle.std.specs.Str.{bytes_eq}
+use Rattle.lt_modes.specs.declared.mode.Mode.{Mode}
+use Rattle.lt_modes.specs.declared.command.Command.{Command}
+use Rattle.lt_modes.specs.Modes.{mode_of}
+use Rattle.lt_modes.specs.FiveModes.{is_of_version}
+use Rattle.lt_modes.specs.Script.{ScriptData, home_at}
+use Rattle.lt_script.specs.declared.fault.Fault.{Fault}
+use Rattle.lt_script.specs.declared.fault.Fault.TheVariants as faults
+use Rattle.lt_script.specs.declared.limits.TheConstants.{MAX_LINE, MAX_COMMANDS}
+use Rattle.lt_script.specs.Script.{set_number, client_number, IsRequest, HasModesOf}
+use Rattle.lt_script.specs.Forms.{FormData, form_of}
+use Rattle.lt_script.specs.Faults.{declared, is_plain_byte, first_true, form_fault, mode_in, home_by, after_form, with_command}
+use Rattle.lt_script.specs.Reading.{unless}
+
+-- the first word of a line makes it a comment
+abbrev pub begins_comment : List ℕ → Bool
+begins_comment word = slice_index word 0 == 35
+
+-- the first word of a line makes it none of a command
+abbrev pub begins_declaration : List ℕ → Bool
+begins_declaration word =
+    bytes_eq word (codes "version") || bytes_eq word (codes "nodes") || bytes_eq word (codes "set") || bytes_eq word (codes "client")
+
+-- the fault of a line's bytes
+abbrev pub bytes_fault : List ℕ → Option Fault
+bytes_fault line =
+    if not (list_all is_plain_byte line) then Some faults.Bytes else if nat_lt MAX_LINE (length line) then Some faults.Length else None
+
+-- the script after a line of this form, or the line's first fault
+abbrev pub form_step : ℕ → Option ScriptData → FormData → Result (Option ScriptData) Fault
+form_step version st form = unless (form_fault version st form) (Some (after_form (declared version st) form))
+
+-- the same of a line that may have no form
+abbrev pub step_by_form : ℕ → Option ScriptData → Option FormData → Result (Option ScriptData) Fault
+step_by_form version st None = Err faults.Form
+step_by_form version st (Some form) = form_step version st form
+
+-- the same of a line with these words
+abbrev pub words_step : ℕ → Option ScriptData → List (List ℕ) → Result (Option ScriptData) Fault
+words_step version st words = step_by_form version st (form_of words)
+
+-- what is found out of a command's line of this form: the client and the command, which the script may have as its next ones,
+-- or the line's first fault
+abbrev pub Resolves : ScriptData → FormData → Result (ℕ × Command) Fault → Type 0
+Resolves s form (Ok request) =
+    (form_fault s.version (Some s) form ≡ None)
+    × (after_form s form ≡ with_command s request.0 request.1)
+    × (length s.commands < MAX_COMMANDS)
+    × IsRequest s.sets s.clients request
+    × HasModesOf s.version request.1
+Resolves s form (Err fault) = form_fault s.version (Some s) form ≡ Some fault
+
+-- the set and the mode with these names, or the first fault of a command that names them
+abbrev pub FindsSetAndMode : ScriptData → List ℕ → List ℕ → Result (ℕ × Mode) Fault → Type 0
+FindsSetAndMode s set mode (Ok found) =
+    (set_number s set ≡ Some found.0)
+    × (found.0 < length s.sets)
+    × (length s.commands < MAX_COMMANDS)
+    × (mode_in s.version mode ≡ Some found.1)
+    × (mode_of mode ≡ Some found.1)
+    × IsTrue (is_of_version s.version found.1)
+FindsSetAndMode s set mode (Err fault) =
+    first_true ((is_none (set_number s set), faults.Unknown) ∷ (nat_le MAX_COMMANDS (length s.commands), faults.Limit) ∷ (is_none (mode_in s.version mode), faults.Mode) ∷ [])
+    ≡ Some fault
+
+-- the numbers of the client and the set with these names, of whose locks this client may drop, or the first fault
+abbrev pub FindsDrop : ScriptData → ℕ → List ℕ → List ℕ → Result (ℕ × ℕ) Fault → Type 0
+FindsDrop s client other set (Ok found) =
+    (client_number s other ≡ Some found.0)
+    × (found.0 < length s.clients)
+    × (set_number s set ≡ Some found.1)
+    × (found.1 < length s.sets)
+    × (length s.commands < MAX_COMMANDS)
+    × (home_at s.clients found.0 ≡ home_at s.clients client)
+FindsDrop s client other set (Err fault) =
+    first_true (
+    (is_none (client_number s other) || is_none (set_number s set), faults.Unknown)
+    ∷ (nat_le MAX_COMMANDS (length s.commands), faults.Limit)
+    ∷ (not (home_by s (client_number s other) == home_at s.clients client), faults.Node)
+    ∷ []
+    )
+    ≡ Some fault
