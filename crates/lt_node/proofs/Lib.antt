@@ -13,3 +13,5 @@ pub mod DropLemmas
 pub mod AskSearch
 mod RequestLemmas
 pub mod MarkLemmas
+pub mod OwnLemmas
+pub mod ReadyLemmas

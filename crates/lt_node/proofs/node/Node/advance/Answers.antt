@@ -27,6 +27,8 @@ invariant_of-self c =
       clients_advanced c.self.inside.script c.self.inside.me c.self.inside.homes.items clients c.from.result c.index_mut.result.now c.next.new.self c.self.invariant.1
           (omega (arith, c.from.ensures, c.requires.client, count, c.self.invariant.0.clients, length-map clients progress_made)) c.index_mut.ensures.value c.next.ensures.made,
       c.self.invariant.2,
+      c.self.invariant.3,
+      c.self.invariant.4,
     )
 
 pub returns-clause-command : goal.returns-clause-command
