@@ -15,3 +15,4 @@ mod RequestLemmas
 pub mod MarkLemmas
 pub mod OwnLemmas
 pub mod ReadyLemmas
+pub mod StillWithin

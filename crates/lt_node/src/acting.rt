@@ -121,7 +121,7 @@ impl Node {
     }
 
     // Drops all locks of a client in a family, unless it waits; the answer stands before what the sets send.
-    #[tactic(auto, using(crate::proofs::ReadyLemmas::all_forgotten))]
+    #[tactic(auto, using(crate::proofs::ReadyLemmas::all_forgotten, crate::proofs::StillWithin::within_none))]
     fn drop_all(&mut self, client: u16, other: u16, set: u8, stamp: Stamp, out: &mut Out) -> Answer
         requires node { stamp.node ≡ self.old.me }
         requires set { set < length self.old.script.sets }

@@ -44,7 +44,7 @@ impl Model for Node {
     ghost use Rattle.lt_node.specs.Clients.{progress_made, KnowsClients};
     ghost use Rattle.lt_node.specs.Marks.{TellsWaiting};
     ghost use Rattle.lt_node.specs.Running.{AreOwn};
-    ghost use Rattle.lt_node.specs.Ready.{KnowsReady};
+    ghost use Rattle.lt_node.specs.Ready.{KnowsReady, KnowsWithin};
 
     ghost Value = { NodeData };
 
@@ -65,7 +65,8 @@ impl Model for Node {
     }) × KnowsClients n.script n.me n.homes.items n.clients.items
         × TellsWaiting n.script n.me n.cores.items n.waiting.items
         × AreOwn n.script.clients n.me 0 (length n.script.clients) n.own.items
-        × KnowsReady n.cores.items n.sent.items };
+        × KnowsReady n.cores.items n.sent.items
+        × KnowsWithin n.clock n.cores.items n.sent.items };
 }
 
 impl Node {

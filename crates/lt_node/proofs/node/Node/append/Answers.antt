@@ -20,6 +20,7 @@ invariant_of-self-2 c =
       subst (λ (script : ScriptData). AreOwn script.clients c.self.inside.me 0 (length script.clients) c.self.inside.own.items)
           (sym c.in_ok-append_to.ensures.script) c.self.invariant.3,
       c.self.invariant.4,
+      c.self.invariant.5,
     )
 
 pub returns-clause-appended : goal.returns-clause-appended

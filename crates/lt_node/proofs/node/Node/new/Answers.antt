@@ -1,6 +1,7 @@
 use Rattle.std.proofs.Common.{ℕ, subst, sym}
 use Rattle.lt_node.specs.Ready.{KnowsNone}
 use Rattle.lt_node.proofs.ReadyLemmas.{none_known}
+use Rattle.lt_node.proofs.StillWithin.{within_none}
 use Rattle.lt_node.proofs.StartLemmas.{clients_known, node_at_start, state_at_start}
 use Rattle.lt_node.proofs.MarkLemmas.{waiting_first}
 use Rattle.lt_node.proofs.node.Node.new.Goals as goal
@@ -16,6 +17,7 @@ invariant_of-result c =
       c.in_ok-own.ensures,
       none_known cores c.in_ok-sent.sent.items
           (subst (λ (k : ℕ). KnowsNone k c.in_ok-sent.sent.items) (sym c.in_ok-cores.ensures.count) c.in_ok-sent.ensures),
+      within_none 0 _ cores c.in_ok-sent.sent.items c.in_ok-sent.ensures,
     )
 
 pub returns-clause-state : goal.returns-clause-state

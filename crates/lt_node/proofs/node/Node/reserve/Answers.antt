@@ -3,6 +3,7 @@ use Rattle.lt_node.specs.NodeData.{NodeData}
 use Rattle.lt_node.specs.Room.{most_sent}
 use Rattle.lt_node.proofs.KeptLemmas.{few_asks, node_same, same_node, sent_kept}
 use Rattle.lt_node.proofs.MarkLemmas.{waiting_kept}
+use Rattle.lt_node.proofs.StillWithin.{within_reserved}
 use Rattle.lt_node.proofs.node.Node.reserve.Goals as goal
 
 pub reserve_each-requires-clause-few : goal.reserve_each-requires-clause-few
@@ -15,6 +16,7 @@ invariant_of-self c = (
   waiting_kept _ _ c.reserve_each.new.cores.items c.self.inside.cores.items _ c.reserve_each.ensures.kept c.self.invariant.2,
   c.self.invariant.3,
   c.reserve_each.ensures.ready,
+  within_reserved _ c.args.self.now c.reserve_each.new.cores.items c.reserve_each.new.sent.items c.self.view_is c.self.invariant.0 c.requires c.reserve_each.ensures.kept,
 )
 
 pub returns-in_err-all-clause-node : goal.returns-in_err-all-clause-node
@@ -27,6 +29,7 @@ invariant_of-self-2 c = (
   waiting_kept _ _ c.reserve_each.new.cores.items c.self.inside.cores.items _ c.reserve_each.ensures.kept c.self.invariant.2,
   c.self.invariant.3,
   c.reserve_each.ensures.ready,
+  within_reserved _ c.args.self.now c.reserve_each.new.cores.items c.reserve_each.new.sent.items c.self.view_is c.self.invariant.0 c.requires c.reserve_each.ensures.kept,
 )
 
 pub returns-clause-node : goal.returns-clause-node

@@ -3,6 +3,7 @@ use Rattle.lt_node.specs.NodeData.{NodeData}
 use Rattle.lt_node.proofs.KeptLemmas.{kept_set, node_same, same_node}
 use Rattle.lt_node.proofs.MarkLemmas.{waiting_kept}
 use Rattle.lt_node.proofs.ReadyLemmas.{known_forgotten}
+use Rattle.lt_node.proofs.StillWithin.{within_forgotten}
 use Rattle.lt_node.proofs.TakeLemmas.{taken_by}
 use Rattle.lt_node.proofs.node.Node.reserve_for.Goals as goal
 
@@ -31,4 +32,6 @@ invariant_of-self c =
       c.self.invariant.3,
       known_forgotten all c.self.inside.sent.items c.forget.new.sent.items c.args.letter.now.set c.from.result c.reserve_for.new.core
           (omega (arith, taken.inside, ap (λ (n : NodeData). length n.cores) c.self.view_is)) c.from.ensures c.self.invariant.4 c.forget.ensures,
+      within_forgotten c.self.inside.clock all c.self.inside.sent.items c.forget.new.sent.items c.args.letter.now.set c.from.result c.reserve_for.new.core
+          (omega (arith, taken.inside, ap (λ (n : NodeData). length n.cores) c.self.view_is)) c.from.ensures c.self.invariant.4.count c.forget.ensures c.self.invariant.5,
     )

@@ -4,6 +4,7 @@ use Rattle.lt_node.proofs.NodeLemmas.{node_is, node_kept}
 use Rattle.lt_node.specs.NodeData.{NodeData}
 use Rattle.lt_node.proofs.MarkLemmas.{remarked, waiting_noted}
 use Rattle.lt_node.proofs.ReadyLemmas.{known_forgotten}
+use Rattle.lt_node.proofs.StillWithin.{known_later, within_forgotten}
 use Rattle.lt_node.proofs.TakeLemmas.{IsTakenBy, CanTake, taken_by, can_take, take_does, place_stays}
 use Rattle.lt_node.proofs.node.Node.take.Goals as goal
 
@@ -39,6 +40,10 @@ invariant_of-self c =
       c.self.invariant.3,
       known_forgotten c.self.inside.cores.items c.self.inside.sent.items c.forget.new.sent.items c.args.letter.set c.from.result c.take.new.self
           (omega (arith, taken_here.inside, ap (λ (n : NodeData). length n.cores) c.self.view_is)) c.from.ensures c.self.invariant.4 c.forget.ensures,
+      known_later c.self.inside.clock c.stamp_of_take-stamp.result.clock _ c.forget.new.sent.items
+          (omega (arith, ap (λ (s : Stamp). s.clock) c.stamp_of_take-stamp.ensures, ap (λ (n : NodeData). n.clock) c.self.view_is))
+          (within_forgotten c.self.inside.clock c.self.inside.cores.items c.self.inside.sent.items c.forget.new.sent.items c.args.letter.set c.from.result c.take.new.self
+          (omega (arith, taken_here.inside, ap (λ (n : NodeData). length n.cores) c.self.view_is)) c.from.ensures c.self.invariant.4.count c.forget.ensures c.self.invariant.5),
     )
 
 pub returns : goal.returns

@@ -5,6 +5,7 @@ use Rattle.lt_node.specs.Room.{IsReady}
 use Rattle.lt_node.proofs.NodeLemmas.{touched_by, touch_done, node_kept}
 use Rattle.lt_node.proofs.MarkLemmas.{remarked, waiting_noted}
 use Rattle.lt_node.proofs.ReadyLemmas.{known_forgotten}
+use Rattle.lt_node.proofs.StillWithin.{within_forgotten}
 use Rattle.lt_node.proofs.ActLemmas.{command_fits}
 use Rattle.lt_node.proofs.node.Node.touch.Goals as goal
 
@@ -44,4 +45,6 @@ invariant_of-self c =
       c.self.invariant.3,
       known_forgotten c.self.inside.cores.items c.self.inside.sent.items c.forget.new.sent.items c.args.set c.from.result c.act-answer.new.self
           (omega (arith, touch.inside, inside)) c.from.ensures c.self.invariant.4 c.forget.ensures,
+      within_forgotten c.self.inside.clock c.self.inside.cores.items c.self.inside.sent.items c.forget.new.sent.items c.args.set c.from.result c.act-answer.new.self
+          (omega (arith, touch.inside, inside)) c.from.ensures c.self.invariant.4.count c.forget.ensures c.self.invariant.5,
     )
