@@ -104,7 +104,7 @@ pub record IsAt (script : ScriptData) (stamp : Stamp) (dropped : Option ℕ) (se
   pub send : RoomToSend (sum_by most_sent (drop k cores)) out
   pub left : (n : NodeState) → IsLeft script stamp.node (ending dropped stamp) (related_from script set k) cores out (related_from script set 0) old had n
 
-sum_at : (cores : List CoreData) (k : ℕ) (core : CoreData) → k < length cores → sum_by most_sent (drop k cores) ≡ most_sent (slice_index_or cores k core) + sum_by most_sent (drop (k + 1) cores)
+pub sum_at : (cores : List CoreData) (k : ℕ) (core : CoreData) → k < length cores → sum_by most_sent (drop k cores) ≡ most_sent (slice_index_or cores k core) + sum_by most_sent (drop (k + 1) cores)
 sum_at cores k core inside =
     ap (λ (l : List CoreData). sum_by most_sent l) (drop_more cores k core inside) ∙ sum_by-cons most_sent (slice_index_or cores k core) (drop (k + 1) cores)
 

@@ -34,7 +34,7 @@ few_kept xs ys same few k d inside =
     let states = ap (λ (x : KeptData). x.state) (kept_at xs ys k d same) in
     subst (λ (s : SetState). waiting_here s ≤ 256) (sym states) (few k d (omega (arith, inside, kept_length xs ys same)))
 
-abbrev most_kept : KeptData → ℕ
+abbrev pub most_kept : KeptData → ℕ
 most_kept kept = most kept.state + 2
 
 sent_by_kept : (cores : List CoreData) → sum_by most_sent cores ≡ sum_by most_kept (map kept_of cores)

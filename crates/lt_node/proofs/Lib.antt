@@ -13,3 +13,6 @@ pub mod DropLemmas
 pub mod AskSearch
 mod RequestLemmas
 pub mod MarkLemmas
+pub mod OwnLemmas
+pub mod ReadyLemmas
+pub mod StillWithin

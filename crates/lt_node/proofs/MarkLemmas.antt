@@ -1,18 +1,15 @@
 -- The masks tell who waits, set by set.
-use Rattle.std.proofs.Common.{◌≡◌, ◌≢◌, ◌+◌, ◌<◌, ◌≤◌, ◌==◌, ◌&&◌, ◌||◌, ◌^◌, ◌*◌, ◌%◌, Bool, true, false, ℕ, zero, suc, List, [], ◌∷◌, length, map, take, inl, inr, refl, sym, ap, subst, arith, ◌∙◌, slice_index_or, slice_set, bit_or, bit_and, w8, if◌then◌else◌}
+use Rattle.std.proofs.Common.{◌≡◌, ◌≢◌, ◌<◌, ◌≤◌, ◌==◌, ◌&&◌, ◌||◌, ◌^◌, ◌*◌, ◌%◌, Bool, true, false, ℕ, zero, suc, List, length, map, inl, inr, refl, sym, ap, subst, arith, ◌∙◌, slice_index_or, slice_set, bit_or, bit_and, w8, if◌then◌else◌}
 use Rattle.std.specs.Prelude.{not}
 use Rattle.std.specs.Int.{bit_at, bit_not}
-use Rattle.std.specs.List.{list_any}
-use Rattle.std.proofs.lemmas.Bool.{cases_eq, cases_lt, eq-eqb, ne_eqb, eqb-true, false≢true}
+use Rattle.std.proofs.lemmas.Bool.{cases_eq, cases_lt, eq-eqb, ne_eqb, false≢true}
 use Rattle.std.proofs.lemmas.Grind.{get_or-set_at}
-use Rattle.std.proofs.lemmas.List.{get_or-set_other, get_or_default, get_or_past, length-set}
-use Rattle.std.proofs.lemmas.List.Folds.{list_any_more}
+use Rattle.std.proofs.lemmas.List.{get_or-set_other, get_or_default, get_or_past}
 use Rattle.std.proofs.lemmas.Nat.Bits.{bit_at-zero, bit_at_and, bit_at_set_same, bit_at_set_other, bit_at_clear_same, bit_at_clear_other, bit_at_above, same_from_bits}
 use Rattle.lt_modes.specs.declared.ask.Ask.{Ask}
 use Rattle.lt_modes.specs.declared.command.Command.{Command}
 use Rattle.lt_modes.specs.Fits.{has_client}
 use Rattle.lt_modes.specs.Masks.{bit_if}
-use Rattle.lt_modes.specs.Queue.{no_ask}
 use Rattle.lt_modes.specs.Script.{ScriptData}
 use Rattle.lt_modes.specs.Serving.{waits}
 use Rattle.lt_modes.specs.State.{SetState}

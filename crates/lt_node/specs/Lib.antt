@@ -6,3 +6,5 @@ pub mod Family
 pub mod Asks
 pub mod Appending
 pub mod Marks
+pub mod Running
+pub mod Ready

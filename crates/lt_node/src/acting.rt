@@ -16,6 +16,7 @@ ghost use Rattle.lt_node.specs.Room.{RoomToAct, IsReady, most_sent};
 use crate::family;
 use crate::marks::mark;
 use crate::node::Node;
+use crate::ready::{forget, forget_all};
 use lt_core::{Answer, SetCommand};
 use lt_desk::Out;
 use lt_modes::{Command, Event, Stamp};
@@ -115,10 +116,12 @@ impl Node {
         mark(&mut self.waiting, core.asks(), set, false);
         let answer = core.act(client, command, stamp, out);
         mark(&mut self.waiting, core.asks(), set, true);
+        forget(&mut self.sent, set);
         answer
     }
 
     // Drops all locks of a client in a family, unless it waits; the answer stands before what the sets send.
+    #[tactic(auto, using(crate::proofs::ReadyLemmas::all_forgotten, crate::proofs::StillWithin::within_none))]
     fn drop_all(&mut self, client: u16, other: u16, set: u8, stamp: Stamp, out: &mut Out) -> Answer
         requires node { stamp.node ≡ self.old.me }
         requires set { set < length self.old.script.sets }
@@ -128,6 +131,7 @@ impl Node {
     {
         if self.waits(other) {
             out.push_event(Event::Busy { client, other, set });
+            forget_all(&mut self.sent);
             family::end_each(
                 &mut self.cores,
                 &mut self.waiting,
@@ -146,6 +150,7 @@ impl Node {
             set,
             count: locks,
         });
+        forget_all(&mut self.sent);
         family::end_each(
             &mut self.cores,
             &mut self.waiting,

@@ -26,14 +26,14 @@ impl Model for Client {
 }
 
 impl Client {
-    /// A client with no command.
-    pub(crate) fn new(alloc: Global) -> Client
-        ensures { result ≡ no_progress }
+    /// A client with no command, and room for so many.
+    pub(crate) fn with_room(alloc: Global, room: usize) -> Result<Client, AllocError>
+        ensures { IfOk result (λ client. client ≡ no_progress) }
     {
-        Client {
-            commands: Vec::new(alloc),
+        Ok(Client {
+            commands: Vec::with_capacity(alloc, room)?,
             made: 0,
-        }
+        })
     }
 
     /// Adds a command behind the others.
@@ -83,19 +83,23 @@ pub(crate) fn clients_of(
     ensures each { IfOk result (λ clients. (c : ℕ) → c < length clients.items → slice_index_or clients.items c no_progress
         ≡ record { commands = if home script.now c == node then commands_of script.now c else []; made = 0 }) }
 {
-    let mut clients = idle_clients(alloc, script)?;
+    let mut clients = idle_clients(alloc, script, node)?;
     add_requests(&mut clients, script, node)?;
     Ok(clients)
 }
 
-// A client with no command for each one of the script.
-fn idle_clients(alloc: Global, script: &Script) -> Result<Vec<Client>, AllocError>
+// A client with no command for each one of the script; those of the node have room for an equal part of the commands.
+fn idle_clients(alloc: Global, script: &Script, node: u8) -> Result<Vec<Client>, AllocError>
     ensures count { IfOk result (λ clients. length clients.items ≡ length script.now.clients) }
     ensures idle { IfOk result (λ clients. (c : ℕ) → progress_of clients.items c ≡ no_progress) }
 {
-    let mut clients = Vec::new(alloc);
-    for _ in 0..script.clients() {
-        clients.push(Client::new(alloc))?;
+    let count = script.clients();
+    let part = script.commands() / u32::from(count.max(1));
+    let mut clients = Vec::with_capacity(alloc, usize::from(count))?;
+    for client in 0..count {
+        let own = script.home(client) == node;
+        let room = if own { part } else { 0 };
+        clients.push(Client::with_room(alloc, room as usize)?)?;
     }
     Ok(clients)
 }
@@ -139,7 +143,7 @@ pub(crate) fn homes_of(alloc: Global, script: &Script) -> Result<Vec<u8>, AllocE
     ensures script { IsScript script.now }
     ensures homes { IfOk result (λ homes. homes.items ≡ map (λ (client : ClientData). client.node) script.now.clients) }
 {
-    let mut homes = Vec::new(alloc);
+    let mut homes = Vec::with_capacity(alloc, usize::from(script.clients()))?;
     for client in 0..script.clients() {
         homes.push(script.home(client))?;
     }

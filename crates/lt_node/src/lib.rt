@@ -8,6 +8,8 @@ mod family;
 mod limits;
 mod marks;
 mod node;
+mod own;
+mod ready;
 mod room;
 mod taking;
 mod waiting;

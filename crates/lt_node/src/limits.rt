@@ -1,6 +1,6 @@
-ghost use Rattle.std.specs.Prelude.{◌≡◌, ◌==◌, not};
+ghost use Rattle.std.specs.Prelude.{◌≡◌, ◌==◌, ◌<◌, length, not};
 ghost use Rattle.lt_limits.specs.Limits.{set_within, node_within, leaves_ask, leaves_asks};
-ghost use Rattle.lt_node.specs.NodeData.{state_of};
+ghost use Rattle.lt_node.specs.NodeData.{core_at, state_of};
 
 use crate::node::Node;
 use lt_core::Core;
@@ -12,11 +12,22 @@ impl Node {
         ensures { result ≡ node_within self.now.script (state_of self.now) }
     {
         for set in 0..self.cores.len() {
-            if !is_within(&self.cores[set], self.clock) {
+            if !self.is_set_within(set) {
                 return false;
             }
         }
         true
+    }
+
+    // Whether what the node keeps for the set leaves room for a move. Where there is known to be memory for one, it does.
+    fn is_set_within(&self, set: usize) -> bool
+        requires { set < length self.now.cores }
+        ensures { result ≡ set_within self.now.clock (core_at self.now set).state }
+    {
+        if self.sent[set] != 0 {
+            return true;
+        }
+        is_within(&self.cores[set], self.clock)
     }
 
     /// Whether one more client may wait in each set.

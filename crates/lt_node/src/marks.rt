@@ -13,7 +13,7 @@ pub(crate) fn no_marks(alloc: Global, script: &Script) -> Result<Vec<u8>, AllocE
     ensures count { IfOk result (λ masks. length masks.items ≡ length script.now.clients) }
     ensures none { IfOk result (λ masks. (client : ℕ) → slice_index_or masks.items client 0 ≡ 0) }
 {
-    let mut masks = Vec::new(alloc);
+    let mut masks = Vec::with_capacity(alloc, usize::from(script.clients()))?;
     for _ in 0..script.clients() {
         masks.push(0)?;
     }

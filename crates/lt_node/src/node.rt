@@ -10,6 +10,8 @@ ghost use Rattle.lt_node.specs.NodeData.{IsNode, IsCoreOf, state_of, first_core}
 
 use crate::client::{Client, clients_of, homes_of};
 use crate::marks::no_marks;
+use crate::own::own_of;
+use crate::ready::none_ready;
 use lt_core::{Core, Numbers};
 use lt_desk::Letter;
 use lt_modes::Stamp;
@@ -27,16 +29,22 @@ pub struct Node {
     homes: Vec<u8>,
     // All clients of the script; the commands only of this node's own.
     pub(crate) clients: Vec<Client>,
+    // The clients of this node, in order.
+    pub(crate) own: Vec<u16>,
     pub(crate) cores: Vec<Core>,
     // In which sets each client waits: bit s is set s.
     pub(crate) waiting: Vec<u8>,
+    // How much each set may send in a move for which it has memory, or 0 where that isn't known.
+    pub(crate) sent: Vec<u32>,
 }
 
 impl Model for Node {
-    ghost use Rattle.std.specs.Prelude.{map};
+    ghost use Rattle.std.specs.Prelude.{length, map};
     ghost use Rattle.lt_node.specs.NodeData.{NodeData, IsNode};
     ghost use Rattle.lt_node.specs.Clients.{progress_made, KnowsClients};
     ghost use Rattle.lt_node.specs.Marks.{TellsWaiting};
+    ghost use Rattle.lt_node.specs.Running.{AreOwn};
+    ghost use Rattle.lt_node.specs.Ready.{KnowsReady, KnowsWithin};
 
     ghost Value = { NodeData };
 
@@ -55,7 +63,10 @@ impl Model for Node {
       made = map progress_made n.clients.items;
       cores = n.cores.items;
     }) × KnowsClients n.script n.me n.homes.items n.clients.items
-        × TellsWaiting n.script n.me n.cores.items n.waiting.items };
+        × TellsWaiting n.script n.me n.cores.items n.waiting.items
+        × AreOwn n.script.clients n.me 0 (length n.script.clients) n.own.items
+        × KnowsReady n.cores.items n.sent.items
+        × KnowsWithin n.clock n.cores.items n.sent.items };
 }
 
 impl Node {
@@ -68,8 +79,10 @@ impl Node {
     {
         let homes = homes_of(alloc, script)?;
         let clients = clients_of(alloc, script, node)?;
+        let own = own_of(alloc, script, node)?;
         let cores = cores_of(alloc, script, node)?;
         let waiting = no_marks(alloc, script)?;
+        let sent = none_ready(alloc, script)?;
         let script = script.copy(alloc)?;
         Ok(Node {
             script,
@@ -77,8 +90,10 @@ impl Node {
             clock: 0,
             homes,
             clients,
+            own,
             cores,
             waiting,
+            sent,
         })
     }
 
@@ -192,7 +207,7 @@ fn cores_of(alloc: Global, script: &Script, node: u8) -> Result<Vec<Core>, Alloc
     ensures states { IfOk result (λ cores. (s : ℕ) → (slice_index_or cores.items s (first_core script.now node s)).state ≡ (first_core script.now node s).state) }
     ensures places { IfOk result (λ cores. (s : ℕ) → s < length cores.items → IsCoreOf node s (slice_index_or cores.items s (first_core script.now node s))) }
 {
-    let mut cores = Vec::new(alloc);
+    let mut cores = Vec::with_capacity(alloc, usize::from(script.sets()))?;
     for set in 0..script.sets() {
         cores.push(Core::new(alloc, script.nodes(), script.clients(), node, set)?)?;
     }

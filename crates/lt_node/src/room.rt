@@ -1,14 +1,14 @@
-ghost use Rattle.std.specs.Prelude.{◌≡◌, ◌+◌, ◌≤◌, ◌<◌, ◌^◌, All, IsOk, IsTrue, OnOk, length, map, sum_by};
+ghost use Rattle.std.specs.Prelude.{◌≡◌, ◌+◌, ◌≤◌, ◌<◌, ◌^◌, IsOk, IsTrue, OnOk};
 ghost use Rattle.lt_modes.specs.Fits.{fits, numbers_of};
 ghost use Rattle.lt_desk.specs.LetterSeen.{letter_seen, body_seen};
 ghost use Rattle.lt_desk.specs.Hands.{asks_in};
 ghost use Rattle.lt_core.specs.Bound.{brought};
-ghost use Rattle.lt_core.specs.CoreData.{HasMemory};
 ghost use Rattle.lt_limits.specs.Limits.{node_within};
 ghost use Rattle.lt_node.specs.NodeData.{SameNode, state_of};
-ghost use Rattle.lt_node.specs.Room.{RoomToAct, RoomToTake, RoomForLetter, HasFewAsks, kept_of, most_sent};
+ghost use Rattle.lt_node.specs.Room.{RoomToAct, RoomToTake, RoomForLetter, HasFewAsks, kept_of};
 
 use crate::node::Node;
+use crate::ready::{forget, reserve_each};
 use lt_core::Core;
 use lt_desk::{Body, Letter, Out};
 use std::alloc::AllocError;
@@ -23,8 +23,8 @@ impl Node {
         ensures full { RoomToAct self.old out.old → IsOk result }
         ensures same { RoomToAct self.old out.old → out.new ≡ out.old }
     {
-        reserve_each(&mut self.cores)?;
-        let sent = most_sent(&self.cores) + 1;
+        let all = reserve_each(&mut self.cores, &mut self.sent)?;
+        let sent = all + 1;
         out.reserve(sent, sent)
     }
 
@@ -39,21 +39,9 @@ impl Node {
         ensures full { RoomToTake self.old letter.old out.old → IsOk result }
         ensures same { RoomToTake self.old letter.old out.old → out.new ≡ out.old }
     {
+        forget(&mut self.sent, letter.set);
         reserve_for(&mut self.cores[usize::from(letter.set)], letter, out)
     }
-}
-
-// Makes room in each set for one move that takes no letter.
-fn reserve_each(cores: &mut Vec<Core>) -> Result<(), AllocError>
-    requires { All HasFewAsks cores.old.items }
-    ensures kept { map kept_of cores.new.items ≡ map kept_of cores.old.items }
-    ensures room { OnOk result (All (HasMemory 0) cores.new.items) }
-    ensures full { All (HasMemory 0) cores.old.items → IsOk result }
-{
-    for set in 0..cores.len() {
-        cores[set].reserve()?;
-    }
-    Ok(())
 }
 
 // Makes room in a set, and in the desk that the letter brings, to take the letter.
@@ -71,20 +59,6 @@ fn reserve_for(core: &mut Core, letter: &mut Letter, out: &mut Out) -> Result<()
     let sent = core.most_sent() + 2 + brought(&letter.body);
     out.reserve(sent, sent)?;
     Ok(())
-}
-
-// How many letters, and event lines, all sets may send in one move.
-fn most_sent(cores: &[Core]) -> u32
-    requires asks { All HasFewAsks cores.now }
-    requires few { length cores.now ≤ 8 }
-    ensures sum { result ≡ sum_by most_sent cores.now }
-    ensures small { result + 1 < 2 ^ 32 }
-{
-    let mut sent = 0;
-    for set in 0..cores.len() {
-        sent += cores[set].most_sent() + 2;
-    }
-    sent
 }
 
 // How many asks and nodes come with what the letter says.

@@ -8,6 +8,7 @@ ghost use Rattle.lt_node.specs.Room.{RoomToTake};
 
 use crate::marks::mark;
 use crate::node::Node;
+use crate::ready::forget;
 use lt_desk::{Letter, Out};
 
 impl Node {
@@ -26,5 +27,6 @@ impl Node {
         mark(&mut self.waiting, core.asks(), set, false);
         core.take(letter, stamp, out);
         mark(&mut self.waiting, core.asks(), set, true);
+        forget(&mut self.sent, set);
     }
 }

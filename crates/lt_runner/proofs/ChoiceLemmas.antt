@@ -1,7 +1,7 @@
 -- What the move that a runner shows says of its state.
-use Rattle.std.proofs.Common.{◌≡◌, ◌≢◌, ◌<◌, ℕ, inl, inr, arith, zero, suc, Option, Some, None, Bool, true, false, refl, ap, subst, ◌∙◌}
-use Rattle.std.specs.Prelude.{nat_lt, if◌then◌else◌, IsTrue, IfSome, length}
-use Rattle.std.proofs.lemmas.Bool.{and_parts, cases_eq}
+use Rattle.std.proofs.Common.{◌≡◌, ◌≢◌, ◌<◌, ℕ, inl, inr, arith, zero, suc, Option, Some, None, Bool, true, false, refl, sym, ap, subst, ◌∙◌}
+use Rattle.std.specs.Prelude.{◌&&◌, nat_lt, if◌then◌else◌, IsTrue, IfSome, length}
+use Rattle.std.proofs.lemmas.Bool.{and_parts, cases_eq, lt-ltb}
 use Rattle.lt_modes.specs.Script.{ScriptData}
 use Rattle.lt_modes.specs.Fits.{fits, numbers_of}
 use Rattle.lt_desk.specs.LetterSeen.{letter_seen}
@@ -9,6 +9,7 @@ use Rattle.lt_limits.specs.Limits.{node_within, leaves_asks}
 use Rattle.lt_spec.specs.NodeMove.{NodeState}
 use Rattle.lt_law_plays.specs.Plays.{can_act}
 use Rattle.lt_node.specs.NodeData.{state_of}
+use Rattle.lt_node.specs.Running.{IsLeast, is_runnable}
 use Rattle.lt_runner.specs.declared.choice.Choice.TheVariants.{Nothing, Act, Take}
 use Rattle.lt_core.specs.declared.fits.TheConstants.{LAST_CLOCK}
 use Rattle.lt_runner.specs.declared.parts.Hand.{Hand}
@@ -33,7 +34,7 @@ least_passes (suc n) test least e = before (λ was. least_passes n test least wa
     before again (Some k) was e = again (was ∙ e)
 
 -- where no number below passes, the number that passes is the least one
-pub least_found : (n k : ℕ) (test : ℕ → Bool) → k < n → least_below k test ≡ None → IsTrue (test k) → least_below n test ≡ Some k
+least_found : (n k : ℕ) (test : ℕ → Bool) → k < n → least_below k test ≡ None → IsTrue (test k) → least_below n test ≡ Some k
 least_found zero k test below none passes = absurd (omega (arith, below))
 least_found (suc m) k test below none passes = elim (cases_eq k m) [
   | inl last ↦ subst (λ (i : ℕ). or_this (least_below i test) test i ≡ Some k) last (here none passes)
@@ -42,6 +43,25 @@ least_found (suc m) k test below none passes = elim (cases_eq k m) [
   where
     here : least_below k test ≡ None → IsTrue (test k) → or_this (least_below k test) test k ≡ Some k
     here e t = ap (λ (o : Option ℕ). or_this o test k) e ∙ ap (λ (b : Bool). if b then Some k else None) t
+
+-- where no number below passes there is no least one
+none_below : (n : ℕ) (test : ℕ → Bool) → ((k : ℕ) → k < n → test k ≡ false) → least_below n test ≡ None
+none_below zero test none = refl
+none_below (suc n) test none =
+    ap (λ (o : Option ℕ). or_this o test n) (none_below n test (λ k below. none k (omega (arith, below))))
+    ∙ ap (λ (b : Bool). if b then Some n else None) (none n (omega arith))
+
+-- of the script's clients those of the node that can go on can act
+acts : (script : ScriptData) (me : ℕ) (n : NodeState) (client : ℕ) → client < length script.clients → can_act script me n client ≡ is_runnable script me n client
+acts script me n client inside = ap (λ (b : Bool). b && is_runnable script me n client) (lt-ltb client (length script.clients) inside)
+
+-- and the first of them is the first that can act
+pub least_is : (script : ScriptData) (me : ℕ) (n : NodeState) (o : Option ℕ) → IsLeast (length script.clients) (is_runnable script me n) o → o ≡ first_client script me n
+least_is script me n None none = sym (none_below (length script.clients) (can_act script me n) (λ k below. acts script me n k below ∙ none k below))
+least_is script me n (Some client) least =
+    sym (least_found (length script.clients) client (can_act script me n) least.0
+    (none_below client (can_act script me n) (λ k below. acts script me n k (omega (arith, below, least.0)) ∙ least.2 k below))
+    (acts script me n client least.0 ∙ least.1))
 
 -- the client can act, and there is room for it
 pub record ChoseAct (script : ScriptData) (me : ℕ) (n : NodeState) (client : ℕ) : Type 0 where

@@ -1,6 +1,5 @@
 // The move that a runner shows.
-ghost use Rattle.std.specs.Prelude.{◌≡◌, ◌<◌, length};
-ghost use Rattle.lt_law_plays.specs.Plays.{can_act};
+ghost use Rattle.std.specs.Prelude.{◌≡◌};
 ghost use Rattle.lt_node.specs.NodeData.{state_of};
 ghost use Rattle.lt_runner.specs.Choices.{may_move, may_act, may_take, first_client, act_choice, next_choice};
 ghost use Rattle.lt_runner.specs.Kept.{RunnerInvariant};
@@ -61,21 +60,9 @@ fn act_choice(node: &Node) -> Choice
     }
 }
 
-#[tactic(auto, using(crate::proofs::ChoiceLemmas::least_found))]
+#[tactic(auto, using(crate::proofs::ChoiceLemmas::least_is))]
 fn first_client(node: &Node) -> Option<u16>
     ensures { result ≡ first_client node.now.script node.now.me (state_of node.now) }
 {
-    for client in 0..node.script().clients() {
-        if can_act(node, client) {
-            return Some(client);
-        }
-    }
-    None
-}
-
-fn can_act(node: &Node, client: u16) -> bool
-    requires { client < length node.now.script.clients }
-    ensures { result ≡ can_act node.now.script node.now.me (state_of node.now) client }
-{
-    node.script().home(client) == node.me() && node.runnable(client)
+    node.first_runnable()
 }

@@ -1,4 +1,4 @@
-use Rattle.std.proofs.Common.{Some, ap, arith, refl, subst, sym, ◌∙◌, length}
+use Rattle.std.proofs.Common.{◌+◌, Some, ap, arith, refl, subst, sym, ◌∙◌, length}
 use Rattle.std.proofs.lemmas.List.{length-map}
 use Rattle.lt_modes.specs.declared.command.Command.{Command}
 use Rattle.lt_script.specs.Script.{HasTargets}
@@ -6,6 +6,7 @@ use Rattle.lt_node.specs.NodeData.{NodeData}
 use Rattle.lt_node.specs.Clients.{progress_made}
 use Rattle.lt_node.proofs.NodeLemmas.{node_is}
 use Rattle.lt_node.proofs.AdvanceLemmas.{HasNext, next_at, next_is, next_targets, advanced_at, node_advanced, clients_advanced}
+use Rattle.lt_node.proofs.StillWithin.{known_later}
 use Rattle.lt_node.proofs.node.Node.advance.Goals as goal
 
 pub next-requires-clause-few : goal.next-requires-clause-few
@@ -27,6 +28,9 @@ invariant_of-self c =
       clients_advanced c.self.inside.script c.self.inside.me c.self.inside.homes.items clients c.from.result c.index_mut.result.now c.next.new.self c.self.invariant.1
           (omega (arith, c.from.ensures, c.requires.client, count, c.self.invariant.0.clients, length-map clients progress_made)) c.index_mut.ensures.value c.next.ensures.made,
       c.self.invariant.2,
+      c.self.invariant.3,
+      c.self.invariant.4,
+      known_later c.self.inside.clock (c.self.inside.clock + 1) c.self.inside.cores.items c.self.inside.sent.items (omega arith) c.self.invariant.5,
     )
 
 pub returns-clause-command : goal.returns-clause-command

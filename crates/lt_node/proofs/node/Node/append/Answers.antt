@@ -1,6 +1,7 @@
-use Rattle.std.proofs.Common.{refl, subst, sym}
+use Rattle.std.proofs.Common.{length, refl, subst, sym}
 use Rattle.lt_modes.specs.Script.{ScriptData}
 use Rattle.lt_node.specs.Marks.{TellsWaiting}
+use Rattle.lt_node.specs.Running.{AreOwn}
 use Rattle.lt_node.proofs.MarkLemmas.{waiting_appended}
 use Rattle.lt_node.proofs.AppendLemmas.{appended_at}
 use Rattle.lt_node.proofs.node.Node.append.Goals as goal
@@ -16,6 +17,10 @@ invariant_of-self-2 c =
       subst (λ (script : ScriptData). TellsWaiting script c.self.inside.me c.self.inside.cores.items c.self.inside.waiting.items)
           (sym c.in_ok-append_to.ensures.script)
           (waiting_appended c.self.inside.script c.self.inside.me c.args.client c.args.command c.self.inside.cores.items c.self.inside.waiting.items c.self.invariant.2),
+      subst (λ (script : ScriptData). AreOwn script.clients c.self.inside.me 0 (length script.clients) c.self.inside.own.items)
+          (sym c.in_ok-append_to.ensures.script) c.self.invariant.3,
+      c.self.invariant.4,
+      c.self.invariant.5,
     )
 
 pub returns-clause-appended : goal.returns-clause-appended

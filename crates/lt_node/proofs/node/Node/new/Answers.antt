@@ -1,3 +1,7 @@
+use Rattle.std.proofs.Common.{ℕ, subst, sym}
+use Rattle.lt_node.specs.Ready.{KnowsNone}
+use Rattle.lt_node.proofs.ReadyLemmas.{none_known}
+use Rattle.lt_node.proofs.StillWithin.{within_none}
 use Rattle.lt_node.proofs.StartLemmas.{clients_known, node_at_start, state_at_start}
 use Rattle.lt_node.proofs.MarkLemmas.{waiting_first}
 use Rattle.lt_node.proofs.node.Node.new.Goals as goal
@@ -10,6 +14,10 @@ invariant_of-result c =
       node_at_start c.args.script.now c.args.node clients cores c.homes_of.ensures.script c.requires c.in_ok-clients.ensures.count c.in_ok-cores.ensures.count c.in_ok-cores.ensures.places,
       clients_known c.args.script.now c.args.node c.in_ok-homes.homes.items clients c.in_ok-homes.ensures.homes c.in_ok-clients.ensures.each,
       waiting_first c.args.script.now c.args.node cores c.in_ok-waiting.waiting.items c.in_ok-waiting.ensures.count c.in_ok-waiting.ensures.none c.in_ok-cores.ensures.states,
+      c.in_ok-own.ensures,
+      none_known cores c.in_ok-sent.sent.items
+          (subst (λ (k : ℕ). KnowsNone k c.in_ok-sent.sent.items) (sym c.in_ok-cores.ensures.count) c.in_ok-sent.ensures),
+      within_none 0 _ cores c.in_ok-sent.sent.items c.in_ok-sent.ensures,
     )
 
 pub returns-clause-state : goal.returns-clause-state

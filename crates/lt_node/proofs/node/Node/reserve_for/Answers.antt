@@ -1,6 +1,9 @@
-use Rattle.std.proofs.Common.{slice_set}
+use Rattle.std.proofs.Common.{ap, arith, length, slice_set}
+use Rattle.lt_node.specs.NodeData.{NodeData}
 use Rattle.lt_node.proofs.KeptLemmas.{kept_set, node_same, same_node}
 use Rattle.lt_node.proofs.MarkLemmas.{waiting_kept}
+use Rattle.lt_node.proofs.ReadyLemmas.{known_forgotten}
+use Rattle.lt_node.proofs.StillWithin.{within_forgotten}
 use Rattle.lt_node.proofs.TakeLemmas.{taken_by}
 use Rattle.lt_node.proofs.node.Node.reserve_for.Goals as goal
 
@@ -22,4 +25,13 @@ invariant_of-self c =
     let all = c.self.inside.cores.items in
     let new = slice_set all c.from.result c.reserve_for.new.core in
     let kept = kept_set all c.from.result c.index_mut.result.now c.reserve_for.new.core c.index_mut.ensures.value c.reserve_for.ensures.kept in
-    (node_same _ new c.self.invariant.0 kept, c.self.invariant.1, waiting_kept _ _ new all _ kept c.self.invariant.2)
+    let taken = taken_by _ c.args.self.now c.from.result c.args.letter.now c.index_mut.result.now c.self.view_is c.self.invariant.0 c.from.ensures c.index_mut.ensures.value c.requires.fits c.requires.within in (
+      node_same _ new c.self.invariant.0 kept,
+      c.self.invariant.1,
+      waiting_kept _ _ new all _ kept c.self.invariant.2,
+      c.self.invariant.3,
+      known_forgotten all c.self.inside.sent.items c.forget.new.sent.items c.args.letter.now.set c.from.result c.reserve_for.new.core
+          (omega (arith, taken.inside, ap (λ (n : NodeData). length n.cores) c.self.view_is)) c.from.ensures c.self.invariant.4 c.forget.ensures,
+      within_forgotten c.self.inside.clock all c.self.inside.sent.items c.forget.new.sent.items c.args.letter.now.set c.from.result c.reserve_for.new.core
+          (omega (arith, taken.inside, ap (λ (n : NodeData). length n.cores) c.self.view_is)) c.from.ensures c.self.invariant.4.count c.forget.ensures c.self.invariant.5,
+    )

@@ -4,6 +4,8 @@ use Rattle.lt_node.specs.NodeData.{NodeData, IsCoreOf}
 use Rattle.lt_node.specs.Room.{IsReady}
 use Rattle.lt_node.proofs.NodeLemmas.{touched_by, touch_done, node_kept}
 use Rattle.lt_node.proofs.MarkLemmas.{remarked, waiting_noted}
+use Rattle.lt_node.proofs.ReadyLemmas.{known_forgotten}
+use Rattle.lt_node.proofs.StillWithin.{within_forgotten}
 use Rattle.lt_node.proofs.ActLemmas.{command_fits}
 use Rattle.lt_node.proofs.node.Node.touch.Goals as goal
 
@@ -40,4 +42,9 @@ invariant_of-self c =
           c.self.inside.waiting.items c.mark-2.new.masks.items c.self.invariant.2 (omega (arith, touch.inside, inside)) c.from.ensures c.index_mut-core.ensures.value
           (remarked c.args.set c.index_mut-core.result.now.state c.act-answer.new.self.state c.asks.result.now c.asks-2.result.now c.self.inside.waiting.items
           c.mark.new.masks.items c.mark-2.new.masks.items c.asks.ensures c.asks-2.ensures c.mark.ensures c.mark-2.ensures),
+      c.self.invariant.3,
+      known_forgotten c.self.inside.cores.items c.self.inside.sent.items c.forget.new.sent.items c.args.set c.from.result c.act-answer.new.self
+          (omega (arith, touch.inside, inside)) c.from.ensures c.self.invariant.4 c.forget.ensures,
+      within_forgotten c.self.inside.clock c.self.inside.cores.items c.self.inside.sent.items c.forget.new.sent.items c.args.set c.from.result c.act-answer.new.self
+          (omega (arith, touch.inside, inside)) c.from.ensures c.self.invariant.4.count c.forget.ensures c.self.invariant.5,
     )

@@ -1,0 +1,75 @@
+// Which sets have memory for a move, and how much they may send in it: a number for each set, or 0 where it isn't known.
+ghost use Rattle.std.specs.Prelude.{◌≡◌, ◌+◌, ◌≤◌, ◌<◌, ◌^◌, All, IfOk, IsOk, OnErr, OnOk, length, map, slice_set, sum_by};
+ghost use Rattle.lt_core.specs.CoreData.{HasMemory};
+ghost use Rattle.lt_node.specs.Ready.{IsReadySet, IsReadyUnless0, KnowsNone, KnowsReady};
+ghost use Rattle.lt_node.specs.Room.{HasFewAsks, kept_of, most_sent};
+
+use lt_core::Core;
+use lt_script::Script;
+use std::alloc::{AllocError, Global};
+
+/// The numbers at the start.
+pub(crate) fn none_ready(alloc: Global, script: &Script) -> Result<Vec<u32>, AllocError>
+    ensures { IfOk result (λ sent. KnowsNone (length script.now.sets) sent.items) }
+{
+    let mut sent = Vec::with_capacity(alloc, usize::from(script.sets()))?;
+    for _ in 0..script.sets() {
+        sent.push(0)?;
+    }
+    Ok(sent)
+}
+
+/// A move touches the set.
+pub(crate) fn forget(sent: &mut Vec<u32>, set: u8)
+    requires set { set < length sent.old.items }
+    ensures { sent.new.items ≡ slice_set sent.old.items set 0 }
+{
+    sent[usize::from(set)] = 0;
+}
+
+/// A move may touch each set.
+pub(crate) fn forget_all(sent: &mut Vec<u32>)
+    ensures { KnowsNone (length sent.old.items) sent.new.items }
+{
+    for set in 0..sent.len() {
+        sent[set] = 0;
+    }
+}
+
+/// Makes room in each set for one move that takes no letter, and says how many letters, and event lines, all sets may
+/// send in it.
+pub(crate) fn reserve_each(cores: &mut Vec<Core>, sent: &mut Vec<u32>) -> Result<u32, AllocError>
+    requires few { All HasFewAsks cores.old.items }
+    requires sets { length cores.old.items ≤ 8 }
+    requires ready { KnowsReady cores.old.items sent.old.items }
+    ensures kept { map kept_of cores.new.items ≡ map kept_of cores.old.items }
+    ensures ready { KnowsReady cores.new.items sent.new.items }
+    ensures room { OnOk result (All (HasMemory 0) cores.new.items) }
+    ensures sum { IfOk result (λ all. all ≡ sum_by most_sent cores.new.items) }
+    ensures small { IfOk result (λ all. all + 1 < 2 ^ 32) }
+    ensures full { All (HasMemory 0) cores.old.items → IsOk result }
+{
+    let mut all = 0;
+    for set in 0..cores.len() {
+        let most = reserve_set(&mut cores[set], sent[set])?;
+        sent[set] = most;
+        all += most;
+    }
+    Ok(all)
+}
+
+// The same in one set, with its number.
+fn reserve_set(core: &mut Core, sent: u32) -> Result<u32, AllocError>
+    requires few { HasFewAsks core.old }
+    requires ready { IsReadyUnless0 core.old sent }
+    ensures kept { kept_of core.new ≡ kept_of core.old }
+    ensures ready { IfOk result (λ most. IsReadySet core.new most) }
+    ensures unknown { OnErr result (sent ≡ 0) }
+    ensures full { HasMemory 0 core.old → IsOk result }
+{
+    if sent != 0 {
+        return Ok(sent);
+    }
+    core.reserve()?;
+    Ok(core.most_sent() + 2)
+}
