@@ -15,7 +15,7 @@ use lt_script::Script;
 use std::alloc::{AllocError, Global};
 
 // For how many bytes of a move and its events there is room at first. Where a run has more, the room grows.
-const ROOM: usize = 64;
+const ROOM: usize = 48;
 
 /// The text of a run: for each move its line and the lines of its events, and then the lines of a run at
 /// rest, or those of a run that was cut at this node. The time that it takes is linear in the text.

@@ -55,6 +55,7 @@ impl Text {
     }
 
     /// Writes a number as a later word of a line.
+    #[inline(always)]
     pub fn number(&mut self, number: u64) -> Result<(), AllocError>
         ensures { OnOk result (self.new ≡ self.old ++ after_space (decimal number)) }
     {
@@ -64,6 +65,15 @@ impl Text {
         if number < 10_000 {
             return self.middle_number(number);
         }
+        self.long_number(number)
+    }
+
+    // Writes any number. It stands apart, so that its buffer doesn't burden the others.
+    #[cold]
+    #[inline(never)]
+    fn long_number(&mut self, number: u64) -> Result<(), AllocError>
+        ensures { OnOk result (self.new ≡ self.old ++ after_space (decimal number)) }
+    {
         let mut digits = Buffer::new();
         self.word(digits.format(number).as_bytes())
     }
@@ -83,6 +93,7 @@ impl Text {
     }
 
     // Writes a number of three or four digits as a later word of a line.
+    #[inline(never)]
     #[tactic(auto, using(crate::proofs::Digits::three_digits, crate::proofs::Digits::four_digits))]
     fn middle_number(&mut self, number: u64) -> Result<(), AllocError>
         requires many { 100 ≤ number }
