@@ -1,5 +1,5 @@
 -- Where the moves of a run fit, so do all its lines.
-use Rattle.std.proofs.Common.{ℕ, zero, suc, ◌<◌, ◌==◌, cond, true, false, List, [], ◌∷◌, ◌++◌, length, map, fold, Bool, Option, Some, None, arith}
+use Rattle.std.proofs.Common.{ℕ, zero, suc, ◌<◌, ◌==◌, cond, true, false, List, [], ◌∷◌, ◌++◌, length, fold, Bool, Option, Some, None, arith}
 use Rattle.std.specs.Prelude.{if◌then◌else◌}
 use Rattle.std.specs.List.{AllByRecursion, flat_map}
 use Rattle.std.proofs.lemmas.List.Sums.{count_by-le-length}

@@ -1,6 +1,5 @@
 -- The words of a set of modes, one mode after the other.
 use Rattle.std.proofs.Common.{◌≡◌, ◌∙◌, ℕ, cond, Bool, true, false, List, [], ◌∷◌, ◌++◌, map, filter, codes, refl, ap}
-use Rattle.std.specs.Prelude.{if◌then◌else◌}
 use Rattle.std.specs.List.{flat_map}
 use Rattle.lt_modes.specs.declared.mode.Mode.{Mode}
 use Rattle.lt_modes.specs.Modes.{Modes, has, has_none, word_of, modes_in_order}

@@ -4,3 +4,4 @@ pub mod Text
 pub mod LineFits
 pub mod Grammar
 pub mod Split
+pub mod Wording

@@ -1,25 +1,16 @@
 ghost use Rattle.std.specs.Prelude.{◌≡◌, ◌++◌, [], ◌∷◌, OnOk, if◌then◌else◌};
 ghost use Rattle.std.specs.List.{flat_map};
-ghost use Rattle.lt_journal.specs.declared.line.Line.TheVariants.{Move as MoveLine, Event as EventLine};
+ghost use Rattle.lt_journal.specs.declared.line.Line.TheVariants.{Move as MoveLine};
 ghost use Rattle.lt_text.specs.Text.{after_space, spaced};
 ghost use Rattle.lt_journal.specs.Words.{line_words, lock_words, drop_words, letter_words, event_words, further_words, words_of_modes, member_words};
-ghost use Rattle.lt_journal.specs.Text.{line_text};
 ghost use Rattle.lt_modes.specs.FiveModes.{shown_in};
 ghost use Rattle.lt_journal.specs.RunLines.{shown_event};
 
 use crate::names::{client_name, set_name};
 use crate::text::Text;
-use lt_modes::{Event, MODES, Mode, ModeSet, Move, Step};
+use lt_modes::{Event, MODES, Mode, ModeSet, Step};
 use lt_script::Script;
 use std::alloc::AllocError;
-
-/// Writes the line of a move: `move CLOCK NODE act CLIENT` or `move CLOCK NODE take FROM`.
-pub fn move_line(text: &mut Text, script: &Script, made: Move) -> Result<(), AllocError>
-    ensures { OnOk result (text.new ≡ text.old ++ line_text script.now (MoveLine made.stamp.clock made.stamp.node made.step)) }
-{
-    words_of_move(text, script, made.stamp.clock, made.stamp.node, made.step)?;
-    text.end_line()
-}
 
 /// Writes the words of a move's line.
 pub fn words_of_move(
@@ -44,14 +35,6 @@ pub fn words_of_move(
             text.number(u64::from(from))
         }
     }
-}
-
-/// Writes the line of an event.
-pub fn event_line(text: &mut Text, script: &Script, event: Event) -> Result<(), AllocError>
-    ensures { OnOk result (text.new ≡ text.old ++ line_text script.now (EventLine event)) }
-{
-    words_of_event(text, script, event)?;
-    text.end_line()
 }
 
 /// Writes the words of an event's line.

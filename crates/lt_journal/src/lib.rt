@@ -35,6 +35,7 @@
 #![tactic(auto)]
 
 mod closing;
+mod entries;
 mod events;
 mod grammar;
 mod journal;
@@ -43,9 +44,11 @@ mod line;
 mod line_words;
 mod meaning;
 mod names;
+mod padded;
 mod reading;
 mod splitting;
 mod text;
+mod wording;
 
 pub use closing::closing_lines;
 pub use events::shown_event;

@@ -8,7 +8,7 @@ use Rattle.lt_journal.proofs.journal.move_lines.Goals as goal
 
 pub loop-k-preserved : goal.loop-k-preserved
 loop-k-preserved c =
-    let script = c.args.script.now in
+    let script = c.args.wording.now in
     let made = c.made.result in
     let first = line_text script (MoveLine made.stamp.clock made.stamp.node made.step) in
     let later = lines_text script (event_lines script.version c.events.result.now) in

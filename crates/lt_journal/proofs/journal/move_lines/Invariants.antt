@@ -4,4 +4,4 @@ use Rattle.lt_journal.specs.Text.{lines_text}
 use Rattle.lt_journal.proofs.journal.move_lines.Given as goal
 
 abbrev pub invariant-loop-k : goal.invariant-loop-k
-invariant-loop-k l = l.text ≡ l.fn.text ++ lines_text l.script (moves_lines l.script.version (take l.k l.run.entries))
+invariant-loop-k l = l.text ≡ l.fn.text ++ lines_text l.wording (moves_lines l.wording.version (take l.k l.run.entries))

@@ -1,0 +1,195 @@
+ghost use Rattle.std.specs.Prelude.{◌≡◌, ◌<◌, ◌++◌, [], ◌∷◌, OnOk, IfOk, IfSome};
+ghost use Rattle.lt_modes.specs.Modes.{word_of};
+ghost use Rattle.lt_modes.specs.Script.{set_name, client_name};
+ghost use Rattle.lt_text.specs.Text.{after_space};
+ghost use Rattle.lt_journal.specs.Wording.{AreClientWords, AreLockWords};
+
+use crate::names::{client_name, set_name};
+use crate::padded::Padded;
+use crate::text::Text;
+use lt_modes::{MODES, Mode};
+use lt_script::Script;
+use std::alloc::{AllocError, Global};
+use std::marker::Model;
+
+// A client, and its name with the space before it, where that is short.
+#[derive(Debug, Drop)]
+pub(crate) struct ClientWord {
+    client: u16,
+    word: Option<Padded>,
+}
+
+// A set and a mode, and their words with the spaces before them, where these are short.
+#[derive(Debug, Drop)]
+pub(crate) struct LockWords {
+    set: u8,
+    mode: Mode,
+    words: Option<Padded>,
+}
+
+/// A script with its names as a journal has them, so that they are written fast. Each entry says what it is of: one
+/// that stands at another place is passed over, and the name is taken from the script.
+#[derive(Drop)]
+pub(crate) struct Wording<'a> {
+    script: &'a Script,
+    clients: Vec<ClientWord>,
+    locks: Vec<LockWords>,
+}
+
+impl<'a> Model for Wording<'a> {
+    ghost use Rattle.lt_modes.specs.Script.{ScriptData};
+    ghost use Rattle.lt_journal.specs.Wording.{AreClientWords, AreLockWords};
+
+    ghost Value = { ScriptData };
+
+    ghost view = { λ s. s.script.now };
+
+    ghost invariant = { λ s. AreClientWords s.script.now s.clients.items × AreLockWords s.script.now s.locks.items };
+}
+
+impl<'a> Wording<'a> {
+    pub fn new(alloc: Global, script: &'a Script) -> Result<Wording<'a>, AllocError>
+        ensures { IfOk result (λ s. s ≡ script.now) }
+    {
+        let clients = client_words(alloc, script)?;
+        let locks = lock_words(alloc, script)?;
+        Ok(Wording {
+            script,
+            clients,
+            locks,
+        })
+    }
+
+    pub fn script(&self) -> &Script
+        ensures { result.now ≡ self.now }
+    {
+        self.script
+    }
+
+    /// Writes the client's name as a later word of a line.
+    pub fn client(&self, text: &mut Text, client: u16) -> Result<(), AllocError>
+        ensures { OnOk result (text.new ≡ text.old ++ after_space (client_name self.now client)) }
+    {
+        match self.word_of_client(client) {
+            Some(word) => text.padded(word),
+            None => text.word(client_name(self.script, client)),
+        }
+    }
+
+    /// Writes the client's name as the last word of a line, with the line end.
+    pub fn last_client(&self, text: &mut Text, client: u16) -> Result<(), AllocError>
+        ensures { OnOk result (text.new ≡ text.old ++ after_space (client_name self.now client) ++ 10 ∷ []) }
+    {
+        if let Some(word) = self.word_of_client(client) {
+            return text.padded_line(word);
+        }
+        text.word(client_name(self.script, client))?;
+        text.end_line()
+    }
+
+    /// Writes the set and the mode as the last words of a line, with the line end.
+    pub fn last_lock(&self, text: &mut Text, set: u8, mode: Mode) -> Result<(), AllocError>
+        ensures { OnOk result (text.new ≡ text.old
+            ++ after_space (set_name self.now set) ++ after_space (word_of mode) ++ 10 ∷ []) }
+    {
+        if let Some(words) = self.words_of_lock(set, mode) {
+            return text.padded_line(words);
+        }
+        text.word(set_name(self.script, set))?;
+        text.word(mode.word().as_bytes())?;
+        text.end_line()
+    }
+
+    // The client's word, if it is kept.
+    fn word_of_client(&self, client: u16) -> Option<&Padded>
+        ensures { IfSome result (λ word. word.now ≡ after_space (client_name self.now client)) }
+    {
+        let place = usize::from(client);
+        if place >= self.clients.len() {
+            return None;
+        }
+        let own = &self.clients[place];
+        match &own.word {
+            Some(word) if own.client == client => Some(word),
+            _ => None,
+        }
+    }
+
+    // The words of the set and the mode, if they are kept.
+    fn words_of_lock(&self, set: u8, mode: Mode) -> Option<&Padded>
+        ensures { IfSome result (λ words. words.now ≡ after_space (set_name self.now set) ++ after_space (word_of mode)) }
+    {
+        let place = usize::from(set) * 6 + place_of(mode);
+        if place >= self.locks.len() {
+            return None;
+        }
+        let own = &self.locks[place];
+        match &own.words {
+            Some(words) if own.set == set && own.mode == mode => Some(words),
+            _ => None,
+        }
+    }
+}
+
+// The place of a mode among all.
+fn place_of(mode: Mode) -> usize
+    ensures { result < 6 }
+{
+    match mode {
+        Mode::IntentionRead => 0,
+        Mode::Read => 1,
+        Mode::Upgrade => 2,
+        Mode::IntentionWrite => 3,
+        Mode::ReadIntentionWrite => 4,
+        Mode::Write => 5,
+    }
+}
+
+// The words of all clients, in order.
+fn client_words(alloc: Global, script: &Script) -> Result<Vec<ClientWord>, AllocError>
+    ensures { IfOk result (λ words. AreClientWords script.now words.items) }
+{
+    let mut clients = Vec::new(alloc);
+    for client in 0..script.clients() {
+        let mut name = Text::new(alloc);
+        name.word(client_name(script, client))?;
+        let word = Padded::new(&mut name)?;
+        clients.push(ClientWord { client, word })?;
+    }
+    Ok(clients)
+}
+
+// The words of all sets with each mode, in order.
+fn lock_words(alloc: Global, script: &Script) -> Result<Vec<LockWords>, AllocError>
+    ensures { IfOk result (λ locks. AreLockWords script.now locks.items) }
+{
+    let mut locks = Vec::new(alloc);
+    for set in 0..script.sets() {
+        push_set(alloc, &mut locks, script, set)?;
+    }
+    Ok(locks)
+}
+
+// Adds the words of the set with each mode.
+fn push_set(
+    alloc: Global,
+    locks: &mut Vec<LockWords>,
+    script: &Script,
+    set: u8,
+) -> Result<(), AllocError>
+    requires { AreLockWords script.now locks.old.items }
+    ensures { OnOk result (AreLockWords script.now locks.new.items) }
+{
+    for mode in &MODES {
+        let mut both = Text::new(alloc);
+        both.word(set_name(script, set))?;
+        both.word(mode.word().as_bytes())?;
+        let words = Padded::new(&mut both)?;
+        locks.push(LockWords {
+            set,
+            mode: *mode,
+            words,
+        })?;
+    }
+    Ok(())
+}
