@@ -3,7 +3,7 @@ use Rattle.std.proofs.Common.{◌≡◌, ℕ, zero, suc, ◌+◌, ◌<◌, ◌�
 use Rattle.std.specs.Prelude.{◌⊎◌, ◌==◌, if◌then◌else◌, IsTrue, filter, Contains, slice_index_or, slice_get}
 use Rattle.std.specs.List.{AllByRecursion}
 use Rattle.std.proofs.lemmas.Bool.{eq-eqb}
-use Rattle.std.proofs.lemmas.List.{length-append}
+use Rattle.std.proofs.lemmas.List.{append-nil, length-append}
 use Rattle.std.proofs.lemmas.List.Elements.{recursion_from_All, Contains-get_or}
 use Rattle.lt_modes.specs.declared.stamp.Stamp.{Stamp}
 use Rattle.lt_modes.specs.declared.moves.Move.{Move}
@@ -181,7 +181,7 @@ pub first_and_others : (heads : List Head) (head : Head) → 0 < length heads �
 first_and_others [] head some e = absurd (omega (arith, some))
 first_and_others (first ∷ others) head some e = ap (λ (h : Head). h ∷ others) (sym e)
 
-pub none_left : (logs : List RunData) (heads : List Head) → length heads ≡ 0 → Merges (rests_of logs heads) []
+none_left : (logs : List RunData) (heads : List Head) → length heads ≡ 0 → Merges (rests_of logs heads) []
 none_left logs [] e = record { order = record { rising = tt; parts = λ x. refl }; count = refl }
 none_left logs (head ∷ heads) e = absurd (omega (arith, e))
 
@@ -193,3 +193,8 @@ not_empty (suc count) e = omega arith
 pub head_inside : (logs : List RunData) (heads : List Head) (head : Head) → AreHeads logs heads → 0 < length heads → head ≡ slice_index_or heads 0 head
     → head.place < length (entries_in (slice_get logs head.log))
 head_inside logs heads head h some e = first_inside logs head (drop 1 heads) (subst (AreHeads logs) (first_and_others heads head some e) h)
+
+-- where no log has a move left, all are merged
+pub all_taken : (logs : List RunData) (heads : List Head) (taken : List Logged) → length heads ≡ 0
+    → ((run : List Logged) → Merges (rests_of logs heads) run → Merges logs (taken ++ run)) → Merges logs taken
+all_taken logs heads taken e more = subst (Merges logs) (append-nil taken) (more [] (none_left logs heads e))

@@ -1,8 +1,8 @@
 ghost use Rattle.std.specs.Prelude.{◌≡◌, ◌+◌, ◌<◌, ◌≤◌, ◌^◌, [], ◌∷◌, ◌++◌, Some, length, take, drop, IfOk, IsOk, OnOk};
 ghost use Rattle.lt_merge.specs.Run.{just_made, with_event, made_at, events_at};
-ghost use Rattle.lt_merge.specs.Marks.{entries_of, IsLaid, events_bounds};
+ghost use Rattle.lt_merge.specs.Marks.{made_of, entries_of, IsLaid, events_bounds};
 
-use lt_modes::{Event, Move};
+use lt_modes::{Event, Move, Stamp, Step};
 use std::alloc::{AllocError, Global};
 use std::marker::Model;
 use std::ops::Range;
@@ -10,8 +10,47 @@ use std::ops::Range;
 // A move, and the place of its first event among the events of all moves.
 #[derive(Clone, Copy, Debug)]
 struct Mark {
-    made: Move,
-    start: usize,
+    clock: u64,
+    start: u32,
+    // The client of an act, or the sender of a take.
+    number: u16,
+    node: u8,
+    takes: bool,
+}
+
+impl Mark {
+    fn new(made: Move, start: u32) -> Mark
+        ensures made { made_of result ≡ made }
+        ensures start { result.start ≡ start }
+    {
+        let (takes, number) = match made.step {
+            Step::Act(client) => (false, client),
+            Step::Take(sender) => (true, u16::from(sender)),
+        };
+        Mark {
+            clock: made.stamp.clock,
+            start,
+            number,
+            node: made.stamp.node,
+            takes,
+        }
+    }
+
+    fn made(self) -> Move
+        ensures { result ≡ made_of self }
+    {
+        Move {
+            stamp: Stamp {
+                clock: self.clock,
+                node: self.node,
+            },
+            step: if self.takes {
+                Step::Take((self.number % 256) as u8)
+            } else {
+                Step::Act(self.number)
+            },
+        }
+    }
 }
 
 /// The moves of all nodes, in order, each with its events.
@@ -25,7 +64,7 @@ pub struct Run {
 pub type Log = Run;
 
 impl Model for Run {
-    ghost use Rattle.std.specs.Prelude.{◌<◌, ◌-◌, ◌^◌, vec_len, vec_capacity};
+    ghost use Rattle.std.specs.Prelude.{◌<◌, ◌-◌, ◌^◌, min, vec_len, vec_capacity};
     ghost use Rattle.lt_merge.specs.Run.{RunData};
 
     ghost Value = { RunData };
@@ -35,10 +74,10 @@ impl Model for Run {
     ghost view = { λ r. record {
       entries = entries_of r.moves.items r.events.items;
       spare = vec_capacity r.moves - vec_len r.moves;
-      room = vec_capacity r.events - vec_len r.events;
+      room = min (vec_capacity r.events) (2 ^ 32 - 1) - vec_len r.events;
     } };
 
-    ghost invariant = { λ r. (vec_len r.moves < 2 ^ 32) × IsLaid r.moves.items (vec_len r.events) };
+    ghost invariant = { λ r. (vec_len r.moves < 2 ^ 32) × (vec_len r.events < 2 ^ 32) × IsLaid r.moves.items (vec_len r.events) };
 }
 
 impl Run {
@@ -51,12 +90,16 @@ impl Run {
         }
     }
 
-    /// Makes a run with no moves yet, and room for so many, and for so many events.
+    /// Makes a run with no moves yet, and room for so many, and for so many events. No run has room for 2^32 events:
+    /// that many are refused as memory is.
     pub fn with_room(alloc: Global, moves: usize, events: usize) -> Result<Run, AllocError>
         ensures entries { IfOk result (λ run. run.entries ≡ []) }
         ensures spare { IfOk result (λ run. moves ≤ run.spare) }
         ensures room { IfOk result (λ run. events ≤ run.room) }
     {
+        if events >= 1 << 32 {
+            return Err(AllocError);
+        }
         Ok(Run {
             moves: Vec::with_capacity(alloc, moves)?,
             events: Vec::with_capacity(alloc, events)?,
@@ -76,7 +119,7 @@ impl Run {
         Run::with_room(alloc, moves, events)
     }
 
-    /// Makes room for one further move with so many events.
+    /// Makes room for one further move with so many events, if that makes fewer than 2^32 events.
     pub fn reserve(&mut self, events: usize) -> Result<(), AllocError>
         ensures entries { self.new.entries ≡ self.old.entries }
         ensures spare { OnOk result (1 ≤ self.new.spare) }
@@ -85,6 +128,9 @@ impl Run {
         ensures room_kept { self.old.room ≤ self.new.room }
         ensures full { 1 ≤ self.old.spare → events ≤ self.old.room → IsOk result }
     {
+        if events >= (1 << 32) - self.events.len() {
+            return Err(AllocError);
+        }
         self.moves.reserve(1)?;
         self.events.reserve(events)?;
         Ok(())
@@ -98,8 +144,8 @@ impl Run {
         ensures spare { self.old.spare ≤ self.new.spare + 1 }
         ensures room { self.old.room ≤ self.new.room }
     {
-        let start = self.events.len();
-        self.moves.push_reserved(Mark { made, start });
+        let start = self.events.len() as u32;
+        self.moves.push_reserved(Mark::new(made, start));
     }
 
     /// Adds an event to the last move.
@@ -119,12 +165,14 @@ impl Run {
         requires few { length self.old.entries + 1 < 2 ^ 32 }
         ensures { OnOk result (self.new.entries ≡ self.old.entries ++ take 1 (drop k other.now.entries)) }
     {
-        let mark = Mark {
-            made: other.made(k),
-            start: self.events.len(),
-        };
+        let events = other.events(k);
+        let start = self.events.len();
+        if events.len() >= (1 << 32) - start {
+            return Err(AllocError);
+        }
+        let mark = Mark::new(other.made(k), start as u32);
         self.moves.reserve(1)?;
-        self.events.extend_from_slice(other.events(k))?;
+        self.events.extend_from_slice(events)?;
         self.moves.push_reserved(mark);
         Ok(())
     }
@@ -141,7 +189,7 @@ impl Run {
         requires { k < length self.now.entries }
         ensures { made_at self.now.entries k ≡ Some result }
     {
-        self.moves[k as usize].made
+        self.moves[k as usize].made()
     }
 
     /// The events of the move at place `k`.
@@ -171,9 +219,9 @@ fn part_of(moves: &[Mark], k: usize, count: usize) -> Range<usize>
     ensures ordered { result.start ≤ result.end }
     ensures within { result.end ≤ count }
 {
-    let start = moves[k].start;
+    let start = moves[k].start as usize;
     let end = if k + 1 < moves.len() {
-        moves[k + 1].start
+        moves[k + 1].start as usize
     } else {
         count
     };
@@ -183,7 +231,7 @@ fn part_of(moves: &[Mark], k: usize, count: usize) -> Range<usize>
 #[cfg(test)]
 mod tests {
     use super::*;
-    use lt_modes::{Mode, Stamp, Step};
+    use lt_modes::Mode;
     use std::test::Fail;
 
     fn grant() -> Event {

@@ -1,11 +1,12 @@
 use Rattle.std.proofs.Common.{◌++◌, List, take, length, ap, sym, subst, arith, ◌∙◌}
 use Rattle.std.specs.Prelude.{slice_get}
+use Rattle.std.proofs.lemmas.Bool.{eqb-true}
 use Rattle.std.proofs.lemmas.List.{append_assoc, length-append}
 use Rattle.lt_spec.specs.Log.{Logged}
 use Rattle.lt_merge.specs.Merging.{Merges}
 use Rattle.lt_merge.specs.Heads.{entries_in, rest_of}
 use Rattle.lt_merge.proofs.Copying.{length_copied}
-use Rattle.lt_merge.proofs.Taking.{head_inside, log_inside, not_empty}
+use Rattle.lt_merge.proofs.Taking.{all_taken, head_inside, log_inside, not_empty}
 use Rattle.lt_merge.proofs.logs.merge_heads.Goals as goal
 
 pub take_move-requires-clause-place : goal.take_move-requires-clause-place
@@ -39,3 +40,8 @@ loop-heads-preserved c =
         invariant.count,
       );
     }
+
+pub returns : goal.returns
+returns c =
+    let none = eqb-true c.loop-heads.heads.len 0 (sym c.is_empty.ensures ∙ c.loop-heads-test.false) in
+    all_taken c.args.logs.now c.loop-heads.heads.items c.loop-heads.run.entries (omega (arith, none, c.loop-heads.heads.ok.0)) c.loop-heads.invariant.more

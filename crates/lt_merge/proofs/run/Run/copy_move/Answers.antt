@@ -1,6 +1,7 @@
 use Rattle.std.proofs.Common.{ap, sym, subst, ◌∙◌, arith, length, ◌++◌, ◌∷◌, [], List, ◌≡◌}
 use Rattle.std.specs.Prelude.{vec_len}
 use Rattle.lt_modes.specs.declared.event.Event.{Event}
+use Rattle.lt_modes.specs.declared.moves.Move.{Move}
 use Rattle.lt_spec.specs.Log.{Logged}
 use Rattle.lt_merge.specs.declared.run.Mark.{Mark}
 use Rattle.lt_merge.specs.Run.{RunData}
@@ -12,7 +13,7 @@ use Rattle.lt_merge.proofs.run.Run.copy_move.Goals as goal
 pub invariant_of-self-2 : goal.invariant_of-self-2
 invariant_of-self-2 c =
     let before = c.self.inside in
-    let mark : Mark = record { made = c.made.result; start = c.len.result } in
+    let mark = c.new-mark.result in
     let marks : c.push_reserved.new.self.items ≡ before.moves.items ++ mark ∷ [] =
     c.push_reserved.ensures.items ∙ ap (λ (ms : List Mark). ms ++ mark ∷ []) c.in_ok-reserve.ensures.items in (
       omega (
@@ -24,19 +25,22 @@ invariant_of-self-2 c =
         c.push_reserved.ensures.len,
         c.in_ok-reserve.ensures.len,
       ),
+      omega (arith, c.in_ok-extend_from_slice.ensures.len, c.len-start.ensures),
       subst (λ (ms : List Mark). IsLaid ms (vec_len c.extend_from_slice.new.self)) (sym marks)
-          (laid_add before.moves.items mark (vec_len before.events) _ c.len.ensures (omega (arith, c.in_ok-extend_from_slice.ensures.len)) c.self.invariant.1),
+          (laid_add before.moves.items mark (vec_len before.events) _ (c.new-mark.ensures.start ∙ c.len-start.ensures) (omega (arith, c.in_ok-extend_from_slice.ensures.len)) c.self.invariant.2),
     )
 
 pub returns : goal.returns
 returns c =
     let before = c.self.inside in
-    let mark : Mark = record { made = c.made.result; start = c.len.result } in
+    let mark = c.new-mark.result in
+    let events = c.events-events.result.now in
     let marks : c.push_reserved.new.self.items ≡ before.moves.items ++ mark ∷ [] =
     c.push_reserved.ensures.items ∙ ap (λ (ms : List Mark). ms ++ mark ∷ []) c.in_ok-reserve.ensures.items in
     let count : vec_len before.events ≡ length before.events.items = omega (arith, before.events.ok.0) in
     ap (λ (ms : List Mark). entries_of ms c.extend_from_slice.new.self.items) marks
     ∙ (ap (λ (es : List Event). entries_of (before.moves.items ++ mark ∷ []) es) c.in_ok-extend_from_slice.ensures.items
-    ∙ (entries_of-add before.moves.items mark before.events.items c.events.result.now (c.len.ensures ∙ count) (subst (IsLaid before.moves.items) count c.self.invariant.1)
-    ∙ (ap (λ (run : RunData). run.entries ++ record { made = c.made.result; events = c.events.result.now } ∷ []) c.self.view_is
-    ∙ ap (λ (es : List Logged). c.args.self.now.entries ++ es) (sym (copied c.args.other.now.entries c.args.k c.made.result c.events.result.now c.made.ensures c.events.ensures)))))
+    ∙ (entries_of-add before.moves.items mark before.events.items events (c.new-mark.ensures.start ∙ (c.len-start.ensures ∙ count)) (subst (IsLaid before.moves.items) count c.self.invariant.2)
+    ∙ (ap (λ (made : Move). entries_of before.moves.items before.events.items ++ record { made = made; events = events } ∷ []) c.new-mark.ensures.made
+    ∙ (ap (λ (run : RunData). run.entries ++ record { made = c.made.result; events = events } ∷ []) c.self.view_is
+    ∙ ap (λ (es : List Logged). c.args.self.now.entries ++ es) (sym (copied c.args.other.now.entries c.args.k c.made.result events c.made.ensures c.events-events.ensures))))))

@@ -1,4 +1,5 @@
 use Rattle.std.proofs.Common.{◌++◌, ◌∷◌, [], ap, ◌∙◌, arith, List, length}
+use Rattle.lt_modes.specs.declared.moves.Move.{Move}
 use Rattle.lt_merge.specs.declared.run.Mark.{Mark}
 use Rattle.lt_merge.specs.Run.{just_made, RunData}
 use Rattle.lt_merge.specs.Marks.{entries_of}
@@ -9,12 +10,14 @@ pub invariant_of-self : goal.invariant_of-self
 invariant_of-self c =
     let before = c.self.inside in (
       omega (arith, length-entries_of before.moves.items before.events.items, before.moves.ok.0, ap (λ (run : RunData). length run.entries) c.self.view_is, c.push_reserved.ensures.len),
-      rw c.push_reserved.ensures.items (laid_push before.moves.items _ _ c.len-start.ensures c.self.invariant.1),
+      c.self.invariant.1,
+      rw c.push_reserved.ensures.items (laid_push before.moves.items _ _ (c.new.ensures.start ∙ c.len-start.ensures) c.self.invariant.2),
     )
 
 pub returns-clause-entries : goal.returns-clause-entries
 returns-clause-entries c =
     let before = c.self.inside in
     ap (λ (ms : List Mark). entries_of ms before.events.items) c.push_reserved.ensures.items
-    ∙ (entries_of-push before.moves.items _ before.events.items (omega (arith, c.len-start.ensures, before.events.ok.0))
-    ∙ ap (λ (run : RunData). run.entries ++ just_made c.args.made ∷ []) c.self.view_is)
+    ∙ (entries_of-push before.moves.items _ before.events.items (omega (arith, c.new.ensures.start, c.len-start.ensures, before.events.ok.0))
+    ∙ (ap (λ (made : Move). entries_of before.moves.items before.events.items ++ just_made made ∷ []) c.new.ensures.made
+    ∙ ap (λ (run : RunData). run.entries ++ just_made c.args.made ∷ []) c.self.view_is))
