@@ -1,6 +1,7 @@
 pub mod ScriptLemmas
 pub mod NameLemmas
 pub mod StepLemmas
+pub mod PlainLemmas
 pub mod ReadLemmas
 pub mod PrintLemmas
 pub mod PrintedLines

@@ -1,6 +1,6 @@
 -- What reading a line comes to, step by step, and what is found out of a command's line.
-use Rattle.std.specs.Prelude.{◌≡◌, ℕ, ◌<◌, ◌==◌, Bool, not, ◌||◌, List, [], ◌∷◌, length, Option, Some, None, is_none, Result, Ok, Err, codes, nat_lt, nat_le, slice_index, IsTrue, if◌then◌else◌}
-use Rattle.std.specs.List.{list_all}
+use Rattle.std.specs.Prelude.{◌≡◌, ℕ, ◌<◌, ◌==◌, Bool, true, not, ◌||◌, List, [], ◌∷◌, length, Option, Some, None, is_none, Result, Ok, Err, codes, nat_lt, nat_le, slice_index, IsTrue, if◌then◌else◌}
+use Rattle.std.specs.List.{AllByRecursion, list_all}
 use Rattle.std.specs.Str.{bytes_eq}
 use Rattle.lt_modes.specs.declared.mode.Mode.{Mode}
 use Rattle.lt_modes.specs.declared.command.Command.{Command}
@@ -13,7 +13,7 @@ use Rattle.lt_script.specs.declared.limits.TheConstants.{MAX_LINE, MAX_COMMANDS}
 use Rattle.lt_script.specs.Script.{set_number, client_number, IsRequest, HasModesOf}
 use Rattle.lt_script.specs.Forms.{FormData, form_of}
 use Rattle.lt_script.specs.Faults.{declared, is_plain_byte, first_true, form_fault, mode_in, home_by, after_form, with_command}
-use Rattle.lt_script.specs.Reading.{unless}
+use Rattle.lt_script.specs.Reading.{unless, TakesLine}
 
 -- the first word of a line makes it a comment
 abbrev pub begins_comment : List ℕ → Bool
@@ -23,6 +23,17 @@ begins_comment word = slice_index word 0 == 35
 abbrev pub begins_declaration : List ℕ → Bool
 begins_declaration word =
     bytes_eq word (codes "version") || bytes_eq word (codes "nodes") || bytes_eq word (codes "set") || bytes_eq word (codes "client")
+
+-- a byte of a line, or a line feed
+abbrev pub is_text_byte : ℕ → Bool
+is_text_byte byte = is_plain_byte byte || byte == 10
+
+abbrev pub is_plain_line : List ℕ → Bool
+is_plain_line line = list_all is_plain_byte line
+
+-- the lines have plain bytes alone
+abbrev pub ArePlain : List (List ℕ) → Type 0
+ArePlain lines = AllByRecursion (λ line. is_plain_line line ≡ true) lines
 
 -- the fault of a line's bytes
 abbrev pub bytes_fault : List ℕ → Option Fault
@@ -41,6 +52,14 @@ step_by_form version st (Some form) = form_step version st form
 -- the same of a line with these words
 abbrev pub words_step : ℕ → Option ScriptData → List (List ℕ) → Result (Option ScriptData) Fault
 words_step version st words = step_by_form version st (form_of words)
+
+-- what reading a line of this form gives: its fault, or the script after it
+abbrev pub TakesForm : Option Fault → ScriptData → ScriptData → FormData → Type 0
+TakesForm fault before after form = TakesLine fault (Some after) (form_step before.version (Some before) form)
+
+-- the same of a line with these words
+abbrev pub TakesWords : Option Fault → ScriptData → ScriptData → List (List ℕ) → Type 0
+TakesWords fault before after words = TakesLine fault (Some after) (words_step before.version (Some before) words)
 
 -- what is found out of a command's line of this form: the client and the command, which the script may have as its next ones,
 -- or the line's first fault

@@ -12,6 +12,7 @@ mod name;
 mod printing;
 mod reading;
 mod script;
+mod taking;
 
 pub use fault::{Fault, ReadError, ScriptFault};
 pub use laws::{law_faults, law_literals, law_print};

@@ -1,10 +1,10 @@
-ghost use Rattle.std.specs.Prelude.{◌≡◌, ◌<◌, None, Some, length, IfSome, IsTrue};
+ghost use Rattle.std.specs.Prelude.{◌≡◌, ◌<◌, None, Some, length, true, IfSome, IsTrue};
 ghost use Rattle.std.specs.List.{list_all};
 ghost use Rattle.lt_modes.specs.Modes.{mode_of};
 ghost use Rattle.lt_modes.specs.FiveModes.{is_of_version};
 ghost use Rattle.lt_script.specs.Forms.{form_seen, asked_seen, NodesForm, SetForm, SetWithForm, ClientForm, CommandForm};
 ghost use Rattle.lt_script.specs.Faults.{form_fault, is_plain_byte, mode_in};
-ghost use Rattle.lt_script.specs.Steps.{bytes_fault, Resolves, FindsSetAndMode, FindsDrop};
+ghost use Rattle.lt_script.specs.Steps.{is_text_byte, is_plain_line, bytes_fault, Resolves, FindsSetAndMode, FindsDrop};
 
 use crate::fault::Fault;
 use crate::form::{CommandWords, Form};
@@ -16,11 +16,13 @@ use crate::script::Script;
 use lt_modes::{Command, Mode};
 use lt_text::number;
 
-/// The fault of a line's bytes, which comes before those of its words.
-pub fn bytes_fault(line: &[u8]) -> Option<Fault>
+/// The fault of a line's bytes, which comes before those of its words; `is_plain` is whether the bytes are known to be
+/// plain.
+pub fn bytes_fault(line: &[u8], is_plain: bool) -> Option<Fault>
+    requires { IsTrue is_plain → is_plain_line line.now ≡ true }
     ensures { result ≡ bytes_fault line.now }
 {
-    if !has_plain_bytes(line) {
+    if !is_plain_line(line, is_plain) {
         Some(Fault::Bytes)
     } else if line.len() > MAX_LINE {
         Some(Fault::Length)
@@ -215,6 +217,31 @@ fn mode_in(version: u8, word: &[u8]) -> Option<Mode>
     } else {
         None
     }
+}
+
+/// Whether the text has plain bytes and line feeds alone, so that each of its lines is plain.
+pub fn is_plain_text(text: &[u8]) -> bool
+    ensures { result ≡ list_all is_text_byte text.now }
+{
+    let mut is_plain = true;
+    for byte in text {
+        is_plain &= is_text_byte(*byte);
+    }
+    is_plain
+}
+
+fn is_text_byte(byte: u8) -> bool
+    ensures { result ≡ is_text_byte byte }
+{
+    is_plain_byte(byte) || byte == b'\n'
+}
+
+#[tactic(auto, using(crate::proofs::PlainLemmas::known_or))]
+fn is_plain_line(line: &[u8], is_plain: bool) -> bool
+    requires { IsTrue is_plain → is_plain_line line.now ≡ true }
+    ensures { result ≡ is_plain_line line.now }
+{
+    is_plain || has_plain_bytes(line)
 }
 
 // It goes to the end where an early byte is none, so that several bytes are looked at in one step.

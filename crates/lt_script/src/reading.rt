@@ -1,18 +1,16 @@
-ghost use Rattle.std.specs.Prelude.{◌≡◌, ◌⊎◌, ◌<◌, ◌≤◌, ◌+◌, ◌-◌, ◌^◌, ◌∷◌, None, Some, false, length, IfOk, OnOk};
+ghost use Rattle.std.specs.Prelude.{◌≡◌, ◌⊎◌, ◌<◌, ◌≤◌, ◌+◌, ◌-◌, ◌^◌, ◌∷◌, None, Some, length, true, IfOk, IsTrue};
 ghost use Rattle.lt_text.specs.Text.{lines, words};
-ghost use Rattle.lt_script.specs.Forms.{form_seen, asked_seen, SetForm, SetWithForm, ClientForm, CommandForm};
+ghost use Rattle.lt_script.specs.Forms.{form_seen};
 ghost use Rattle.lt_script.specs.Faults.{declared, form_fault, after_form};
 ghost use Rattle.lt_script.specs.Reading.{TakesLine, Reads, is_skipped, says_version, line_step, script_body, read_of};
-ghost use Rattle.lt_script.specs.Steps.{begins_comment, form_step, words_step};
+ghost use Rattle.lt_script.specs.Steps.{begins_comment, words_step, is_plain_line};
 
 use crate::fault::{Fault, ReadError, ScriptFault};
-use crate::form::{CommandWords, Form, asked_of, begins_declaration, form_of};
+use crate::form::{Form, form_of};
 use crate::limits::MAX_LINE;
-use crate::line::{
-    bytes_fault, client_fault, fault_before_nodes, later_nodes_fault, request_of, set_fault,
-    set_with_fault,
-};
+use crate::line::{bytes_fault, fault_before_nodes, is_plain_text};
 use crate::script::Script;
+use crate::taking::take_line;
 use lt_text::{next_line, next_word, number};
 use std::alloc::{AllocError, Global};
 
@@ -28,8 +26,9 @@ pub fn read(alloc: Global, bytes: &[u8]) -> Result<Script, ReadError>
     let mut script: Option<Script> = None;
     let mut rest = body.rest;
     let mut number = body.number;
+    let is_plain = is_plain_text(rest);
     while let Some((line, after)) = next_line(rest) {
-        let Ok(fault) = read_line(alloc, body.version, &mut script, line) else {
+        let Ok(fault) = read_line(alloc, body.version, &mut script, line, is_plain) else {
             return Err(ReadError::Memory);
         };
         if let Some(fault) = fault {
@@ -110,14 +109,16 @@ fn says_version(line: &[u8]) -> bool
     }
 }
 
-// Adds what the line says, or tells its first fault.
+// Adds what the line says, or tells its first fault; `is_plain` is whether its bytes are known to be plain.
 fn read_line(
     alloc: Global,
     version: u8,
     script: &mut Option<Script>,
     line: &[u8],
+    is_plain: bool,
 ) -> Result<Option<Fault>, AllocError>
     requires version { (version ≡ 1) ⊎ (version ≡ 2) }
+    requires plain { IsTrue is_plain → is_plain_line line.now ≡ true }
     ensures { IfOk result (λ fault. TakesLine fault script.new (line_step version script.old line.now)) }
 {
     let Some((word, rest)) = next_word(line) else {
@@ -126,7 +127,7 @@ fn read_line(
     if begins_comment(word) {
         return Ok(None);
     }
-    if let Some(fault) = bytes_fault(line) {
+    if let Some(fault) = bytes_fault(line, is_plain) {
         return Ok(Some(fault));
     }
     match script {
@@ -187,122 +188,5 @@ fn start(alloc: Global, version: u8, form: Form<'_>) -> Result<Script, AllocErro
         Script::new(alloc, nodes as u8)
     } else {
         Script::new_v2(alloc, nodes as u8)
-    }
-}
-
-// Adds what a line with these words after the line `nodes` says, or tells its first fault.
-fn take_line(script: &mut Script, word: &[u8], rest: &[u8]) -> Result<Option<Fault>, AllocError>
-    ensures { IfOk result (λ fault.
-        TakesLine fault (Some script.new) (words_step script.old.version (Some script.old) (word.now ∷ words rest.now))) }
-{
-    if begins_declaration(word) {
-        let Some(form) = form_of(word, rest) else {
-            return Ok(Some(Fault::Form));
-        };
-        return take_form(script, form);
-    }
-    match asked_of(rest) {
-        Some(asked) => take_command(script, word, asked),
-        None => Ok(Some(Fault::Form)),
-    }
-}
-
-// Adds what a line of this form says, or tells its first fault.
-fn take_form(script: &mut Script, form: Form<'_>) -> Result<Option<Fault>, AllocError>
-    ensures { IfOk result (λ fault.
-        TakesLine fault (Some script.new) (form_step script.old.version (Some script.old) (form_seen form.entry))) }
-{
-    match form {
-        Form::Version => Ok(Some(Fault::Nodes)),
-        Form::Nodes { nodes } => Ok(Some(later_nodes_fault(script, nodes))),
-        Form::Set { name } => take_set(script, name),
-        Form::SetWith { name, relative } => take_relative(script, name, relative),
-        Form::Client { name, node } => take_client(script, name, node),
-        Form::Command { client, asked } => take_command(script, client, asked),
-    }
-}
-
-fn take_set(script: &mut Script, name: &[u8]) -> Result<Option<Fault>, AllocError>
-    ensures { IfOk result
-        (λ fault. TakesLine fault (Some script.new) (form_step script.old.version (Some script.old) (SetForm name.now))) }
-{
-    if let Some(fault) = set_fault(script, name) {
-        return Ok(Some(fault));
-    }
-    add_set(script, name)?;
-    Ok(None)
-}
-
-fn take_relative(
-    script: &mut Script,
-    name: &[u8],
-    relative: &[u8],
-) -> Result<Option<Fault>, AllocError>
-    ensures { IfOk result (λ fault.
-        TakesLine fault (Some script.new) (form_step script.old.version (Some script.old) (SetWithForm name.now relative.now))) }
-{
-    if let Some(fault) = set_with_fault(script, name, relative) {
-        return Ok(Some(fault));
-    }
-    add_relative(script, name, relative)?;
-    Ok(None)
-}
-
-fn take_client(script: &mut Script, name: &[u8], node: &[u8]) -> Result<Option<Fault>, AllocError>
-    ensures { IfOk result (λ fault.
-        TakesLine fault (Some script.new) (form_step script.old.version (Some script.old) (ClientForm name.now node.now))) }
-{
-    if let Some(fault) = client_fault(script, name, node) {
-        return Ok(Some(fault));
-    }
-    add_client(script, name, node)?;
-    Ok(None)
-}
-
-// Adds a set in a family of its own.
-fn add_set(script: &mut Script, name: &[u8]) -> Result<(), AllocError>
-    requires { form_fault script.old.version (Some script.old) (SetForm name.now) ≡ None }
-    ensures { OnOk result (script.new ≡ after_form script.old (SetForm name.now)) }
-{
-    let family = script.sets();
-    script.add_set(name, family)
-}
-
-// Adds a set in the family of this one.
-fn add_relative(script: &mut Script, name: &[u8], relative: &[u8]) -> Result<(), AllocError>
-    requires { form_fault script.old.version (Some script.old) (SetWithForm name.now relative.now) ≡ None }
-    ensures { OnOk result (script.new ≡ after_form script.old (SetWithForm name.now relative.now)) }
-{
-    let Some(set) = script.set_number(relative) else {
-        unreachable!();
-    };
-    let family = script.family(set);
-    script.add_set(name, family)
-}
-
-fn add_client(script: &mut Script, name: &[u8], node: &[u8]) -> Result<(), AllocError>
-    requires { form_fault script.old.version (Some script.old) (ClientForm name.now node.now) ≡ None }
-    ensures { OnOk result (script.new ≡ after_form script.old (ClientForm name.now node.now)) }
-{
-    let node = number(node).unwrap_or(0);
-    prove!(node < u32::from(script.nodes()));
-    script.add_client(name, node as u8)
-}
-
-// Adds the command, or tells its line's first fault.
-fn take_command(
-    script: &mut Script,
-    client: &[u8],
-    asked: CommandWords<'_>,
-) -> Result<Option<Fault>, AllocError>
-    ensures { IfOk result (λ fault. TakesLine fault (Some script.new)
-        (form_step script.old.version (Some script.old) (CommandForm client.now (asked_seen asked.entry)))) }
-{
-    match request_of(script, client, asked) {
-        Ok((client, command)) => {
-            script.add_command(client, command)?;
-            Ok(None)
-        }
-        Err(fault) => Ok(Some(fault)),
     }
 }

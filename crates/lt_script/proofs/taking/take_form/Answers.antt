@@ -6,7 +6,7 @@ use Rattle.lt_script.specs.Forms.{form_seen, NodesForm}
 use Rattle.lt_script.specs.Reading.{TakesLine}
 use Rattle.lt_script.specs.Steps.{form_step}
 use Rattle.lt_script.proofs.StepLemmas.{told_step}
-use Rattle.lt_script.proofs.reading.take_form.Goals as goal
+use Rattle.lt_script.proofs.taking.take_form.Goals as goal
 
 pub returns-in-Nodes : goal.returns-in-Nodes
 returns-in-Nodes c =

@@ -1,0 +1,125 @@
+// Lines after the line `nodes`.
+ghost use Rattle.std.specs.Prelude.{◌≡◌, ◌∷◌, None, Some, IfOk, OnOk};
+ghost use Rattle.lt_text.specs.Text.{words};
+ghost use Rattle.lt_script.specs.Forms.{form_seen, asked_seen, SetForm, SetWithForm, ClientForm, CommandForm};
+ghost use Rattle.lt_script.specs.Faults.{form_fault, after_form};
+ghost use Rattle.lt_script.specs.Steps.{TakesForm, TakesWords};
+
+use crate::fault::Fault;
+use crate::form::{CommandWords, Form, asked_of, begins_declaration, form_of};
+use crate::line::{client_fault, later_nodes_fault, request_of, set_fault, set_with_fault};
+use crate::script::Script;
+use lt_text::number;
+use std::alloc::AllocError;
+
+/// Adds what a line with these words says, or tells its first fault.
+pub fn take_line(script: &mut Script, word: &[u8], rest: &[u8]) -> Result<Option<Fault>, AllocError>
+    ensures { IfOk result (λ fault. TakesWords fault script.old script.new (word.now ∷ words rest.now)) }
+{
+    if begins_declaration(word) {
+        let Some(form) = form_of(word, rest) else {
+            return Ok(Some(Fault::Form));
+        };
+        return take_form(script, form);
+    }
+    match asked_of(rest) {
+        Some(asked) => take_command(script, word, asked),
+        None => Ok(Some(Fault::Form)),
+    }
+}
+
+// Adds what a line of this form says, or tells its first fault.
+fn take_form(script: &mut Script, form: Form<'_>) -> Result<Option<Fault>, AllocError>
+    ensures { IfOk result (λ fault. TakesForm fault script.old script.new (form_seen form.entry)) }
+{
+    match form {
+        Form::Version => Ok(Some(Fault::Nodes)),
+        Form::Nodes { nodes } => Ok(Some(later_nodes_fault(script, nodes))),
+        Form::Set { name } => take_set(script, name),
+        Form::SetWith { name, relative } => take_relative(script, name, relative),
+        Form::Client { name, node } => take_client(script, name, node),
+        Form::Command { client, asked } => take_command(script, client, asked),
+    }
+}
+
+fn take_set(script: &mut Script, name: &[u8]) -> Result<Option<Fault>, AllocError>
+    ensures { IfOk result (λ fault. TakesForm fault script.old script.new (SetForm name.now)) }
+{
+    if let Some(fault) = set_fault(script, name) {
+        return Ok(Some(fault));
+    }
+    add_set(script, name)?;
+    Ok(None)
+}
+
+fn take_relative(
+    script: &mut Script,
+    name: &[u8],
+    relative: &[u8],
+) -> Result<Option<Fault>, AllocError>
+    ensures { IfOk result (λ fault. TakesForm fault script.old script.new (SetWithForm name.now relative.now)) }
+{
+    if let Some(fault) = set_with_fault(script, name, relative) {
+        return Ok(Some(fault));
+    }
+    add_relative(script, name, relative)?;
+    Ok(None)
+}
+
+fn take_client(script: &mut Script, name: &[u8], node: &[u8]) -> Result<Option<Fault>, AllocError>
+    ensures { IfOk result (λ fault. TakesForm fault script.old script.new (ClientForm name.now node.now)) }
+{
+    if let Some(fault) = client_fault(script, name, node) {
+        return Ok(Some(fault));
+    }
+    add_client(script, name, node)?;
+    Ok(None)
+}
+
+// Adds a set in a family of its own.
+fn add_set(script: &mut Script, name: &[u8]) -> Result<(), AllocError>
+    requires { form_fault script.old.version (Some script.old) (SetForm name.now) ≡ None }
+    ensures { OnOk result (script.new ≡ after_form script.old (SetForm name.now)) }
+{
+    let family = script.sets();
+    script.add_set(name, family)
+}
+
+// Adds a set in the family of this one.
+fn add_relative(script: &mut Script, name: &[u8], relative: &[u8]) -> Result<(), AllocError>
+    requires { form_fault script.old.version (Some script.old) (SetWithForm name.now relative.now) ≡ None }
+    ensures { OnOk result (script.new ≡ after_form script.old (SetWithForm name.now relative.now)) }
+{
+    let Some(set) = script.set_number(relative) else {
+        unreachable!();
+    };
+    let family = script.family(set);
+    script.add_set(name, family)
+}
+
+fn add_client(script: &mut Script, name: &[u8], node: &[u8]) -> Result<(), AllocError>
+    requires { form_fault script.old.version (Some script.old) (ClientForm name.now node.now) ≡ None }
+    ensures { OnOk result (script.new ≡ after_form script.old (ClientForm name.now node.now)) }
+{
+    let node = number(node).unwrap_or(0);
+    prove!(node < u32::from(script.nodes()));
+    script.add_client(name, node as u8)
+}
+
+// Adds the command, or tells its line's first fault.
+fn take_command(
+    script: &mut Script,
+    client: &[u8],
+    asked: CommandWords<'_>,
+) -> Result<Option<Fault>, AllocError>
+    ensures { IfOk result
+        (λ fault. TakesForm fault script.old script.new (CommandForm client.now (asked_seen asked.entry))) }
+{
+    match request_of(script, client, asked) {
+        Ok((client, command)) => {
+            script.add_command(client, command)?;
+            Ok(None)
+        }
+        Err(fault) => Ok(Some(fault)),
+    }
+}
