@@ -73,15 +73,25 @@ impl Script {
         Ok(())
     }
 
-    // Makes this script the only owner of its parts, by a copy of them where it has to be.
+    // Makes this script the only owner of its parts.
     fn separate(&mut self) -> Result<(), AllocError>
         ensures { self.new ≡ self.old }
     {
-        if Arc::strong_count(&self.parts) != 1 {
-            let alloc = *self.parts.sets.allocator();
-            let parts = self.parts.copy(alloc)?;
-            self.parts = Arc::new(alloc, parts)?;
+        if Arc::strong_count(&self.parts) == 1 {
+            return Ok(());
         }
+        self.take_copy()
+    }
+
+    // Takes a copy of the parts that it shares.
+    #[cold]
+    #[inline(never)]
+    fn take_copy(&mut self) -> Result<(), AllocError>
+        ensures { self.new ≡ self.old }
+    {
+        let alloc = *self.parts.sets.allocator();
+        let parts = self.parts.copy(alloc)?;
+        self.parts = Arc::new(alloc, parts)?;
         Ok(())
     }
 }
