@@ -3,6 +3,7 @@ pub mod MailLemmas
 pub mod PassLemmas
 pub mod PassedLemmas
 pub mod FlushLemmas
+pub mod LookLemmas
 pub mod BothLemmas
 pub mod OpeningLemmas
 pub mod OpenedLemmas

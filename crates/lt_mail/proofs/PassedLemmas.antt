@@ -1,6 +1,6 @@
 -- What holds of the rings once all letters that wait were looked at.
 use Rattle.std.proofs.Common.{◌≡◌, refl, ap, ℕ, Bool, true, false, inl, inr, List, [], ◌∷◌, ◌++◌, length, Option, Some, None, sym, subst, arith, ◌∙◌, append-nil}
-use Rattle.std.specs.Prelude.{◌⊎◌, slice_get}
+use Rattle.std.specs.Prelude.{◌⊎◌, slice_get, replicate}
 use Rattle.rtrb.specs.Ring.{known_free, sent}
 use Rattle.lt_desk.specs.declared.letter.Letter.{Letter}
 use Rattle.lt_desk.specs.declared.letter.Post.{Post}
@@ -8,6 +8,7 @@ use Rattle.lt_mail.specs.declared.lane.OutEnd.{OutEnd}
 use Rattle.lt_mail.specs.Lanes.{OutLane, letters_to, lane_of, lane_in}
 use Rattle.lt_mail.specs.Words.{Alike}
 use Rattle.lt_mail.specs.Passing.{is_tried, is_held, LaneGoes, LaneAt, Passing, Passes, Passed}
+use Rattle.lt_mail.proofs.PassLemmas.{first_passed}
 
 abbrev with_outbox : OutEnd → List Letter → OutLane
 with_outbox end letters = record { end = end; outbox = letters }
@@ -55,3 +56,9 @@ all_passed only outs waiting ys now held left h none = record {
 
     no_rest : h.rest ≡ []
     no_rest = is_none h.rest (h.rest_len ∙ none)
+
+-- no letter waits
+pub none_waits : (only : Option ℕ) (outs : List OutEnd) (waiting : List Post) → waiting ≡ [] → Passed only outs waiting outs waiting
+none_waits only outs waiting none =
+    all_passed only outs waiting outs waiting (replicate 256 false) 0
+    (first_passed only outs waiting (replicate 256 false) 0 refl (ap (λ (posts : List Post). length posts) none)) refl

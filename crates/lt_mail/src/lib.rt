@@ -4,6 +4,7 @@
 mod both_ends;
 mod lane;
 mod lanes;
+mod looking;
 mod mail;
 mod opening;
 mod passing;

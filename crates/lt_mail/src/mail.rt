@@ -1,12 +1,14 @@
-ghost use Rattle.std.specs.Prelude.{◌≡◌, ◌≢◌, ◌+◌, ◌≤◌, ◌<◌, ◌⊎◌, ℕ, [], ◌∷◌, ◌++◌, length, IfSome, IfNone, IsOk, OnOk, OnErr, MatchBool};
+ghost use Rattle.std.specs.Prelude.{◌≡◌, ◌≢◌, ◌+◌, ◌≤◌, ◌<◌, ◌⊎◌, ℕ, [], ◌∷◌, ◌++◌, length, true, IfSome, IfNone, IsOk, OnOk, OnErr, MatchBool};
 ghost use mathlib.Core.List.{IsPrefix};
 ghost use Rattle.lt_desk.specs.LetterSeen.{letter_seen};
 ghost use Rattle.lt_mail.specs.Words.{out_at, in_at, outs_count, ins_count, sent_to, given_to, waiting_to, taken_from, known_from, if_to, if_from, places_to, IsFullTo, HasRoomFor, SameEnds};
 ghost use Rattle.std.specs.VecDeque.{deque_len, deque_capacity};
 ghost use Rattle.lt_mail.specs.Both.{Sees};
+ghost use Rattle.lt_mail.specs.Looks.{LooksAtSome, SawNone};
 ghost use Rattle.lt_mail.specs.Changes.{KeepsSent, OutChanges, InChanges, Puts, Flushes, Takes, TakesKnown, TakesNone, KnowsNone, Saw};
 
 use crate::lane::{InLane, OutEnd};
+use crate::looking::first_with_letter;
 use crate::passing::pass;
 use lt_desk::{Letter, Post};
 use std::alloc::AllocError;
@@ -141,6 +143,33 @@ impl Mail {
         ensures ends { SameEnds self.old self.new }
     {
         make_room(&mut self.waiting, letters)
+    }
+
+    /// The first other node of which a letter is in its ring, and then known. It looks again, whatever is known.
+    #[tactic(auto, using(crate::proofs::LookLemmas::all_looked, crate::proofs::LookLemmas::none_known, crate::proofs::WordLemmas::saw_letter))]
+    pub fn first_sender(&mut self) -> Option<u8>
+        requires few { ins_count self.old ≤ 256 }
+        ensures some { IfSome result (λ from. (from < ins_count self.new) × (from ≢ self.new.me) × (0 < length (known_from self.new from))) }
+        ensures none { IfNone result ((node : ℕ) → node ≢ self.new.me → known_from self.new node ≡ []) }
+        ensures taken { (node : ℕ) → taken_from self.new node ≡ taken_from self.old node }
+        ensures known { (node : ℕ) → IsPrefix (known_from self.old node) (known_from self.new node) }
+        ensures outs { (node : ℕ) → out_at self.new node ≡ out_at self.old node }
+        ensures ends { SameEnds self.old self.new }
+    {
+        match self.look() {
+            Some(from) => Some(from as u8),
+            None => None,
+        }
+    }
+
+    // The same, by what it does to the rings.
+    fn look(&mut self) -> Option<usize>
+        ensures looked { LooksAtSome self.old.ins.items self.new.ins.items }
+        ensures others { (self.new.me ≡ self.old.me) × (self.new.outs.items ≡ self.old.outs.items) × (self.new.waiting.items ≡ self.old.waiting.items) }
+        ensures some { IfSome result (λ from. (from < ins_count self.new) × (from ≢ self.new.me) × Saw true (in_at self.new from)) }
+        ensures none { IfNone result (SawNone (ins_count self.new) self.new.me self.new.ins.items) }
+    {
+        first_with_letter(&mut self.ins, usize::from(self.me))
     }
 
     /// Flushes the outbox to each node.

@@ -74,12 +74,13 @@ fn open_row(
 fn empty_mails(alloc: Global, nodes: u8) -> Result<Vec<Mail>, AllocError>
     ensures { IfOk result (λ mails. AreEmpty nodes mails.items) }
 {
-    let mut mails = Vec::new(alloc);
+    let count = usize::from(nodes);
+    let mut mails = Vec::with_capacity(alloc, count)?;
     for node in 0..nodes {
         mails.push(Mail {
             me: node,
-            outs: Vec::new(alloc),
-            ins: Vec::new(alloc),
+            outs: Vec::with_capacity(alloc, count)?,
+            ins: Vec::with_capacity(alloc, count)?,
             waiting: VecDeque::new(alloc),
         })?;
     }
