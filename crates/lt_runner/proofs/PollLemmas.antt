@@ -1,67 +1,38 @@
 -- The rings that are polled one after the other.
-use Rattle.std.proofs.Common.{◌≡◌, ◌≢◌, ℕ, ◌+◌, ◌<◌, inl, inr, List, [], ◌++◌, Option, None, refl, sym, ap, subst, arith, ◌∙◌, append-nil}
+use Rattle.std.proofs.Common.{◌≡◌, ◌≢◌, ℕ, ◌<◌, List, [], ◌++◌, Option, None, sym, ap, subst, ◌∙◌, append-nil}
 use Rattle.std.specs.Prelude.{length}
-use Rattle.std.proofs.lemmas.Bool.{cases_eq}
 use Rattle.lt_modes.specs.State as rules
-use Rattle.lt_mail.specs.declared.lane.InLane.{InLane}
 use Rattle.lt_mail.specs.declared.mail.Mail.{Mail}
-use Rattle.lt_mail.specs.Lanes.{known}
-use Rattle.lt_mail.specs.Words.{on_in, out_at, in_at, taken_from, known_from, SameEnds}
-use Rattle.lt_mail.proofs.MailLemmas.{ends_join, ends_same}
+use Rattle.lt_mail.specs.Words.{out_at, ins_count, taken_from, known_from, SameEnds}
+use Rattle.lt_mail.proofs.MailLemmas.{ends_join}
 use Rattle.lt_runner.specs.declared.parts.Hand.{Hand}
 use Rattle.lt_runner.specs.Hands.{in_hand}
 use Rattle.lt_runner.specs.Looking.{Knows}
 use Rattle.lt_runner.specs.Polled.{Polled, Finds}
 
--- no ring is polled yet
-pub poll_starts : (nodes me : ℕ) (m : Mail) → Polled nodes me 0 m m None
-poll_starts nodes me m = record {
-  ends = ends_same m;
-  outs = λ node. refl;
-  taken = λ node. sym (append-nil (taken_from m node));
+-- no ring has a letter
+pub poll_none : (nodes me : ℕ) (a b : Mail) → a.me ≡ me → SameEnds a b → ((node : ℕ) → out_at b node ≡ out_at a node)
+    → ((node : ℕ) → taken_from b node ≡ taken_from a node) → ((node : ℕ) → node ≢ b.me → known_from b node ≡ [])
+    → Polled nodes me nodes a b None
+poll_none nodes me a b own ends outs taken empty = record {
+  ends = ends;
+  outs = outs;
+  taken = λ node. taken node ∙ sym (append-nil (taken_from a node));
   from = tt;
-  none = λ e node below. absurd (omega (arith, below));
+  none = λ e node below apart. empty node (λ same. apart (same ∙ (ends.me ∙ own)));
 }
 
--- the ring of the node itself is left out
-pub poll_skips : (nodes me first : ℕ) (a b : Mail) → first ≡ me → Polled nodes me first a b None → Polled nodes me (first + 1) a b None
-poll_skips nodes me first a b own h = record {
-  ends = h.ends;
-  outs = h.outs;
-  taken = h.taken;
-  from = tt;
-  none = λ e node below apart. h.none refl node (omega (arith, below, own, apart)) apart;
-}
-
--- one ring more had no letter
-pub poll_goes_on : (nodes me first : ℕ) (a b c : Mail) → Polled nodes me first a b None → SameEnds b c
-    → ((node : ℕ) → out_at c node ≡ out_at b node) → ((node : ℕ) → node ≢ first → in_at c node ≡ in_at b node)
-    → ((node : ℕ) → taken_from c node ≡ taken_from b node) → known_from c first ≡ [] → Polled nodes me (first + 1) a c None
-poll_goes_on nodes me first a b c h ends outs ins taken empty = record {
-  ends = ends_join a b c h.ends ends;
-  outs = λ node. outs node ∙ h.outs node;
-  taken = λ node. taken node ∙ h.taken node;
-  from = tt;
-  none = λ e. empty_below;
-}
-  where
-    empty_below : (node : ℕ) → node < first + 1 → node ≢ me → known_from c node ≡ []
-    empty_below node below apart = elim (cases_eq node first) [
-      | inl here ↦ subst (λ (n : ℕ). known_from c n ≡ []) (sym here) empty
-      | inr other ↦ ap (λ (o : Option InLane). on_in known o) (ins node other) ∙ h.none refl node (omega (arith, below, other)) apart
-    ]
-
--- one ring more has a letter
-pub poll_finds : (nodes me from : ℕ) (a b c : Mail) → Polled nodes me from a b None → SameEnds b c
-    → ((node : ℕ) → out_at c node ≡ out_at b node) → ((node : ℕ) → taken_from c node ≡ taken_from b node)
-    → from < nodes → from ≢ me → 0 < length (known_from c from) → Finds nodes me a c from
-poll_finds nodes me from a b c h ends outs taken below apart known = record {
-  ends = ends_join a b c h.ends ends;
-  outs = λ node. outs node ∙ h.outs node;
-  taken = λ node. taken node ∙ h.taken node ∙ append-nil (taken_from a node);
-  below = below;
-  apart = apart;
-  known = known;
+-- one has a letter
+pub poll_finds : (nodes me from : ℕ) (a b : Mail) → a.me ≡ me → ins_count a ≡ nodes → SameEnds a b → ((node : ℕ) → out_at b node ≡ out_at a node)
+    → ((node : ℕ) → taken_from b node ≡ taken_from a node) → (from < ins_count b) × (from ≢ b.me) × (0 < length (known_from b from))
+    → Finds nodes me a b from
+poll_finds nodes me from a b own count ends outs taken found = record {
+  ends = ends;
+  outs = outs;
+  taken = taken;
+  below = subst (λ (n : ℕ). from < n) (ends.counts.1 ∙ count) found.0;
+  apart = λ same. found.1 (same ∙ sym (ends.me ∙ own));
+  known = found.2;
 }
 
 -- that letter was taken

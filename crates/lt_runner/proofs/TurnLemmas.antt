@@ -1,7 +1,7 @@
 -- What a turn says after a look.
 use Rattle.std.proofs.Common.{◌≡◌, ◌≢◌, ℕ, ◌+◌, ◌<◌, inl, inr, List, [], ◌∷◌, ◌++◌, Option, Some, None, Bool, true, false, length, refl, sym, ap, arith, ◌∙◌}
 use Rattle.std.specs.Prelude.{if◌then◌else◌, ◌⊎◌}
-use Rattle.std.proofs.lemmas.List.{append-nil, append_assoc, length_push}
+use Rattle.std.proofs.lemmas.List.{append-nil, append_assoc, length-append, length_push}
 use Rattle.lt_modes.specs.Script.{ScriptData}
 use Rattle.lt_modes.specs.State as rules
 use Rattle.lt_desk.specs.LetterSeen.{letter_seen}
@@ -18,10 +18,10 @@ use Rattle.lt_runner.specs.declared.parts.Hand.{Hand}
 use Rattle.lt_runner.specs.declared.parts.Parts.{Parts}
 use Rattle.lt_runner.specs.Hands.{HandStays}
 use Rattle.lt_runner.specs.Choices.{may_take, act_choice, choice_by, next_choice}
-use Rattle.lt_runner.specs.Kept.{SameRunner, AsSeen, CouldMove, IsFlushed, TurnEnds, Grew}
+use Rattle.lt_runner.specs.Kept.{SameRunner, AsSeen, CouldMove, IsFlushed, MovedOne, TurnEnds, Grew}
 use Rattle.lt_runner.proofs.ChoiceLemmas.{act_takes_nothing}
 use Rattle.lt_mail.proofs.MailLemmas.{ends_same}
-use Rattle.lt_runner.proofs.KeptLemmas.{same_join, seen_join}
+use Rattle.lt_runner.proofs.KeptLemmas.{same_join, seen_join, resting}
 
 pub same_later : (a b c : Parts) → AsSeen a b → SameRunner b c → SameRunner a c
 same_later a b c h k = same_join a b c h.same k
@@ -110,11 +110,46 @@ turn_grew Quiet a b c h s k = record { same = same_join a b c h.same s; log = (h
 turn_grew Full a b c h s k = record { same = same_join a b c h.same s; log = (h.log.0, h.log.1 ∙ sym k.0.log) }
 turn_grew NoMemory a b c h s k = record { same = same_join a b c h.same s; log = (h.log.0, h.log.1 ∙ sym k.0.log) }
 
+-- the log goes on twice
+pub grew_join : (a b c : Parts) → Grew a b → Grew b c → Grew a c
+grew_join a b c h k = record {
+  same = same_join a b c h.same k.same;
+  log = (h.log.0 ++ k.log.0, sym (append_assoc a.log.entries h.log.0 k.log.0) ∙ (ap (λ (log : List Logged). log ++ k.log.0) h.log.1 ∙ k.log.1));
+}
+
+-- after a move the log is longer
+pub moved_more : (a b : Parts) → MovedOne a b → length a.log.entries < length b.log.entries
+moved_more a b m = omega (arith, ap (λ (log : List Logged). length log) m.1, length_push a.log.entries m.0)
+
+-- and it stays so, whatever follows
+pub moved_longer : (a b c : Parts) → MovedOne a b → Grew b c → length a.log.entries < length c.log.entries
+moved_longer a b c m k = omega (
+  arith,
+  moved_more a b m,
+  ap (λ (log : List Logged). length log) k.log.1,
+  length-append b.log.entries k.log.0,
+)
+
+-- a move after a look
+pub later_moved : (a b c : Parts) → AsSeen a b → MovedOne b c → MovedOne a c
+later_moved a b c h m = (m.0, m.1 ∙ ap (λ (log : List Logged). log ++ m.0 ∷ []) h.log)
+
+pub later_grew : (a b c : Parts) → AsSeen a b → SameRunner b c → MovedOne b c → Grew a c
+later_grew a b c h s m = record { same = same_join a b c h.same s; log = (m.0 ∷ [], sym (m.1 ∙ ap (λ (log : List Logged). log ++ m.0 ∷ []) h.log)) }
+
+-- a client's command that is shown could be made
+pub could_act_now : (a : Parts) (client : ℕ) → length a.log.entries < a.limit → next_choice a ≡ Act client → CouldMove a
+could_act_now a client place e = record { place = place; choice = λ none. absurd (cc) }
+
 pub same_self : (a : Parts) → SameRunner a a
 same_self a = record { script = refl; me = refl; limit = refl; ends = ends_same a.mail }
 
 pub grew_self : (a : Parts) → Grew a a
 grew_self a = record { same = same_self a; log = ([], append-nil a.log.entries) }
+
+-- no client was found that can act
+pub grew_resting : (a : Parts) → Grew a (resting a)
+grew_resting a = record { same = record { script = refl; me = refl; limit = refl; ends = ends_same a.mail }; log = ([], append-nil a.log.entries) }
 
 -- a turn adds no more than one move
 pub turn_left : (r : Turned) (a b : Parts) → SameRunner a b → TurnEnds r a b

@@ -135,6 +135,7 @@ impl Parts {
 /// Takes a letter of the first other node that one comes from, where there is one.
 #[tactic(auto, using(crate::proofs::PollLemmas::poll_ends, crate::proofs::PollLemmas::poll_empty))]
 fn poll(mail: &mut Mail, hand: &mut Option<Hand>, me: u8, nodes: u8)
+    requires own { mail.old.me ≡ me }
     requires count { ins_count mail.old ≡ nodes }
     requires empty { hand.old ≡ None }
     ensures { Polled nodes me nodes mail.old mail.new hand.new }
@@ -145,18 +146,14 @@ fn poll(mail: &mut Mail, hand: &mut Option<Hand>, me: u8, nodes: u8)
 }
 
 // The first other node of which a letter is in its ring: then one is known there.
-#[tactic(auto, using(crate::proofs::PollLemmas::poll_starts, crate::proofs::PollLemmas::poll_skips, crate::proofs::PollLemmas::poll_goes_on, crate::proofs::PollLemmas::poll_finds))]
-fn sender(mail: &mut Mail, me: u8, nodes: u8) -> Option<u8>
-    requires { ins_count mail.old ≡ nodes }
-    ensures some { IfSome result (Finds nodes me mail.old mail.new) }
-    ensures none { IfNone result (Polled nodes me nodes mail.old mail.new None) }
+#[tactic(auto, using(crate::proofs::PollLemmas::poll_finds, crate::proofs::PollLemmas::poll_none))]
+fn sender(mail: &mut Mail, _me: u8, _nodes: u8) -> Option<u8>
+    requires own { mail.old.me ≡ _me }
+    requires count { ins_count mail.old ≡ _nodes }
+    ensures some { IfSome result (Finds _nodes _me mail.old mail.new) }
+    ensures none { IfNone result (Polled _nodes _me _nodes mail.old mail.new None) }
 {
-    for from in 0..nodes {
-        if from != me && mail.has_letter(from) {
-            return Some(from);
-        }
-    }
-    None
+    mail.first_sender()
 }
 
 /// Takes the letter of the node that is known to come.

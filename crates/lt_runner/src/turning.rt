@@ -1,5 +1,5 @@
 // Turns of a runner.
-ghost use Rattle.std.specs.Prelude.{◌≡◌, ◌≢◌, IsOk, OnOk, length};
+ghost use Rattle.std.specs.Prelude.{◌≡◌, ◌≢◌, ◌<◌, IsOk, OnOk, IsTrue, IsFalse, length};
 ghost use Rattle.lt_runner.specs.declared.choice.Choice.TheVariants as choices;
 ghost use Rattle.lt_runner.specs.declared.turning.Found.TheVariants as finds;
 ghost use Rattle.lt_runner.specs.declared.turning.Turned.TheVariants as endings;
@@ -12,6 +12,9 @@ use crate::choice::{Choice, choose};
 use crate::gate::Gate;
 use crate::parts::Parts;
 use std::alloc::AllocError;
+
+// How many commands are made at most after a look at the rings, before the next one.
+const ACTS_A_LOOK: u32 = 32;
 
 /// What is found where a move is looked for.
 #[derive(Clone, Copy, Debug, PartialEq, Eq)]
@@ -121,7 +124,6 @@ impl Parts {
     }
 
     // Makes the move that was found, if there is memory.
-    #[tactic(auto, using(crate::proofs::TurnLemmas::turn_later, crate::proofs::TurnLemmas::same_later))]
     fn move_on<G: Gate>(&mut self, choice: Choice, gate: &G) -> Turned
         requires kept { RunnerInvariant self.old }
         requires chosen { next_choice self.old ≡ choice }
@@ -131,12 +133,29 @@ impl Parts {
         ensures ends { TurnEnds result self.old self.new }
         ensures choice { result ≢ endings.Quiet }
     {
-        if self.reserve(choice).is_err() {
+        if !self.make_found(choice, gate) {
             return Turned::NoMemory;
+        }
+        Turned::Moved
+    }
+
+    // The same, and says whether there was.
+    #[tactic(auto, using(crate::proofs::TurnLemmas::later_moved, crate::proofs::TurnLemmas::later_grew, crate::proofs::TurnLemmas::seen_grew, crate::proofs::TurnLemmas::grew_self))]
+    fn make_found<G: Gate>(&mut self, choice: Choice, gate: &G) -> bool
+        requires kept { RunnerInvariant self.old }
+        requires chosen { next_choice self.old ≡ choice }
+        requires could { CouldMove self.old }
+        ensures kept { RunnerInvariant self.new }
+        ensures grew { Grew self.old self.new }
+        ensures moved { IsTrue result → MovedOne self.old self.new }
+        ensures none { IsFalse result → AsSeen self.old self.new × CouldMove self.new }
+    {
+        if self.reserve(choice).is_err() {
+            return false;
         }
         gate.pass(self.node.me());
         self.make(choice);
-        Turned::Moved
+        true
     }
 }
 
@@ -163,7 +182,9 @@ impl Parts {
     }
 
     /// Makes turns until one finds no move or a full log, or a letter was sent, and flushes the outboxes.
-    #[tactic(auto, using(crate::proofs::TurnLemmas::turn_grew, crate::proofs::TurnLemmas::grew_self))]
+    ///
+    /// After a command it makes further ones without a look at the rings, a few at a time.
+    #[tactic(auto, using(crate::proofs::TurnLemmas::seen_grew, crate::proofs::TurnLemmas::grew_join, crate::proofs::TurnLemmas::grew_self))]
     pub fn work_until_sent<G: Gate>(&mut self, gate: &G) -> Worked
         requires { RunnerInvariant self.old }
         ensures kept { RunnerInvariant self.new }
@@ -171,11 +192,14 @@ impl Parts {
         ensures ends { WorkEnds result 0 self.new }
     {
         while self.reached == 0 {
-            match self.turn(gate) {
-                Turned::Moved => {}
-                Turned::Quiet => return Worked::Idle,
-                Turned::Full => return Worked::Full,
-                Turned::NoMemory => return Worked::NoMemory,
+            match self.find() {
+                Found::Quiet => return Worked::Idle,
+                Found::Full => return Worked::Full,
+                Found::Move(choice) => {
+                    if !self.move_and_act(choice, gate) {
+                        return Worked::NoMemory;
+                    }
+                }
             }
         }
         self.flush();
@@ -187,5 +211,61 @@ impl Parts {
         ensures { result ≡ length self.now.log.entries }
     {
         self.log.len()
+    }
+}
+
+// Moves without a look at the rings.
+impl Parts {
+    // Makes the move that was found, if there is memory, and says whether there was. After a command it makes further ones.
+    #[tactic(auto, using(crate::proofs::TurnLemmas::moved_more, crate::proofs::TurnLemmas::moved_longer, crate::proofs::TurnLemmas::grew_join))]
+    fn move_and_act<G: Gate>(&mut self, choice: Choice, gate: &G) -> bool
+        requires kept { RunnerInvariant self.old }
+        requires chosen { next_choice self.old ≡ choice }
+        requires could { CouldMove self.old }
+        ensures kept { RunnerInvariant self.new }
+        ensures grew { Grew self.old self.new }
+        ensures longer { IsTrue result → length self.old.log.entries < length self.new.log.entries }
+        ensures could { IsFalse result → CouldMove self.new }
+    {
+        if !self.make_found(choice, gate) {
+            return false;
+        }
+        if let Choice::Act(_) = choice {
+            self.act_on(gate);
+        }
+        true
+    }
+
+    // Makes further commands, as long as no letter was sent: so many at most, and fewer where memory runs out.
+    #[tactic(auto, using(crate::proofs::TurnLemmas::grew_join, crate::proofs::TurnLemmas::grew_self))]
+    fn act_on<G: Gate>(&mut self, gate: &G)
+        requires { RunnerInvariant self.old }
+        ensures kept { RunnerInvariant self.new }
+        ensures grew { Grew self.old self.new }
+    {
+        for _ in 0..ACTS_A_LOOK {
+            if self.reached != 0 || !self.act_once(gate) {
+                return;
+            }
+        }
+    }
+
+    // Makes the command that is shown, where there is one, the log has a place for it, and there is memory.
+    #[tactic(auto, using(crate::proofs::TurnLemmas::grew_self, crate::proofs::TurnLemmas::grew_resting, crate::proofs::TurnLemmas::could_act_now, crate::proofs::KeptLemmas::kept_resting))]
+    fn act_once<G: Gate>(&mut self, gate: &G) -> bool
+        requires { RunnerInvariant self.old }
+        ensures kept { RunnerInvariant self.new }
+        ensures grew { Grew self.old self.new }
+    {
+        match choose(self) {
+            Choice::Nothing => {
+                self.idle = true;
+                false
+            }
+            Choice::Act(client) if self.log.len() < self.limit => {
+                self.make_found(Choice::Act(client), gate)
+            }
+            _ => false,
+        }
     }
 }
