@@ -77,7 +77,8 @@ impl Model for Run {
       room = min (vec_capacity r.events) (2 ^ 32 - 1) - vec_len r.events;
     } };
 
-    ghost invariant = { λ r. (vec_len r.moves < 2 ^ 32) × (vec_len r.events < 2 ^ 32) × IsLaid r.moves.items (vec_len r.events) };
+    ghost invariant = { λ r. (vec_len r.moves < 2 ^ 32) × (vec_len r.events < 2 ^ 32)
+      × IsLaid r.moves.items (vec_len r.events) };
 }
 
 impl Run {
