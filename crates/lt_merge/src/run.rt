@@ -78,7 +78,7 @@ impl Model for Run {
     } };
 
     ghost invariant = { λ r. (vec_len r.moves < 2 ^ 32) × (vec_len r.events < 2 ^ 32)
-      × IsLaid r.moves.items (vec_len r.events) };
+        × IsLaid r.moves.items (vec_len r.events) };
 }
 
 impl Run {
