@@ -1,4 +1,5 @@
 pub mod Bridge
+mod StartNodes
 pub mod Runs
 pub mod Premises
 pub mod Moves
