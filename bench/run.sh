@@ -3,7 +3,7 @@
 # script of 16 nodes and 64 clients and for one of version 2 with 64 nodes and 256 clients, of 4,096 commands each.
 # Beside it stands that of another program of the same rules, such as the plain one of bench/plain. It is the least of
 # 30 runs, in turn, in milliseconds; with it stand the moves made, and what is left of the time if that of the shortest
-# script is taken off, and at the end what is left of the other program's by what is left of this one's. There is also
+# script is taken off, and at the end the other program's time by this one's, whole and what is left. There is also
 # the time of `soak`, and that of `run` with 64 nodes by the number of moves. Then it prints the threads that one run
 # starts, which strace counts, and the rounds that these are, since each round starts 2 of them, and one more for each
 # 32 nodes; and the most memory that `run` takes with 64 nodes and 256 clients.
@@ -59,7 +59,7 @@ def threads(command, script):
     with open(f'{room}/calls') as calls:
         return sum('clone' in line and ' = ' in line and not ' = -' in line or 'resumed' in line for line in calls)
 
-ROW = '{:9} {:>10}  {:9}' + 2 * '  {:>5} {:>8} {:>8}' + '  {}'
+ROW = '{:9} {:>10}  {:9}' + 2 * '  {:>5} {:>8} {:>8}' + '  {:>6} {:>6}'
 
 def row(*words):
     """Prints a line of the table."""
@@ -67,18 +67,18 @@ def row(*words):
 
 processors = sorted(os.sched_getaffinity(0))
 print(f'{31 * " "}  {os.path.basename(program)[:23]:23}  {os.path.basename(other)[:23]}')
-row('script', 'processors', 'words', *2 * ('moves', 'ms', 'less'), 'ms less the start: the other by this')
+row('script', 'processors', 'words', *2 * ('moves', 'ms', 'less'), 'by ms', 'less')
 for count in [count for count in (1, 2, 4) if count <= len(processors)]:
     os.sched_setaffinity(0, processors[:count])
     (start, _), (its_start, _) = least([[program, 'sim', 'first'], [other, 'sim', 'first']], 'short')
-    row('the start', count, 'sim first', '', start, '', '', its_start, '', '')
+    row('the start', count, 'sim first', '', start, '', '', its_start, '', '', '')
     for script in ('16 nodes', '64 nodes'):
         for words in (['sim', 'first'], ['run']):
             (ours, moves), (its, its_moves) = least([[program] + words, [other] + words], script)
             a, b = ours - start, its - its_start
-            row(script, count, ' '.join(words), moves, ours, a, its_moves, its, b, b / a)
+            row(script, count, ' '.join(words), moves, ours, a, its_moves, its, b, its / ours, b / a)
     [(ours, _)] = least([[program, 'soak', '7']], 'short')
-    row('no script', count, 'soak 7', '', ours, ours - start, '', '', '', '')
+    row('no script', count, 'soak 7', '', ours, ours - start, '', '', '', '', '')
 os.sched_setaffinity(0, processors)
 print('run with 64 nodes and 256 clients: what each move beyond those of the first script takes')
 [(start, few)] = least([[program, 'run']], '1 commands')
