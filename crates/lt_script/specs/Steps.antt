@@ -13,7 +13,7 @@ use Rattle.lt_script.specs.declared.limits.TheConstants.{MAX_LINE, MAX_COMMANDS}
 use Rattle.lt_script.specs.Script.{set_number, client_number, IsRequest, HasModesOf}
 use Rattle.lt_script.specs.Forms.{FormData, form_of}
 use Rattle.lt_script.specs.Faults.{declared, is_plain_byte, first_true, form_fault, mode_in, home_by, after_form, with_command}
-use Rattle.lt_script.specs.Reading.{unless, TakesLine}
+use Rattle.lt_script.specs.Reading.{unless, ReadsLine}
 
 -- the first word of a line makes it a comment
 abbrev pub begins_comment : List ℕ → Bool
@@ -54,12 +54,12 @@ abbrev pub words_step : ℕ → Option ScriptData → List (List ℕ) → Result
 words_step version st words = step_by_form version st (form_of words)
 
 -- what reading a line of this form gives: its fault, or the script after it
-abbrev pub TakesForm : Option Fault → ScriptData → ScriptData → FormData → Type 0
-TakesForm fault before after form = TakesLine fault (Some after) (form_step before.version (Some before) form)
+abbrev pub ReadsForm : Option Fault → ScriptData → ScriptData → FormData → Type 0
+ReadsForm fault before after form = ReadsLine fault (Some after) (form_step before.version (Some before) form)
 
 -- the same of a line with these words
-abbrev pub TakesWords : Option Fault → ScriptData → ScriptData → List (List ℕ) → Type 0
-TakesWords fault before after words = TakesLine fault (Some after) (words_step before.version (Some before) words)
+abbrev pub ReadsWords : Option Fault → ScriptData → ScriptData → List (List ℕ) → Type 0
+ReadsWords fault before after words = ReadsLine fault (Some after) (words_step before.version (Some before) words)
 
 -- what is found out of a command's line of this form: the client and the command, which the script may have as its next ones,
 -- or the line's first fault

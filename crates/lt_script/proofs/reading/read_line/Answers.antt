@@ -20,7 +20,7 @@ returns-in-Some-script c =
     rw
     (later_line_step c.args.version c.args.script.now c.in-Some-script.script c.args.line.now c.in-Some.word.now (words c.in-Some.rest.now) c.in-Some-script.is c.in-Some.ensures.words
     (sym c.if-begins_comment.ensures) (sym c.bytes_fault.ensures ∙ c.in_default-bytes_fault.is))
-    c.take_line.ensures
+    c.add_line.ensures
 
 pub returns-in-None : goal.returns-in-None
 returns-in-None c =
