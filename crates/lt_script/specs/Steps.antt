@@ -1,5 +1,5 @@
 -- What reading a line comes to, step by step, and what is found out of a command's line.
-use Rattle.std.specs.Prelude.{◌≡◌, ℕ, ◌<◌, ◌==◌, Bool, true, not, ◌||◌, List, [], ◌∷◌, length, Option, Some, None, is_none, Result, Ok, Err, codes, nat_lt, nat_le, slice_index, IsTrue, if◌then◌else◌}
+use Rattle.std.specs.Prelude.{◌≡◌, ℕ, ◌<◌, ◌==◌, Bool, true, not, ◌||◌, List, [], ◌∷◌, length, Option, Some, None, is_none, Result, Ok, Err, codes, nat_le, slice_index, IsTrue}
 use Rattle.std.specs.List.{AllByRecursion, list_all}
 use Rattle.std.specs.Str.{bytes_eq}
 use Rattle.lt_modes.specs.declared.mode.Mode.{Mode}
@@ -9,7 +9,7 @@ use Rattle.lt_modes.specs.FiveModes.{is_of_version}
 use Rattle.lt_modes.specs.Script.{ScriptData, home_at}
 use Rattle.lt_script.specs.declared.fault.Fault.{Fault}
 use Rattle.lt_script.specs.declared.fault.Fault.TheVariants as faults
-use Rattle.lt_script.specs.declared.limits.TheConstants.{MAX_LINE, MAX_COMMANDS}
+use Rattle.lt_script.specs.declared.limits.TheConstants.{MAX_COMMANDS}
 use Rattle.lt_script.specs.Script.{set_number, client_number, IsRequest, HasModesOf}
 use Rattle.lt_script.specs.Forms.{FormData, form_of}
 use Rattle.lt_script.specs.Faults.{declared, is_plain_byte, first_true, form_fault, mode_in, home_by, after_form, with_command}
@@ -34,11 +34,6 @@ is_plain_line line = list_all is_plain_byte line
 -- the lines have plain bytes alone
 abbrev pub ArePlain : List (List ℕ) → Type 0
 ArePlain lines = AllByRecursion (λ line. is_plain_line line ≡ true) lines
-
--- the fault of a line's bytes
-abbrev pub bytes_fault : List ℕ → Option Fault
-bytes_fault line =
-    if not (list_all is_plain_byte line) then Some faults.Bytes else if nat_lt MAX_LINE (length line) then Some faults.Length else None
 
 -- the script after a line of this form, or the line's first fault
 abbrev pub form_step : ℕ → Option ScriptData → FormData → Result (Option ScriptData) Fault

@@ -9,7 +9,7 @@ use crate::fault::{Fault, ReadError, ScriptFault};
 use crate::form::{Form, form_of};
 use crate::later_lines::add_line;
 use crate::limits::MAX_LINE;
-use crate::line::{bytes_fault, fault_before_nodes, is_plain_text};
+use crate::line::{fault_before_nodes, is_plain_line, is_plain_text};
 use crate::script::Script;
 use lt_text::{next_line, next_word, number};
 use std::alloc::{AllocError, Global};
@@ -127,8 +127,11 @@ fn read_line(
     if begins_comment(word) {
         return Ok(None);
     }
-    if let Some(fault) = bytes_fault(line, is_plain) {
-        return Ok(Some(fault));
+    if !is_plain && !is_plain_line(line) {
+        return Ok(Some(Fault::Bytes));
+    }
+    if line.len() > MAX_LINE {
+        return Ok(Some(Fault::Length));
     }
     match script {
         Some(script) => add_line(script, word, rest),
