@@ -187,9 +187,5 @@ fn start(alloc: Global, version: u8, form: Form<'_>) -> Result<Script, AllocErro
         unreachable!();
     };
     let nodes = number(nodes).unwrap_or(0);
-    if version == 1 {
-        Script::new(alloc, nodes as u8)
-    } else {
-        Script::new_v2(alloc, nodes as u8)
-    }
+    Script::of_version(alloc, version, nodes as u8)
 }
