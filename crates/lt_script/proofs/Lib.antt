@@ -1,4 +1,5 @@
 pub mod ScriptLemmas
+pub mod PartsLemmas
 pub mod NameLemmas
 pub mod StepLemmas
 pub mod PlainLemmas

@@ -1,15 +1,11 @@
 -- A text of plain bytes and line feeds has plain lines.
-use Rattle.std.proofs.Common.{◌≡◌, ℕ, zero, suc, ◌-◌, ◌==◌, ◌&&◌, Bool, true, false, nat_lt, List, [], ◌∷◌, length, take, map, inl, inr, refl, sym}
-use Rattle.std.specs.Prelude.{◌||◌, IsTrue, slice_index}
+use Rattle.std.proofs.Common.{◌≡◌, ℕ, zero, suc, ◌-◌, ◌==◌, ◌&&◌, true, false, nat_lt, List, [], ◌∷◌, length, take, map, inl, inr, refl}
+use Rattle.std.specs.Prelude.{slice_index}
 use Rattle.std.specs.List.{list_all}
 use Rattle.std.proofs.lemmas.Bool.{cases_Bool, and_parts, and_from, or_cases}
 use Rattle.lt_text.specs.Text.{lines, cut_at, put_front, is_line_end, without_return}
 use Rattle.lt_script.specs.Faults.{is_plain_byte}
 use Rattle.lt_script.specs.Steps.{is_text_byte, is_plain_line, ArePlain}
-
-pub known_or : (known here : Bool) → (IsTrue known → here ≡ true) → (known || here) ≡ here
-known_or true here h = sym (h refl)
-known_or false here h = refl
 
 put_plain : (byte : ℕ) (pieces : List (List ℕ)) → is_plain_byte byte ≡ true → ArePlain pieces → ArePlain (put_front byte pieces)
 put_plain byte [] e h = (and_from (is_plain_byte byte) (is_plain_line []) e refl, tt)

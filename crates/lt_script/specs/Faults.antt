@@ -1,5 +1,5 @@
 -- Which faults a line has after the lines before it, and what a line without fault adds.
-use Rattle.std.specs.Prelude.{◌≡◌, ℕ, Bool, true, false, ◌||◌, ◌&&◌, not, List, [], ◌∷◌, ◌++◌, length, Option, Some, None, is_none, unwrap_or, ◌==◌, nat_lt, nat_le, if◌then◌else◌, Result, Ok, Err}
+use Rattle.std.specs.Prelude.{ℕ, Bool, true, false, ◌||◌, ◌&&◌, not, List, [], ◌∷◌, ◌++◌, length, Option, Some, None, is_none, unwrap_or, ◌==◌, nat_lt, nat_le, if◌then◌else◌}
 use Rattle.std.specs.List.{list_all}
 use Rattle.lt_modes.specs.declared.mode.Mode.TheVariants.{IntentionRead}
 use Rattle.lt_modes.specs.declared.mode.Mode.{Mode}
@@ -12,11 +12,10 @@ use Rattle.lt_text.specs.Text.{words}
 use Rattle.lt_text.specs.Number.{number}
 use Rattle.lt_script.specs.declared.fault.Fault.{Fault}
 use Rattle.lt_script.specs.declared.fault.Fault.TheVariants as faults
-use Rattle.lt_script.specs.declared.form.Form.{Form}
 use Rattle.lt_script.specs.declared.limits.TheConstants.{MAX_SETS, MAX_CLIENTS_OF_NODE, MAX_COMMANDS, MAX_LINE}
 use Rattle.lt_script.specs.Names.{is_name}
 use Rattle.lt_script.specs.Script.{most_nodes, most_clients, load_of, set_number, client_number, is_declared}
-use Rattle.lt_script.specs.Forms.{FormData, VersionForm, NodesForm, SetForm, SetWithForm, ClientForm, CommandForm, CommandWordsData, LockWords, TryWords, UnlockWords, ChangeWords, DropWords, form_of, form_seen}
+use Rattle.lt_script.specs.Forms.{FormData, VersionForm, NodesForm, SetForm, SetWithForm, ClientForm, CommandForm, CommandWordsData, LockWords, TryWords, UnlockWords, ChangeWords, DropWords, form_of}
 
 -- a script of this version that declares nothing but the number of its nodes
 abbrev pub only_nodes : ℕ → ℕ → ScriptData
@@ -200,8 +199,3 @@ after_form s (SetForm name) = with_set s name (length s.sets)
 after_form s (SetWithForm name t) = with_set s name (family_of s t)
 after_form s (ClientForm name n) = with_client s name (unwrap_or (number n) 0)
 after_form s (CommandForm c asked) = with_command s (unwrap_or (client_number s c) 0) (named_command s asked)
-
--- what is found out of a line: its form, or its first fault
-abbrev pub Judges : Result Form Fault → Option Fault → Option FormData → Type 0
-Judges (Ok form) fault found = (fault ≡ None) × (found ≡ Some (form_seen form))
-Judges (Err first) fault found = fault ≡ Some first

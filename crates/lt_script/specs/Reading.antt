@@ -79,9 +79,9 @@ abbrev pub read_of : List ℕ → Result ScriptData ScriptFault
 read_of bytes = read_body (script_body (lines bytes) 1)
 
 -- what reading a line gives: its fault, or the script after it
-abbrev pub TakesLine : Option Fault → Option ScriptData → Result (Option ScriptData) Fault → Type 0
-TakesLine (Some fault) st step = step ≡ Err fault
-TakesLine None st step = step ≡ Ok st
+abbrev pub ReadsLine : Option Fault → Option ScriptData → Result (Option ScriptData) Fault → Type 0
+ReadsLine (Some fault) st step = step ≡ Err fault
+ReadsLine None st step = step ≡ Ok st
 
 -- what reading gives but for want of memory: the script, or the first fault
 abbrev pub Reads : Result ScriptData ReadError → Result ScriptData ScriptFault → Type 0

@@ -1,5 +1,5 @@
 -- What reading a line comes to, step by step, and what is found out of a command's line.
-use Rattle.std.specs.Prelude.{◌≡◌, ℕ, ◌<◌, ◌==◌, Bool, true, not, ◌||◌, List, [], ◌∷◌, length, Option, Some, None, is_none, Result, Ok, Err, codes, nat_lt, nat_le, slice_index, IsTrue, if◌then◌else◌}
+use Rattle.std.specs.Prelude.{◌≡◌, ℕ, ◌<◌, ◌==◌, Bool, true, not, ◌||◌, List, [], ◌∷◌, length, Option, Some, None, is_none, Result, Ok, Err, codes, nat_le, slice_index, IsTrue}
 use Rattle.std.specs.List.{AllByRecursion, list_all}
 use Rattle.std.specs.Str.{bytes_eq}
 use Rattle.lt_modes.specs.declared.mode.Mode.{Mode}
@@ -9,11 +9,11 @@ use Rattle.lt_modes.specs.FiveModes.{is_of_version}
 use Rattle.lt_modes.specs.Script.{ScriptData, home_at}
 use Rattle.lt_script.specs.declared.fault.Fault.{Fault}
 use Rattle.lt_script.specs.declared.fault.Fault.TheVariants as faults
-use Rattle.lt_script.specs.declared.limits.TheConstants.{MAX_LINE, MAX_COMMANDS}
+use Rattle.lt_script.specs.declared.limits.TheConstants.{MAX_COMMANDS}
 use Rattle.lt_script.specs.Script.{set_number, client_number, IsRequest, HasModesOf}
 use Rattle.lt_script.specs.Forms.{FormData, form_of}
 use Rattle.lt_script.specs.Faults.{declared, is_plain_byte, first_true, form_fault, mode_in, home_by, after_form, with_command}
-use Rattle.lt_script.specs.Reading.{unless, TakesLine}
+use Rattle.lt_script.specs.Reading.{unless, ReadsLine}
 
 -- the first word of a line makes it a comment
 abbrev pub begins_comment : List ℕ → Bool
@@ -35,11 +35,6 @@ is_plain_line line = list_all is_plain_byte line
 abbrev pub ArePlain : List (List ℕ) → Type 0
 ArePlain lines = AllByRecursion (λ line. is_plain_line line ≡ true) lines
 
--- the fault of a line's bytes
-abbrev pub bytes_fault : List ℕ → Option Fault
-bytes_fault line =
-    if not (list_all is_plain_byte line) then Some faults.Bytes else if nat_lt MAX_LINE (length line) then Some faults.Length else None
-
 -- the script after a line of this form, or the line's first fault
 abbrev pub form_step : ℕ → Option ScriptData → FormData → Result (Option ScriptData) Fault
 form_step version st form = unless (form_fault version st form) (Some (after_form (declared version st) form))
@@ -54,12 +49,12 @@ abbrev pub words_step : ℕ → Option ScriptData → List (List ℕ) → Result
 words_step version st words = step_by_form version st (form_of words)
 
 -- what reading a line of this form gives: its fault, or the script after it
-abbrev pub TakesForm : Option Fault → ScriptData → ScriptData → FormData → Type 0
-TakesForm fault before after form = TakesLine fault (Some after) (form_step before.version (Some before) form)
+abbrev pub ReadsForm : Option Fault → ScriptData → ScriptData → FormData → Type 0
+ReadsForm fault before after form = ReadsLine fault (Some after) (form_step before.version (Some before) form)
 
 -- the same of a line with these words
-abbrev pub TakesWords : Option Fault → ScriptData → ScriptData → List (List ℕ) → Type 0
-TakesWords fault before after words = TakesLine fault (Some after) (words_step before.version (Some before) words)
+abbrev pub ReadsWords : Option Fault → ScriptData → ScriptData → List (List ℕ) → Type 0
+ReadsWords fault before after words = ReadsLine fault (Some after) (words_step before.version (Some before) words)
 
 -- what is found out of a command's line of this form: the client and the command, which the script may have as its next ones,
 -- or the line's first fault

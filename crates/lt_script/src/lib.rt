@@ -5,6 +5,7 @@ mod declarations;
 mod fault;
 mod form;
 mod hints;
+mod later_lines;
 mod laws;
 mod limits;
 mod line;
@@ -12,7 +13,6 @@ mod name;
 mod printing;
 mod reading;
 mod script;
-mod taking;
 
 pub use fault::{Fault, ReadError, ScriptFault};
 pub use laws::{law_faults, law_literals, law_print};

@@ -1,35 +1,18 @@
-ghost use Rattle.std.specs.Prelude.{◌≡◌, ◌<◌, None, Some, length, true, IfSome, IsTrue};
+ghost use Rattle.std.specs.Prelude.{◌≡◌, ◌<◌, None, Some, length, IfSome, IsTrue};
 ghost use Rattle.std.specs.List.{list_all};
 ghost use Rattle.lt_modes.specs.Modes.{mode_of};
 ghost use Rattle.lt_modes.specs.FiveModes.{is_of_version};
 ghost use Rattle.lt_script.specs.Forms.{form_seen, asked_seen, NodesForm, SetForm, SetWithForm, ClientForm, CommandForm};
 ghost use Rattle.lt_script.specs.Faults.{form_fault, is_plain_byte, mode_in};
-ghost use Rattle.lt_script.specs.Steps.{is_text_byte, is_plain_line, bytes_fault, Resolves, FindsSetAndMode, FindsDrop};
+ghost use Rattle.lt_script.specs.Steps.{is_text_byte, is_plain_line, Resolves, FindsSetAndMode, FindsDrop};
 
 use crate::fault::Fault;
 use crate::form::{CommandWords, Form};
-use crate::limits::{
-    MAX_CLIENTS_OF_NODE, MAX_COMMANDS, MAX_LINE, MAX_SETS, most_clients, most_nodes,
-};
+use crate::limits::{MAX_CLIENTS_OF_NODE, MAX_COMMANDS, MAX_SETS, most_clients, most_nodes};
 use crate::name::is_name;
 use crate::script::Script;
 use lt_modes::{Command, Mode};
 use lt_text::number;
-
-/// The fault of a line's bytes, which comes before those of its words; `is_plain` is whether the bytes are known to be
-/// plain.
-pub fn bytes_fault(line: &[u8], is_plain: bool) -> Option<Fault>
-    requires { IsTrue is_plain → is_plain_line line.now ≡ true }
-    ensures { result ≡ bytes_fault line.now }
-{
-    if !is_plain_line(line, is_plain) {
-        Some(Fault::Bytes)
-    } else if line.len() > MAX_LINE {
-        Some(Fault::Length)
-    } else {
-        None
-    }
-}
 
 /// The first fault of a line where the line `nodes` was not before it.
 pub fn fault_before_nodes(version: u8, form: Form<'_>) -> Option<Fault>
@@ -236,17 +219,11 @@ fn is_text_byte(byte: u8) -> bool
     is_plain_byte(byte) || byte == b'\n'
 }
 
-#[tactic(auto, using(crate::proofs::PlainLemmas::known_or))]
-fn is_plain_line(line: &[u8], is_plain: bool) -> bool
-    requires { IsTrue is_plain → is_plain_line line.now ≡ true }
+/// Whether the line has plain bytes alone.
+///
+/// It goes to the end where an early byte is none, so that several bytes are looked at in one step.
+pub fn is_plain_line(line: &[u8]) -> bool
     ensures { result ≡ is_plain_line line.now }
-{
-    is_plain || has_plain_bytes(line)
-}
-
-// It goes to the end where an early byte is none, so that several bytes are looked at in one step.
-fn has_plain_bytes(line: &[u8]) -> bool
-    ensures { result ≡ list_all is_plain_byte line.now }
 {
     let mut is_plain = true;
     for byte in line {

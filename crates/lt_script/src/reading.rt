@@ -2,15 +2,15 @@ ghost use Rattle.std.specs.Prelude.{◌≡◌, ◌⊎◌, ◌<◌, ◌≤◌, �
 ghost use Rattle.lt_text.specs.Text.{lines, words};
 ghost use Rattle.lt_script.specs.Forms.{form_seen};
 ghost use Rattle.lt_script.specs.Faults.{declared, form_fault, after_form};
-ghost use Rattle.lt_script.specs.Reading.{TakesLine, Reads, is_skipped, says_version, line_step, script_body, read_of};
+ghost use Rattle.lt_script.specs.Reading.{ReadsLine, Reads, is_skipped, says_version, line_step, script_body, read_of};
 ghost use Rattle.lt_script.specs.Steps.{begins_comment, words_step, is_plain_line};
 
 use crate::fault::{Fault, ReadError, ScriptFault};
 use crate::form::{Form, form_of};
+use crate::later_lines::add_line;
 use crate::limits::MAX_LINE;
-use crate::line::{bytes_fault, fault_before_nodes, is_plain_text};
+use crate::line::{fault_before_nodes, is_plain_line, is_plain_text};
 use crate::script::Script;
-use crate::taking::take_line;
 use lt_text::{next_line, next_word, number};
 use std::alloc::{AllocError, Global};
 
@@ -119,7 +119,7 @@ fn read_line(
 ) -> Result<Option<Fault>, AllocError>
     requires version { (version ≡ 1) ⊎ (version ≡ 2) }
     requires plain { IsTrue is_plain → is_plain_line line.now ≡ true }
-    ensures { IfOk result (λ fault. TakesLine fault script.new (line_step version script.old line.now)) }
+    ensures { IfOk result (λ fault. ReadsLine fault script.new (line_step version script.old line.now)) }
 {
     let Some((word, rest)) = next_word(line) else {
         return Ok(None);
@@ -127,11 +127,14 @@ fn read_line(
     if begins_comment(word) {
         return Ok(None);
     }
-    if let Some(fault) = bytes_fault(line, is_plain) {
-        return Ok(Some(fault));
+    if !is_plain && !is_plain_line(line) {
+        return Ok(Some(Fault::Bytes));
+    }
+    if line.len() > MAX_LINE {
+        return Ok(Some(Fault::Length));
     }
     match script {
-        Some(script) => take_line(script, word, rest),
+        Some(script) => add_line(script, word, rest),
         None => begin(alloc, version, script, word, rest),
     }
 }
@@ -162,7 +165,7 @@ fn begin(
     requires version { (version ≡ 1) ⊎ (version ≡ 2) }
     requires none { script.old ≡ None }
     ensures { IfOk result
-        (λ fault. TakesLine fault script.new (words_step version script.old (word.now ∷ words rest.now))) }
+        (λ fault. ReadsLine fault script.new (words_step version script.old (word.now ∷ words rest.now))) }
 {
     let Some(form) = form_of(word, rest) else {
         return Ok(Some(Fault::Form));
@@ -184,9 +187,5 @@ fn start(alloc: Global, version: u8, form: Form<'_>) -> Result<Script, AllocErro
         unreachable!();
     };
     let nodes = number(nodes).unwrap_or(0);
-    if version == 1 {
-        Script::new(alloc, nodes as u8)
-    } else {
-        Script::new_v2(alloc, nodes as u8)
-    }
+    Script::of_version(alloc, version, nodes as u8)
 }

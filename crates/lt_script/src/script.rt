@@ -1,6 +1,6 @@
-ghost use Rattle.std.specs.Prelude.{◌≡◌, ◌<◌, ◌≤◌, [], length, slice_get, IfOk};
+ghost use Rattle.std.specs.Prelude.{◌≡◌, ◌⊎◌, ◌<◌, ◌≤◌, [], length, slice_get, IfOk};
 ghost use Rattle.lt_modes.specs.Script.{set_name, family_at, client_name, home_at};
-ghost use Rattle.lt_script.specs.Script.{IsScript, load_of};
+ghost use Rattle.lt_script.specs.Script.{IsScript, most_nodes, load_of};
 ghost use Rattle.lt_script.specs.declared.limits.TheConstants.{MAX_NODES, MAX_NODES_OF_FIRST};
 
 mod adding;
@@ -46,12 +46,7 @@ impl Script {
         ensures { IfOk result
             (λ s. s ≡ record { version = 1; nodes = nodes; sets = []; clients = []; commands = [] }) }
     {
-        let parts = Arc::new(alloc, Parts::new(alloc))?;
-        Ok(Script {
-            version: 1,
-            nodes,
-            parts,
-        })
+        Script::of_version(alloc, 1, nodes)
     }
 
     /// A script of version 2 with no sets, clients or commands.
@@ -61,9 +56,20 @@ impl Script {
         ensures { IfOk result
             (λ s. s ≡ record { version = 2; nodes = nodes; sets = []; clients = []; commands = [] }) }
     {
+        Script::of_version(alloc, 2, nodes)
+    }
+
+    /// A script of this version with no sets, clients or commands.
+    pub(crate) fn of_version(alloc: Global, version: u8, nodes: u8) -> Result<Script, AllocError>
+        requires version { (version ≡ 1) ⊎ (version ≡ 2) }
+        requires some_node { 0 < nodes }
+        requires few_nodes { nodes ≤ most_nodes version }
+        ensures { IfOk result
+            (λ s. s ≡ record { version = version; nodes = nodes; sets = []; clients = []; commands = [] }) }
+    {
         let parts = Arc::new(alloc, Parts::new(alloc))?;
         Ok(Script {
-            version: 2,
+            version,
             nodes,
             parts,
         })

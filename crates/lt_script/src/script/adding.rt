@@ -1,4 +1,5 @@
-// What is added to a script: a last set, client or command.
+// What is added to a script: a last set, client or command. A script that shares its parts with a copy gets parts of its
+// own first.
 ghost use Rattle.std.specs.Prelude.{◌≡◌, ◌<◌, ◌++◌, ◌∷◌, [], true, false, length, OnOk, OnErr};
 ghost use Rattle.lt_script.specs.Names.{is_name};
 ghost use Rattle.lt_script.specs.Script.{IsFamilyOfNext, IsRequest, HasModesOf, most_clients, load_of, is_declared};
@@ -22,11 +23,8 @@ impl Script {
         }) }
         ensures unchanged { OnErr result (self.new ≡ self.old) }
     {
-        self.separate()?;
         let set = SetDecl::new(*self.parts.sets.allocator(), name, family)?;
-        let Some(parts) = Arc::get_mut(&mut self.parts) else {
-            return Err(AllocError);
-        };
+        let parts = Arc::make_mut(&mut self.parts)?;
         let place = parts.sets.len() as u8;
         parts.sets.push(set)?;
         parts.set_hints.note(name, place);
@@ -45,11 +43,8 @@ impl Script {
         }) }
         ensures unchanged { OnErr result (self.new ≡ self.old) }
     {
-        self.separate()?;
         let client = ClientDecl::new(*self.parts.clients.allocator(), name, node)?;
-        let Some(parts) = Arc::get_mut(&mut self.parts) else {
-            return Err(AllocError);
-        };
+        let parts = Arc::make_mut(&mut self.parts)?;
         let place = parts.clients.len() as u8;
         parts.clients.push(client)?;
         parts.client_hints.note(name, place);
@@ -65,33 +60,8 @@ impl Script {
             (self.new ≡ record self.old { commands = self.old.commands ++ (client, command) ∷ [] }) }
         ensures unchanged { OnErr result (self.new ≡ self.old) }
     {
-        self.separate()?;
-        let Some(parts) = Arc::get_mut(&mut self.parts) else {
-            return Err(AllocError);
-        };
+        let parts = Arc::make_mut(&mut self.parts)?;
         parts.commands.push((client, command))?;
-        Ok(())
-    }
-
-    // Makes this script the only owner of its parts.
-    fn separate(&mut self) -> Result<(), AllocError>
-        ensures { self.new ≡ self.old }
-    {
-        if Arc::strong_count(&self.parts) == 1 {
-            return Ok(());
-        }
-        self.take_copy()
-    }
-
-    // Takes a copy of the parts that it shares.
-    #[cold]
-    #[inline(never)]
-    fn take_copy(&mut self) -> Result<(), AllocError>
-        ensures { self.new ≡ self.old }
-    {
-        let alloc = *self.parts.sets.allocator();
-        let parts = self.parts.copy(alloc)?;
-        self.parts = Arc::new(alloc, parts)?;
         Ok(())
     }
 }

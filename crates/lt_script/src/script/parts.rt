@@ -16,6 +16,22 @@ pub(crate) struct Parts {
     pub(crate) client_hints: Hints,
 }
 
+impl Clone for Parts {
+    ghost use Rattle.lt_script.specs.Views.{SayTheSame};
+
+    ghost is_clone = { SayTheSame };
+
+    // It is rarely called, and its code stays out of that which adds to a script.
+    #[cold]
+    #[inline(never)]
+    fn clone(&self) -> Result<Parts, AllocError> {
+        let alloc = *self.commands.allocator();
+        let mut parts = self.without_commands(alloc)?;
+        parts.commands = Vec::from_slice(alloc, &self.commands)?;
+        Ok(parts)
+    }
+}
+
 impl Parts {
     pub(crate) fn new(alloc: Global) -> Parts
         ensures sets { result.sets.items ≡ [] }
@@ -29,17 +45,6 @@ impl Parts {
             set_hints: Hints::new(),
             client_hints: Hints::new(),
         }
-    }
-
-    /// The same parts once more.
-    pub(crate) fn copy(&self, alloc: Global) -> Result<Parts, AllocError>
-        ensures sets { IfOk result (λ parts. parts.sets.items ≡ self.now.sets.items) }
-        ensures clients { IfOk result (λ parts. parts.clients.items ≡ self.now.clients.items) }
-        ensures commands { IfOk result (λ parts. parts.commands.items ≡ self.now.commands.items) }
-    {
-        let mut parts = self.without_commands(alloc)?;
-        parts.commands = Vec::from_slice(alloc, &self.commands)?;
-        Ok(parts)
     }
 
     /// The same sets and clients, and no commands.

@@ -3,7 +3,7 @@ ghost use Rattle.std.specs.Prelude.{◌≡◌, ◌∷◌, None, Some, IfOk, OnOk
 ghost use Rattle.lt_text.specs.Text.{words};
 ghost use Rattle.lt_script.specs.Forms.{form_seen, asked_seen, SetForm, SetWithForm, ClientForm, CommandForm};
 ghost use Rattle.lt_script.specs.Faults.{form_fault, after_form};
-ghost use Rattle.lt_script.specs.Steps.{TakesForm, TakesWords};
+ghost use Rattle.lt_script.specs.Steps.{ReadsForm, ReadsWords};
 
 use crate::fault::Fault;
 use crate::form::{CommandWords, Form, asked_of, begins_declaration, form_of};
@@ -13,37 +13,37 @@ use lt_text::number;
 use std::alloc::AllocError;
 
 /// Adds what a line with these words says, or tells its first fault.
-pub fn take_line(script: &mut Script, word: &[u8], rest: &[u8]) -> Result<Option<Fault>, AllocError>
-    ensures { IfOk result (λ fault. TakesWords fault script.old script.new (word.now ∷ words rest.now)) }
+pub fn add_line(script: &mut Script, word: &[u8], rest: &[u8]) -> Result<Option<Fault>, AllocError>
+    ensures { IfOk result (λ fault. ReadsWords fault script.old script.new (word.now ∷ words rest.now)) }
 {
     if begins_declaration(word) {
         let Some(form) = form_of(word, rest) else {
             return Ok(Some(Fault::Form));
         };
-        return take_form(script, form);
+        return add_form(script, form);
     }
     match asked_of(rest) {
-        Some(asked) => take_command(script, word, asked),
+        Some(asked) => add_command_line(script, word, asked),
         None => Ok(Some(Fault::Form)),
     }
 }
 
 // Adds what a line of this form says, or tells its first fault.
-fn take_form(script: &mut Script, form: Form<'_>) -> Result<Option<Fault>, AllocError>
-    ensures { IfOk result (λ fault. TakesForm fault script.old script.new (form_seen form.entry)) }
+fn add_form(script: &mut Script, form: Form<'_>) -> Result<Option<Fault>, AllocError>
+    ensures { IfOk result (λ fault. ReadsForm fault script.old script.new (form_seen form.entry)) }
 {
     match form {
         Form::Version => Ok(Some(Fault::Nodes)),
         Form::Nodes { nodes } => Ok(Some(later_nodes_fault(script, nodes))),
-        Form::Set { name } => take_set(script, name),
-        Form::SetWith { name, relative } => take_relative(script, name, relative),
-        Form::Client { name, node } => take_client(script, name, node),
-        Form::Command { client, asked } => take_command(script, client, asked),
+        Form::Set { name } => add_set_line(script, name),
+        Form::SetWith { name, relative } => add_relative_line(script, name, relative),
+        Form::Client { name, node } => add_client_line(script, name, node),
+        Form::Command { client, asked } => add_command_line(script, client, asked),
     }
 }
 
-fn take_set(script: &mut Script, name: &[u8]) -> Result<Option<Fault>, AllocError>
-    ensures { IfOk result (λ fault. TakesForm fault script.old script.new (SetForm name.now)) }
+fn add_set_line(script: &mut Script, name: &[u8]) -> Result<Option<Fault>, AllocError>
+    ensures { IfOk result (λ fault. ReadsForm fault script.old script.new (SetForm name.now)) }
 {
     if let Some(fault) = set_fault(script, name) {
         return Ok(Some(fault));
@@ -52,12 +52,12 @@ fn take_set(script: &mut Script, name: &[u8]) -> Result<Option<Fault>, AllocErro
     Ok(None)
 }
 
-fn take_relative(
+fn add_relative_line(
     script: &mut Script,
     name: &[u8],
     relative: &[u8],
 ) -> Result<Option<Fault>, AllocError>
-    ensures { IfOk result (λ fault. TakesForm fault script.old script.new (SetWithForm name.now relative.now)) }
+    ensures { IfOk result (λ fault. ReadsForm fault script.old script.new (SetWithForm name.now relative.now)) }
 {
     if let Some(fault) = set_with_fault(script, name, relative) {
         return Ok(Some(fault));
@@ -66,8 +66,12 @@ fn take_relative(
     Ok(None)
 }
 
-fn take_client(script: &mut Script, name: &[u8], node: &[u8]) -> Result<Option<Fault>, AllocError>
-    ensures { IfOk result (λ fault. TakesForm fault script.old script.new (ClientForm name.now node.now)) }
+fn add_client_line(
+    script: &mut Script,
+    name: &[u8],
+    node: &[u8],
+) -> Result<Option<Fault>, AllocError>
+    ensures { IfOk result (λ fault. ReadsForm fault script.old script.new (ClientForm name.now node.now)) }
 {
     if let Some(fault) = client_fault(script, name, node) {
         return Ok(Some(fault));
@@ -107,13 +111,13 @@ fn add_client(script: &mut Script, name: &[u8], node: &[u8]) -> Result<(), Alloc
 }
 
 // Adds the command, or tells its line's first fault.
-fn take_command(
+fn add_command_line(
     script: &mut Script,
     client: &[u8],
     asked: CommandWords<'_>,
 ) -> Result<Option<Fault>, AllocError>
     ensures { IfOk result
-        (λ fault. TakesForm fault script.old script.new (CommandForm client.now (asked_seen asked.entry))) }
+        (λ fault. ReadsForm fault script.old script.new (CommandForm client.now (asked_seen asked.entry))) }
 {
     match request_of(script, client, asked) {
         Ok((client, command)) => {

@@ -3,10 +3,10 @@ use Rattle.std.specs.Prelude.{IfOk}
 use Rattle.lt_script.specs.declared.fault.Fault.{Fault}
 use Rattle.lt_script.specs.declared.form.Form.{Form}
 use Rattle.lt_script.specs.Forms.{form_seen, NodesForm}
-use Rattle.lt_script.specs.Reading.{TakesLine}
+use Rattle.lt_script.specs.Reading.{ReadsLine}
 use Rattle.lt_script.specs.Steps.{form_step}
 use Rattle.lt_script.proofs.StepLemmas.{told_step}
-use Rattle.lt_script.proofs.taking.take_form.Goals as goal
+use Rattle.lt_script.proofs.later_lines.add_form.Goals as goal
 
 pub returns-in-Nodes : goal.returns-in-Nodes
 returns-in-Nodes c =
@@ -16,5 +16,5 @@ returns-in-Nodes c =
 pub returns-in-Client : goal.returns-in-Client
 returns-in-Client c =
     subst
-    (λ (form : Form). IfOk c.take_client.result (λ (fault : Option Fault). TakesLine fault (Some c.take_client.new.script) (form_step c.args.script.now.version (Some c.args.script.now) (form_seen form))))
-    (sym c.in-Client.is) c.take_client.ensures
+    (λ (form : Form). IfOk c.add_client_line.result (λ (fault : Option Fault). ReadsLine fault (Some c.add_client_line.new.script) (form_step c.args.script.now.version (Some c.args.script.now) (form_seen form))))
+    (sym c.in-Client.is) c.add_client_line.ensures
