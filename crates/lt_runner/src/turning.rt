@@ -119,27 +119,17 @@ impl Parts {
         match self.find() {
             Found::Quiet => Turned::Quiet,
             Found::Full => Turned::Full,
-            Found::Move(choice) => self.move_on(choice, gate),
+            Found::Move(choice) => {
+                if self.make_found(choice, gate) {
+                    Turned::Moved
+                } else {
+                    Turned::NoMemory
+                }
+            }
         }
     }
 
-    // Makes the move that was found, if there is memory.
-    fn move_on<G: Gate>(&mut self, choice: Choice, gate: &G) -> Turned
-        requires kept { RunnerInvariant self.old }
-        requires chosen { next_choice self.old ≡ choice }
-        requires could { CouldMove self.old }
-        ensures kept { RunnerInvariant self.new }
-        ensures same { SameRunner self.old self.new }
-        ensures ends { TurnEnds result self.old self.new }
-        ensures choice { result ≢ endings.Quiet }
-    {
-        if !self.make_found(choice, gate) {
-            return Turned::NoMemory;
-        }
-        Turned::Moved
-    }
-
-    // The same, and says whether there was.
+    // Makes the move that was found, if there is memory for it, and says whether there was.
     #[tactic(auto, using(crate::proofs::TurnLemmas::later_moved, crate::proofs::TurnLemmas::later_grew, crate::proofs::TurnLemmas::seen_grew, crate::proofs::TurnLemmas::grew_self))]
     fn make_found<G: Gate>(&mut self, choice: Choice, gate: &G) -> bool
         requires kept { RunnerInvariant self.old }
@@ -216,7 +206,9 @@ impl Parts {
 
 // Moves without a look at the rings.
 impl Parts {
-    // Makes the move that was found, if there is memory, and says whether there was. After a command it makes further ones.
+    // Makes the move that was found, if there is memory for it, and says whether there was.
+    //
+    // After a command it makes further ones.
     #[tactic(auto, using(crate::proofs::TurnLemmas::moved_more, crate::proofs::TurnLemmas::moved_longer, crate::proofs::TurnLemmas::grew_join))]
     fn move_and_act<G: Gate>(&mut self, choice: Choice, gate: &G) -> bool
         requires kept { RunnerInvariant self.old }
@@ -250,7 +242,8 @@ impl Parts {
         }
     }
 
-    // Makes the command that is shown, where there is one, the log has a place for it, and there is memory.
+    // Makes the command that is shown, where there is one, the log has a place for it, and there is memory, and says
+    // whether it did.
     #[tactic(auto, using(crate::proofs::TurnLemmas::grew_self, crate::proofs::TurnLemmas::grew_resting, crate::proofs::TurnLemmas::could_act_now, crate::proofs::KeptLemmas::kept_resting))]
     fn act_once<G: Gate>(&mut self, gate: &G) -> bool
         requires { RunnerInvariant self.old }
