@@ -249,6 +249,7 @@ impl Parts {
         requires { RunnerInvariant self.old }
         ensures kept { RunnerInvariant self.new }
         ensures grew { Grew self.old self.new }
+        ensures moved { IsTrue result → MovedOne self.old self.new }
     {
         match choose(self) {
             Choice::Nothing => {
