@@ -34,7 +34,7 @@ pub enum Turned {
     Quiet,
     /// A move was found, and the log is full.
     Full,
-    /// A move was found, and the log has a place left.
+    /// A move was found, and the log has a place left, but there is no memory for it.
     NoMemory,
 }
 
@@ -44,7 +44,7 @@ pub enum Worked {
     Idle,
     /// The log is full, and a move more is there to be made.
     Full,
-    /// A move is there to be made, and the log has a place left.
+    /// A move is there to be made, and the log has a place left, but there is no memory for it.
     NoMemory,
 }
 
@@ -150,7 +150,7 @@ impl Parts {
 }
 
 impl Parts {
-    /// Makes turns until `patience` of them, one after the other, found no move, or the log is full.
+    /// Makes turns until `patience` of them, one after the other, found no move, or one can't make the move it found.
     #[tactic(auto, using(crate::proofs::TurnLemmas::turn_grew, crate::proofs::TurnLemmas::grew_self))]
     pub fn work<G: Gate>(&mut self, patience: u32, gate: &G) -> Worked
         requires { RunnerInvariant self.old }
@@ -171,7 +171,7 @@ impl Parts {
         Worked::Idle
     }
 
-    /// Makes turns until one finds no move or a full log, or a letter was sent, and flushes the outboxes.
+    /// Makes turns until one makes no move or a letter was sent, and flushes the outboxes.
     ///
     /// After a command it makes further ones without a look at the rings, a few at a time.
     #[tactic(auto, using(crate::proofs::TurnLemmas::seen_grew, crate::proofs::TurnLemmas::grew_join, crate::proofs::TurnLemmas::grew_self))]
