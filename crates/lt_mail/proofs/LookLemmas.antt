@@ -1,5 +1,5 @@
 -- Rings that are looked at one after the other.
-use Rattle.std.proofs.Common.{◌≡◌, ◌≢◌, ℕ, ◌+◌, inl, inr, List, [], ◌++◌, Option, Some, None, false, length, refl, sym, ap, subst, arith, ◌∙◌, append-nil, append_assoc}
+use Rattle.std.proofs.Common.{◌≡◌, ◌≢◌, ℕ, ◌+◌, ◌<◌, inl, inr, List, [], ◌++◌, Option, Some, None, false, length, refl, sym, ap, subst, arith, ◌∙◌, append-nil, append_assoc}
 use Rattle.std.specs.Prelude.{slice_get}
 use Rattle.std.proofs.lemmas.Bool.{cases_eq}
 use Rattle.std.proofs.lemmas.Option.{slice_get_cases}
@@ -66,6 +66,11 @@ look_joins xs ys zs from h k = record {
       | inr apart ↦ subst (λ (o : Option InLane). Alike Sees (slice_get ys node) o) (sym (k.others node apart)) (sees_self (slice_get ys node))
     ]
 
+-- the rings before it stay as they were seen
+pub none_stays : (from me : ℕ) (ys zs : List InLane) → LooksAt ys zs from → SawNone from me ys → SawNone from me zs
+none_stays from me ys zs k h node below apart =
+    subst (λ (o : Option InLane). Saw false o) (sym (k.others node (λ e. omega (arith, below, e)))) (h node below apart)
+
 -- it is the node's own
 pub none_skips : (from me : ℕ) (ys zs : List InLane) → from ≡ me → LooksAt ys zs from → SawNone from me ys → SawNone (from + 1) me zs
 none_skips from me ys zs own k h node below apart =
@@ -115,13 +120,17 @@ all_looked a b me outs waiting h = record {
     more_known (Some x) None p = absurd p
     more_known (Some x) (Some y) p = prefix_seen (known x) (known y) p.learnt
 
--- no letter of another node is known
-pub none_known : (b : Mail) → SawNone (ins_count b) b.me b.ins.items → (node : ℕ) → node ≢ b.me → known_from b node ≡ []
-none_known b h node apart = elim (slice_get_cases b.ins.items node).1 [
-  | inl there ↦ told (in_at b node) (h node there.1 apart)
-  | inr past ↦ ap (on_in known) past.1
-]
+-- no letter of the first of the other nodes is known
+pub none_before : (first : ℕ) (b : Mail) → SawNone first b.me b.ins.items → (node : ℕ) → node < first → node ≢ b.me → known_from b node ≡ []
+none_before first b h node below apart = told (in_at b node) (h node below apart)
   where
     told : (y : Option InLane) → Saw false y → on_in known y ≡ []
     told None q = absurd q
     told (Some y) q = ap seen q
+
+-- no letter of another node is known
+pub none_known : (b : Mail) → SawNone (ins_count b) b.me b.ins.items → (node : ℕ) → node ≢ b.me → known_from b node ≡ []
+none_known b h node apart = elim (slice_get_cases b.ins.items node).1 [
+  | inl there ↦ none_before (ins_count b) b h node there.1 apart
+  | inr past ↦ ap (on_in known) past.1
+]

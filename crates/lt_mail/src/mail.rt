@@ -146,10 +146,11 @@ impl Mail {
     }
 
     /// The first other node of which a letter is in its ring, and then known. It looks again, whatever is known.
-    #[tactic(auto, using(crate::proofs::LookLemmas::all_looked, crate::proofs::LookLemmas::none_known, crate::proofs::WordLemmas::saw_letter))]
+    #[tactic(auto, using(crate::proofs::LookLemmas::all_looked, crate::proofs::LookLemmas::none_before, crate::proofs::LookLemmas::none_known, crate::proofs::WordLemmas::saw_letter))]
     pub fn first_sender(&mut self) -> Option<u8>
         requires few { ins_count self.old ≤ 256 }
         ensures some { IfSome result (λ from. (from < ins_count self.new) × (from ≢ self.new.me) × (0 < length (known_from self.new from))) }
+        ensures first { IfSome result (λ from. (node : ℕ) → node < from → node ≢ self.new.me → known_from self.new node ≡ []) }
         ensures none { IfNone result ((node : ℕ) → node ≢ self.new.me → known_from self.new node ≡ []) }
         ensures taken { (node : ℕ) → taken_from self.new node ≡ taken_from self.old node }
         ensures known { (node : ℕ) → IsPrefix (known_from self.old node) (known_from self.new node) }
@@ -162,11 +163,12 @@ impl Mail {
         }
     }
 
-    // The same, by what it does to the rings.
+    // Looks for the first sender, in terms of the rings.
     fn look(&mut self) -> Option<usize>
         ensures looked { LooksAtSome self.old.ins.items self.new.ins.items }
         ensures others { (self.new.me ≡ self.old.me) × (self.new.outs.items ≡ self.old.outs.items) × (self.new.waiting.items ≡ self.old.waiting.items) }
         ensures some { IfSome result (λ from. (from < ins_count self.new) × (from ≢ self.new.me) × Saw true (in_at self.new from)) }
+        ensures first { IfSome result (λ from. SawNone from self.new.me self.new.ins.items) }
         ensures none { IfNone result (SawNone (ins_count self.new) self.new.me self.new.ins.items) }
     {
         first_with_letter(&mut self.ins, usize::from(self.me))
@@ -184,6 +186,7 @@ impl Mail {
     }
 }
 
+// Makes room in the list for so many further letters.
 fn make_room(waiting: &mut VecDeque<Post>, letters: usize) -> Result<(), AllocError>
     ensures items { waiting.new.items ≡ waiting.old.items }
     ensures len { deque_len waiting.new ≡ deque_len waiting.old }

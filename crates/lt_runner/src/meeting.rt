@@ -80,6 +80,7 @@ fn hold_known(mail: &mut Mail, hand: &mut Option<Hand>, me: u8, nodes: u8)
 fn first_known(mail: &Mail, me: u8, nodes: u8) -> Option<u8>
     requires { ins_count mail.now ≡ nodes }
     ensures some { IfSome result (λ from. (from < nodes) × (from ≢ me) × (0 < length (known_from mail.now from))) }
+    ensures first { IfSome result (λ from. NoneKnown from me mail.now) }
     ensures none { IfNone result (NoneKnown nodes me mail.now) }
 {
     for from in 0..nodes {

@@ -1,4 +1,4 @@
-// A turn in its parts: a move is looked for, there is room for it, and it is made.
+// A turn in its parts: a move is looked for, room is made for it, and it is made.
 ghost use Rattle.std.specs.Prelude.{◌≡◌, ◌≢◌, IsOk, OnOk};
 ghost use Rattle.lt_runner.specs.declared.choice.Choice.TheVariants as choices;
 ghost use Rattle.lt_runner.specs.declared.turning.Found.TheVariants as finds;

@@ -132,7 +132,7 @@ impl Parts {
     }
 }
 
-/// Takes a letter of the first other node that one comes from, where there is one.
+// Takes a letter of the first other node that one comes from, where there is one.
 #[tactic(auto, using(crate::proofs::PollLemmas::poll_ends, crate::proofs::PollLemmas::poll_empty))]
 fn poll(mail: &mut Mail, hand: &mut Option<Hand>, me: u8, nodes: u8)
     requires own { mail.old.me ≡ me }
@@ -156,7 +156,7 @@ fn sender(mail: &mut Mail, _me: u8, _nodes: u8) -> Option<u8>
     mail.first_sender()
 }
 
-/// Takes the letter of the node that is known to come.
+/// Takes the first letter of the node, which is known to be in its ring, into the hand.
 pub(crate) fn hold_next(mail: &mut Mail, hand: &mut Option<Hand>, from: u8, _me: u8, _nodes: u8)
     requires node { (from < _nodes) × (from ≢ _me) }
     requires count { ins_count mail.old ≡ _nodes }

@@ -59,7 +59,7 @@ impl Runner {
         })
     }
 
-    /// Makes turns until `patience` of them, one after the other, found no move, or the log is full.
+    /// Makes turns until `patience` of them, one after the other, found no move, or one can't make the move it found.
     ///
     /// A turn flushes the outboxes, looks for a letter and then for a client that can act, and makes the first move found.
     pub fn work<G: Gate>(&mut self, patience: u32, gate: &G) -> Worked
@@ -80,7 +80,7 @@ impl Runner {
         self.parts.as_mut().turn(gate)
     }
 
-    /// Makes turns until one finds no move or a full log, or a letter was sent, and flushes the outboxes.
+    /// Makes turns until one makes no move or a letter was sent, and flushes the outboxes.
     pub fn work_until_sent<G: Gate>(&mut self, gate: &G) -> Worked
         ensures grew { Grew self.old self.new }
         ensures ends { WorkEnds result 0 self.new }

@@ -34,7 +34,7 @@ pub enum Turned {
     Quiet,
     /// A move was found, and the log is full.
     Full,
-    /// A move was found, and the log has a place left.
+    /// A move was found, and the log has a place left, but there is no memory for it.
     NoMemory,
 }
 
@@ -44,7 +44,7 @@ pub enum Worked {
     Idle,
     /// The log is full, and a move more is there to be made.
     Full,
-    /// A move is there to be made, and the log has a place left.
+    /// A move is there to be made, and the log has a place left, but there is no memory for it.
     NoMemory,
 }
 
@@ -119,27 +119,17 @@ impl Parts {
         match self.find() {
             Found::Quiet => Turned::Quiet,
             Found::Full => Turned::Full,
-            Found::Move(choice) => self.move_on(choice, gate),
+            Found::Move(choice) => {
+                if self.make_found(choice, gate) {
+                    Turned::Moved
+                } else {
+                    Turned::NoMemory
+                }
+            }
         }
     }
 
-    // Makes the move that was found, if there is memory.
-    fn move_on<G: Gate>(&mut self, choice: Choice, gate: &G) -> Turned
-        requires kept { RunnerInvariant self.old }
-        requires chosen { next_choice self.old ≡ choice }
-        requires could { CouldMove self.old }
-        ensures kept { RunnerInvariant self.new }
-        ensures same { SameRunner self.old self.new }
-        ensures ends { TurnEnds result self.old self.new }
-        ensures choice { result ≢ endings.Quiet }
-    {
-        if !self.make_found(choice, gate) {
-            return Turned::NoMemory;
-        }
-        Turned::Moved
-    }
-
-    // The same, and says whether there was.
+    // Makes the move that was found, if there is memory for it, and says whether there was.
     #[tactic(auto, using(crate::proofs::TurnLemmas::later_moved, crate::proofs::TurnLemmas::later_grew, crate::proofs::TurnLemmas::seen_grew, crate::proofs::TurnLemmas::grew_self))]
     fn make_found<G: Gate>(&mut self, choice: Choice, gate: &G) -> bool
         requires kept { RunnerInvariant self.old }
@@ -160,7 +150,7 @@ impl Parts {
 }
 
 impl Parts {
-    /// Makes turns until `patience` of them, one after the other, found no move, or the log is full.
+    /// Makes turns until `patience` of them, one after the other, found no move, or one can't make the move it found.
     #[tactic(auto, using(crate::proofs::TurnLemmas::turn_grew, crate::proofs::TurnLemmas::grew_self))]
     pub fn work<G: Gate>(&mut self, patience: u32, gate: &G) -> Worked
         requires { RunnerInvariant self.old }
@@ -181,7 +171,7 @@ impl Parts {
         Worked::Idle
     }
 
-    /// Makes turns until one finds no move or a full log, or a letter was sent, and flushes the outboxes.
+    /// Makes turns until one makes no move or a letter was sent, and flushes the outboxes.
     ///
     /// After a command it makes further ones without a look at the rings, a few at a time.
     #[tactic(auto, using(crate::proofs::TurnLemmas::seen_grew, crate::proofs::TurnLemmas::grew_join, crate::proofs::TurnLemmas::grew_self))]
@@ -216,7 +206,9 @@ impl Parts {
 
 // Moves without a look at the rings.
 impl Parts {
-    // Makes the move that was found, if there is memory, and says whether there was. After a command it makes further ones.
+    // Makes the move that was found, if there is memory for it, and says whether there was.
+    //
+    // After a command it makes further ones.
     #[tactic(auto, using(crate::proofs::TurnLemmas::moved_more, crate::proofs::TurnLemmas::moved_longer, crate::proofs::TurnLemmas::grew_join))]
     fn move_and_act<G: Gate>(&mut self, choice: Choice, gate: &G) -> bool
         requires kept { RunnerInvariant self.old }
@@ -250,12 +242,14 @@ impl Parts {
         }
     }
 
-    // Makes the command that is shown, where there is one, the log has a place for it, and there is memory.
+    // Makes the command that is shown, where there is one, the log has a place for it, and there is memory, and says
+    // whether it did.
     #[tactic(auto, using(crate::proofs::TurnLemmas::grew_self, crate::proofs::TurnLemmas::grew_resting, crate::proofs::TurnLemmas::could_act_now, crate::proofs::KeptLemmas::kept_resting))]
     fn act_once<G: Gate>(&mut self, gate: &G) -> bool
         requires { RunnerInvariant self.old }
         ensures kept { RunnerInvariant self.new }
         ensures grew { Grew self.old self.new }
+        ensures moved { IsTrue result → MovedOne self.old self.new }
     {
         match choose(self) {
             Choice::Nothing => {
