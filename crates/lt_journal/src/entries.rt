@@ -1,3 +1,4 @@
+// The lines of a move and its events, as they are written fast.
 ghost use Rattle.std.specs.Prelude.{◌≡◌, ◌++◌, [], ◌∷◌, OnOk};
 ghost use Rattle.lt_journal.specs.declared.line.Line.TheVariants.{Move as MoveLine, Event as EventLine};
 ghost use Rattle.lt_modes.specs.Modes.{word_of};
@@ -53,7 +54,7 @@ pub fn event_line(text: &mut Text, wording: &Wording, event: Event) -> Result<()
     }
 }
 
-// Writes the words of a line that names a client, a set and a mode, but for the first, and the line end.
+// Writes the words after the first of a line that names a client, a set and a mode, and the line end.
 fn last_words(
     text: &mut Text,
     wording: &Wording,

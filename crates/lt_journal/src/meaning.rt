@@ -13,9 +13,7 @@ use lt_text::{exact_number, is, next_field};
 pub(crate) fn node(script: &Script, word: &[u8]) -> Option<u8>
     ensures { result ≡ node_of script.now word.now }
 {
-    let Some(node) = exact_number(word) else {
-        return None;
-    };
+    let node = exact_number(word)?;
     if node < u32::from(script.nodes()) {
         Some(node as u8)
     } else {
@@ -40,14 +38,10 @@ pub(crate) fn step(script: &Script, verb: &[u8], word: &[u8]) -> Option<Step>
 pub(crate) fn lock(script: &Script, client: &[u8], set: &[u8], mode: &[u8]) -> Option<Holding>
     ensures { result ≡ lock_of script.now client.now set.now mode.now }
 {
-    match (
-        script.client_number(client),
-        script.set_number(set),
-        Mode::from_word(mode),
-    ) {
-        (Some(client), Some(set), Some(mode)) => Some(Holding { client, set, mode }),
-        _ => None,
-    }
+    let client = script.client_number(client)?;
+    let set = script.set_number(set)?;
+    let mode = Mode::from_word(mode)?;
+    Some(Holding { client, set, mode })
 }
 
 /// Whether a `try` got its lock.

@@ -1,6 +1,5 @@
-ghost use Rattle.std.specs.Prelude.{◌≡◌, ◌≤◌, ◌++◌, [], ◌∷◌, take, OnOk, IfOk, IfSome};
+ghost use Rattle.std.specs.Prelude.{◌≡◌, ◌≤◌, ◌++◌, [], ◌∷◌, take, OnOk, IfSome};
 
-use crate::text::Text;
 use std::alloc::AllocError;
 use std::marker::Model;
 
@@ -23,21 +22,19 @@ impl Model for Padded {
 }
 
 impl Padded {
-    /// The words of a text, if they are short enough. The text is used up.
+    /// The words, if they are short enough.
     #[tactic(auto, using(crate::proofs::Blocks::front_kept, crate::proofs::Blocks::line_kept))]
-    pub fn new(words: &mut Text) -> Result<Option<Padded>, AllocError>
-        ensures { IfOk result (λ made. IfSome made (λ p. p ≡ words.old)) }
+    pub fn new(words: &[u8]) -> Option<Padded>
+        ensures { IfSome result (λ p. p ≡ words.now) }
     {
-        let len = words.bytes().len();
+        let len = words.len();
         if len >= 32 {
-            return Ok(None);
+            return None;
         }
-        words.end_line()?;
-        words.fill()?;
-        match words.bytes().first_chunk::<32>() {
-            Some(block) => Ok(Some(Padded { block: *block, len })),
-            None => Ok(None),
-        }
+        let mut block = [0; 32];
+        block[..len].copy_from_slice(words);
+        block[len] = b'\n';
+        Some(Padded { block, len })
     }
 
     /// Writes the words.

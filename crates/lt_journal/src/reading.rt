@@ -1,9 +1,9 @@
-ghost use Rattle.std.specs.Prelude.{◌≡◌, ◌<◌, ◌+◌, ◌-◌, ◌^◌, [], ◌∷◌, ◌++◌, Some, length, slice_get, IfOk, OnOk};
+ghost use Rattle.std.specs.Prelude.{◌≡◌, ◌<◌, ◌-◌, ◌^◌, Some, length, slice_get, IfOk};
 ghost use Rattle.lt_text.specs.Text.{lines};
 ghost use Rattle.lt_journal.specs.Grammar.{read_line, journal_of};
 
 use crate::grammar::read_line;
-use crate::line::Line;
+use crate::line::{Line, push_line};
 use lt_script::Script;
 use lt_text::next_line;
 use std::alloc::{AllocError, Global};
@@ -27,28 +27,6 @@ impl Model for Journal {
 }
 
 impl Journal {
-    // A journal of no lines.
-    fn new(alloc: Global) -> Journal
-        ensures { result ≡ [] }
-    {
-        Journal {
-            lines: Vec::new(alloc),
-        }
-    }
-
-    // Adds a last line.
-    fn push(&mut self, line: Line) -> Result<(), AllocError>
-        requires { length self.old + 1 < 2 ^ 32 }
-        ensures { OnOk result (self.new ≡ self.old ++ line ∷ []) }
-    {
-        // A vector of lines grows only where the prover meets the type of events, so this takes one apart.
-        match line {
-            Line::Event(event) => self.lines.push(Line::Event(event))?,
-            other => self.lines.push(other)?,
-        }
-        Ok(())
-    }
-
     /// The number of lines.
     pub fn len(&self) -> u32
         ensures { result ≡ length self.now }
@@ -70,11 +48,11 @@ pub fn read(alloc: Global, script: &Script, bytes: &[u8]) -> Result<Journal, All
     requires { length bytes.now < 2 ^ 32 - 1 }
     ensures { IfOk result (λ journal. journal ≡ journal_of script.now bytes.now) }
 {
-    let mut journal = Journal::new(alloc);
+    let mut lines = Vec::new(alloc);
     let mut rest = bytes;
     while let Some((line, after)) = next_line(rest) {
-        journal.push(read_line(script, line))?;
+        push_line(&mut lines, read_line(script, line))?;
         rest = after;
     }
-    Ok(journal)
+    Ok(Journal { lines })
 }

@@ -1,4 +1,4 @@
-ghost use Rattle.std.specs.Prelude.{◌≡◌, ◌<◌, ◌≤◌, [], ◌∷◌, ◌++◌, replicate, OnOk, IfOk};
+ghost use Rattle.std.specs.Prelude.{◌≡◌, ◌<◌, ◌≤◌, [], ◌∷◌, ◌++◌, OnOk, IfOk};
 ghost use Rattle.std.specs.Fmt.{decimal};
 ghost use Rattle.lt_text.specs.Text.{after_space};
 
@@ -125,13 +125,6 @@ impl Text {
         ensures { OnOk result (self.new ≡ self.old ++ words.now ++ 10 ∷ []) }
     {
         words.write_line(&mut self.bytes)
-    }
-
-    /// Writes as many zeros as a block has bytes.
-    pub(crate) fn fill(&mut self) -> Result<(), AllocError>
-        ensures { OnOk result (self.new ≡ self.old ++ replicate 32 0) }
-    {
-        self.bytes.extend_from_slice(&[0; 32])
     }
 
     pub fn end_line(&mut self) -> Result<(), AllocError>

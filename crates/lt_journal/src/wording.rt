@@ -1,3 +1,4 @@
+// The names of a script, kept as a journal has them.
 ghost use Rattle.std.specs.Prelude.{◌≡◌, ◌<◌, ◌++◌, [], ◌∷◌, OnOk, IfOk, IfSome};
 ghost use Rattle.lt_modes.specs.Modes.{word_of};
 ghost use Rattle.lt_modes.specs.Script.{set_name, client_name};
@@ -153,7 +154,7 @@ fn client_words(alloc: Global, script: &Script) -> Result<Vec<ClientWord>, Alloc
     for client in 0..script.clients() {
         let mut name = Text::new(alloc);
         name.word(client_name(script, client))?;
-        let word = Padded::new(&mut name)?;
+        let word = Padded::new(name.bytes());
         clients.push(ClientWord { client, word })?;
     }
     Ok(clients)
@@ -184,7 +185,7 @@ fn push_set(
         let mut both = Text::new(alloc);
         both.word(set_name(script, set))?;
         both.word(mode.word().as_bytes())?;
-        let words = Padded::new(&mut both)?;
+        let words = Padded::new(both.bytes());
         locks.push(LockWords {
             set,
             mode: *mode,

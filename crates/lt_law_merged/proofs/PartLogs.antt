@@ -4,14 +4,15 @@ use Rattle.std.specs.Prelude.{◌⊎◌, map, filter, slice_get}
 use Rattle.std.specs.List.{AllByRecursion}
 use Rattle.std.proofs.lemmas.Bool.{cases_eq, eq-eqb}
 use Rattle.std.proofs.lemmas.List.{append-nil}
+use Rattle.std.proofs.lemmas.List.Elements.{filter-append}
 use Rattle.lt_modes.specs.Script.{ScriptData}
 use Rattle.lt_lists.proofs.AllLemmas.{all_weaker}
 use Rattle.lt_spec.specs.Log.{Logged}
 use Rattle.lt_spec.specs.World.{start, is_of_node}
 use Rattle.lt_merge.specs.Run.{RunData}
 use Rattle.lt_merge.specs.Merging.{AreRising, AreLogs, by_node, all_entries}
-use Rattle.lt_merge.proofs.Filters.{filter-append, all_pass}
-use Rattle.lt_merge.proofs.MergedHalves.{join_empty}
+use Rattle.lt_merge.proofs.Filters.{all_pass}
+use Rattle.lt_merge.proofs.ListParts.{join_empty}
 use Rattle.lt_law_plays.specs.Parts.{Part, part_or}
 use Rattle.lt_law_plays.proofs.MergedLogs.{IsOwn, none_of_other, head_or}
 use Rattle.lt_law_plays.proofs.PlayLemmas.{plays_rise}

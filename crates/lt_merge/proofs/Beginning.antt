@@ -1,29 +1,16 @@
 -- The heads are found, from the last log to the first.
-use Rattle.std.proofs.Common.{◌≡◌, ℕ, zero, suc, ◌+◌, ◌<◌, ◌≤◌, inl, inr, List, [], ◌∷◌, ◌++◌, length, Some, None, refl, sym, ap, subst, arith, ◌∙◌, drop}
+use Rattle.std.proofs.Common.{◌≡◌, ℕ, zero, suc, ◌+◌, ◌<◌, ◌≤◌, inl, inr, List, [], ◌∷◌, ◌++◌, length, Some, None, sym, ap, subst, arith, ◌∙◌, drop}
 use Rattle.std.specs.Prelude.{◌⊎◌, filter, slice_get}
 use Rattle.std.proofs.lemmas.List.{length-append, drop_all}
+use Rattle.std.proofs.lemmas.List.Elements.{filter-append}
 use Rattle.lt_spec.specs.Log.{Logged}
 use Rattle.lt_spec.specs.World.{is_of_node}
 use Rattle.lt_merge.specs.declared.heads.Head.{Head}
 use Rattle.lt_merge.specs.Run.{RunData}
 use Rattle.lt_merge.specs.Merging.{AreRising, all_entries, by_node, AreLogs}
 use Rattle.lt_merge.specs.Heads.{entries_in, rest_of, rests_of, IsHeadAt, placed, Begins}
-use Rattle.lt_merge.proofs.Filters.{filter-append}
+use Rattle.lt_merge.proofs.ListParts.{stands}
 use Rattle.lt_merge.proofs.Placing.{placed_same, placed_heads}
-
--- the log at a place, and those after it
-record LogAt (logs : List RunData) (k : ℕ) : Type 0 where
-  log : RunData
-  here : drop k logs ≡ log ∷ drop (k + 1) logs
-  found : slice_get logs k ≡ Some log
-
-log_at : (logs : List RunData) (k : ℕ) → k < length logs → LogAt logs k
-log_at [] k h = absurd (omega (arith, h))
-log_at (log ∷ logs) zero h = record { log = log; here = refl; found = refl }
-log_at (log ∷ logs) (suc k) h =
-    let one : suc k + 1 ≡ suc (k + 1) = omega arith in
-    let more = log_at logs k (omega (arith, h)) in
-    record { log = more.log; here = more.here ∙ ap (λ (l : List RunData). more.log ∷ l) (sym (ap (λ (n : ℕ). drop n (log ∷ logs)) one)); found = more.found }
 
 logs_from : (logs : List RunData) (k : ℕ) → AreLogs logs → AreLogs (drop k logs)
 logs_from logs zero h = h
@@ -39,13 +26,13 @@ record Onward (logs : List RunData) (k : ℕ) (entries : List Logged) : Type 0 w
 
 onward : (logs : List RunData) (k : ℕ) → AreLogs logs → k < length logs → Onward logs k (entries_in (slice_get logs k))
 onward logs k h inside =
-    let at = log_at logs k inside in
+    let at = stands logs k inside in
     let are = subst AreLogs at.here (logs_from logs k h) in
     subst (Onward logs k) (sym (ap entries_in at.found)) (record {
       rising = are.0;
       apart = λ x. are.1 x;
-      parts = λ x. ap (λ (l : List RunData). by_node l x) at.here ∙ filter-append (is_of_node x) at.log.entries (all_entries (drop (k + 1) logs));
-      count = omega (arith, ap (λ (l : List RunData). length (all_entries l)) at.here, length-append at.log.entries (all_entries (drop (k + 1) logs)));
+      parts = λ x. ap (λ (l : List RunData). by_node l x) at.here ∙ filter-append (is_of_node x) at.first.entries (all_entries (drop (k + 1) logs));
+      count = omega (arith, ap (λ (l : List RunData). length (all_entries l)) at.here, length-append at.first.entries (all_entries (drop (k + 1) logs)));
     })
 
 pub head_found : (logs : List RunData) (k : ℕ) (head : Head) (heads : List Head) → AreLogs logs → k < length logs → IsHeadAt logs k 0 (Some head)

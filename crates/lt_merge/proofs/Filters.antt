@@ -1,8 +1,9 @@
 -- Lists with only the elements that pass a test.
-use Rattle.std.proofs.Common.{◌≡◌, inl, inr, List, [], ◌∷◌, ◌++◌, length, Bool, true, false, refl, sym, ap, arith, ◌∙◌}
+use Rattle.std.proofs.Common.{◌≡◌, inl, inr, List, [], ◌∷◌, length, Bool, true, false, refl, sym, ap, arith, ◌∙◌}
 use Rattle.std.specs.Prelude.{filter}
 use Rattle.std.specs.List.{AllByRecursion}
-use Rattle.std.proofs.lemmas.Bool.{cases_Bool, cond_both, cond-true, cond-false}
+use Rattle.std.proofs.lemmas.Bool.{cases_Bool, cond-true, cond-false}
+use Rattle.std.proofs.lemmas.List.Elements.{All-filter, All-from_recursion, recursion_from_All}
 
 pub filter_yes : {X : Type 0} (test : X → Bool) (x : X) (xs : List X) → test x ≡ true → filter test (x ∷ xs) ≡ x ∷ filter test xs
 filter_yes test x xs e = cond-true (test x) (x ∷ filter test xs) (filter test xs) e
@@ -11,17 +12,7 @@ pub filter_no : {X : Type 0} (test : X → Bool) (x : X) (xs : List X) → test 
 filter_no test x xs e = cond-false (test x) (x ∷ filter test xs) (filter test xs) e
 
 pub all_filter : {X : Type 0} (P : X → Type 0) (test : X → Bool) (xs : List X) → AllByRecursion P xs → AllByRecursion P (filter test xs)
-all_filter P test [] h = tt
-all_filter P test (x ∷ xs) h =
-    cond_both (test x) (x ∷ filter test xs) (filter test xs) (AllByRecursion P) (λ e. (h.0, all_filter P test xs h.1)) (λ e. all_filter P test xs h.1)
-
-pub filter-append : {X : Type 0} (test : X → Bool) (xs ys : List X) → filter test (xs ++ ys) ≡ filter test xs ++ filter test ys
-filter-append test [] ys = refl
-filter-append test (x ∷ xs) ys = elim (cases_Bool (test x)) [
-  | inl yes_x ↦ filter_yes test x (xs ++ ys) yes_x
-      ∙ (ap (λ l. x ∷ l) (filter-append test xs ys) ∙ ap (λ l. l ++ filter test ys) (sym (filter_yes test x xs yes_x)))
-  | inr no_x ↦ filter_no test x (xs ++ ys) no_x ∙ (filter-append test xs ys ∙ ap (λ l. l ++ filter test ys) (sym (filter_no test x xs no_x)))
-]
+all_filter P test xs h = recursion_from_All P (filter test xs) (All-filter test P xs (All-from_recursion P xs h))
 
 -- where none passes, the first one doesn't
 pub none_passes : {X : Type 0} (test : X → Bool) (x : X) (xs : List X) → filter test (x ∷ xs) ≡ [] → (test x ≡ false) × (filter test xs ≡ [])

@@ -1,8 +1,8 @@
 -- How the parts of the one list of events stand to each other, and what a push changes.
-use Rattle.std.proofs.Common.{◌≡◌, ℕ, zero, suc, ◌+◌, ◌-◌, ◌<◌, ◌≤◌, List, [], ◌∷◌, ◌++◌, length, take, drop, Some, refl, sym, ap, ◌∙◌, arith}
+use Rattle.std.proofs.Common.{◌≡◌, ℕ, zero, suc, ◌+◌, ◌<◌, ◌≤◌, List, [], ◌∷◌, ◌++◌, length, drop, Some, refl, sym, ap, ◌∙◌, arith}
 use Rattle.std.specs.Prelude.{slice_get, slice_range, slice_index_or}
 use Rattle.std.specs.Option.{option_map}
-use Rattle.std.proofs.lemmas.List.{take-append-le, drop-append-le, drop_at}
+use Rattle.std.proofs.lemmas.List.{take-append-le, drop-append-le, append-nil, drop_at}
 use Rattle.std.proofs.lemmas.Slice.{between_to_end, between_is}
 use Rattle.lt_modes.specs.declared.event.Event.{Event}
 use Rattle.lt_spec.specs.Log.{Logged}
@@ -15,45 +15,27 @@ pub length-entries_of : (marks : List Mark) (events : List Event) → length (en
 length-entries_of [] events = refl
 length-entries_of (mark ∷ later) events = ap suc (length-entries_of later events)
 
-pub first_place_within : (marks : List Mark) (count : ℕ) → IsLaid marks count → events_before marks count ≤ count
-first_place_within [] count laid = omega arith
-first_place_within (mark ∷ later) count laid = omega (arith, laid.0, first_place_within later count laid.1)
+pub events_before-within : (marks : List Mark) (count : ℕ) → IsLaid marks count → events_before marks count ≤ count
+events_before-within [] count laid = omega arith
+events_before-within (mark ∷ later) count laid = omega (arith, laid.0, events_before-within later count laid.1)
 
-first_place-add : (marks : List Mark) (mark : Mark) (count all : ℕ) → mark.start ≡ count → events_before (marks ++ mark ∷ []) all ≡ events_before marks count
-first_place-add [] mark count all e = e
-first_place-add (first ∷ later) mark count all e = refl
+events_before-add : (marks : List Mark) (mark : Mark) (count all : ℕ) → mark.start ≡ count → events_before (marks ++ mark ∷ []) all ≡ events_before marks count
+events_before-add [] mark count all e = e
+events_before-add (first ∷ later) mark count all e = refl
 
 -- a mark at the end of the events, and events after it
 pub laid_add : (marks : List Mark) (mark : Mark) (count all : ℕ) → mark.start ≡ count → count ≤ all → IsLaid marks count → IsLaid (marks ++ mark ∷ []) all
 laid_add [] mark count all e more laid = (omega (arith, e, more), tt)
 laid_add (first ∷ later) mark count all e more laid =
-    (omega (arith, laid.0, first_place-add later mark count all e), laid_add later mark count all e more laid.1)
+    (omega (arith, laid.0, events_before-add later mark count all e), laid_add later mark count all e more laid.1)
 
-pub laid_push : (marks : List Mark) (mark : Mark) (count : ℕ) → mark.start ≡ count → IsLaid marks count → IsLaid (marks ++ mark ∷ []) count
-laid_push marks mark count e laid = laid_add marks mark count count e (omega arith) laid
-
-first_place_grows : (marks : List Mark) (count : ℕ) → events_before marks count ≤ events_before marks (count + 1)
-first_place_grows [] count = omega arith
-first_place_grows (mark ∷ later) count = omega arith
+events_before-grows : (marks : List Mark) (count : ℕ) → events_before marks count ≤ events_before marks (count + 1)
+events_before-grows [] count = omega arith
+events_before-grows (mark ∷ later) count = omega arith
 
 pub laid_grow : (marks : List Mark) (count : ℕ) → IsLaid marks count → IsLaid marks (count + 1)
 laid_grow [] count laid = tt
-laid_grow (mark ∷ later) count laid = (omega (arith, laid.0, first_place_grows later count), laid_grow later count laid.1)
-
-empty_range : (events : List Event) (n : ℕ) → slice_range events n n ≡ []
-empty_range events n =
-    let e : n - n ≡ 0 = omega arith in
-    ap (λ (k : ℕ). take k (drop n events)) e
-
-pub entries_of-push : (marks : List Mark) (mark : Mark) (events : List Event) → mark.start ≡ length events → entries_of (marks ++ mark ∷ []) events ≡ entries_of marks events ++ just_made (made_of mark) ∷ []
-entries_of-push [] mark events e =
-    ap (λ (es : List Event). record { made = made_of mark; events = es } ∷ [])
-    (ap (λ (n : ℕ). slice_range events n (length events)) e ∙ empty_range events (length events))
-entries_of-push (first ∷ later) mark events e =
-    ap (λ (n : ℕ). record { made = made_of first; events = slice_range events first.start n } ∷ entries_of (later ++ mark ∷ []) events)
-    (first_place-add later mark (length events) (length events) e)
-    ∙ ap (λ (es : List Logged). record { made = made_of first; events = slice_range events first.start (events_before later (length events)) } ∷ es)
-    (entries_of-push later mark events e)
+laid_grow (mark ∷ later) count laid = (omega (arith, laid.0, events_before-grows later count), laid_grow later count laid.1)
 
 range_to_end-push : (events : List Event) (event : Event) (i : ℕ) → i ≤ length events → slice_range (events ++ event ∷ []) i (length (events ++ event ∷ [])) ≡ slice_range events i (length events) ++ event ∷ []
 range_to_end-push events event i h =
@@ -73,7 +55,7 @@ entries_of-event (mark ∷ []) events event laid some =
     ap (λ (es : List Event). record { made = made_of mark; events = es } ∷ []) (range_to_end-push events event mark.start laid.0)
 entries_of-event (mark ∷ next ∷ later) events event laid some =
     ap (λ (es : List Event). record { made = made_of mark; events = es } ∷ entries_of (next ∷ later) (events ++ event ∷ []))
-    (range-add events (event ∷ []) mark.start next.start (first_place_within (next ∷ later) (length events) laid.1))
+    (range-add events (event ∷ []) mark.start next.start (events_before-within (next ∷ later) (length events) laid.1))
     ∙ ap (λ (es : List Logged). record { made = made_of mark; events = slice_range events mark.start next.start } ∷ es)
     (entries_of-event (next ∷ later) events event laid.1 (omega arith))
 
@@ -85,11 +67,17 @@ entries_of-add [] mark events more e laid =
     (between_to_end (events ++ more) mark.start _ (omega arith) ∙ drop_at events more mark.start (sym e))
 entries_of-add (first ∷ later) mark events more e laid =
     ap (λ (n : ℕ). record { made = made_of first; events = slice_range (events ++ more) first.start n } ∷ entries_of (later ++ mark ∷ []) (events ++ more))
-    (first_place-add later mark (length events) (length (events ++ more)) e)
+    (events_before-add later mark (length events) (length (events ++ more)) e)
     ∙ (ap (λ (es : List Event). record { made = made_of first; events = es } ∷ entries_of (later ++ mark ∷ []) (events ++ more))
-    (range-add events more first.start (events_before later (length events)) (first_place_within later (length events) laid.1))
+    (range-add events more first.start (events_before later (length events)) (events_before-within later (length events) laid.1))
     ∙ ap (λ (es : List Logged). record { made = made_of first; events = slice_range events first.start (events_before later (length events)) } ∷ es)
     (entries_of-add later mark events more e laid.1))
+
+-- a move with no events after the others
+pub entries_of-push : (marks : List Mark) (mark : Mark) (events : List Event) → mark.start ≡ length events → IsLaid marks (length events)
+    → entries_of (marks ++ mark ∷ []) events ≡ entries_of marks events ++ just_made (made_of mark) ∷ []
+entries_of-push marks mark events e laid =
+    ap (λ (es : List Event). entries_of (marks ++ mark ∷ []) es) (sym (append-nil events)) ∙ entries_of-add marks mark events [] e laid
 
 pub made_at-entries_of : (marks : List Mark) (events : List Event) (k : ℕ) → made_at (entries_of marks events) k ≡ option_map made_of (slice_get marks k)
 made_at-entries_of [] events k = refl
@@ -105,26 +93,26 @@ events_at-entries_of (mark ∷ later) events zero a b e =
 events_at-entries_of (mark ∷ later) events (suc k) a b e = events_at-entries_of later events k a b e
 
 -- the part of a move is in range
-pub part_at_within : (marks : List Mark) (count k a b : ℕ) → IsLaid marks count → events_bounds marks count k ≡ Some (a, b) → (a ≤ b) × (b ≤ count)
-part_at_within [] count k a b laid e = cc
-part_at_within (mark ∷ later) count zero a b laid e =
+pub events_bounds-within : (marks : List Mark) (count k a b : ℕ) → IsLaid marks count → events_bounds marks count k ≡ Some (a, b) → (a ≤ b) × (b ≤ count)
+events_bounds-within [] count k a b laid e = cc
+events_bounds-within (mark ∷ later) count zero a b laid e =
     let parts = some_pair_parts mark.start a (events_before later count) b e in
-    (omega (arith, laid.0, parts.0, parts.1), omega (arith, first_place_within later count laid.1, parts.1))
-part_at_within (mark ∷ later) count (suc k) a b laid e = part_at_within later count k a b laid.1 e
+    (omega (arith, laid.0, parts.0, parts.1), omega (arith, events_before-within later count laid.1, parts.1))
+events_bounds-within (mark ∷ later) count (suc k) a b laid e = events_bounds-within later count k a b laid.1 e
 
 -- the part of a move that another follows
-pub part_at-inner : (marks : List Mark) (count k : ℕ) (d : Mark) → k + 1 < length marks → events_bounds marks count k ≡ Some ((slice_index_or marks k d).start, (slice_index_or marks (k + 1) d).start)
-part_at-inner [] count k d h = absurd (omega (arith, h))
-part_at-inner (mark ∷ []) count zero d h = absurd (omega (arith, h))
-part_at-inner (mark ∷ next ∷ later) count zero d h = refl
-part_at-inner (mark ∷ later) count (suc k) d h =
+pub events_bounds-inner : (marks : List Mark) (count k : ℕ) (d : Mark) → k + 1 < length marks → events_bounds marks count k ≡ Some ((slice_index_or marks k d).start, (slice_index_or marks (k + 1) d).start)
+events_bounds-inner [] count k d h = absurd (omega (arith, h))
+events_bounds-inner (mark ∷ []) count zero d h = absurd (omega (arith, h))
+events_bounds-inner (mark ∷ next ∷ later) count zero d h = refl
+events_bounds-inner (mark ∷ later) count (suc k) d h =
     let one : suc k + 1 ≡ suc (k + 1) = omega arith in
-    part_at-inner later count k d (omega (arith, h))
+    events_bounds-inner later count k d (omega (arith, h))
     ∙ ap (λ (i : ℕ). Some ((slice_index_or later k d).start, (slice_index_or (mark ∷ later) i d).start)) (sym one)
 
 -- the part of the last move
-pub part_at-last : (marks : List Mark) (count k : ℕ) (d : Mark) → k < length marks → length marks ≤ k + 1 → events_bounds marks count k ≡ Some ((slice_index_or marks k d).start, count)
-part_at-last [] count k d h l = absurd (omega (arith, h))
-part_at-last (mark ∷ []) count zero d h l = refl
-part_at-last (mark ∷ next ∷ later) count zero d h l = absurd (omega (arith, l))
-part_at-last (mark ∷ later) count (suc k) d h l = part_at-last later count k d (omega (arith, h)) (omega (arith, l))
+pub events_bounds-last : (marks : List Mark) (count k : ℕ) (d : Mark) → k < length marks → length marks ≤ k + 1 → events_bounds marks count k ≡ Some ((slice_index_or marks k d).start, count)
+events_bounds-last [] count k d h l = absurd (omega (arith, h))
+events_bounds-last (mark ∷ []) count zero d h l = refl
+events_bounds-last (mark ∷ next ∷ later) count zero d h l = absurd (omega (arith, l))
+events_bounds-last (mark ∷ later) count (suc k) d h l = events_bounds-last later count k d (omega (arith, h)) (omega (arith, l))

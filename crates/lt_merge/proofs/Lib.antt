@@ -1,6 +1,6 @@
 pub mod Filters
 pub mod MergedLists
-pub mod MergedHalves
+pub mod ListParts
 pub mod Copying
 pub mod Laid
 pub mod Recorded

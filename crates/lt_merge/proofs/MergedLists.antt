@@ -1,13 +1,13 @@
 -- Two lists of entries, merged by stamps.
 use Rattle.std.proofs.Common.{◌≡◌, ℕ, suc, ◌+◌, ◌<◌, inl, inr, List, [], ◌∷◌, length, Bool, false, refl, sym, ap, subst, arith, ◌∙◌}
-use Rattle.std.specs.Prelude.{◌⊎◌, ◌&&◌, ◌==◌, nat_lt, if◌then◌else◌, IsTrue, filter, Contains, slice_index_or}
+use Rattle.std.specs.Prelude.{◌⊎◌, ◌&&◌, ◌==◌, nat_lt, if◌then◌else◌, IsTrue, filter, Contains}
 use Rattle.std.specs.List.{AllByRecursion}
-use Rattle.std.proofs.lemmas.List.Elements.{recursion_from_All, Contains-get_or}
+use Rattle.std.proofs.lemmas.List.Elements.{recursion_from_All}
 use Rattle.std.proofs.lemmas.Bool.{cases_order, eq-eqb, lt-ltb, and_from, or_right, both_ways, cond_both}
 use Rattle.lt_modes.specs.declared.stamp.Stamp.{Stamp}
 use Rattle.lt_modes.specs.Tells.{is_newer}
 use Rattle.lt_lists.proofs.AllLemmas.{all_weaker}
-use Rattle.lt_lists.proofs.Members.{contains_filter, none_in}
+use Rattle.lt_lists.proofs.Members.{all_of, contains_filter, none_in}
 use Rattle.lt_spec.specs.Log.{Logged}
 use Rattle.lt_spec.specs.World.{is_of_node}
 use Rattle.lt_law_accounts.proofs.AccountFacts.{newer_by_clock, newer_in_turn}
@@ -126,8 +126,7 @@ length_merged (entry ∷ rest) second = length_first entry (both_merged rest) (l
 
 -- entries of different nodes are before or after each other
 pub beside_by_node : (first second : List Logged) → AreNodesApart first second → AllBeside first second
-beside_by_node first second h = recursion_from_All (λ (entry : Logged). AllByRecursion (AreBeside entry) second) first
-    (λ k d under. beside (slice_index_or first k d) (Contains-get_or first k d under))
+beside_by_node first second h = recursion_from_All _ first (all_of (λ (entry : Logged). AllByRecursion (AreBeside entry) second) first beside)
   where
     beside : (entry : Logged) → Contains first entry → AllByRecursion (AreBeside entry) second
     beside entry among = by_side (h entry.made.stamp.node)

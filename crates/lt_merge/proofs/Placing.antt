@@ -4,6 +4,7 @@ use Rattle.std.specs.Prelude.{◌⊎◌, IsTrue, filter, slice_set, slice_index_
 use Rattle.std.specs.List.{AllByRecursion}
 use Rattle.std.proofs.lemmas.Bool.{cond_both, cond-true, cond-false, both_ways}
 use Rattle.std.proofs.lemmas.List.{length-append}
+use Rattle.std.proofs.lemmas.List.Elements.{filter-append}
 use Rattle.lt_modes.specs.declared.stamp.Stamp.{Stamp}
 use Rattle.lt_modes.specs.Tells.{is_newer}
 use Rattle.lt_lists.proofs.AllLemmas.{all_weaker}
@@ -15,8 +16,7 @@ use Rattle.lt_merge.specs.declared.heads.Head.{Head}
 use Rattle.lt_merge.specs.Run.{RunData}
 use Rattle.lt_merge.specs.Merging.{all_entries, by_node, AreNodesApart, AreLogs}
 use Rattle.lt_merge.specs.Heads.{rest_of, rests_of, first_stamp, IsHead, AreInOrder, AreHeads, placed, settled, AreSame}
-use Rattle.lt_merge.proofs.Filters.{filter-append}
-use Rattle.lt_merge.proofs.MergedHalves.{both_empty, join_empty}
+use Rattle.lt_merge.proofs.ListParts.{both_empty, join_empty}
 use Rattle.lt_merge.proofs.MergedLists.{beside_by_node}
 
 exchanged : {X : Type 0} (a b c : List X) → (a ≡ []) ⊎ (b ≡ []) → b ++ (a ++ c) ≡ a ++ (b ++ c)

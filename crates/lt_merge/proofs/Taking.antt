@@ -4,12 +4,12 @@ use Rattle.std.specs.Prelude.{◌⊎◌, ◌==◌, if◌then◌else◌, IsTrue, 
 use Rattle.std.specs.List.{AllByRecursion}
 use Rattle.std.proofs.lemmas.Bool.{eq-eqb}
 use Rattle.std.proofs.lemmas.List.{append-nil, length-append}
-use Rattle.std.proofs.lemmas.List.Elements.{recursion_from_All, Contains-get_or}
+use Rattle.std.proofs.lemmas.List.Elements.{All-contains, All-from_recursion, recursion_from_All}
 use Rattle.lt_modes.specs.declared.stamp.Stamp.{Stamp}
 use Rattle.lt_modes.specs.declared.moves.Move.{Move}
 use Rattle.lt_modes.specs.Tells.{is_newer}
 use Rattle.lt_lists.proofs.AllLemmas.{all_append, all_weaker}
-use Rattle.lt_lists.proofs.Members.{contains_cases, contains_filter, none_in, some_equal}
+use Rattle.lt_lists.proofs.Members.{all_of, contains_filter, contains_filtered, some_equal}
 use Rattle.lt_spec.specs.Log.{Logged}
 use Rattle.lt_spec.specs.World.{is_of_node}
 use Rattle.lt_law_accounts.proofs.AccountFacts.{newer_in_turn}
@@ -17,8 +17,8 @@ use Rattle.lt_merge.specs.declared.heads.Head.{Head}
 use Rattle.lt_merge.specs.Run.{RunData, made_at}
 use Rattle.lt_merge.specs.Merging.{IsBefore, AreRising, all_entries, AreLogs, Merges}
 use Rattle.lt_merge.specs.Heads.{entries_in, rest_of, rests_of, first_stamp, IsHead, IsHeadAt, AreHeads, placed, AreSame, Advances}
-use Rattle.lt_merge.proofs.Filters.{all_filter, none_passes}
-use Rattle.lt_merge.proofs.Copying.{stands}
+use Rattle.lt_merge.proofs.Filters.{none_passes}
+use Rattle.lt_merge.proofs.ListParts.{stands}
 use Rattle.lt_merge.proofs.Placing.{placed_same, placed_heads}
 
 -- a log with these entries
@@ -31,22 +31,15 @@ same_merges first second run same h = record {
   count = h.count ∙ same.count;
 }
 
-among_all : (P : Logged → Type 0) (entries : List Logged) (entry : Logged) → AllByRecursion P entries → Contains entries entry → P entry
-among_all P [] entry h among = none_in entry among
-among_all P (first ∷ rest) entry h among = elim (contains_cases first entry rest among) [
-  | inl same ↦ subst P same h.0
-  | inr later ↦ among_all P rest entry h.1 later
-]
-
 -- what holds of all entries holds of others that are the same of each node
 all_same : (P : Logged → Type 0) (run entries : List Logged) → ((x : ℕ) → filter (is_of_node x) run ≡ filter (is_of_node x) entries) → AllByRecursion P entries → AllByRecursion P run
-all_same P run entries same h = recursion_from_All P run (λ k d under. holds (slice_index_or run k d) (Contains-get_or run k d under))
+all_same P run entries same h = recursion_from_All P run (all_of P run holds)
   where
     holds : (entry : Logged) → Contains run entry → P entry
     holds entry among =
         let x = entry.made.stamp.node in
-        among_all P (filter (is_of_node x) entries) entry (all_filter P (is_of_node x) entries h)
-        (subst (λ (l : List Logged). Contains l entry) (same x) (contains_filter (is_of_node x) run entry among (eq-eqb x x refl)))
+        let here = subst (λ (l : List Logged). Contains l entry) (same x) (contains_filter (is_of_node x) run entry among (eq-eqb x x refl)) in
+        All-contains P entries entry (All-from_recursion P entries h) (contains_filtered (is_of_node x) entries entry here).0
 
 -- an entry that is before all others comes first
 least_first : (entry : Logged) (rest : List Logged) (others : List RunData) (run : List Logged) → AllByRecursion (IsBefore entry) (rest ++ all_entries others)
@@ -97,15 +90,15 @@ took : (logs : List RunData) (head : Head) (others : List Head) → AreHeads log
 took logs head others h =
     let entries = entries_in (slice_get logs head.log) in
     let at = stands entries head.place (place_inside entries head.place head.stamp h.each.0) in
-    let stamp : head.stamp ≡ at.entry.made.stamp = some_equal head.stamp at.entry.made.stamp (sym h.each.0 ∙ ap first_stamp at.here) in
+    let stamp : head.stamp ≡ at.first.made.stamp = some_equal head.stamp at.first.made.stamp (sym h.each.0 ∙ ap first_stamp at.here) in
     let rising = subst AreRising at.here h.apart.0 in
     let newer = subst (λ (s : Stamp). AllByRecursion (λ (other : Head). IsTrue (is_newer other.stamp s)) others) stamp h.order.0 in
-    let before = all_append (IsBefore at.entry) (later_of logs head) (all_entries (rests_of logs others)) rising.0
-    (rests_after logs at.entry others h.each.1 newer h.apart.2) in
+    let before = all_append (IsBefore at.first) (later_of logs head) (all_entries (rests_of logs others)) rising.0
+    (rests_after logs at.first others h.each.1 newer h.apart.2) in
     record {
-      apart = (rising.1, (λ x. by_side at.entry x (ap (λ (l : List Logged). filter (is_of_node x) l) at.here) (h.apart.1 x)), h.apart.2);
+      apart = (rising.1, (λ x. by_side at.first x (ap (λ (l : List Logged). filter (is_of_node x) l) at.here) (h.apart.1 x)), h.apart.2);
       next = λ run merged. subst (λ (l : List Logged). Merges (log_with l ∷ rests_of logs others) (take 1 l ++ run)) (sym at.here)
-          (least_first at.entry (later_of logs head) (rests_of logs others) run before merged);
+          (least_first at.first (later_of logs head) (rests_of logs others) run before merged);
       count = omega (
         arith,
         ap length at.here,
@@ -168,14 +161,6 @@ all_longer [] zero = omega arith
 all_longer [] (suc k) = omega arith
 all_longer (log ∷ logs) zero = omega (arith, length-append log.entries (all_entries logs))
 all_longer (log ∷ logs) (suc k) = omega (arith, all_longer logs k, length-append log.entries (all_entries logs))
-
-some_stamp : (entries : List Logged) (stamp : Stamp) → first_stamp entries ≡ Some stamp → 1 ≤ length entries
-some_stamp [] stamp e = cc
-some_stamp (entry ∷ rest) stamp e = omega arith
-
-pub some_left : (logs : List RunData) (head : Head) (others : List Head) → AreHeads logs (head ∷ others) → 1 ≤ length (all_entries (rests_of logs (head ∷ others)))
-some_left logs head others h =
-    omega (arith, some_stamp (rest_of logs head) head.stamp h.each.0, length-append (rest_of logs head) (all_entries (rests_of logs others)))
 
 pub first_and_others : (heads : List Head) (head : Head) → 0 < length heads → head ≡ slice_index_or heads 0 head → heads ≡ head ∷ drop 1 heads
 first_and_others [] head some e = absurd (omega (arith, some))

@@ -98,9 +98,7 @@ impl Run {
         ensures spare { IfOk result (λ run. moves ≤ run.spare) }
         ensures room { IfOk result (λ run. events ≤ run.room) }
     {
-        if events >= 1 << 32 {
-            return Err(AllocError);
-        }
+        check_events(0, events)?;
         Ok(Run {
             moves: Vec::with_capacity(alloc, moves)?,
             events: Vec::with_capacity(alloc, events)?,
@@ -129,9 +127,7 @@ impl Run {
         ensures room_kept { self.old.room ≤ self.new.room }
         ensures full { 1 ≤ self.old.spare → events ≤ self.old.room → IsOk result }
     {
-        if events >= (1 << 32) - self.events.len() {
-            return Err(AllocError);
-        }
+        check_events(self.events.len(), events)?;
         self.moves.reserve(1)?;
         self.events.reserve(events)?;
         Ok(())
@@ -168,9 +164,7 @@ impl Run {
     {
         let events = other.events(k);
         let start = self.events.len();
-        if events.len() >= (1 << 32) - start {
-            return Err(AllocError);
-        }
+        check_events(start, events.len())?;
         let mark = Mark::new(other.made(k), start as u32);
         self.moves.reserve(1)?;
         self.events.extend_from_slice(events)?;
@@ -199,6 +193,20 @@ impl Run {
         ensures { events_at self.now.entries k ≡ Some result.now }
     {
         events_of(&self.moves, &self.events, k as usize)
+    }
+}
+
+// Refuses so many further events after these, as memory is refused, where that makes 2^32 or more: a mark keeps the
+// place of an event in 32 bits.
+fn check_events(count: usize, more: usize) -> Result<(), AllocError>
+    requires { count < 2 ^ 32 }
+    ensures few { OnOk result (count + more < 2 ^ 32) }
+    ensures full { count + more < 2 ^ 32 → IsOk result }
+{
+    if more < (1 << 32) - count {
+        Ok(())
+    } else {
+        Err(AllocError)
     }
 }
 

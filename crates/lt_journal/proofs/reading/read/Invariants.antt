@@ -5,8 +5,8 @@ use Rattle.lt_journal.proofs.reading.read.Given as goal
 -- the lines read so far, and those of the bytes that are left; each line took a byte at least
 abbrev pub invariant-loop-line : goal.invariant-loop-line
 invariant-loop-line l = record {
-  read : l.journal ++ journal_of l.script l.rest ≡ journal_of l.script l.bytes;
-  few : length l.journal + length l.rest ≤ length l.bytes;
+  read : l.lines.items ++ journal_of l.script l.rest ≡ journal_of l.script l.bytes;
+  few : length l.lines.items + length l.rest ≤ length l.bytes;
 }
 
 abbrev pub decreases-loop-line : goal.decreases-loop-line

@@ -25,7 +25,7 @@ invariant_of-self-2 c =
         c.push_reserved.ensures.len,
         c.in_ok-reserve.ensures.len,
       ),
-      omega (arith, c.in_ok-extend_from_slice.ensures.len, c.len-start.ensures),
+      omega (arith, c.in_ok-extend_from_slice.ensures.len, c.len-start.ensures, c.in_ok-check_events.ensures.few),
       subst (λ (ms : List Mark). IsLaid ms (vec_len c.extend_from_slice.new.self)) (sym marks)
           (laid_add before.moves.items mark (vec_len before.events) _ (c.new-mark.ensures.start ∙ c.len-start.ensures) (omega (arith, c.in_ok-extend_from_slice.ensures.len)) c.self.invariant.2),
     )
