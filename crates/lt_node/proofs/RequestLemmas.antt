@@ -3,6 +3,7 @@ use Rattle.std.proofs.Common.{◌≡◌, ◌≢◌, ◌+◌, ◌<◌, ◌==◌, 
 use Rattle.std.specs.Prelude.{filter_map}
 use Rattle.std.specs.List.{cons_option}
 use Rattle.std.proofs.lemmas.Bool.{cases_eq, cases_Bool, eq-eqb, ne_eqb}
+use Rattle.std.proofs.lemmas.Option.{slice_get-get_or}
 use Rattle.std.proofs.lemmas.List.{take_more, get_or-set_same, get_or-set_other, length-set}
 use Rattle.std.proofs.lemmas.List.Elements.{filter_map-append}
 use Rattle.lt_modes.specs.declared.command.Command.{Command}
@@ -21,10 +22,11 @@ slice_at (x ∷ xs) zero r e = cc
 slice_at (x ∷ xs) (suc k) r e = slice_at xs k r e
 
 -- is that of a client of the script
-pub client_of_request : (script : ScriptData) (k : ℕ) (request : ℕ × Command) → IsScript script → k < length script.commands → slice_get script.commands k ≡ Some request
-    → request.0 < length script.clients
-client_of_request script k request known inside is =
-    subst (λ (r : ℕ × Command). r.0 < length script.clients) (slice_at script.commands k request is) (known.requests k no_request inside).0
+pub client_of_request : (script : ScriptData) (k : ℕ) (requests : List (ℕ × Command)) (d : ℕ × Command) → IsScript script → requests ≡ script.commands → k < length requests
+    → (slice_index_or requests k d).0 < length script.clients
+client_of_request script k requests d known same inside =
+    subst (λ (l : List (ℕ × Command)). (slice_index_or l k d).0 < length script.clients) (sym same)
+    (known.requests k d (omega (arith, inside, ap (λ (l : List (ℕ × Command)). length l) same))).0
 
 -- the commands of a client among one more
 among_more : (script : ScriptData) (k client : ℕ) (request : ℕ × Command) → k < length script.commands → slice_get script.commands k ≡ Some request
@@ -108,6 +110,20 @@ count_kept script q request clients = elim (cases_Bool (home script request.0 ==
   where
     longer : Progress
     longer = with_command (progress_of clients request.0) request.1
+
+-- so the clients have one command more
+pub one_more : (script : ScriptData) (q k : ℕ) (requests : List (ℕ × Command)) (d : ℕ × Command) (clients new : List Progress) → IsScript script → requests ≡ script.commands → k < length requests
+    → length clients ≡ length script.clients → HaveFirst script q k clients → new ≡ with_own_request script q (slice_index_or requests k d) clients
+    → (length new ≡ length script.clients) × HaveFirst script q (k + 1) new
+one_more script q k requests d clients new known same inside count first is =
+    let request = slice_index_or requests k d in
+    let within : k < length script.commands = omega (arith, inside, ap (λ (l : List (ℕ × Command)). length l) same) in
+    let at : slice_get script.commands k ≡ Some request =
+    slice_get-get_or script.commands k d within ∙ ap (λ (l : List (ℕ × Command)). Some (slice_index_or l k d)) (sym same) in
+    let own : request.0 < length clients = omega (arith, client_of_request script k requests d known same inside, count) in (
+      ap (λ (l : List Progress). length l) is ∙ count_kept script q request clients ∙ count,
+      subst (HaveFirst script q (k + 1)) (sym is) (request_added script q k clients request within at own first),
+    )
 
 abbrev no_commands : List Command
 no_commands = []

@@ -113,9 +113,9 @@ fn add_requests(clients: &mut Vec<Client>, script: &Script, node: u8) -> Result<
     ensures count { OnOk result (length clients.new.items ≡ length script.now.clients) }
     ensures each { OnOk result (HaveFirst script.now node (length script.now.commands) clients.new.items) }
 {
-    for place in 0..script.commands() {
-        let (client, command) = script.command(place);
-        add_request(clients, script, node, client, command)?;
+    let requests = script.requests();
+    for place in 0..requests.len() {
+        add_request(clients, script, node, &requests[place])?;
     }
     Ok(())
 }
@@ -125,15 +125,15 @@ fn add_request(
     clients: &mut Vec<Client>,
     script: &Script,
     node: u8,
-    client: u16,
-    command: Command,
+    request: &(u16, Command),
 ) -> Result<(), AllocError>
-    requires client { client < length script.now.clients }
+    requires client { request.now.0 < length script.now.clients }
     requires count { length clients.old.items ≡ length script.now.clients }
-    ensures { OnOk result (clients.new.items ≡ with_own_request script.now node (client, command) clients.old.items) }
+    ensures { OnOk result (clients.new.items ≡ with_own_request script.now node request.now clients.old.items) }
 {
+    let client = request.0;
     if script.home(client) == node {
-        clients[usize::from(client)].add(command)?;
+        clients[usize::from(client)].add(request.1)?;
     }
     Ok(())
 }

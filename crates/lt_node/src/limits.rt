@@ -24,7 +24,7 @@ impl Node {
         requires { set < length self.now.cores }
         ensures { result ≡ set_within self.now.clock (core_at self.now set).state }
     {
-        if self.sent[set] != 0 {
+        if self.sent[set].is_some() {
             return true;
         }
         is_within(&self.cores[set], self.clock)

@@ -34,8 +34,8 @@ pub struct Node {
     pub(crate) cores: Vec<Core>,
     // In which sets each client waits: bit s is set s.
     pub(crate) waiting: Vec<u8>,
-    // How much each set may send in a move for which it has memory, or 0 where that isn't known.
-    pub(crate) sent: Vec<u32>,
+    // How much each set may send in a move for which it has memory, where that is known.
+    pub(crate) sent: Vec<Option<u32>>,
 }
 
 impl Model for Node {

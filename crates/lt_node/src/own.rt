@@ -5,7 +5,7 @@ ghost use Rattle.lt_node.specs.NodeData.{state_of};
 ghost use Rattle.lt_node.specs.Running.{AreOwn, IsLeast, is_runnable};
 
 use crate::node::Node;
-use lt_script::Script;
+use lt_script::{MAX_CLIENTS_OF_NODE, Script};
 use std::alloc::{AllocError, Global};
 
 impl Node {
@@ -35,7 +35,7 @@ fn first_of(node: &Node, own: &[u16]) -> Option<u16>
 pub(crate) fn own_of(alloc: Global, script: &Script, node: u8) -> Result<Vec<u16>, AllocError>
     ensures { IfOk result (λ own. AreOwn script.now.clients node 0 (length script.now.clients) own.items) }
 {
-    let mut own = Vec::new(alloc);
+    let mut own = Vec::with_capacity(alloc, usize::from(MAX_CLIENTS_OF_NODE))?;
     for client in 0..script.clients() {
         add_own(&mut own, script, node, client)?;
     }

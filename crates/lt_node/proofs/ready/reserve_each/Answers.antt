@@ -1,4 +1,4 @@
-use Rattle.std.proofs.Common.{◌≡◌, ◌∙◌, ◌+◌, ◌<◌, ℕ, List, refl, sym, subst, arith, length, map}
+use Rattle.std.proofs.Common.{◌≡◌, ◌∙◌, ◌+◌, ◌<◌, ℕ, List, Some, refl, sym, subst, arith, length, map}
 use Rattle.std.proofs.lemmas.Bool.{false≢true}
 use Rattle.std.proofs.lemmas.Grind.{drop_more_same}
 use Rattle.std.proofs.lemmas.List.{drop-set-lt}
@@ -7,7 +7,7 @@ use Rattle.lt_core.specs.CoreData.{CoreData, HasMemory}
 use Rattle.lt_node.proofs.FamilyLemmas.{still_there}
 use Rattle.lt_node.specs.Room.{kept_of, HasFewAsks}
 use Rattle.lt_node.proofs.KeptLemmas.{kept_set, kept_length, memory_more, few_kept}
-use Rattle.lt_node.proofs.ReadyLemmas.{known_at, known_set, known_failed, sum_more, sum_all}
+use Rattle.lt_node.proofs.ReadyLemmas.{known_at, known_set, known_failed, told, sum_more, sum_all}
 use Rattle.lt_node.proofs.ready.reserve_each.Goals as goal
 
 inside : (len set : ℕ) (xs ys : List CoreData) → len ≡ length ys → map kept_of xs ≡ map kept_of ys → set < len → set < length xs
@@ -51,7 +51,7 @@ loop-set-preserved c =
       rest = drop-set-lt (c.loop-set.set + 1) cores c.loop-set.set new (omega arith)
           ∙ drop_more_same cores c.args.cores.now.items c.loop-set.set c.loop-set.invariant.rest;
       room = memory_more cores c.loop-set.set new within ready.memory c.loop-set.invariant.room;
-      ready = known_set cores c.loop-set.sent.items c.loop-set.set new c.in_ok-most.most within c.loop-set.invariant.ready (λ some. ready);
+      ready = known_set cores c.loop-set.sent.items c.loop-set.set new (Some c.in_ok-most.most) within c.loop-set.invariant.ready (told new c.in_ok-most.most ready);
       left = sum_more cores c.loop-set.set core new c.in_ok-most.most c.loop-set.all _ within c.index_mut.ensures.value kept ready.most c.loop-set.invariant.left;
       few = omega (arith, c.loop-set.invariant.few, ready.few);
     }
