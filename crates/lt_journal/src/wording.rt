@@ -120,7 +120,7 @@ impl<'a> Wording<'a> {
     fn words_of_lock(&self, set: u8, mode: Mode) -> Option<&Padded>
         ensures { IfSome result (λ words. words.now ≡ after_space (set_name self.now set) ++ after_space (word_of mode)) }
     {
-        let place = usize::from(set) * 6 + place_of(mode);
+        let place = usize::from(set) * MODES.len() + place_of(mode);
         if place >= self.locks.len() {
             return None;
         }
