@@ -78,7 +78,7 @@ impl Node {
         ensures state { IfOk result (λ made. state_of made ≡ (start script.now).node node) }
     {
         let homes = homes_of(alloc, script)?;
-        let clients = clients_of(alloc, script, node)?;
+        let clients = clients_of(alloc, script, &homes, node)?;
         let own = own_of(alloc, script, node)?;
         let cores = cores_of(alloc, script, node)?;
         let waiting = no_marks(alloc, script)?;
