@@ -1,4 +1,4 @@
-ghost use Rattle.std.specs.Prelude.{◌≡◌, ◌==◌, ◌<◌, length, not};
+ghost use Rattle.std.specs.Prelude.{◌≡◌, ◌<◌, length};
 ghost use Rattle.lt_limits.specs.Limits.{set_within, node_within, leaves_ask, leaves_asks};
 ghost use Rattle.lt_node.specs.NodeData.{core_at, state_of};
 
