@@ -10,7 +10,8 @@ use Rattle.lt_modes.specs.declared.command.Command.{Command}
 use Rattle.lt_modes.specs.Script.{ScriptData}
 use Rattle.lt_script.specs.Script.{IsScript}
 use Rattle.lt_spec.specs.Families.{command_if, commands_of, home}
-use Rattle.lt_node.specs.Clients.{Progress, HaveFirst, progress_of, no_progress, no_command, with_command, with_own_request, first_commands}
+use Rattle.lt_node.specs.Clients.{Progress, HaveFirst, progress_of, no_progress, no_command, with_command, with_own_request, homes_in, first_commands}
+use Rattle.lt_node.proofs.StartLemmas.{home_is, homes_count}
 
 no_request : ℕ × Command
 no_request = (0, no_command)
@@ -28,6 +29,10 @@ client_of_request script k requests d known same inside =
     subst (λ (l : List (ℕ × Command)). (slice_index_or l k d).0 < length script.clients) (sym same)
     (known.requests k d (omega (arith, inside, ap (λ (l : List (ℕ × Command)). length l) same))).0
 
+pub home_of_request : (script : ScriptData) (homes : List ℕ) (k : ℕ) (requests : List (ℕ × Command)) (d : ℕ × Command) → IsScript script → homes ≡ homes_in script → requests ≡ script.commands → k < length requests
+    → (slice_index_or requests k d).0 < length homes
+home_of_request script homes k requests d known at_homes same inside = omega (arith, client_of_request script k requests d known same inside, homes_count script homes at_homes)
+
 -- the commands of a client among one more
 among_more : (script : ScriptData) (k client : ℕ) (request : ℕ × Command) → k < length script.commands → slice_get script.commands k ≡ Some request
     → filter_map (command_if client) (take (k + 1) script.commands) ≡ filter_map (command_if client) (take k script.commands) ++ filter_map (command_if client) (request ∷ [])
@@ -43,6 +48,11 @@ none_of request client xs other =
 
 one_of : (request : ℕ × Command) (client : ℕ) (xs : List Command) → request.0 ≡ client → xs ++ filter_map (command_if client) (request ∷ []) ≡ xs ++ request.1 ∷ []
 one_of request client xs same = ap (λ (b : Bool). xs ++ cons_option (if b then Some request.1 else None) []) (eq-eqb request.0 client same)
+
+-- the clients with this command where its client is one of node q
+abbrev added : ScriptData → ℕ → ℕ × Command → List Progress → List Progress
+added script q request clients =
+    if home script request.0 == q then slice_set clients request.0 (with_command (progress_of clients request.0) request.1) else clients
 
 -- a client before its first command
 abbrev fresh : List Command → Progress
@@ -96,13 +106,13 @@ module _ (script : ScriptData) (q k : ℕ) (clients : List Progress) (request : 
   ]
 
   pub request_added : k < length script.commands → slice_get script.commands k ≡ Some request → request.0 < length clients → HaveFirst script q k clients
-      → HaveFirst script q (k + 1) (with_own_request script q request clients)
+      → HaveFirst script q (k + 1) (added script q request clients)
   request_added inside is known first = elim (cases_Bool (home script request.0 == q)) [
     | inl mine ↦ subst (HaveFirst script q (k + 1)) (sym (ap (λ (b : Bool). if b then slice_set clients request.0 longer else clients) mine)) (own_added inside is known first mine)
     | inr theirs ↦ subst (HaveFirst script q (k + 1)) (sym (ap (λ (b : Bool). if b then slice_set clients request.0 longer else clients) theirs)) (other_added inside is first theirs)
   ]
 
-pub count_kept : (script : ScriptData) (q : ℕ) (request : ℕ × Command) (clients : List Progress) → length (with_own_request script q request clients) ≡ length clients
+pub count_kept : (script : ScriptData) (q : ℕ) (request : ℕ × Command) (clients : List Progress) → length (added script q request clients) ≡ length clients
 count_kept script q request clients = elim (cases_Bool (home script request.0 == q)) [
   | inl mine ↦ ap (λ (b : Bool). length (if b then slice_set clients request.0 longer else clients)) mine ∙ length-set clients request.0 longer
   | inr theirs ↦ ap (λ (b : Bool). length (if b then slice_set clients request.0 longer else clients)) theirs
@@ -112,17 +122,21 @@ count_kept script q request clients = elim (cases_Bool (home script request.0 ==
     longer = with_command (progress_of clients request.0) request.1
 
 -- so the clients have one command more
-pub one_more : (script : ScriptData) (q k : ℕ) (requests : List (ℕ × Command)) (d : ℕ × Command) (clients new : List Progress) → IsScript script → requests ≡ script.commands → k < length requests
-    → length clients ≡ length script.clients → HaveFirst script q k clients → new ≡ with_own_request script q (slice_index_or requests k d) clients
-    → (length new ≡ length script.clients) × HaveFirst script q (k + 1) new
-one_more script q k requests d clients new known same inside count first is =
+pub one_more : (script : ScriptData) (homes : List ℕ) (q k : ℕ) (requests : List (ℕ × Command)) (d : ℕ × Command) (clients new : List Progress) → IsScript script → homes ≡ homes_in script
+    → requests ≡ script.commands → k < length requests → length clients ≡ length script.clients → HaveFirst script q k clients
+    → new ≡ with_own_request homes q (slice_index_or requests k d) clients → (length new ≡ length script.clients) × HaveFirst script q (k + 1) new
+one_more script homes q k requests d clients new known at_homes same inside count first is =
     let request = slice_index_or requests k d in
     let within : k < length script.commands = omega (arith, inside, ap (λ (l : List (ℕ × Command)). length l) same) in
     let at : slice_get script.commands k ≡ Some request =
     slice_get-get_or script.commands k d within ∙ ap (λ (l : List (ℕ × Command)). Some (slice_index_or l k d)) (sym same) in
-    let own : request.0 < length clients = omega (arith, client_of_request script k requests d known same inside, count) in (
-      ap (λ (l : List Progress). length l) is ∙ count_kept script q request clients ∙ count,
-      subst (HaveFirst script q (k + 1)) (sym is) (request_added script q k clients request within at own first),
+    let of_script : request.0 < length script.clients = client_of_request script k requests d known same inside in
+    let here : slice_index_or homes request.0 0 ≡ home script request.0 =
+    home_is script homes request.0 at_homes (omega (arith, of_script, homes_count script homes at_homes)) in
+    let made : new ≡ added script q request clients =
+    is ∙ ap (λ (h : ℕ). if h == q then slice_set clients request.0 (with_command (progress_of clients request.0) request.1) else clients) here in (
+      ap (λ (l : List Progress). length l) made ∙ count_kept script q request clients ∙ count,
+      subst (HaveFirst script q (k + 1)) (sym made) (request_added script q k clients request within at (omega (arith, of_script, count)) first),
     )
 
 abbrev no_commands : List Command

@@ -12,9 +12,9 @@ use Rattle.lt_spec.specs.Families.{commands_of, home}
 use Rattle.lt_spec.specs.World.{start}
 use Rattle.lt_core.specs.CoreData.{CoreData}
 use Rattle.lt_node.specs.NodeData.{IsNode, IsCoreOf, state_of, first_core}
-use Rattle.lt_node.specs.Clients.{Progress, KnowsClients, no_progress, progress_made}
+use Rattle.lt_node.specs.Clients.{Progress, KnowsClients, homes_in, no_progress, progress_made}
 
-no_client : ClientData
+abbrev no_client : ClientData
 no_client = record { name = []; node = 0 }
 
 pub home_more : (clients : List ClientData) (k home : ℕ) (homes : List ℕ) → k < length clients → home ≡ home_at clients k → homes ≡ map (λ (client : ClientData). client.node) (take k clients)
@@ -24,6 +24,17 @@ home_more clients k home homes inside is so =
     let here : home ≡ node (slice_index_or clients k no_client) = is ∙ ap node_of_client (slice_get-get_or clients k no_client inside) in
     ap (λ (l : List ℕ). l ++ home ∷ []) so ∙ ap (λ (x : ℕ). map node (take k clients) ++ x ∷ []) here
     ∙ sym (map-append node (take k clients) (slice_index_or clients k no_client ∷ [])) ∙ ap (map node) (sym (take_more clients k no_client inside))
+
+-- what is read of the nodes of the clients
+pub home_is : (script : ScriptData) (homes : List ℕ) (client : ℕ) → homes ≡ homes_in script → client < length homes → slice_index_or homes client 0 ≡ home script client
+home_is script homes client same inside =
+    let node : ClientData → ℕ = λ client. client.node in
+    let within : client < length script.clients = omega (arith, inside, ap (λ (l : List ℕ). length l) same, length-map script.clients node) in
+    ap (λ (l : List ℕ). slice_index_or l client 0) same ∙ map_read node script.clients client no_client
+    ∙ sym (ap node_of_client (slice_get-get_or script.clients client no_client within))
+
+pub homes_count : (script : ScriptData) (homes : List ℕ) → homes ≡ homes_in script → length homes ≡ length script.clients
+homes_count script homes same = ap (λ (l : List ℕ). length l) same ∙ length-map script.clients (λ (client : ClientData). client.node)
 
 -- what is read of a list with one item more
 pushed_at : {X : Type 0} (P : X → Type 0) (xs : List X) (y : X) (s : ℕ) (d : X) → (s < length xs → P (slice_index_or xs s d)) → (s ≡ length xs → P y) → (length xs < s → P d) → P (slice_index_or (xs ++ y ∷ []) s d)

@@ -35,10 +35,14 @@ one_command_more progress = record progress { made = progress.made + 1 }
 abbrev pub with_command : Progress → Command → Progress
 with_command progress command = record progress { commands = progress.commands ++ command ∷ [] }
 
--- the clients as node q keeps them, with this command of one of them more
-abbrev pub with_own_request : ScriptData → ℕ → ℕ × Command → List Progress → List Progress
-with_own_request script q request clients =
-    if home script request.0 == q then slice_set clients request.0 (with_command (progress_of clients request.0) request.1) else clients
+-- the node of each client
+abbrev pub homes_in : ScriptData → List ℕ
+homes_in script = map (λ (client : ClientData). client.node) script.clients
+
+-- the clients as node q keeps them, with this command of one of them more, where the clients are at these nodes
+abbrev pub with_own_request : List ℕ → ℕ → ℕ × Command → List Progress → List Progress
+with_own_request homes q request clients =
+    if slice_index_or homes request.0 0 == q then slice_set clients request.0 (with_command (progress_of clients request.0) request.1) else clients
 
 -- the client's commands among the first ones of all, where the client is one of node q
 abbrev pub first_commands : ScriptData → ℕ → ℕ → ℕ → List Command
@@ -51,5 +55,5 @@ HaveFirst script q k clients =
 
 -- the node knows the node of each client, and the commands of its own ones
 pub record KnowsClients (script : ScriptData) (q : ℕ) (homes : List ℕ) (clients : List Progress) : Type 0 where
-  pub homes_are : homes ≡ map (λ (client : ClientData). client.node) script.clients
+  pub homes_are : homes ≡ homes_in script
   pub own : (client : ℕ) → client < length clients → home script client ≡ q → (progress_of clients client).commands ≡ commands_of script client

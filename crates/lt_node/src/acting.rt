@@ -1,17 +1,13 @@
-ghost use Rattle.std.specs.Prelude.{◌≡◌, ◌≢◌, ◌+◌, ◌≤◌, ◌<◌, ◌&&◌, ◌^◌, ℕ, not, All, length, slice_index_or, Some, IsTrue};
-ghost use Rattle.lt_modes.specs.State.{SetState};
-ghost use Rattle.lt_desk.specs.OutData.{OutData};
-ghost use Rattle.lt_core.specs.Bound.{RoomToSend};
-ghost use Rattle.lt_core.specs.CoreData.{CoreData, HasRoom};
+ghost use Rattle.std.specs.Prelude.{◌≡◌, ◌+◌, ◌<◌, ◌&&◌, ◌^◌, not, length, Some, IsTrue};
 ghost use Rattle.lt_core.specs.SetCommands.{answer_of, move_of};
 ghost use Rattle.lt_limits.specs.Limits.{node_within, leaves_asks};
 ghost use Rattle.lt_script.specs.Script.{HasTargets};
 ghost use Rattle.lt_spec.specs.Families.{home};
-ghost use Rattle.lt_spec.specs.NodeMove.{node_waits, has_command, next_command, node_act, act_stamp, one_made, at_clock, obey, touched, drop_all};
+ghost use Rattle.lt_spec.specs.NodeMove.{node_waits, has_command, next_command, node_act, one_made, at_clock, obey, touched};
 ghost use Rattle.lt_modes.specs.declared.command.Command.TheVariants as commands;
-ghost use Rattle.lt_node.specs.NodeData.{NodeDoes, IsNode, state_of, core_at};
+ghost use Rattle.lt_node.specs.NodeData.{NodeDoes, IsNode, state_of};
 ghost use Rattle.lt_node.specs.Answers.{answer_of_act, answer_to};
-ghost use Rattle.lt_node.specs.Room.{RoomToAct, IsReady, most_sent};
+ghost use Rattle.lt_node.specs.Room.{RoomToAct, IsReady};
 
 use crate::family;
 use crate::marks::mark;

@@ -1,8 +1,7 @@
-ghost use Rattle.std.specs.Prelude.{◌≡◌, ◌<◌, ◌+◌, ◌==◌, ◌^◌, [], ℕ, length, map, nat_lt, IfOk, OnOk, slice_index_or, if◌then◌else◌};
-ghost use Rattle.lt_modes.specs.Script.{ClientData};
+ghost use Rattle.std.specs.Prelude.{◌≡◌, ◌<◌, ◌+◌, ◌==◌, ◌^◌, [], ℕ, length, nat_lt, IfOk, OnOk, slice_index_or, if◌then◌else◌};
 ghost use Rattle.lt_script.specs.Script.{IsScript};
 ghost use Rattle.lt_spec.specs.Families.{commands_of, home};
-ghost use Rattle.lt_node.specs.Clients.{HaveFirst, with_own_request, progress_of, no_progress};
+ghost use Rattle.lt_node.specs.Clients.{HaveFirst, homes_in, with_own_request, progress_of, no_progress};
 ghost use Rattle.lt_node.specs.Clients.{next_of, one_command_more, with_command};
 
 use lt_modes::Command;
@@ -76,15 +75,17 @@ impl Client {
 pub(crate) fn clients_of(
     alloc: Global,
     script: &Script,
+    homes: &[u8],
     node: u8,
 ) -> Result<Vec<Client>, AllocError>
-    requires { IsScript script.now }
+    requires script { IsScript script.now }
+    requires homes { homes.now ≡ homes_in script.now }
     ensures count { IfOk result (λ clients. length clients.items ≡ length script.now.clients) }
     ensures each { IfOk result (λ clients. (c : ℕ) → c < length clients.items → slice_index_or clients.items c no_progress
         ≡ record { commands = if home script.now c == node then commands_of script.now c else []; made = 0 }) }
 {
     let mut clients = idle_clients(alloc, script, node)?;
-    add_requests(&mut clients, script, node)?;
+    add_requests(&mut clients, script, homes, node)?;
     Ok(clients)
 }
 
@@ -106,8 +107,14 @@ fn idle_clients(alloc: Global, script: &Script, node: u8) -> Result<Vec<Client>,
 
 // The clients of the node get their commands, in order.
 #[tactic(auto, using(crate::proofs::RequestLemmas::none_yet))]
-fn add_requests(clients: &mut Vec<Client>, script: &Script, node: u8) -> Result<(), AllocError>
+fn add_requests(
+    clients: &mut Vec<Client>,
+    script: &Script,
+    homes: &[u8],
+    node: u8,
+) -> Result<(), AllocError>
     requires script { IsScript script.now }
+    requires homes { homes.now ≡ homes_in script.now }
     requires count { length clients.old.items ≡ length script.now.clients }
     requires idle { (c : ℕ) → progress_of clients.old.items c ≡ no_progress }
     ensures count { OnOk result (length clients.new.items ≡ length script.now.clients) }
@@ -115,7 +122,7 @@ fn add_requests(clients: &mut Vec<Client>, script: &Script, node: u8) -> Result<
 {
     let requests = script.requests();
     for place in 0..requests.len() {
-        add_request(clients, script, node, &requests[place])?;
+        add_request(clients, homes, node, &requests[place])?;
     }
     Ok(())
 }
@@ -123,17 +130,17 @@ fn add_requests(clients: &mut Vec<Client>, script: &Script, node: u8) -> Result<
 // The command goes to its client, where that is one of the node's.
 fn add_request(
     clients: &mut Vec<Client>,
-    script: &Script,
+    homes: &[u8],
     node: u8,
     request: &(u16, Command),
 ) -> Result<(), AllocError>
-    requires client { request.now.0 < length script.now.clients }
-    requires count { length clients.old.items ≡ length script.now.clients }
-    ensures { OnOk result (clients.new.items ≡ with_own_request script.now node request.now clients.old.items) }
+    requires client { request.now.0 < length homes.now }
+    requires count { length clients.old.items ≡ length homes.now }
+    ensures { OnOk result (clients.new.items ≡ with_own_request homes.now node request.now clients.old.items) }
 {
-    let client = request.0;
-    if script.home(client) == node {
-        clients[usize::from(client)].add(request.1)?;
+    let client = usize::from(request.0);
+    if homes[client] == node {
+        clients[client].add(request.1)?;
     }
     Ok(())
 }
@@ -141,7 +148,7 @@ fn add_request(
 /// The node of each client.
 pub(crate) fn homes_of(alloc: Global, script: &Script) -> Result<Vec<u8>, AllocError>
     ensures script { IsScript script.now }
-    ensures homes { IfOk result (λ homes. homes.items ≡ map (λ (client : ClientData). client.node) script.now.clients) }
+    ensures homes { IfOk result (λ homes. homes.items ≡ homes_in script.now) }
 {
     let mut homes = Vec::with_capacity(alloc, usize::from(script.clients()))?;
     for client in 0..script.clients() {

@@ -1,5 +1,4 @@
-ghost use Rattle.std.specs.Prelude.{◌≡◌, ◌+◌, ◌≤◌, ◌<◌, ◌^◌, ℕ, All, length, slice_index_or, sum_by};
-ghost use Rattle.lt_desk.specs.OutData.{OutData};
+ghost use Rattle.std.specs.Prelude.{◌≡◌, ◌+◌, ◌≤◌, ◌<◌, ℕ, All, length, slice_index_or, sum_by};
 ghost use Rattle.lt_core.specs.Bound.{RoomToSend};
 ghost use Rattle.lt_core.specs.CoreData.{Does, HasRoom};
 ghost use Rattle.lt_spec.specs.Families.{related};

@@ -1,4 +1,4 @@
-ghost use Rattle.std.specs.Prelude.{◌≡◌, ◌==◌, ◌<◌, length, not};
+ghost use Rattle.std.specs.Prelude.{◌≡◌, ◌<◌, length};
 ghost use Rattle.lt_limits.specs.Limits.{set_within, node_within, leaves_ask, leaves_asks};
 ghost use Rattle.lt_node.specs.NodeData.{core_at, state_of};
 
@@ -19,7 +19,7 @@ impl Node {
         true
     }
 
-    // Whether what the node keeps for the set leaves room for a move. Where there is known to be memory for one, it does.
+    // The same for one set. It leaves room where it is known to have memory for a move.
     fn is_set_within(&self, set: usize) -> bool
         requires { set < length self.now.cores }
         ensures { result ≡ set_within self.now.clock (core_at self.now set).state }

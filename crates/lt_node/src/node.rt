@@ -5,7 +5,6 @@ ghost use Rattle.lt_core.specs.Tests.{rule_numbers as numbers_seen};
 ghost use Rattle.lt_spec.specs.Families.{home};
 ghost use Rattle.lt_spec.specs.NodeMove.{node_waits, has_command, act_stamp, take_stamp};
 ghost use Rattle.lt_spec.specs.World.{start};
-ghost use Rattle.lt_script.specs.Script.{IsScript};
 ghost use Rattle.lt_node.specs.NodeData.{IsNode, IsCoreOf, state_of, first_core};
 
 use crate::client::{Client, clients_of, homes_of};
@@ -78,7 +77,7 @@ impl Node {
         ensures state { IfOk result (λ made. state_of made ≡ (start script.now).node node) }
     {
         let homes = homes_of(alloc, script)?;
-        let clients = clients_of(alloc, script, node)?;
+        let clients = clients_of(alloc, script, &homes, node)?;
         let own = own_of(alloc, script, node)?;
         let cores = cores_of(alloc, script, node)?;
         let waiting = no_marks(alloc, script)?;

@@ -1,6 +1,5 @@
 // The clients of a node, and the first of them that can act.
 ghost use Rattle.std.specs.Prelude.{◌<◌, ◌+◌, length, IfOk, OnOk};
-ghost use Rattle.lt_script.specs.Script.{IsScript};
 ghost use Rattle.lt_node.specs.NodeData.{state_of};
 ghost use Rattle.lt_node.specs.Running.{AreOwn, IsLeast, is_runnable};
 
