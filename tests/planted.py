@@ -11,7 +11,7 @@ from pathlib import Path
 
 TOP = Path(__file__).resolve().parent.parent
 FUNCTION = re.compile(r'( *)(?:pub(?:\([a-z]+\))? )?(?:const )?fn ([a-z_0-9]+)')
-IMPL = re.compile(r'impl\b(?:<[^>]*>)? (?:([A-Za-z<>]+) for )?([A-Za-z]+)')
+IMPL = re.compile(r'impl\b(?:<[^>]*>)? (?:(?:[a-z_]+::)*([A-Za-z<>]+) for )?([A-Za-z]+)')
 TOLD = re.compile(r'^fn (\S+): (proved|not proved|no proof: .*)', re.MULTILINE)
 
 
