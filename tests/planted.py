@@ -20,7 +20,7 @@ def bugs_of(text):
     bugs = []
     for line in text.splitlines():
         word, _, rest = line.partition(' ')
-        rest = rest.strip()
+        rest = rest.rstrip()
         if word == 'bug':
             bugs.append((rest, [], []))
         elif word == 'file:':
