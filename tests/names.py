@@ -9,7 +9,9 @@ from functools import cache
 from pathlib import Path
 
 TOP = Path(__file__).resolve().parent.parent
-PAGES = [TOP / 'README.md'] + sorted((TOP / 'docs').glob('*.md'))
+# Those that `tools/pages` makes from the sources are left out.
+MADE = ('BELIEVE', 'LAWS', 'CALLS', 'CRATES')
+PAGES = [TOP / 'README.md', *(path for path in sorted((TOP / 'docs').glob('*.md')) if path.stem not in MADE)]
 SOURCES = [path for part in ('src', 'specs', 'proofs') for path in sorted((TOP / 'crates').glob(f'*/{part}/**/*'))
            if path.suffix in ('.rt', '.antt')]
 
@@ -111,7 +113,7 @@ def definitions():
             if match:
                 texts[match[1]] = texts.get(match[1], '') + block
                 if re.match(r'(?:pub )?record ', block):
-                    fields[match[1]] = set(re.findall(r'^\s+pub (\w+) :', block, re.M))
+                    fields.setdefault(match[1], set()).update(re.findall(r'^\s+pub (\w+) :', block, re.M))
     return texts, fields
 
 
