@@ -38,6 +38,11 @@ class Definition:
         return '/'.join(self.module.split('.')[2:])
 
     @property
+    def is_public(self):
+        """Whether other files may name it."""
+        return 'pub ' in self.text.partition('\n')[0].partition(':')[0]
+
+    @property
     def lines(self):
         """How many lines it has, without its comment."""
         return self.text.count('\n') + 1
