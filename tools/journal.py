@@ -6,7 +6,9 @@ from dataclasses import dataclass, field
 from pathlib import Path
 from typing import NamedTuple, Optional
 
-MOST_NODES = {1: 16, 2: 64}   # by version
+MOST_NODES = {1: 16, 2: 64}       # by version
+MOST_CLIENTS = {1: 64, 2: 256}    # by version
+MOST_OF_NODE, MOST_SETS, MOST_COMMANDS, MOST_IN_LINE = 16, 8, 4096, 200
 SECOND = 'version 2'
 SIXTH = 'read_intention_write'
 MODES = ['intention_read', 'read', 'upgrade', 'intention_write', SIXTH, 'write']
@@ -29,6 +31,10 @@ EVENTS = {
 }
 CLOSING = {'held': 'csmn', 'waiting': 'csm', 'owner': 'spn', 'end': 'n', 'cut': 'p'}
 
+# The forms of the lines of a script, after the first word of a declaration, or after the client and the word of a command.
+COMMANDS = {'lock': 'sm', 'try': 'sm', 'unlock': 'sm', 'change': 'smm', 'drop': 'cs'}
+NO_NAMES = ('nodes', 'set', 'client', 'journal', 'version')
+
 
 class Fault(Exception):
     """What is wrong with a script, or why a journal doesn't fit it."""
@@ -45,6 +51,10 @@ class Script:
     def has_mode(self, word):
         """Whether a word is a mode word of the script's version."""
         return word in MODES and (self.version == 2 or word != SIXTH)
+
+    def count(self):
+        """How many commands there are."""
+        return sum(map(len, self.commands.values()))
 
     def family_of(self, name):
         """The sets of the family of a set, in order."""
@@ -86,7 +96,8 @@ class Ask(NamedTuple):
     node: int
     mode: str
     stamp: tuple
-    is_holder: bool = False   # whether the client held some lock of the set
+    is_holder: bool = False           # whether the client held some lock of the set
+    gives_up: Optional[str] = None    # the mode that a change gives up
 
 
 @dataclass
@@ -100,6 +111,8 @@ class Letter:
     ask: Optional[Ask] = None
     by_hoped: bool = False
     taken: Optional[Move] = None
+    tell: object = None       # of a tell, what it tells
+    frozen: tuple = ()        # of a freeze, its number and modes
 
 
 @dataclass
@@ -109,6 +122,8 @@ class Journal:
     moves: list
     closing: list
     letters: list = field(default_factory=list)
+    lines: int = 0                        # how many lines the text has, or those before one that can't stand there
+    bad: Optional[Exception] = None       # that line
 
     @property
     def is_cut(self):
@@ -124,49 +139,142 @@ def in_order(modes):
 # ---------------------------------------------------------------- reading
 
 def read_script(data):
-    """The script of a text. Only what the tools need is checked."""
+    """The script of a text. Its first fault is the one that the program finds (docs/FORMATS.md, Faults)."""
     script = Script()
-    for number, line in enumerate(lines_of(data), 1):
-        words = line.split()
+    lines = lines_of(data)
+    is_first = True
+    for number, line in enumerate(lines, 1):
+        words = words_of(line)
         if not words or words[0].startswith('#'):
             continue
-        try:
-            read_script_line(script, words)
-        except (KeyError, IndexError, ValueError):
-            raise Fault(f'the script has a fault in line {number}') from None
+        if is_first and words == SECOND.split() and len(line) <= MOST_IN_LINE:
+            script.version = 2
+        elif fault := line_fault(script, line, words):
+            raise Fault(f'the script has a fault in line {number}: S{fault}')
+        else:
+            take_line(script, words)
+        is_first = False
     if script.nodes == 0:
-        raise Fault('the script has no line `nodes`')
+        raise Fault(f'the script has a fault in line {len(lines) + 1}: S5')
     return script
 
 
-def read_script_line(script, words):
-    """Takes the words of one line into the script."""
-    if words == SECOND.split() and script == Script():
-        script.version = 2
-    elif words[0] == 'nodes' and len(words) == 2:
-        script.nodes = within(words[1], 1, MOST_NODES[script.version])
-    elif words[0] == 'set' and (len(words) == 2 or words[2] == 'with'):
+def words_of(line):
+    """The words of a line of a script."""
+    return [word for word in re.split('[ \t]', line) if word]
+
+
+def line_fault(script, line, words):
+    """The number of the first fault of a line, or 0."""
+    if re.search('[^\t -~]', line):
+        return 1
+    if len(line) > MOST_IN_LINE:
+        return 2
+    form = form_of(words)
+    if form is None:
+        return 3
+    return next((fault for fault, test in enumerate(TESTS, 4) if test(script, form, words)), 0)
+
+
+def form_of(words):
+    """Which form a line has: its first word, or of a command the second; or None."""
+    first = words[0]
+    if first == 'version':
+        return first if words[1:] == ['2'] else None
+    if first == 'nodes':
+        return first if len(words) == 2 else None
+    if first == 'set':
+        return first if len(words) == 2 or len(words) == 4 and words[2] == 'with' else None
+    if first == 'client':
+        return first if len(words) == 4 and words[2] == 'at' else None
+    verb = words[1] if words[1:] else ''
+    return verb if verb in COMMANDS and len(words) == 2 + len(COMMANDS[verb]) else None
+
+
+def has_bad_number(script, form, words):
+    """S4: a number word that is none, or names a node that isn't there."""
+    if form == 'nodes':
+        return not is_short_number(words[1]) or int(words[1]) == 0
+    if form == 'client':
+        return not is_short_number(words[3]) or 0 < script.nodes <= int(words[3])
+    return False
+
+
+def is_misplaced(script, form, words):
+    """S5: the line `nodes` isn't the first one, or another line is."""
+    return (form == 'nodes') == (script.nodes > 0) or form == 'version'
+
+
+def declares_no_name(script, form, words):
+    """S6: a word is declared that is no name."""
+    return form in ('set', 'client') and not is_name(words[1])
+
+
+def declares_again(script, form, words):
+    """S7: a name is declared that was declared before."""
+    return form in ('set', 'client') and (words[1] in script.family or words[1] in script.node_of)
+
+
+def uses_unknown(script, form, words):
+    """S8: a set or a client is used that wasn't declared before."""
+    if form == 'set':
+        return len(words) == 4 and words[3] not in script.family
+    if form not in COMMANDS:
+        return False
+    known = {'c': script.node_of, 's': script.family}
+    named = zip(words[2:], COMMANDS[form])
+    return words[0] not in script.node_of or any(word not in known[kind] for word, kind in named if kind in known)
+
+
+def exceeds_limit(script, form, words):
+    """S9: one node, set, client or command too many."""
+    if form == 'nodes':
+        return int(words[1]) > MOST_NODES[script.version]
+    if form == 'set':
+        return len(script.family) >= MOST_SETS
+    if form == 'client':
+        nodes = list(script.node_of.values())
+        return len(nodes) >= MOST_CLIENTS[script.version] or nodes.count(int(words[3])) >= MOST_OF_NODE
+    return form in COMMANDS and script.count() >= MOST_COMMANDS
+
+
+def uses_no_mode(script, form, words):
+    """S10: a word in a mode's place is no mode word of the script's version."""
+    named = zip(words[2:], COMMANDS.get(form, ''))
+    return any(not script.has_mode(word) for word, kind in named if kind == 'm')
+
+
+def drops_elsewhere(script, form, words):
+    """S11: a `drop` of a client of another node."""
+    return form == 'drop' and script.node_of[words[2]] != script.node_of[words[0]]
+
+
+# The tests of a line that has a form, in the order of the faults' numbers.
+TESTS = (has_bad_number, is_misplaced, declares_no_name, declares_again, uses_unknown, exceeds_limit, uses_no_mode,
+         drops_elsewhere)
+
+
+def is_short_number(word):
+    """Whether a word has 1 to 9 digits."""
+    return re.fullmatch('[0-9]{1,9}', word) is not None
+
+
+def is_name(word):
+    """Whether a word is a name."""
+    return re.fullmatch('[A-Za-z][A-Za-z0-9_.-]{0,31}', word) is not None and word not in NO_NAMES
+
+
+def take_line(script, words):
+    """Takes the words of a line without fault into the script."""
+    if words[0] == 'nodes':
+        script.nodes = int(words[1])
+    elif words[0] == 'set':
         script.family[words[1]] = script.family[words[3]] if words[2:] else words[1]
-    elif words[0] == 'client' and words[2] == 'at':
-        script.node_of[words[1]] = within(words[3], 0, script.nodes - 1)
+    elif words[0] == 'client':
+        script.node_of[words[1]] = int(words[3])
         script.commands[words[1]] = []
     else:
-        script.commands[words[0]].append(read_command(script, words))
-
-
-def within(word, least, most):
-    """The number of a word, from the least to the most."""
-    if not least <= int(word) <= most:
-        raise ValueError
-    return int(word)
-
-
-def read_command(script, words):
-    """The words after the client, if they have one of the five forms."""
-    form = {'lock': 'sm', 'try': 'sm', 'unlock': 'sm', 'change': 'smm', 'drop': 'cs'}[words[1]]
-    if not has_form(script, words[2:], form):
-        raise ValueError
-    return words[1:]
+        script.commands[words[0]].append(words[1:])
 
 
 def has_form(script, words, form):
@@ -186,35 +294,42 @@ def has_form(script, words, form):
 
 
 def lines_of(data):
-    """The lines of a text, without their line ends; nothing after the last one."""
+    """The lines of a text, without their line ends, to which a carriage return belongs; nothing after the last one."""
     lines = data.split('\n')
-    return lines[:-1] if lines[-1] == '' else lines
+    return [line.removesuffix('\r') for line in (lines[:-1] if lines[-1] == '' else lines)]
 
 
 def is_number(word):
-    """Whether a word is a number without leading zeros."""
-    return re.fullmatch('0|[1-9][0-9]{0,9}', word) is not None
+    """Whether a word is a number below 2^32 without leading zeros."""
+    return re.fullmatch('0|[1-9][0-9]{0,9}', word) is not None and int(word) < 2 ** 32
 
 
 def read_journal(name, script, data):
-    """The moves and the closing lines of a text."""
+    """The moves and the closing lines of a text, up to the first line that has no form that can stand there."""
     journal = Journal(name, script, [], [])
     first = [SECOND] if script.version == 2 else []
     lines = lines_of(data)
     if lines[:len(first)] != first:
         raise unfit(1, f'the first line is `{SECOND}`, as in the script')
-    for number, line in list(enumerate(lines, 1))[len(first):]:
-        words = line.split(' ')
-        if words[0] == 'move' and not journal.closing:
-            journal.moves.append(read_move(script, words, number, len(journal.moves) + 1))
-            continue
-        event = Event(number, words[0], words[1:])
-        is_event = words[0] in EVENTS and bool(journal.moves) and not journal.closing
-        form = EVENTS.get(words[0]) if is_event else CLOSING.get(words[0])
-        if form is None or not has_form(script, words[1:], form):
-            raise unfit(number, 'no line that can stand there')
-        (journal.moves[-1].events if is_event else journal.closing).append(event)
+    try:
+        for number, line in list(enumerate(lines, 1))[len(first):]:
+            read_line(journal, number, line.split(' '))
+    except Fault as fault:
+        journal.bad = fault
+    journal.lines = len(lines)
     return journal
+
+
+def read_line(journal, number, words):
+    """Takes a line into the journal."""
+    if words[0] == 'move' and not journal.closing:
+        journal.moves.append(read_move(journal.script, words, number, len(journal.moves) + 1))
+        return
+    is_event = words[0] in EVENTS and bool(journal.moves) and not journal.closing
+    form = EVENTS.get(words[0]) if is_event else CLOSING.get(words[0])
+    if form is None or not has_form(journal.script, words[1:], form):
+        raise unfit(number, 'no line that can stand there')
+    (journal.moves[-1].events if is_event else journal.closing).append(Event(number, words[0], words[1:]))
 
 
 def read_move(script, words, line, number):

@@ -1,15 +1,16 @@
-"""Follows the letters of a run.
+"""Follows a run by the rules of docs/RULES.md, and its letters.
 
-A journal has a line for each Copy, Freeze and Token that is sent. Asks and tells have
-none: they are sent here by the rules of docs/RULES.md (routing, and the end of a move),
-which read nothing but what the journal shows. Which asks the desk serves is taken from
-the journal and isn't judged; `lockrun check` does that.
+A journal has a line for each Copy, Freeze and Token that is sent, and none for asks and tells. The rules say from the
+moves alone what each of them makes: its lines, which have to be those of the journal, and its letters.
 """
 from collections import Counter, defaultdict, deque
 from dataclasses import dataclass, field
-from typing import Optional
+from functools import lru_cache
+from typing import NamedTuple, Optional
 
-from journal import CONFLICTS, MODES, SHOWN, Ask, Fault, Letter, in_order, unfit
+from journal import CONFLICTS, MODES, SIXTH, Ask, Fault, Letter, in_order, unfit
+
+BIT = {mode: 1 << k for k, mode in enumerate(MODES)}
 
 
 def follow(journal):
@@ -18,18 +19,19 @@ def follow(journal):
     for move in journal.moves:
         follower.make(move)
     journal.letters = follower.letters
-    if journal.is_cut:
-        return follower
-    if any(letter.taken is None for letter in journal.letters):
-        raise Fault("the journal doesn't fit the script: a letter is never taken, and the run wasn't cut")
-    if [line.text for line in journal.closing] != follower.closing_lines(len(journal.moves)):
-        raise Fault("the journal doesn't fit the script: its closing lines are not those of its moves")
+    follower.end(journal)
     return follower
 
 
+@lru_cache(maxsize=None)
 def bars(modes):
-    """The modes that conflict with one of these."""
-    return set().union(*(CONFLICTS[mode] for mode in modes))
+    """The modes that conflict with one of these, as bits."""
+    return sum(BIT[mode] for mode in MODES if any(BIT[other] & modes for other in CONFLICTS[mode]))
+
+
+def covers(modes, mode):
+    """Whether these modes bar all that the mode bars."""
+    return not bars(BIT[mode]) & ~bars(modes)
 
 
 def is_taking(mode):
@@ -37,106 +39,159 @@ def is_taking(mode):
     return mode in CONFLICTS[mode]
 
 
+def union(modes):
+    """The bits of these modes, each by its word."""
+    found = 0
+    for mode in modes:
+        found |= BIT[mode]
+    return found
+
+
+class Tell(NamedTuple):
+    """What a node tells the desk: what it holds, and its unanswered asks."""
+    node: int
+    modes: int
+    pending: list
+    stamp: tuple
+
+
+@dataclass
+class Entry:
+    """What the desk knows of a node."""
+    reported: int = 0
+    owed: list = field(default_factory=list)      # the asks that were sent copies
+    told_at: tuple = (0, 0)
+    frozen: int = 0                               # what it was told is frozen
+
+    @property
+    def record(self):
+        """The modes that it may hold."""
+        return self.reported | union(ask.mode for ask in self.owed)
+
+
+@dataclass
+class Desk:
+    """What goes with the token of a set."""
+    entries: list
+    epoch: int = 0
+    number: int = 0
+    queue: list = field(default_factory=list)
+
+    def enter(self, ask):
+        """Puts an ask into the queue: a holder's after the last holder's, any other at the end."""
+        self.queue.insert(self.place(ask.is_holder), ask)
+
+    def place(self, is_holder):
+        """Where an ask would stand."""
+        if not is_holder:
+            return len(self.queue)
+        return max((place for place, other in enumerate(self.queue, 1) if other.is_holder), default=0)
+
+    def hear(self, tell):
+        """A tell is applied, if it is newer than the last one."""
+        entry = self.entries[tell.node]
+        if tell.stamp > entry.told_at:
+            entry.reported, entry.told_at = tell.modes, tell.stamp
+            entry.owed = [ask for ask in entry.owed if ask.stamp in tell.pending or ask.stamp > tell.stamp]
+
+
 @dataclass
 class Core:
-    """What a node keeps for a set, as far as the journal shows it."""
+    """What a node keeps for a set."""
     has_desk: bool
     held: Counter = field(default_factory=Counter)   # of (client, mode)
-    charge: set = field(default_factory=set)
+    charge: int = 0
+    frozen: int = 0
+    number: int = 0
     firm: tuple = (0, 0)
     hoped: Optional[tuple] = None
     pending: dict = field(default_factory=dict)      # the ask of a client
-    parked: list = field(default_factory=list)       # asks that wait here for the token, or behind an older one
+    items: list = field(default_factory=list)        # asks and tells that wait here for the token, or behind an older ask
+
+    @property
+    def parked(self):
+        """The asks that wait here."""
+        return [item for item in self.items if isinstance(item, Ask)]
+
+    def own(self, client):
+        """The modes that a client holds."""
+        return union(mode for other, mode in self.held if other == client)
+
+    def others(self, client):
+        """The modes that other clients of the node hold."""
+        return union(mode for other, mode in self.held if other != client)
 
     def modes(self):
         """The modes that are held."""
-        return {mode for (_, mode), count in self.held.items() if count}
+        return union(mode for _, mode in self.held)
+
+    def still_owed(self, entry):
+        """The owed asks of an entry that are unanswered here."""
+        stamps = {ask.stamp for ask in self.pending.values()}
+        return [ask for ask in entry.owed if ask.stamp in stamps]
+
+    def add(self, client, mode):
+        """One lock more."""
+        self.held[client, mode] += 1
+
+    def give_up(self, client, mode):
+        """One lock less."""
+        self.held[client, mode] -= 1
+        if not self.held[client, mode]:
+            del self.held[client, mode]
+
+    def answer(self, ask):
+        """The client gets what it asked for."""
+        if ask.gives_up:
+            self.give_up(ask.client, ask.gives_up)
+        self.add(ask.client, ask.mode)
+        del self.pending[ask.client]
 
 
 class Follower:
-    """Makes the moves of a journal, sends its letters and matches them with their taking."""
+    """Makes the moves of a journal by the rules, and keeps what they send."""
 
     def __init__(self, script):
         self.script = script
         self.clocks = [0] * script.nodes
         self.cores = {(node, name): Core(node == 0) for node in range(script.nodes) for name in script.family}
+        self.desks = {name: Desk([Entry() for _ in range(script.nodes)]) for name in script.family}
         self.made = Counter()
         self.on_way = defaultdict(deque)
         self.letters = []
         self.owner = {name: '0 0' for name in script.family}
-        self.queue = {name: [] for name in script.family}   # the asks at the desk, in the order of their coming
+        self.said = []                 # the lines of the move that is made
+        self.waits_in = Counter()      # in how many sets a client waits
 
     def make(self, move):
         """One move with all its lines."""
-        lines = deque(move.events)
-        touched = self.act(move, lines) if move.client else self.take(move, lines)
-        for name in touched:
-            core = self.cores[move.node, name]
-            while lines and lines[0].set == name and lines[0].kind in ('grant', 'change') + SHOWN:
-                self.serve(move, core, lines.popleft())
-            if not core.has_desk and bars(core.modes()) != bars(core.charge):
-                core.charge = core.modes()
-                self.route(move, name, core, 'tell', f'tell of node {move.node}: {name} {in_order(core.charge)}')
-        if lines:
-            raise unfit(lines[0].number, 'not an event of this move')
+        self.said = []
+        for name in self.act(move) if move.client else self.take(move):
+            self.finish(move, name)
+        for place, text in enumerate(self.said):
+            if place >= len(move.events) or move.events[place].text != text:
+                raise unfit(move.line + 1 + place, f'due there is {text}')
+        if len(move.events) > len(self.said):
+            raise unfit(move.events[len(self.said)].number, 'not an event of this move')
 
     # The begin of a move
 
-    def act(self, move, lines):
-        """The answer of the client's next command, and the sets that it touched."""
+    def act(self, move):
+        """Makes the client's next command; the sets that it touched, in order."""
         client, made = move.client, self.made[move.client]
         commands = self.script.commands[client]
         if self.script.node_of[client] != move.node:
             raise unfit(move.line, f'{client} is not on node {move.node}')
-        if made >= len(commands) or self.waits(client):
+        if made >= len(commands) or self.waits_in[client]:
             raise unfit(move.line, f'{client} waits or has no command left')
         self.tick(move, self.clocks[move.node])
         self.made[client] += 1
-        command = commands[made]
-        answer = lines.popleft() if lines else None
-        if answer is None or answer.text not in self.answers(client, command):
-            raise unfit(move.line, f'no answer of `{client} {" ".join(command)}`')
-        core = self.cores[move.node, answer.set]
-        if answer.kind == 'wait':
-            is_holder = any(core.held[client, mode] for mode in MODES)
-            ask = Ask(client, move.node, answer.words[2], (move.clock, move.node), is_holder)
-            core.pending[client] = ask
-            self.route(move, answer.set, core, 'ask', f'ask {client} {answer.set} {ask.mode}', ask)
-        elif answer.kind == 'drop':
-            self.drop(answer)
-        else:
-            self.hold(core, answer)
-        return self.script.family_of(answer.set) if command[0] == 'drop' else [answer.set]
-
-    def take(self, move, lines):
-        """Takes the oldest letter of the sender; the set that it touched."""
-        way = self.on_way[move.sender, move.node]
-        if not way:
-            raise unfit(move.line, f'no letter is on its way from node {move.sender}')
-        letter = move.letter = way.popleft()
-        letter.taken = move
-        self.tick(move, max(self.clocks[move.node], letter.sent.clock))
-        core = self.cores[move.node, letter.set]
-        if letter.link[1] > core.firm[1]:
-            core.firm, core.hoped = letter.link, None
-        if letter.kind in ('ask', 'tell'):
-            self.route(move, letter.set, core, letter.kind, letter.text, letter.ask, letter.by_hoped)
-        elif letter.kind == 'copy':
-            self.take_copy(move, core, lines, letter.ask)
-        elif letter.kind == 'token':
-            core.has_desk, core.firm, core.hoped = True, (move.node, letter.link[1]), None
-            for ask in core.parked:
-                self.enter(letter.set, ask)
-            core.parked = []
-        return [letter.set]
-
-    def take_copy(self, move, core, lines, ask):
-        """The grant that a Copy brings."""
-        if not lines or lines[0].kind not in ('grant', 'change') or lines[0].words[0] != ask.client:
-            raise unfit(move.line, f'a Copy for {ask.client} grants its ask')
-        self.answer(core, lines.popleft())
-        if not core.has_desk:
-            core.charge.add(ask.mode)
+        kind, *words = commands[made]
+        if kind == 'drop':
+            return self.drop(client, *words)
+        core = self.cores[move.node, words[0]]
+        getattr(self, f'do_{kind}')(move, core, client, *words)
+        return [words[0]]
 
     def tick(self, move, clock):
         """The clock after a move, which is to be one more than this."""
@@ -144,113 +199,263 @@ class Follower:
             raise unfit(move.line, f'the clock is {clock + 1} here')
         self.clocks[move.node] = move.clock
 
-    def waits(self, client):
-        """Whether a client waits in any set."""
-        node = self.script.node_of[client]
-        return any(client in self.cores[node, name].pending for name in self.script.family)
+    def do_lock(self, move, core, client, name, mode):
+        """Granted at once, or the client waits."""
+        if self.can_grant(move.node, core, client, name, mode):
+            core.add(client, mode)
+            self.said.append(f'grant {client} {name} {mode}')
+        else:
+            self.wait(move, core, client, name, mode)
 
-    def answers(self, client, command):
-        """The lines that can answer a command."""
-        kind, first, *rest = command
-        text = ' '.join([client, first] + rest)
-        if kind == 'drop':
-            return [f'busy {text}' if self.waits(first) else f'drop {text} {self.count(first, rest[0])}']
-        if kind == 'try':
-            return [f'try {text} true', f'try {text} false']
-        if kind == 'change':
-            return [f'change {text}', f'wait {client} {first} {rest[1]}', f'not_held {client} {first} {rest[0]}']
-        return [f'{word} {text}' for word in (('grant', 'wait') if kind == 'lock' else ('unlock', 'not_held'))]
+    def do_try(self, move, core, client, name, mode):
+        """Granted at once, or not."""
+        can = self.can_grant(move.node, core, client, name, mode)
+        if can:
+            core.add(client, mode)
+        self.said.append(f'try {client} {name} {mode} {"true" if can else "false"}')
 
-    # The locks
+    def do_unlock(self, _, core, client, name, mode):
+        """One lock is given up, if it is held."""
+        is_held = (client, mode) in core.held
+        if is_held:
+            core.give_up(client, mode)
+        self.said.append(f'{"unlock" if is_held else "not_held"} {client} {name} {mode}')
 
-    def count(self, client, name):
-        """How many locks a client holds in the family of a set."""
-        cores = [self.cores[self.script.node_of[client], other] for other in self.script.family_of(name)]
-        return sum(core.held[client, mode] for core in cores for mode in MODES)
+    def do_change(self, move, core, client, name, gives_up, mode):
+        """One lock becomes another one at once, or the client waits."""
+        if (client, gives_up) not in core.held:
+            self.said.append(f'not_held {client} {name} {gives_up}')
+        elif self.can_grant(move.node, core, client, name, mode):
+            core.give_up(client, gives_up)
+            core.add(client, mode)
+            self.said.append(f'change {client} {name} {gives_up} {mode}')
+        else:
+            self.wait(move, core, client, name, mode, gives_up)
 
-    def hold(self, core, event):
-        """What an answer does to the locks."""
-        client, modes = event.words[0], event.words[2:]
-        if event.kind in ('unlock', 'change'):
-            if core.held[client, modes[0]] == 0:
-                raise unfit(event.number, f'{client} holds no {modes[0]}')
-            core.held[client, modes.pop(0)] -= 1
-        if event.kind in ('grant', 'change') or modes[1:] == ['true']:
-            core.held[client, modes[0]] += 1
+    def drop(self, client, other, name):
+        """Drops all locks of a client in a family, unless it waits."""
+        names = self.script.family_of(name)
+        if self.waits_in[other]:
+            self.said.append(f'busy {client} {other} {name}')
+            return names
+        cores = [self.cores[self.script.node_of[other], each] for each in names]
+        dropped = 0
+        for core in cores:
+            for key in [key for key in core.held if key[0] == other]:
+                dropped += core.held.pop(key)
+        self.said.append(f'drop {client} {other} {name} {dropped}')
+        return names
 
-    def drop(self, event):
-        """Drops all locks of a client in a family."""
-        _, client, name, _ = event.words
-        for other in self.script.family_of(name):
-            held = self.cores[self.script.node_of[client], other].held
-            for mode in MODES:
-                held.pop((client, mode), None)
+    def wait(self, move, core, client, name, mode, gives_up=None):
+        """The client waits, and its ask goes to the desk."""
+        ask = Ask(client, move.node, mode, (move.clock, move.node), core.own(client) != 0, gives_up)
+        core.pending[client] = ask
+        self.waits_in[client] += 1
+        self.said.append(f'wait {client} {name} {mode}')
+        self.route(move, name, core, ask)
 
-    def answer(self, core, event):
-        """A grant or a change after waiting."""
-        ask = core.pending.pop(event.words[0], None)
-        if ask is None or ask.mode != event.words[-1]:
-            raise unfit(event.number, f'{event.words[0]} does not wait for that')
-        self.leave(event.set, event.words[0])
-        self.hold(core, event)
+    def take(self, move):
+        """Takes the oldest letter of the sender; the set that it touched."""
+        way = self.on_way[move.sender, move.node]
+        if not way:
+            raise unfit(move.line, f'no letter is on its way from node {move.sender}')
+        letter = way[0]
+        self.tick(move, max(self.clocks[move.node], letter.sent.clock))
+        move.letter = way.popleft()
+        letter.taken = move
+        core = self.cores[move.node, letter.set]
+        if letter.link[1] > core.firm[1]:
+            core.firm, core.hoped = letter.link, None
+        if letter.kind in ('ask', 'tell'):
+            self.route(move, letter.set, core, letter.tell or letter.ask, letter.by_hoped)
+        elif letter.kind == 'copy':
+            self.grant(letter.set, core, letter.ask)
+            if not core.has_desk:
+                core.charge |= BIT[letter.ask.mode]
+        elif letter.kind == 'freeze' and letter.frozen[0] > core.number:
+            core.number, core.frozen = letter.frozen
+        elif letter.kind == 'token':
+            self.take_token(move, letter.set, core)
+        return [letter.set]
 
-    def enter(self, name, ask):
-        """Puts an ask into the queue of a set: a holder's after the last holder's, any other at the end."""
-        queue = self.queue[name]
-        holders = [place for place, other in enumerate(queue, 1) if other.is_holder]
-        queue.insert(max(holders, default=0) if ask.is_holder else len(queue), ask)
+    def take_token(self, move, name, core):
+        """The desk is here, and deals with what is parked."""
+        core.has_desk, core.firm, core.hoped = True, (move.node, self.desks[name].epoch), None
+        for item in core.items:
+            self.deal(name, item)
+        core.items = []
 
-    def leave(self, name, client):
-        """Takes the ask of a client out of the queue of a set."""
-        self.queue[name] = [ask for ask in self.queue[name] if ask.client != client]
+    def grant(self, name, core, ask):
+        """An ask is answered."""
+        core.answer(ask)
+        self.waits_in[ask.client] -= 1
+        if ask.gives_up:
+            self.said.append(f'change {ask.client} {name} {ask.gives_up} {ask.mode}')
+        else:
+            self.said.append(f'grant {ask.client} {name} {ask.mode}')
 
-    # The letters
+    # Granting
 
-    def serve(self, move, core, event):
-        """One line of the desk."""
+    def can_grant(self, node, core, client, name, mode):
+        """Whether a node may grant a mode to a client at once."""
+        if covers(core.own(client), mode):
+            return True
+        if BIT[mode] & bars(core.others(client)):
+            return False
         if not core.has_desk:
-            raise unfit(event.number, f'node {move.node} does not have the token')
-        if event.kind in ('grant', 'change'):
-            return self.answer(core, event)
-        name, to, ask = event.set, int(event.words[1]), None
-        if event.kind == 'copy':
-            ask = Ask(event.words[2], to, event.words[3], ())
-            self.leave(name, ask.client)
-        if event.kind == 'token':
-            core.has_desk, core.charge, core.hoped = False, core.modes(), None
-            core.firm = (to, int(event.words[2]))
-            self.owner[name] = f'{to} {event.words[2]}'
-        if to == move.node:
-            raise unfit(event.number, 'a node sends no letter to itself')
-        text = f'{event.kind} {name} {" ".join(event.words[2:])}'
-        return self.send(move, name, core, to, event.kind, text, ask)
+            return covers(core.charge, mode) and not core.frozen & BIT[mode]
+        desk = self.desks[name]
+        before = desk.queue[:desk.place(core.own(client) != 0)]
+        against = union(ask.mode for ask in before + core.still_owed(desk.entries[node]))
+        for other, entry in enumerate(desk.entries):
+            if other != node:
+                against |= entry.record
+        return not BIT[mode] & bars(against)
 
-    def route(self, move, name, core, kind, text, ask=None, by_hoped=False):
-        """Sends an ask or a tell on, if it doesn't stay here (docs/RULES.md, Routing)."""
-        if core.has_desk or core.firm[0] == move.node:
-            if ask and core.has_desk:
-                self.enter(name, ask)
-            elif ask:
-                core.parked.append(ask)
-            return
-        to, goes_by_hoped = core.firm[0], False
-        if kind == 'ask':
-            if by_hoped and any(is_taking(own.mode) and own.stamp < ask.stamp for own in core.pending.values()):
-                core.parked.append(ask)
-                return
-            if not by_hoped and core.hoped and core.hoped[1] < ask.stamp:
-                to, goes_by_hoped = core.hoped[0], True
-        self.send(move, name, core, to, kind, text, ask, goes_by_hoped)
-        if kind == 'ask' and is_taking(ask.mode) and ask.node != move.node:
-            core.hoped = (ask.node, ask.stamp)
+    # Asks and tells
 
-    def send(self, move, name, core, to, kind, text, ask=None, by_hoped=False):
+    def route(self, move, name, core, item, by_hoped=False):
+        """The way of an ask or a tell (docs/RULES.md, Routing)."""
+        is_ask = isinstance(item, Ask)
+        if core.has_desk:
+            self.deal(name, item)
+        elif core.firm[0] == move.node or by_hoped and self.stands_behind(core, item):
+            core.items.append(item)
+        else:
+            goes_by_hoped = bool(is_ask and not by_hoped and core.hoped and core.hoped[1] < item.stamp)
+            to = core.hoped[0] if goes_by_hoped else core.firm[0]
+            if is_ask:
+                text = f'ask {item.client} {name} {item.mode}'
+                self.send(move, name, core, to, 'ask', text, ask=item, by_hoped=goes_by_hoped)
+            else:
+                text = f'tell of node {item.node}: {name} {self.words(item.modes, True)}'
+                self.send(move, name, core, to, 'tell', text, tell=item)
+            if is_ask and is_taking(item.mode) and item.node != move.node:
+                core.hoped = (item.node, item.stamp)
+
+    def stands_behind(self, core, ask):
+        """Whether an older self-excluding ask of the node is unanswered."""
+        return any(is_taking(own.mode) and own.stamp < ask.stamp for own in core.pending.values())
+
+    def deal(self, name, item):
+        """The desk takes an ask or a tell."""
+        if isinstance(item, Ask):
+            self.desks[name].enter(item)
+        else:
+            self.desks[name].hear(item)
+
+    def send(self, move, name, core, to, kind, text, **more):
         """Puts a letter on its way, with the link of its sender."""
-        letter = Letter(kind, name, to, move, core.firm, text, ask, by_hoped)
+        letter = Letter(kind, name, to, move, core.firm, text, **more)
         self.letters.append(letter)
         self.on_way[move.node, to].append(letter)
 
+    def words(self, modes, with_sixth=False):
+        """The words of these modes; a freeze of version 1 leaves the sixth mode out."""
+        return in_order([mode for mode in MODES if BIT[mode] & modes
+                         and (with_sixth or self.script.version == 2 or mode != SIXTH)])
+
+    # The end of a move
+
+    def finish(self, move, name):
+        """For a set that the move touched: the desk's turn if it is here, else a tell if one is due."""
+        core = self.cores[move.node, name]
+        if core.has_desk:
+            desk = self.desks[name]
+            while (ask := self.first_of(move.node, core, desk, self.is_served)) is not None:
+                self.serve(move, name, core, desk, ask)
+            draws = self.first_of(move.node, core, desk, self.may_draw)
+            self.freeze(move, name, core, desk)
+            if draws is not None:
+                self.hand_over(move, name, core, desk, draws.node)
+        elif bars(core.modes()) != bars(core.charge):
+            core.charge = core.modes()
+            stamps = [ask.stamp for ask in core.pending.values()]
+            self.route(move, name, core, Tell(move.node, core.charge, stamps, (move.clock, move.node)))
+
+    def first_of(self, node, core, desk, test):
+        """The first ask in the queue that is free and meets the test."""
+        if not desk.queue:
+            return None
+        counts = [entry.record for entry in desk.entries]
+        counts[node] = core.modes() | union(ask.mode for ask in core.still_owed(desk.entries[node]))
+        others = without_each(counts)
+        before = 0
+        for place, ask in enumerate(desk.queue):
+            is_free = not BIT[ask.mode] & bars(others[ask.node] | before)
+            if is_free and test(node, core, desk, ask, place, counts[ask.node], others[ask.node]):
+                return ask
+            before |= BIT[ask.mode]
+        return None
+
+    def is_served(self, node, core, desk, ask, _, own, others):
+        """Whether a free ask is granted here, or by a copy."""
+        if ask.node == node:
+            owed = union(other.mode for other in core.still_owed(desk.entries[node]))
+            return not BIT[ask.mode] & bars(core.others(ask.client) | owed)
+        return covers(others, ask.mode) and not BIT[ask.mode] & bars(own)
+
+    def may_draw(self, node, _, __, ask, place, own, ___):
+        """Whether a free ask draws the desk to its node."""
+        return ask.node != node and (place == 0 or not BIT[ask.mode] & bars(own))
+
+    def serve(self, move, name, core, desk, ask):
+        """An ask is granted, or its node is sent a copy."""
+        desk.queue.remove(ask)
+        if ask.node == move.node:
+            self.grant(name, core, ask)
+            return
+        desk.entries[ask.node].owed.append(ask)
+        self.said.append(f'copy {name} {ask.node} {ask.client} {ask.mode}')
+        self.send(move, name, core, ask.node, 'copy', f'copy {name} {ask.client} {ask.mode}', ask=ask)
+
+    def freeze(self, move, name, core, desk):
+        """Nodes with a record are told what the queue freezes."""
+        frozen = bars(union(ask.mode for ask in desk.queue))
+        targets = [node for node, entry in enumerate(desk.entries)
+                   if node != move.node and entry.frozen != frozen and entry.record]
+        desk.number += bool(targets)
+        core.frozen, core.number = frozen, desk.number
+        desk.entries[move.node].frozen = frozen
+        for node in targets:
+            desk.entries[node].frozen = frozen
+            words = f'{desk.number} {self.words(frozen)}'
+            self.said.append(f'freeze {name} {node} {words}')
+            self.send(move, name, core, node, 'freeze', f'freeze {name} {words}', frozen=(desk.number, frozen))
+
+    def hand_over(self, move, name, core, desk, node):
+        """The desk goes to another node."""
+        entry = desk.entries[move.node]
+        entry.reported, entry.owed, entry.told_at = core.modes(), core.still_owed(entry), (move.clock, move.node)
+        desk.epoch += 1
+        core.has_desk, core.charge, core.firm, core.hoped = False, core.modes(), (node, desk.epoch), None
+        self.owner[name] = f'{node} {desk.epoch}'
+        self.said.append(f'token {name} {node} {desk.epoch}')
+        self.send(move, name, core, node, 'token', f'token {name} {desk.epoch}')
+
     # The end
+
+    def end(self, journal):
+        """Sees that the closing lines are those of the moves, or that the run may have been cut."""
+        movers = self.movers()
+        if journal.is_cut and not journal.bad and int(journal.closing[0].words[0]) in movers:
+            return
+        due = ['a move, since the run is not at rest'] if movers else self.closing_lines(len(journal.moves))
+        for place, text in enumerate(due):
+            if place >= len(journal.closing):
+                raise journal.bad or unfit(journal.lines + 1, f'{text} is missing')
+            if journal.closing[place].text != text:
+                raise unfit(journal.closing[place].number, f'due there is {text}')
+        if len(journal.closing) > len(due):
+            raise unfit(journal.closing[len(due)].number, 'nothing is due there')
+        if journal.bad:
+            raise journal.bad
+
+    def movers(self):
+        """The nodes that can make a move."""
+        nodes = {to for (_, to), way in self.on_way.items() if way}
+        return nodes | {node for client, node in self.script.node_of.items()
+                        if not self.waits_in[client] and self.made[client] < len(self.script.commands[client])}
 
     def closing_lines(self, count):
         """The lines that a run at rest ends with."""
@@ -258,8 +463,20 @@ class Follower:
         for client, node in self.script.node_of.items():
             for name in self.script.family:
                 core = self.cores[node, name]
-                rows = ((mode, core.held[client, mode]) for mode in MODES)
+                rows = ((mode, core.held.get((client, mode), 0)) for mode in MODES)
                 held += [f'held {client} {name} {mode} {count}' for mode, count in rows if count]
                 if client in core.pending:
                     waiting.append(f'waiting {client} {name} {core.pending[client].mode}')
         return held + waiting + [f'owner {name} {owner}' for name, owner in self.owner.items()] + [f'end {count}']
+
+
+def without_each(counts):
+    """For each place the union of all that stand at other places."""
+    after = [0]
+    for modes in reversed(counts):
+        after.append(after[-1] | modes)
+    found, before = [], 0
+    for place, modes in enumerate(counts):
+        found.append(before | after[len(counts) - place - 1])
+        before |= modes
+    return found

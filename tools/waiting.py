@@ -25,7 +25,7 @@ def locks_of(follower, name):
     rows = []
     for client, node in follower.script.node_of.items():
         held = follower.cores[node, name].held
-        rows += [Lock(client, mode, held[client, mode]) for mode in MODES if held[client, mode]]
+        rows += [Lock(client, mode, held[client, mode]) for mode in MODES if (client, mode) in held]
     return rows
 
 
@@ -47,7 +47,7 @@ def waits_for(follower, client):
 
 def kept_by(follower, name, ask):
     """The other clients whose lock or ask stands in the way of an ask."""
-    queue = [other.client for other in follower.queue[name]]
+    queue = [other.client for other in follower.desks[name].queue]
     earlier = set(queue[:queue.index(ask.client)]) if ask.client in queue else set()
     against = {lock.client for lock in locks_of(follower, name) if lock.mode in CONFLICTS[ask.mode]}
     found = earlier | against | older_at_parked(follower, name, ask)
@@ -62,7 +62,7 @@ def older_at_parked(follower, name, ask):
 
 def place_of(follower, name, client):
     """Where the client's ask is."""
-    queue = clients_of(follower.queue[name])
+    queue = clients_of(follower.desks[name].queue)
     if client in queue:
         return f'in the queue, place {queue.index(client) + 1}'
     for node in range(follower.script.nodes):
