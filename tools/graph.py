@@ -3,16 +3,30 @@ from html import escape
 from math import cos, pi, sin
 
 from curves import clear_curve, path
-from waiting import ring_members, waits_for
+from waiting import all_waits, behind, edges_of, lock_edges_of, ring_of
 
 RADIUS, ROOM, HEAD = 13, 56, 46
-INK, FAINT, RING, EDGE = '#222222', '#8a8a8a', '#d1381f', '#f0a30a'
+INK, FAINT, RING, BEHIND, EDGE = '#222222', '#8a8a8a', '#d1381f', '#a9aeb6', '#f0a30a'
+MOST_CURVES = 400   # of more arrows each is a straight line
 
 
-def edges_at_end(follower):
-    """The clients that each waiting client waits for after the last move, in order."""
-    edges = {client: waits_for(follower, client) for client in follower.script.node_of}
-    return {client: others for client, others in edges.items() if others}
+class Waits:
+    """Who waits for whom after the last move: by locks, and in a ring; or each wait, if all are asked for."""
+
+    def __init__(self, follower, is_all):
+        waits = all_waits(follower)
+        self.ring = ring_of(waits)
+        self.behind = set(behind(waits, self.ring))
+        edges = edges_of(waits) if is_all else lock_edges_of(waits)
+        for client, other in zip(self.ring, self.ring[1:] + self.ring[:1]):
+            edges[client] = list(dict.fromkeys(edges[client] + [other]))
+        self.edges = {client: edges[client] for client in follower.script.node_of if edges.get(client)}
+
+    def kind(self, client, other):
+        """How an arrow is drawn."""
+        if client in self.ring and other == self.ring[(self.ring.index(client) + 1) % len(self.ring)]:
+            return 'ring'
+        return 'behind' if client in self.ring or client in self.behind else 'edge'
 
 
 def size_of(edges):
@@ -33,23 +47,23 @@ def clients_of(edges):
     return list(dict.fromkeys(client for waiting, others in edges.items() for client in [waiting, *others]))
 
 
-def graph(edges, left, top):
+def graph(waits, left, top):
     """The pieces of SVG, with their corner there."""
+    edges = waits.edges
     pieces = [text(left, top + 14, 'who waits for whom at the end', INK, 'font-weight="bold"')]
     if not edges:
         return pieces + [text(left, top + 34, 'nobody waits', FAINT)]
-    rings = ring_members({client: edges.get(client, []) for client in clients_of(edges)})
-    pieces.append(text(left, top + 30, 'red: in a ring, or waiting for one that is' if rings
+    pieces.append(text(left, top + 30, 'red: a ring; grey: behind it' if waits.ring
                        else 'no ring: an arrow ends at a client that has ended', FAINT))
     places = places_of(edges, left, top)
     marks = list(places.values())
+    is_bent = sum(map(len, edges.values())) <= MOST_CURVES
     for client, others in edges.items():
         for other in others:
-            in_ring = client in rings and other in rings
-            pieces.append(edge(places[client], places[other], marks, in_ring))
+            pieces.append(edge(places[client], places[other], marks if is_bent else [], waits.kind(client, other)))
     middle = sum(y for _, y in marks) / len(marks)
     return pieces + [mark for client, (x, y) in places.items()
-                     for mark in client_at(client, x, y, y < middle - 1, client in rings)]
+                     for mark in client_at(client, x, y, y < middle - 1, client in waits.ring)]
 
 
 def places_of(edges, left, top):
@@ -61,17 +75,16 @@ def places_of(edges, left, top):
             for client, turn in zip(clients, turns)}
 
 
-def edge(start, end, marks, in_ring):
+def edge(start, end, marks, kind):
     """An arrow that keeps away from the other clients; of two that wait for each other each has one of its own."""
-    colour = RING if in_ring else EDGE
     beside = [mark for mark in marks if mark not in (start, end)]
     curve = clear_curve(start, end, beside, RADIUS + 4)
     along = end[0] - start[0], end[1] - start[1]
     length = max(1.0, (along[0] ** 2 + along[1] ** 2) ** 0.5)
     side = -9 * along[1] / length, 9 * along[0] / length
     bent = (curve[0], *(tuple(a + b for a, b in zip(point, side)) for point in curve[1:3]), curve[3])
-    return (f'<path d="{path(bent, RADIUS, RADIUS)}" fill="none" stroke="{colour}" stroke-width="1.6" '
-            f'marker-end="url(#{"ring" if in_ring else "edge"})"/>')
+    return (f'<path d="{path(bent, RADIUS, RADIUS)}" fill="none" stroke="{markers()[kind]}" stroke-width="1.6" '
+            f'marker-end="url(#{kind})"/>')
 
 
 def client_at(client, x, y, is_above, in_ring):
@@ -89,4 +102,4 @@ def text(x, y, words, colour, more=''):
 
 def markers():
     """The heads of the arrows."""
-    return {'ring': RING, 'edge': EDGE}
+    return {'ring': RING, 'behind': BEHIND, 'edge': EDGE}

@@ -47,6 +47,7 @@ class Script:
     family: dict = field(default_factory=dict)    # of each set, in order
     node_of: dict = field(default_factory=dict)   # of each client, in order
     commands: dict = field(default_factory=dict)  # of each client
+    lines: dict = field(default_factory=dict)     # of each client, the lines of its commands
 
     def has_mode(self, word):
         """Whether a word is a mode word of the script's version."""
@@ -71,6 +72,16 @@ class Event(NamedTuple):
     def text(self):
         """The line itself."""
         return ' '.join([self.kind] + self.words)
+
+    @property
+    def gets(self):
+        """Whether the line says that its client got a lock."""
+        return self.kind in ('grant', 'change') or self.kind == 'try' and self.words[-1] == 'true'
+
+    @property
+    def is_refused(self):
+        """Whether the line is of a `try` that didn't get its lock."""
+        return self.kind == 'try' and self.words[-1] == 'false'
 
     @property
     def set(self):
@@ -152,7 +163,7 @@ def read_script(data):
         elif fault := line_fault(script, line, words):
             raise Fault(f'the script has a fault in line {number}: S{fault}')
         else:
-            take_line(script, words)
+            take_line(script, words, number)
         is_first = False
     if script.nodes == 0:
         raise Fault(f'the script has a fault in line {len(lines) + 1}: S5')
@@ -264,7 +275,7 @@ def is_name(word):
     return re.fullmatch('[A-Za-z][A-Za-z0-9_.-]{0,31}', word) is not None and word not in NO_NAMES
 
 
-def take_line(script, words):
+def take_line(script, words, number):
     """Takes the words of a line without fault into the script."""
     if words[0] == 'nodes':
         script.nodes = int(words[1])
@@ -272,9 +283,10 @@ def take_line(script, words):
         script.family[words[1]] = script.family[words[3]] if words[2:] else words[1]
     elif words[0] == 'client':
         script.node_of[words[1]] = int(words[3])
-        script.commands[words[1]] = []
+        script.commands[words[1]], script.lines[words[1]] = [], []
     else:
         script.commands[words[0]].append(words[1:])
+        script.lines[words[0]].append(number)
 
 
 def has_form(script, words, form):

@@ -1,4 +1,5 @@
 """Who holds, who waits for whom and where each ask is, after some moves of a run (docs/RULES.md, glossary)."""
+from collections import deque
 from typing import NamedTuple
 
 from journal import CONFLICTS, MODES
@@ -13,11 +14,13 @@ class Lock(NamedTuple):
 
 
 class Wait(NamedTuple):
-    """An unanswered ask, where it is, and the clients that it waits for."""
+    """An unanswered ask, where it is, the clients that it waits for, and the locks of these that are in its way."""
     client: str
+    set: str
     mode: str
     place: str
     behind: list
+    locks: list
 
 
 def locks_of(follower, name):
@@ -31,49 +34,63 @@ def locks_of(follower, name):
 
 def waits_of(follower, name):
     """The unanswered asks for a set, by client."""
+    locks = locks_of(follower, name)
+    queue = clients_of(follower.desks[name].queue)
+    places = places_of(follower, name, queue)
+    order = {client: place for place, client in enumerate(follower.script.node_of)}
     rows = []
     for client, node in follower.script.node_of.items():
         ask = follower.cores[node, name].pending.get(client)
         if ask:
-            rows.append(Wait(client, ask.mode, place_of(follower, name, client), kept_by(follower, name, ask)))
+            against = [lock for lock in locks if lock.mode in CONFLICTS[ask.mode] and lock.client != client]
+            earlier = queue[:queue.index(client)] if client in queue else []
+            found = {*earlier, *(lock.client for lock in against), *older_at_parked(follower, name, ask, places[client])}
+            rows.append(Wait(client, name, ask.mode, places[client], sorted(found - {client}, key=order.get), against))
     return rows
 
 
-def waits_for(follower, client):
-    """The clients that this one waits for, in order."""
-    return [other for name in follower.script.family for wait in waits_of(follower, name) if wait.client == client
-            for other in wait.behind]
+def all_waits(follower):
+    """All unanswered asks, by set and client."""
+    return [wait for name in follower.script.family for wait in waits_of(follower, name)]
 
 
-def kept_by(follower, name, ask):
-    """The other clients whose lock or ask stands in the way of an ask."""
-    queue = [other.client for other in follower.desks[name].queue]
-    earlier = set(queue[:queue.index(ask.client)]) if ask.client in queue else set()
-    against = {lock.client for lock in locks_of(follower, name) if lock.mode in CONFLICTS[ask.mode]}
-    found = earlier | against | older_at_parked(follower, name, ask)
-    return [client for client in follower.script.node_of if client in found and client != ask.client]
+def edges_of(waits):
+    """The clients that each waiting client waits for, in order."""
+    edges = {}
+    for wait in waits:
+        edges.setdefault(wait.client, []).extend(wait.behind)
+    return edges
 
 
-def older_at_parked(follower, name, ask):
+def lock_edges_of(waits):
+    """Of these the clients whose locks are in the way."""
+    edges = {}
+    for wait in waits:
+        edges.setdefault(wait.client, []).extend(dict.fromkeys(lock.client for lock in wait.locks))
+    return edges
+
+
+def older_at_parked(follower, name, ask, place):
     """Where the ask is parked, the clients whose older self-excluding ask is unanswered there."""
-    return {older.client for core in cores_of(follower, name) if ask.client in clients_of(core.parked)
-            for older in core.pending.values() if is_taking(older.mode) and older.stamp < ask.stamp}
+    if not place.startswith('parked'):
+        return set()
+    core = follower.cores[int(place.split()[-1]), name]
+    return {older.client for older in core.pending.values() if is_taking(older.mode) and older.stamp < ask.stamp}
 
 
-def place_of(follower, name, client):
-    """Where the client's ask is."""
-    queue = clients_of(follower.desks[name].queue)
-    if client in queue:
-        return f'in the queue, place {queue.index(client) + 1}'
-    for node in range(follower.script.nodes):
-        if client in clients_of(follower.cores[node, name].parked):
-            return f'parked at node {node}'
+def places_of(follower, name, queue):
+    """Where the ask of each client that waits for a set is."""
+    places = {client: 'in a token on its way' for node in range(follower.script.nodes)
+              for client in follower.cores[node, name].pending}
     for (sender, to), way in follower.on_way.items():
         for letter in way:
-            if letter.set == name and letter.ask and letter.ask.client == client:
+            if letter.set == name and letter.ask:
                 what = 'answered by a copy' if letter.kind == 'copy' else 'an ask'
-                return f'{what} on its way from node {sender} to {to}'
-    return 'in a token on its way'
+                places[letter.ask.client] = f'{what} on its way from node {sender} to {to}'
+    for node in range(follower.script.nodes):
+        places.update({client: f'parked at node {node}' for client in clients_of(follower.cores[node, name].parked)})
+    places.update({client: f'in the queue, place {place}' for place, client in enumerate(queue, 1)})
+    return places
 
 
 def clients_of(asks):
@@ -90,7 +107,67 @@ def ring_members(edges):
     """The clients that are left when those who wait for nobody that is left go, again and again."""
     left = set(edges)
     while True:
-        less = {client for client in left if left & set(edges[client])}
+        less = {client for client in left if not left.isdisjoint(edges[client])}
         if less == left:
             return left
         left = less
+
+
+def ring_of(waits):
+    """The clients of a shortest ring, each of which waits for the next: by locks alone if there is one such, or none."""
+    return shortest_ring(lock_edges_of(waits)) or shortest_ring(edges_of(waits))
+
+
+def shortest_ring(edges):
+    """A shortest ring in a graph, or nothing."""
+    left = ring_members(edges)
+    best = []
+    for first in edges:
+        if first in left and len(best) != 2:
+            ring = ring_from(edges, left, first, len(best) or len(left) + 1)
+            best = ring or best
+    return best
+
+
+def ring_from(edges, left, first, below):
+    """A shortest ring through a client that has fewer clients than this, or nothing."""
+    before, todo = {first: None}, deque([(first, 1)])
+    while todo:
+        client, length = todo.popleft()
+        if length >= below:
+            return []
+        for other in edges[client]:
+            if other == first:
+                return walk_to(before, client)
+            if other in left and other not in before:
+                before[other] = client
+                todo.append((other, length + 1))
+    return []
+
+
+def walk_to(before, client):
+    """The walk to a client, from the first one on."""
+    walk = []
+    while client is not None:
+        walk.append(client)
+        client = before[client]
+    return walk[::-1]
+
+
+def behind(waits, ring):
+    """The clients that wait for one of a ring, directly or not, and aren't of it: the nearest first."""
+    found = dict.fromkeys(ring)
+    edges = edges_of(waits)
+    while more := [client for client in edges if client not in found and any(other in found for other in edges[client])]:
+        found.update(dict.fromkeys(more))
+    return list(found)[len(ring):]
+
+
+def reason(waits, client, other):
+    """Why one client waits for another one, in words."""
+    wait = next(wait for wait in waits if wait.client == client and other in wait.behind)
+    held = [lock.mode for lock in wait.locks if lock.client == other]
+    if held:
+        return f'{client} wants {wait.set} {wait.mode}, which {other} holds by {" and ".join(held)}'
+    where = 'in the queue' if wait.place.startswith('in the queue') else 'at a node'
+    return f'{client} wants {wait.set} {wait.mode}, and stands behind {other} {where}'
