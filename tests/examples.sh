@@ -166,12 +166,12 @@ parts
 faults_of_nest_waits() {
   lines=examples/nested.lines answers=examples/nested.answers
   answers "nest-waits: $room/none: No such file or directory" tools/nest-waits "$lines" "$room/none"
-  answers 'nest-waits: no answer to seat lock seats write: begin debit' \
+  answers 'nest-waits: line 1 of the answers is to be: begin booking' \
     tools/nest-waits "$lines" examples/nested-ring.answers
   echo t >"$room/line"
-  answers "nest-waits: the answers can't be those to: t" tools/nest-waits "$room/line" "$answers"
+  answers 'nest-waits: line 1 is refused' tools/nest-waits "$room/line" "$answers"
   echo 't begin in u' >"$room/line"
-  answers 'nest-waits: no transaction u was begun before t' tools/nest-waits "$room/line" "$answers"
+  answers 'nest-waits: line 1 is refused' tools/nest-waits "$room/line" "$answers"
   said=$(tools/nest-waits "$lines" "$answers" 2>&1 >/dev/full)
   [ "$said" = 'nest-waits: write fault' ] || fail "nest-waits on a full disk: it says: $said"
 }
