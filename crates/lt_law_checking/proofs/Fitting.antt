@@ -1,14 +1,12 @@
 -- The moves of a run whose nodes made few can be counted in a line, and so all its lines can be written and read back.
-use Rattle.std.proofs.Common.{◌≡◌, ℕ, zero, suc, ◌+◌, ◌*◌, ◌^◌, ◌<◌, ◌≤◌, ◌==◌, cond, Bool, true, false, nat_lt, List, [], ◌∷◌, ◌++◌, length, map, count_by, None, refl, ap, ◌∙◌, inl, inr, arith}
+use Rattle.std.proofs.Common.{◌≡◌, ℕ, suc, ◌+◌, ◌^◌, ◌<◌, ◌≤◌, ◌==◌, cond, Bool, true, false, nat_lt, List, [], ◌∷◌, ◌++◌, length, map, count_by, None, refl, ap, ◌∙◌, inl, inr, arith}
 use Rattle.std.specs.List.{AllByRecursion}
 use Rattle.std.proofs.lemmas.Bool.{cases_Bool, cases_eq, cases_lt, eq-eqb, ltb-false, lt-ltb, le-ltb}
-use Rattle.std.proofs.lemmas.List.Elements.{recursion_from_All}
 use Rattle.std.proofs.lemmas.List.Sums.{sum_by-cons}
 use Rattle.lt_modes.specs.Script.{ScriptData}
 use Rattle.lt_spec.specs.Log.{Logged}
 use Rattle.lt_spec.specs.World.{is_of_node, IsRun}
 use Rattle.lt_model.specs.Homes.{IsEntryWithin}
-use Rattle.lt_model.proofs.LinesInRuns.{lines_in_runs}
 use Rattle.lt_text.specs.Text.{lines, cut_at}
 use Rattle.lt_script.specs.Script.{IsScript}
 use Rattle.lt_journal.specs.declared.line.Line.{Line}
@@ -16,12 +14,12 @@ use Rattle.lt_journal.specs.LineFits.{FitsLine}
 use Rattle.lt_journal.specs.RunLines.{run_lines}
 use Rattle.lt_journal.specs.Words.{line_words}
 use Rattle.lt_journal.proofs.Fitting.{lines_fit}
-use Rattle.lt_law_readback.proofs.FitsInRuns.{whole, fits_in_runs}
+use Rattle.lt_law_readback.proofs.FitsInRuns.{fits_in_runs}
 use Rattle.lt_journal.proofs.Named.{named, few_nodes}
 use Rattle.lt_journal.proofs.Plain.{lines_line}
 use Rattle.lt_journal.specs.Text.{lines_text}
 use Rattle.lt_journal.proofs.Written.{plain_line}
-use Rattle.lt_limits.specs.declared.moves.TheConstants.{MAX_MOVES}
+use Rattle.lt_law_ends.proofs.Short.{runs_are_short}
 use Rattle.lt_law_checking.specs.Checking.{written}
 use Rattle.lt_law_checking.specs.Journals.{HasFewMoves, journal_lines}
 
@@ -65,10 +63,6 @@ none_of_first (entry ∷ run) =
     let none : cond {A = ℕ} (is_of_first 0 entry) 1 0 ≡ 0 = ap {B = ℕ} (λ (b : Bool). cond b 1 0) (le-ltb entry.made.stamp.node 0 (omega arith)) in
     omega (arith, none, sum_by-cons (λ (x : Logged). cond (is_of_first 0 x) 1 0) entry run, none_of_first run)
 
-few_of_first : (n : ℕ) (run : List Logged) → HasFewMoves run → count_by (is_of_first n) run ≤ n * MAX_MOVES
-few_of_first zero run few = omega (arith, none_of_first run)
-few_of_first (suc n) run few = omega (arith, one_node_more n run, few_of_first n run few, few n)
-
 all_of_first : (n : ℕ) (run : List Logged) → AllByRecursion (λ (entry : Logged). entry.made.stamp.node < n) run → count_by (is_of_first n) run ≡ length run
 all_of_first n [] all = refl
 all_of_first n (entry ∷ run) all =
@@ -82,10 +76,7 @@ nodes_within script bound [] all = tt
 nodes_within script bound (entry ∷ run) all = (all.0.made.node, nodes_within script bound run all.1)
 
 pub few_in_all : (script : ScriptData) (run : List Logged) → IsScript script → IsRun script run → HasFewMoves run → length run < 2 ^ 32
-few_in_all script run is_script is_run few =
-    let within = nodes_within script (length run) run
-    (recursion_from_All (IsEntryWithin script (length run)) run (lines_in_runs script run (whole script is_script) is_run)) in
-    omega (arith, all_of_first script.nodes run within, few_of_first script.nodes run few, is_script.few_nodes)
+few_in_all script run is_script is_run few = omega (arith, runs_are_short script run is_script is_run)
 
 -- the lines of the run fit, and those that follow it at rest
 pub all_fit : (script : ScriptData) (run : List Logged) → IsScript script → IsRun script run → HasFewMoves run
