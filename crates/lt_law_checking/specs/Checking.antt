@@ -1,17 +1,16 @@
 -- Which lines are the journal of a run of a script, and which line is the first bad one. A line stands here without its line end.
-use Rattle.std.specs.Prelude.{ℕ, suc, List, [], ◌∷◌, ◌++◌, Bool, false, ◌&&◌, ◌==◌, nat_lt, fold, count_by, Option, Some, None, Result, Ok, Err, if◌then◌else◌}
+use Rattle.std.specs.Prelude.{ℕ, suc, List, [], ◌∷◌, ◌++◌, Bool, false, ◌&&◌, ◌==◌, fold, Option, Some, None, Result, Ok, Err, if◌then◌else◌}
 use Rattle.std.specs.Str.{bytes_eq}
 use Rattle.lt_modes.specs.declared.moves.Step.{Step}
 use Rattle.lt_modes.specs.Script.{ScriptData}
 use Rattle.lt_spec.specs.Log.{Logged}
-use Rattle.lt_spec.specs.World.{world_after, is_enabled, is_at_rest, move_stamp, logged, is_of_node}
+use Rattle.lt_spec.specs.World.{world_after, is_enabled, is_at_rest, move_stamp, logged}
 use Rattle.lt_text.specs.Text.{spaced}
 use Rattle.lt_journal.specs.declared.line.Line.{Line}
 use Rattle.lt_journal.specs.declared.line.Line.TheVariants.{Version, Move as MoveLine, Event as EventLine, Held, Waiting, Owner, End, Cut, Bad}
 use Rattle.lt_journal.specs.Grammar.{read_line}
 use Rattle.lt_journal.specs.Words.{line_words}
 use Rattle.lt_journal.specs.RunLines.{first_lines, event_lines, closing_lines}
-use Rattle.lt_limits.specs.declared.moves.TheConstants.{MAX_MOVES}
 
 -- how the line is written
 abbrev pub written : ScriptData → Line → List ℕ
@@ -37,14 +36,10 @@ moved script run entry = record {
   due = event_lines script.version entry.events ++ closing_at_rest script (run ++ entry ∷ []);
 }
 
--- the node has made fewer moves than one may
-abbrev pub has_moves_left : List Logged → ℕ → Bool
-has_moves_left run node = nat_lt (count_by (is_of_node node) run) MAX_MOVES
-
--- the move is enabled place_after the run, the clock is its own, and the node may make one move more
+-- the move is enabled after the run, and the clock is its own
 abbrev pub is_next : ScriptData → List Logged → ℕ → ℕ → Step → Bool
 is_next script run clock node step =
-    is_enabled script (world_after script run) node step && ((clock == (move_stamp (world_after script run) node step).clock) && has_moves_left run node)
+    is_enabled script (world_after script run) node step && clock == (move_stamp (world_after script run) node step).clock
 
 -- place_after a line that says this, where no line is due: it must be the line of a next move. At rest there is none
 abbrev pub by_move : ScriptData → List Logged → Line → Option Place
