@@ -211,7 +211,7 @@ leaves_potential s stamp t k draw = by_desk t.desk refl draw
 pub dealt_queue : (items : List Parked) (desk : Desk)
     → queue_potential (fold dealt desk items).queue + (length items + length items) ≤ queue_potential desk.queue + sum_by parked_potential items
 dealt_queue [] desk = omega arith
-pub dealt_queue (item ∷ rest) desk =
+dealt_queue (item ∷ rest) desk =
     omega (arith, dealt_queue rest (dealt desk item), one item, sum_by-cons parked_potential item rest)
   where
     one : (i : Parked) → queue_potential (dealt desk i).queue + 2 ≤ queue_potential desk.queue + parked_potential i
