@@ -1,6 +1,6 @@
 -- Each field of what is said of the words, the source, the sink and the end of a live run.
-use Rattle.std.proofs.Common.{◌≡◌, ◌≢◌, ◌<◌, ◌≤◌, ◌⊎◌, ◌+◌, ℕ, zero, suc, List, [], Ok, Err, Option, Some, false, true, refl, sym, ap, subst, arith, ◌∙◌, inl, inr}
-use Rattle.std.specs.Prelude.{Result, IsTrue, length}
+use Rattle.std.proofs.Common.{◌≡◌, ◌≢◌, ◌<◌, ◌≤◌, ◌⊎◌, ◌+◌, ◌++◌, ℕ, zero, suc, List, [], Ok, Err, Option, Some, false, true, refl, sym, ap, ap₂, subst, arith, ◌∙◌}
+use Rattle.std.specs.Prelude.{Result, length, codes}
 use Rattle.std.proofs.lemmas.Bool.{false≢true}
 use Rattle.lt_modes.specs.Script.{ScriptData}
 use Rattle.lt_text.specs.Text as text
@@ -22,6 +22,7 @@ use Rattle.lt_live_serve.specs.Runs.{HasFault, IsOverShare, LiveRun, Journals}
 use Rattle.lt_live_serve.specs.Serves.{Did, HasRead, WritesNothing, SaysOfSource, NothingFails, IsOrderedInput}
 use Rattle.lt_law_told.specs.Runs.{two_writers, two_writers_script}
 use Rattle.lt_law_told.specs.LiveCalls.{LiveCodesAre, LiveTextsAre, Call, IsCall, Answers, Reads, IsUntroubled, ReadsWhole, LiveWordsTold, LiveRefusalsTold, LiveCountsTold, LiveEndsTold, no_nodes, one_lock, one_lock_script}
+use Rattle.lt_law_texts.proofs.Numbers.{one_text, three_text, five_text, seven_text}
 use Rattle.lt_law_told.proofs.RunsOpened.{same_script, writers_read}
 
 pub live_codes_are : LiveCodesAre
@@ -44,13 +45,13 @@ live_texts_are = record {
   done = refl;
   stuck = refl;
   usage = refl;
-  refused = refl;
+  refused = ap₂ (λ (line number : List ℕ). codes "locklive: " ++ (codes "line " ++ line ++ codes ": S" ++ number)) one_text five_text;
   too_long = refl;
   read_fault = refl;
   write_fault = refl;
   no_memory = refl;
-  cut = refl;
-  share = refl;
+  cut = ap (λ (digits : List ℕ). codes "locklive: cut at node " ++ digits) seven_text;
+  share = ap (λ (digits : List ℕ). codes "locklive: too many commands of client " ++ digits) three_text;
 }
 
 -- the answer is Usage only to a word
@@ -127,7 +128,7 @@ pub live_words_told : LiveWordsTold
 live_words_told = record {
   usage = usage;
   unread = λ c serves one. serves.unread (usage c serves one);
-  unwritten = λ c serves one. (did_so c Usage serves (usage c serves one)).2 ∙ refl;
+  unwritten = λ c serves one. serves.unwritten (subst WritesNothing (sym (usage c serves one)) tt);
   no_run = λ c serves one. let did = did_so c Usage serves (usage c serves one) in (did.0, did.1);
   no_usage = not_usage;
 }
@@ -157,7 +158,7 @@ says_of c status h =
 
 -- a count that began at 0
 from_zero : (n before now : ℕ) → before ≡ 0 → now ≡ count_after before n → now ≡ count_after 0 n
-from_zero n before now zero e = e ∙ ap (λ (k : ℕ). count_after k n) zero
+from_zero n before now began e = e ∙ ap (λ (k : ℕ). count_after k n) began
 
 whole : (status : Status) → HasRead status → ReadsWhole status
 whole status read c h = from_zero 1 c.source.ends c.source_after.ends h.counts.2 ((says_of c status h).whole read).count
@@ -189,8 +190,8 @@ live_counts_told = record {
 
 -- a count that stands at 0 didn't rise
 not_rose : (n before now most : ℕ) → before ≡ 0 → now ≤ most → most < count_after 0 n → count_after before n ≤ now → ⊥
-not_rose n before now most zero few less rose =
-    let risen : count_after 0 n ≤ now = subst (λ (k : ℕ). count_after k n ≤ now) zero rose in
+not_rose n before now most began few less rose =
+    let risen : count_after 0 n ≤ now = subst (λ (k : ℕ). count_after k n ≤ now) began rose in
     omega (arith, risen, few, less)
 
 nothing_fails : (c : Call) (bytes : List ℕ) (script : ScriptData) → Fits bytes script → Reads bytes c → IsUntroubled c
