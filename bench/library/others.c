@@ -16,6 +16,7 @@ enum { MOST_CALLERS = 8 };
 static struct { pthread_rwlock_t lock; char apart[72]; } table[MOST_CALLERS];
 static int by_db, one_set, by_write, pairs;
 static pthread_barrier_t start;
+static struct { double begun, ended; } times[MOST_CALLERS];
 
 static double seconds(void) {
     struct timespec time;
@@ -55,10 +56,11 @@ static void pairs_of_db(long set) { (void)set; }
 #endif
 
 static void *work(void *argument) {
-    long set = one_set ? 0 : (long)argument;
+    long number = (long)argument, set = one_set ? 0 : number;
     pthread_barrier_wait(&start);
+    times[number].begun = seconds();
     if (by_db) pairs_of_db(set); else for (int k = 0; k < pairs; k++) pair_of_table(set);
-    pthread_barrier_wait(&start);
+    times[number].ended = seconds();
     return 0;
 }
 
@@ -73,13 +75,14 @@ int main(int count, char **words) {
     for (int k = 0; k < MOST_CALLERS; k++) pthread_rwlock_init(&table[k].lock, 0);
     if (by_db) open_db();
     pthread_t threads[MOST_CALLERS];
-    pthread_barrier_init(&start, 0, (unsigned)callers + 1);
+    pthread_barrier_init(&start, 0, (unsigned)callers);
     for (long k = 0; k < callers; k++) pthread_create(&threads[k], 0, work, (void *)k);
-    pthread_barrier_wait(&start);
-    double begun = seconds();
-    pthread_barrier_wait(&start);
-    double taken = seconds() - begun;
     for (int k = 0; k < callers; k++) pthread_join(threads[k], 0);
-    printf("%d %.0f\n", pairs * callers, pairs * (double)callers / taken);
+    double begun = times[0].begun, ended = times[0].ended;
+    for (int k = 1; k < callers; k++) {
+        if (times[k].begun < begun) begun = times[k].begun;
+        if (times[k].ended > ended) ended = times[k].ended;
+    }
+    printf("%d %.0f\n", pairs * callers, pairs * (double)callers / (ended - begun));
     return 0;
 }

@@ -14,6 +14,7 @@ static lockrun_nodes nodes;
 static enum lockrun_mode mode;
 static int one_set;
 static pthread_barrier_t start;
+static struct { double begun, ended; } times[MOST_CALLERS];
 
 static double seconds(void) {
     struct timespec time;
@@ -29,29 +30,32 @@ static void want(uint32_t code, uint32_t wanted) {
 
 static void *work(void *argument) {
     lockrun_caller *caller = argument;
-    uint8_t set = one_set ? 0 : (uint8_t)lockrun_client(&caller->session);
+    uint32_t number = lockrun_client(&caller->session);
+    uint8_t set = one_set ? 0 : (uint8_t)number;
     uint32_t pairs = lockrun_left(&caller->session) / 2;
     pthread_barrier_wait(&start);
+    times[number].begun = seconds();
     for (uint32_t k = 0; k < pairs; k++) {
         want(lockrun_lock(caller, set, mode, LOCKRUN_FOREVER), LOCKRUN_GRANTED);
         want(lockrun_unlock(caller, set, mode, LOCKRUN_FOREVER), LOCKRUN_UNLOCKED);
     }
-    pthread_barrier_wait(&start);
+    times[number].ended = seconds();
     return 0;
 }
 
-/* The time of all pairs, from when all callers are there. */
+/* The time of all pairs, from the first caller's begin to the last one's end. */
 static double time_of_pairs(int callers) {
     pthread_t threads[MOST_CALLERS];
-    pthread_barrier_init(&start, 0, (unsigned)callers + 1);
+    pthread_barrier_init(&start, 0, (unsigned)callers);
     for (int k = 0; k < callers; k++) pthread_create(&threads[k], 0, work, &nodes.caller[k]);
-    pthread_barrier_wait(&start);
-    double begun = seconds();
-    pthread_barrier_wait(&start);
-    double taken = seconds() - begun;
     for (int k = 0; k < callers; k++) pthread_join(threads[k], 0);
     pthread_barrier_destroy(&start);
-    return taken;
+    double begun = times[0].begun, ended = times[0].ended;
+    for (int k = 1; k < callers; k++) {
+        if (times[k].begun < begun) begun = times[k].begun;
+        if (times[k].ended > ended) ended = times[k].ended;
+    }
+    return ended - begun;
 }
 
 int main(int count, char **words) {
