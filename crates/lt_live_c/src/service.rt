@@ -24,6 +24,7 @@ pub struct Service {
 
 impl Service {
     /// The stations and sessions of the script, whose commands are left out.
+    #[tactic(auto, using(crate::proofs::Fitting::limit_fits, crate::proofs::Fitting::places_fit, crate::proofs::Fitting::length_fits))]
     pub fn open(alloc: Global, text: &[u8], limit: u32, places: u32) -> Result<Service, u32>
         ensures opened { IfOk result (λ s. IsOpenedFrom text.now limit places s) }
         ensures whole { IfOk result (λ s. LiveScript s.stations.items s.sessions.items) }
