@@ -48,14 +48,14 @@ pub record HasNoReply (code was count : ℕ) (s t : Session) : Type 0 where
   pub code_is : code ≡ NOTHING
   pub known : (known_replies s ≡ []) × (known_replies t ≡ [])
   pub polled : polled t ≡ polled s
-  pub count : count ≡ was
+  pub stays : count ≡ was
 
 -- the next reply, which is the first one that is known here, if one is
 pub record TellsReply (reply : Reply) (code was count : ℕ) (s t : Session) : Type 0 where
   pub code_is : code ≡ number_of_reply reply
   pub known : IsPrefix (known_replies s) (reply ∷ known_replies t)
   pub polled : polled t ≡ polled s ++ reply ∷ []
-  pub count : count ≡ count_after reply was
+  pub tells : count ≡ count_after reply was
 
 abbrev pub PollEnds : ℕ → ℕ → ℕ → Session → Session → Type 0
 PollEnds code was count s t = HasNoReply code was count s t ⊎ ((reply : Reply) × TellsReply reply code was count s t)

@@ -6,7 +6,7 @@ ghost use Rattle.lt_live.specs.Opened.{Opened};
 ghost use Rattle.lt_live.specs.Live.{LiveScript};
 ghost use Rattle.lt_live_c.specs.Opening.{IsOpenedFrom, OpenRefused, fits};
 ghost use Rattle.lt_live_c.specs.Journals.{IsJournalOf};
-ghost use Rattle.lt_live_c.specs.Taking.{TakesFirstStation, TakesFirstSession, KeepsAll};
+ghost use Rattle.lt_live_c.specs.Taking.{TakesFirstStation, TakesFirstSession};
 
 use crate::code::{BAD_ARGUMENT, BAD_SCRIPT, NO_MEMORY};
 use crate::journal::Journal;
@@ -65,7 +65,8 @@ impl Service {
         ensures { IfOk result (λ journal. IsJournalOf self journal) }
     {
         let (script, run) = finish(alloc, self.stations, self.sessions)?;
-        Journal::of(alloc, &script, &run)
+        let journal = Journal::of(alloc, &script, &run)?;
+        Ok(journal)
     }
 
     pub fn next_station(&mut self) -> Option<Station>
