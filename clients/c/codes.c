@@ -150,6 +150,7 @@ static void whole_life(void) {
         while (lockrun_poll(&ann, &count) == LOCKRUN_NOTHING);
     }
     IS(lockrun_submit(&ann, LOCKRUN_TRY, 0, LOCKRUN_WRITE, 0), LOCKRUN_SPENT);
+    while (lockrun_turn(&station[0]) == LOCKRUN_OK) {}
     IS(lockrun_give(&service, &station[0]), LOCKRUN_OK);
     IS(lockrun_give(&service, &ann), LOCKRUN_OK);
     IS(lockrun_give(&service, &ben), LOCKRUN_OK);
