@@ -64,6 +64,8 @@ def items():
     found.update(path.name for path in (TOP / 'crates').iterdir())
     found.update(path.name for path in TOP.iterdir())
     found.update(path.stem for part in ('crates/*/must-fail/*.edit', 'examples/*') for path in TOP.glob(part))
+    for path in (TOP / 'clients').glob('*/*.[hc]'):
+        found.update(re.findall(r'\b(?:lockrun|LOCKRUN)_\w+', path.read_text()))
     for path in (TOP / 'tests' / 'bugs').glob('*.edits'):
         found.update(re.findall(r'^bug (\S+)', path.read_text(), re.M))
     return found

@@ -1,0 +1,182 @@
+/* Each answer of the calls of lockrun.h: prints those that are another, with status 1 if there is one. */
+#include "lockrun.h"
+#include <stdio.h>
+#include <string.h>
+
+static int bad;
+static lockrun_service service;
+static lockrun_station station[2];
+static lockrun_session ann, ben;
+static lockrun_handle none;
+static lockrun_journal journal;
+static uint32_t count = 7;
+
+#define IS(call, wanted) is(#call, __LINE__, call, wanted)
+
+static void is(const char *call, int line, size_t got, size_t wanted) {
+    if (got == wanted) return;
+    printf("codes.c:%d: %s is %zu and not %zu\n", line, call, got, wanted);
+    bad = 1;
+}
+
+static uint32_t open_text(const char *text, uint32_t limit, uint32_t places) {
+    return lockrun_open((const uint8_t *)text, strlen(text), limit, places, &service);
+}
+
+static void rest(void) {
+    for (int quiet = 0; quiet < 2; quiet++)
+        for (int k = 0; k < 2; k++)
+            if (lockrun_turn(&station[k]) == LOCKRUN_OK) quiet = -1;
+}
+
+static uint32_t reply(lockrun_session *session) {
+    rest();
+    return lockrun_poll(session, &count);
+}
+
+static const char *text = "nodes 2\nset a\nset b with a\nclient ann at 0\nclient ben at 1\nann lock a read\n";
+
+static void opening(void) {
+    IS(open_text("nodes 0\n", 100, 2), LOCKRUN_BAD_SCRIPT);
+    IS(open_text("", 100, 2), LOCKRUN_BAD_SCRIPT);
+    IS(open_text(text, 0, 2), LOCKRUN_BAD_ARGUMENT);
+    IS(open_text(text, UINT32_MAX, 2), LOCKRUN_BAD_ARGUMENT);
+    IS(open_text(text, 100, 0), LOCKRUN_BAD_ARGUMENT);
+    IS(open_text(text, 100, UINT32_MAX), LOCKRUN_BAD_ARGUMENT);
+    IS(lockrun_open((const uint8_t *)text, ((size_t)1 << 20) + 1, 100, 2, &service), LOCKRUN_BAD_ARGUMENT);
+    IS(service.at != 0, 0);
+    IS(open_text(text, 14, 2), LOCKRUN_OK);
+}
+
+static void taking(void) {
+    IS(lockrun_take_station(&service, &station[0]), LOCKRUN_OK);
+    IS(lockrun_take_station(&service, &station[1]), LOCKRUN_OK);
+    IS(lockrun_take_station(&service, &none), LOCKRUN_NOTHING);
+    IS(lockrun_take_session(&service, &ann), LOCKRUN_OK);
+    IS(lockrun_take_session(&service, &ben), LOCKRUN_OK);
+    IS(lockrun_take_session(&service, &none), LOCKRUN_NOTHING);
+    IS(none.at != 0, 0);
+}
+
+static void wrong_handles(void) {
+    size_t held = 3, waiting = 5;
+    uint8_t byte = 9;
+    IS(lockrun_take_station(&ann, &none), LOCKRUN_WRONG_HANDLE);
+    IS(lockrun_take_session(&ann, &none), LOCKRUN_WRONG_HANDLE);
+    IS(lockrun_turn(&ann), LOCKRUN_WRONG_HANDLE);
+    IS(lockrun_submit(&station[0], LOCKRUN_LOCK, 0, LOCKRUN_READ, 0), LOCKRUN_WRONG_HANDLE);
+    IS(lockrun_poll(&station[0], &count), LOCKRUN_WRONG_HANDLE);
+    IS(lockrun_left(&station[0]), 0);
+    IS(lockrun_client(&station[1]), 0);
+    IS(lockrun_home(&station[1]), 0);
+    IS(lockrun_give(&ann, &station[0]), LOCKRUN_WRONG_HANDLE);
+    IS(lockrun_finish(&ann, &journal), LOCKRUN_WRONG_HANDLE);
+    IS(lockrun_end(&ann, &held, &waiting), LOCKRUN_WRONG_HANDLE);
+    IS(lockrun_copy(&ann, 0, &byte, 1), 0);
+    IS(lockrun_script(&ann, 0, &byte, 1), 0);
+    IS(held + waiting + byte + count, 3 + 5 + 9 + 7);
+    IS(none.at != 0 || journal.at != 0, 0);
+}
+
+static void submitting(void) {
+    IS(lockrun_client(&ben), 1);
+    IS(lockrun_home(&ben), 1);
+    IS(lockrun_left(&ann), lockrun_left(&ben));
+    IS(lockrun_submit(&ann, LOCKRUN_LOCK, 2, LOCKRUN_READ, 0), LOCKRUN_BAD_ARGUMENT);
+    IS(lockrun_submit(&ann, LOCKRUN_LOCK, 0, LOCKRUN_WRITE + 1, 0), LOCKRUN_BAD_ARGUMENT);
+    IS(lockrun_submit(&ann, LOCKRUN_LOCK, 0, LOCKRUN_READ_INTENTION_WRITE, 0), LOCKRUN_BAD_ARGUMENT);
+    IS(lockrun_submit(&ann, LOCKRUN_DROP + 1, 0, LOCKRUN_READ, 0), LOCKRUN_BAD_ARGUMENT);
+    IS(lockrun_submit(&ann, LOCKRUN_DROP, 0, 1, 0), LOCKRUN_BAD_ARGUMENT);
+    IS(lockrun_submit(&ann, LOCKRUN_DROP, 0, 1 << 16, 0), LOCKRUN_BAD_ARGUMENT);
+    IS(lockrun_submit(&ann, LOCKRUN_LOCK, 0, LOCKRUN_UPGRADE, 0), LOCKRUN_OK);
+    IS(lockrun_submit(&ann, LOCKRUN_TRY, 1, LOCKRUN_WRITE, 0), LOCKRUN_OK);
+    IS(lockrun_submit(&ann, LOCKRUN_UNLOCK, 0, LOCKRUN_READ, 0), LOCKRUN_FULL);
+    IS(lockrun_poll(&ann, &count), LOCKRUN_NOTHING);
+}
+
+static void replies(void) {
+    IS(reply(&ann), LOCKRUN_GRANTED);
+    IS(lockrun_poll(&ann, &count), LOCKRUN_TRUE);
+    IS(lockrun_submit(&ann, LOCKRUN_UNLOCK, 0, LOCKRUN_READ, 0), LOCKRUN_OK);
+    IS(reply(&ann), LOCKRUN_NOT_HELD);
+    IS(lockrun_submit(&ann, LOCKRUN_CHANGE, 0, LOCKRUN_UPGRADE, LOCKRUN_READ), LOCKRUN_OK);
+    IS(reply(&ann), LOCKRUN_CHANGED);
+    IS(lockrun_submit(&ben, LOCKRUN_TRY, 1, LOCKRUN_WRITE, 0), LOCKRUN_OK);
+    IS(reply(&ben), LOCKRUN_FALSE);
+    IS(lockrun_submit(&ben, LOCKRUN_LOCK, 1, LOCKRUN_WRITE, 0), LOCKRUN_OK);
+    IS(reply(&ben), LOCKRUN_NOTHING);
+    IS(lockrun_submit(&ben, LOCKRUN_DROP, 1, 1, 0), LOCKRUN_OK);
+    IS(lockrun_submit(&ann, LOCKRUN_DROP, 0, 0, 0), LOCKRUN_OK);
+    IS(count, 7);
+    IS(reply(&ann), LOCKRUN_DROPPED);
+    IS(count, 2);
+    IS(reply(&ben), LOCKRUN_GRANTED);
+    IS(lockrun_poll(&ben, &count), LOCKRUN_DROPPED);
+    IS(count, 1);
+    IS(lockrun_submit(&ann, LOCKRUN_UNLOCK, 0, LOCKRUN_READ, 0), LOCKRUN_OK);
+    IS(reply(&ann), LOCKRUN_NOT_HELD);
+}
+
+static void ends(void) {
+    while (lockrun_left(&ann) > 0) {
+        uint32_t code = lockrun_submit(&ann, LOCKRUN_TRY, 0, LOCKRUN_READ, 0);
+        if (code == LOCKRUN_FULL) break;
+        IS(code, LOCKRUN_OK);
+        rest();
+        lockrun_poll(&ann, &count);
+    }
+    IS(lockrun_turn(&station[0]), LOCKRUN_LOG_FULL);
+    IS(lockrun_give(&service, &ann), LOCKRUN_OK);
+    IS(ann.at != 0, 0);
+    IS(lockrun_give(&service, &station[0]), LOCKRUN_OK);
+    IS(lockrun_give(&service, &station[1]), LOCKRUN_OK);
+    IS(lockrun_give(&service, &ben), LOCKRUN_OK);
+}
+
+/* One client alone, whose share is used up; and what is held and waits at the end. */
+static void whole_life(void) {
+    uint8_t bytes[64];
+    size_t held, waiting;
+    IS(open_text("nodes 1\nset a\nclient c at 0\nclient d at 0\n", 1 << 20, 4), LOCKRUN_OK);
+    IS(lockrun_take_station(&service, &station[0]), LOCKRUN_OK);
+    IS(lockrun_take_session(&service, &ann), LOCKRUN_OK);
+    IS(lockrun_take_session(&service, &ben), LOCKRUN_OK);
+    IS(lockrun_submit(&ann, LOCKRUN_LOCK, 0, LOCKRUN_WRITE, 0), LOCKRUN_OK);
+    while (lockrun_poll(&ann, &count) == LOCKRUN_NOTHING) lockrun_turn(&station[0]);
+    IS(lockrun_submit(&ben, LOCKRUN_LOCK, 0, LOCKRUN_WRITE, 0), LOCKRUN_OK);
+    while (lockrun_left(&ann) > 0) {
+        IS(lockrun_submit(&ann, LOCKRUN_TRY, 0, LOCKRUN_WRITE, 0), LOCKRUN_OK);
+        do lockrun_turn(&station[0]);
+        while (lockrun_poll(&ann, &count) == LOCKRUN_NOTHING);
+    }
+    IS(lockrun_submit(&ann, LOCKRUN_TRY, 0, LOCKRUN_WRITE, 0), LOCKRUN_SPENT);
+    while (lockrun_turn(&station[0]) == LOCKRUN_OK) {}
+    IS(lockrun_give(&service, &station[0]), LOCKRUN_OK);
+    IS(lockrun_give(&service, &ann), LOCKRUN_OK);
+    IS(lockrun_give(&service, &ben), LOCKRUN_OK);
+    IS(lockrun_finish(&service, &journal), LOCKRUN_OK);
+    IS(service.at != 0, 0);
+    IS(lockrun_end(&journal, &held, &waiting), LOCKRUN_OK);
+    IS(held, 1);
+    IS(waiting, 1);
+    IS(lockrun_script(&journal, 0, bytes, sizeof bytes), sizeof bytes);
+    IS(memcmp(bytes, "nodes 1\nset a\nclient c at 0\nclient d at 0\nc lock a write\n", 57) != 0, 0);
+    IS(lockrun_copy(&journal, 0, bytes, 5), 5);
+    IS(memcmp(bytes, "move ", 5) != 0, 0);
+    IS(lockrun_copy(&journal, SIZE_MAX, bytes, 5), 0);
+    lockrun_free(&journal);
+    IS(journal.at != 0, 0);
+}
+
+int main(void) {
+    opening();
+    taking();
+    wrong_handles();
+    submitting();
+    replies();
+    ends();
+    lockrun_free(&service);
+    whole_life();
+    puts(bad ? "codes: some answers are others" : "codes: each answer is as it should be");
+    return bad;
+}

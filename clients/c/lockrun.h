@@ -1,0 +1,109 @@
+/* lockrun.h: sessions of the lock service, for C and C++.
+ *
+ * tests/exports.py compares this file with the exports of crates/lt_live_c. What a C compiler can't see is a duty of the
+ * caller, and nothing checks it:
+ * - A handle that isn't in use is {0}. Each call wants handles that stand for something, but for the last argument of
+ *   lockrun_open, lockrun_take_station, lockrun_take_session and lockrun_finish. That one is written over where the call
+ *   answers LOCKRUN_OK, so it is to be {0}: what it stood for would never be freed.
+ * - Two arguments of a call are never the same handle, and a handle is never copied. It is in one call at a time. It may
+ *   go from thread to thread if the calls are ordered: by a mutex, pthread_create or pthread_join, or a sequentially
+ *   consistent atomic. Two sessions, or a session and its station, may be in calls at the same time.
+ * - lockrun_finish wants a service that has all stations in the order of nodes, and all sessions in the order of clients,
+ *   which one lockrun_open made.
+ * - No call comes from a signal handler, nor from the forked child of a process with threads.
+ * - malloc, realloc and free are those of one allocator.
+ */
+#ifndef LOCKRUN_H
+#define LOCKRUN_H
+#include <stddef.h>
+#include <stdint.h>
+#ifdef __cplusplus
+extern "C" {
+#endif
+
+typedef struct { void *at; } lockrun_handle;
+typedef lockrun_handle lockrun_service;
+typedef lockrun_handle lockrun_station;
+typedef lockrun_handle lockrun_session;
+typedef lockrun_handle lockrun_journal;
+
+enum lockrun_mode {
+    LOCKRUN_INTENTION_READ,
+    LOCKRUN_READ,
+    LOCKRUN_UPGRADE,
+    LOCKRUN_INTENTION_WRITE,
+    LOCKRUN_READ_INTENTION_WRITE, /* of a script of version 2 alone */
+    LOCKRUN_WRITE
+};
+
+enum lockrun_kind { LOCKRUN_LOCK, LOCKRUN_TRY, LOCKRUN_UNLOCK, LOCKRUN_CHANGE, LOCKRUN_DROP };
+
+enum lockrun_code {
+    LOCKRUN_OK,
+    LOCKRUN_NOTHING,      /* no station or session is left; no move was made; no reply is known */
+    LOCKRUN_WRONG_HANDLE, /* it stands for something else; nothing happened */
+    LOCKRUN_NO_MEMORY,
+    LOCKRUN_BAD_ARGUMENT, /* a number out of range, or a command that names what the script doesn't have */
+    LOCKRUN_BAD_SCRIPT,
+    LOCKRUN_SPENT,        /* the session's share of commands is used up */
+    LOCKRUN_FULL,         /* the ring has no place now: try again later */
+    LOCKRUN_LOG_FULL      /* the node made as many moves as it may */
+};
+
+enum lockrun_reply {
+    LOCKRUN_GRANTED = 16,
+    LOCKRUN_TRUE,
+    LOCKRUN_FALSE,
+    LOCKRUN_UNLOCKED,
+    LOCKRUN_NOT_HELD,
+    LOCKRUN_CHANGED,
+    LOCKRUN_DROPPED,
+    LOCKRUN_BUSY
+};
+
+/* Opens the script's nodes, sets and clients; its commands are left out. Each node makes at most `limit` moves, and a
+ * session's rings have `places` places. */
+uint32_t lockrun_open(const uint8_t *text, size_t length, uint32_t limit, uint32_t places, lockrun_service *service);
+
+/* The station of the next node, and the session of the next client, in the order of the script. */
+uint32_t lockrun_take_station(lockrun_service *service, lockrun_station *station);
+uint32_t lockrun_take_session(lockrun_service *service, lockrun_session *session);
+
+/* Takes at most one command of each client of the node, and makes at most one move: LOCKRUN_OK if it made one,
+ * LOCKRUN_NOTHING if there was none. */
+uint32_t lockrun_turn(lockrun_station *station);
+
+/* Submits a command of this lockrun_kind. `first` is the mode, of LOCKRUN_CHANGE the mode that is held, of LOCKRUN_DROP the
+ * client whose locks are dropped; `second` is the new mode of LOCKRUN_CHANGE, and else not looked at. */
+uint32_t lockrun_submit(lockrun_session *session, uint32_t kind, uint8_t set, uint32_t first, uint32_t second);
+
+/* The next reply, or LOCKRUN_NOTHING. Of LOCKRUN_DROPPED `count` tells how many locks were dropped. */
+uint32_t lockrun_poll(lockrun_session *session, uint32_t *count);
+
+/* How many commands may still be submitted. */
+uint32_t lockrun_left(lockrun_session *session);
+
+/* The number of the session's client, and that of its node; 0 of another handle. */
+uint32_t lockrun_client(lockrun_session *session);
+uint32_t lockrun_home(lockrun_session *session);
+
+/* Gives a station or a session back to its service: behind all others that it has. `given` is {0} then. */
+uint32_t lockrun_give(lockrun_service *service, lockrun_handle *given);
+
+/* Ends the service. `service` is {0} then, also without memory: then all is lost. */
+uint32_t lockrun_finish(lockrun_service *service, lockrun_journal *journal);
+
+/* Copies bytes of the journal, or of its script with the commands, from this one on, and tells how many. */
+size_t lockrun_copy(lockrun_journal *journal, size_t from, uint8_t *out, size_t room);
+size_t lockrun_script(lockrun_journal *journal, size_t from, uint8_t *out, size_t room);
+
+/* How many lines of the journal say what is held at the end, and how many say who waits. */
+uint32_t lockrun_end(lockrun_journal *journal, size_t *held, size_t *waiting);
+
+/* Frees what the handle stands for; it is {0} then. */
+void lockrun_free(lockrun_handle *handle);
+
+#ifdef __cplusplus
+}
+#endif
+#endif

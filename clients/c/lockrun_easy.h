@@ -1,0 +1,202 @@
+/* lockrun_easy.h: calls that wait, over lockrun.h. Plain C11; nothing of it is proved.
+ *
+ * No thread runs the nodes: whoever waits turns them, one thread at a time for each node. A caller is used by one thread
+ * at a time. A call waits at most `patience` milliseconds, or for ever if that is LOCKRUN_FOREVER. If the time is over it
+ * answers LOCKRUN_WAITS: the command stays asked for, and lockrun_wait goes on waiting for its reply. Until then each
+ * other call of the caller answers LOCKRUN_WAITS and does nothing.
+ */
+#ifndef LOCKRUN_EASY_H
+#define LOCKRUN_EASY_H
+#include "lockrun.h"
+#include <sched.h>
+#include <stdatomic.h>
+#include <stdlib.h>
+#include <time.h>
+
+enum { LOCKRUN_WAITS = 32, LOCKRUN_FOREVER = -1 };
+
+/* How often a caller looks before it turns other nodes too, yields, and naps; and the longest nap, in nanoseconds. */
+enum { LOCKRUN_OWN = 2, LOCKRUN_SPINS = 20, LOCKRUN_YIELDS = 200, LOCKRUN_LONGEST_NAP = 1000000 };
+
+typedef struct {
+    lockrun_station station;
+    atomic_flag busy;
+    char apart[64 - sizeof(lockrun_station) - sizeof(atomic_flag)];
+} lockrun_node;
+
+typedef struct {
+    size_t count;
+    lockrun_node *node;
+    lockrun_service service;
+    size_t callers;
+    struct lockrun_caller *caller;
+} lockrun_nodes;
+
+typedef struct lockrun_caller {
+    lockrun_session session;
+    lockrun_nodes *nodes;
+    uint32_t home, dropped; /* how many locks the last LOCKRUN_DROPPED was of */
+    int waits;
+} lockrun_caller;
+
+/* One turn of a node, unless another thread is turning it. */
+static inline uint32_t lockrun_turn_node(lockrun_nodes *nodes, size_t place) {
+    lockrun_node *node = &nodes->node[place];
+    if (atomic_flag_test_and_set(&node->busy)) return LOCKRUN_NOTHING;
+    uint32_t code = lockrun_turn(&node->station);
+    atomic_flag_clear(&node->busy);
+    return code;
+}
+
+static inline int lockrun_is_fault(uint32_t code) { return code == LOCKRUN_LOG_FULL || code == LOCKRUN_NO_MEMORY; }
+
+/* A turn of the caller's own node, and after some tries of all others. */
+static inline uint32_t lockrun_help(lockrun_caller *caller, unsigned tries) {
+    uint32_t code = lockrun_turn_node(caller->nodes, caller->home);
+    if (tries < LOCKRUN_OWN) return code;
+    for (size_t k = 0; k < caller->nodes->count; k++) {
+        uint32_t other = k == caller->home ? LOCKRUN_NOTHING : lockrun_turn_node(caller->nodes, k);
+        if (lockrun_is_fault(other)) code = other;
+    }
+    return code;
+}
+
+static inline int64_t lockrun_now(void) {
+    struct timespec time;
+    clock_gettime(CLOCK_MONOTONIC, &time);
+    return (int64_t)time.tv_sec * 1000 + time.tv_nsec / 1000000;
+}
+
+static inline void lockrun_back_off(unsigned tries) {
+    if (tries < LOCKRUN_SPINS) return;
+    if (tries < LOCKRUN_YIELDS) { sched_yield(); return; }
+    long nap = 1000L * (tries - LOCKRUN_YIELDS + 1);
+    struct timespec time = {0, nap < LOCKRUN_LONGEST_NAP ? nap : LOCKRUN_LONGEST_NAP};
+    nanosleep(&time, 0);
+}
+
+static inline int lockrun_is_over(unsigned tries, int64_t patience, int64_t *end) {
+    if (patience < 0 || tries < LOCKRUN_OWN) return 0;
+    if (tries == LOCKRUN_OWN) *end = lockrun_now() + patience;
+    return lockrun_now() >= *end;
+}
+
+/* Waits for the reply to what the caller asked: a lockrun_reply, LOCKRUN_WAITS, or what keeps a node from going on. */
+static inline uint32_t lockrun_wait(lockrun_caller *caller, int64_t patience) {
+    int64_t end = 0;
+    if (!caller->waits) return LOCKRUN_NOTHING;
+    for (unsigned tries = 0;; tries++) {
+        uint32_t turned = lockrun_help(caller, tries);
+        uint32_t code = lockrun_poll(&caller->session, &caller->dropped);
+        if (code != LOCKRUN_NOTHING) {
+            caller->waits = 0;
+            return code;
+        }
+        if (lockrun_is_fault(turned)) return turned;
+        if (lockrun_is_over(tries, patience, &end)) return LOCKRUN_WAITS;
+        lockrun_back_off(tries);
+    }
+}
+
+/* Submits a command and waits for its reply: a lockrun_reply, or the code of what kept it from being submitted. */
+static inline uint32_t lockrun_call(lockrun_caller *caller, uint32_t kind, uint8_t set, uint32_t first, uint32_t second,
+                                    int64_t patience) {
+    if (caller->waits) return LOCKRUN_WAITS;
+    uint32_t code = lockrun_submit(&caller->session, kind, set, first, second);
+    if (code != LOCKRUN_OK) return code; /* LOCKRUN_FULL never: all that was submitted before has its reply */
+    caller->waits = 1;
+    return lockrun_wait(caller, patience);
+}
+
+/* LOCKRUN_GRANTED. */
+static inline uint32_t lockrun_lock(lockrun_caller *caller, uint8_t set, enum lockrun_mode mode, int64_t patience) {
+    return lockrun_call(caller, LOCKRUN_LOCK, set, mode, 0, patience);
+}
+
+/* LOCKRUN_TRUE or LOCKRUN_FALSE. */
+static inline uint32_t lockrun_try(lockrun_caller *caller, uint8_t set, enum lockrun_mode mode, int64_t patience) {
+    return lockrun_call(caller, LOCKRUN_TRY, set, mode, 0, patience);
+}
+
+/* LOCKRUN_UNLOCKED or LOCKRUN_NOT_HELD. */
+static inline uint32_t lockrun_unlock(lockrun_caller *caller, uint8_t set, enum lockrun_mode mode, int64_t patience) {
+    return lockrun_call(caller, LOCKRUN_UNLOCK, set, mode, 0, patience);
+}
+
+/* LOCKRUN_CHANGED or LOCKRUN_NOT_HELD. */
+static inline uint32_t lockrun_change(lockrun_caller *caller, uint8_t set, enum lockrun_mode held, enum lockrun_mode mode,
+                                      int64_t patience) {
+    return lockrun_call(caller, LOCKRUN_CHANGE, set, held, mode, patience);
+}
+
+/* Drops the locks of a client of the same node in the set's family: LOCKRUN_DROPPED or LOCKRUN_BUSY. */
+static inline uint32_t lockrun_drop(lockrun_caller *caller, uint8_t set, uint32_t whose, int64_t patience) {
+    return lockrun_call(caller, LOCKRUN_DROP, set, whose, 0, patience);
+}
+
+/* Frees all that isn't in use by another thread. */
+static inline void lockrun_nodes_free(lockrun_nodes *nodes) {
+    for (size_t k = 0; k < nodes->count; k++) if (nodes->node[k].station.at) lockrun_free(&nodes->node[k].station);
+    for (size_t k = 0; k < nodes->callers; k++) if (nodes->caller[k].session.at) lockrun_free(&nodes->caller[k].session);
+    if (nodes->service.at) lockrun_free(&nodes->service);
+    free(nodes->node);
+    free(nodes->caller);
+    *nodes = (lockrun_nodes){0};
+}
+
+/* Takes the next station, or the next session, into a list that grows by it. */
+static inline uint32_t lockrun_add_node(lockrun_nodes *nodes) {
+    lockrun_station station = {0};
+    uint32_t code = lockrun_take_station(&nodes->service, &station);
+    if (code != LOCKRUN_OK) return code;
+    lockrun_node *grown = realloc(nodes->node, (nodes->count + 1) * sizeof *grown);
+    if (!grown) { lockrun_free(&station); return LOCKRUN_NO_MEMORY; }
+    nodes->node = grown;
+    nodes->node[nodes->count++] = (lockrun_node){.station = station, .busy = ATOMIC_FLAG_INIT};
+    return LOCKRUN_OK;
+}
+
+static inline uint32_t lockrun_add_caller(lockrun_nodes *nodes) {
+    lockrun_session session = {0};
+    uint32_t code = lockrun_take_session(&nodes->service, &session);
+    if (code != LOCKRUN_OK) return code;
+    lockrun_caller *grown = realloc(nodes->caller, (nodes->callers + 1) * sizeof *grown);
+    if (!grown) { lockrun_free(&session); return LOCKRUN_NO_MEMORY; }
+    nodes->caller = grown;
+    uint32_t home = lockrun_home(&session);
+    nodes->caller[nodes->callers++] = (lockrun_caller){.session = session, .nodes = nodes, .home = home};
+    return LOCKRUN_OK;
+}
+
+/* Opens all nodes of a script, with a caller for each client. `nodes` stays where it is until it is finished or freed. */
+static inline uint32_t lockrun_nodes_open(lockrun_nodes *nodes, const char *text, size_t length, uint32_t limit) {
+    *nodes = (lockrun_nodes){0};
+    uint32_t code = lockrun_open((const uint8_t *)text, length, limit, 4, &nodes->service);
+    while (code == LOCKRUN_OK) code = lockrun_add_node(nodes);
+    if (code == LOCKRUN_NOTHING) code = LOCKRUN_OK;
+    while (code == LOCKRUN_OK) code = lockrun_add_caller(nodes);
+    if (code == LOCKRUN_NOTHING) return LOCKRUN_OK;
+    lockrun_nodes_free(nodes);
+    return code;
+}
+
+/* Lets all nodes make turns until none of them makes a move in two turns. */
+static inline void lockrun_nodes_rest(lockrun_nodes *nodes) {
+    for (int quiet = 0; quiet < 2; quiet++)
+        for (size_t k = 0; k < nodes->count; k++)
+            if (lockrun_turn_node(nodes, k) == LOCKRUN_OK) quiet = -1;
+}
+
+/* Ends the nodes, while no other thread is in a call: the journal of their run. */
+static inline uint32_t lockrun_nodes_finish(lockrun_nodes *nodes, lockrun_journal *journal) {
+    uint32_t code = LOCKRUN_OK;
+    lockrun_nodes_rest(nodes);
+    for (size_t k = 0; k < nodes->count && code == LOCKRUN_OK; k++)
+        code = lockrun_give(&nodes->service, &nodes->node[k].station);
+    for (size_t k = 0; k < nodes->callers && code == LOCKRUN_OK; k++)
+        code = lockrun_give(&nodes->service, &nodes->caller[k].session);
+    if (code == LOCKRUN_OK) code = lockrun_finish(&nodes->service, journal);
+    lockrun_nodes_free(nodes);
+    return code;
+}
+#endif

@@ -1,0 +1,253 @@
+"""Sessions of the lock service for Python, by ctypes.
+
+LOCKRUN_LIBRARY names the shared object; clients/run says how it is linked. No thread runs the nodes: whoever waits turns
+them, one thread at a time for each node. A session is used by one thread at a time.
+
+    nodes = Nodes('nodes 1\\nset counter\\nclient ann at 0\\n')
+    with nodes.session('ann').lock('counter', 'write'):
+        ...
+    journal = nodes.finish()
+"""
+import ctypes
+import os
+import threading
+import time
+from ctypes import POINTER, c_size_t, c_uint8, c_uint32
+
+OK, NOTHING, WRONG_HANDLE, NO_MEMORY, BAD_ARGUMENT, BAD_SCRIPT, SPENT, FULL, LOG_FULL = range(9)
+LOCK, TRY, UNLOCK, CHANGE, DROP = range(5)
+GRANTED, TRUE, FALSE, UNLOCKED, NOT_HELD, CHANGED, DROPPED, BUSY = range(16, 24)
+MODES = ('intention_read', 'read', 'upgrade', 'intention_write', 'read_intention_write', 'write')
+
+# After so many looks a caller turns other nodes too, and naps; and the longest nap, in seconds.
+OWN, SPINS, LONGEST_NAP = 2, 20, 0.001
+
+FAULTS = {
+    NO_MEMORY: 'out of memory',
+    BAD_ARGUMENT: 'the script has no such set, mode or client',
+    BAD_SCRIPT: 'the script has a fault',
+    SPENT: "the session's share of commands is used up",
+    LOG_FULL: 'a node made as many moves as it may',
+    NOT_HELD: "the client doesn't hold this mode",
+    BUSY: 'the client whose locks should be dropped waits',
+}
+
+
+class Handle(ctypes.Structure):
+    """A handle of the library; it is never copied."""
+    _fields_ = [('at', ctypes.c_void_p)]
+
+
+AT = POINTER(Handle)
+BYTES, COUNT, SIZE = POINTER(c_uint8), POINTER(c_uint32), POINTER(c_size_t)
+EXPORTS = {
+    'lockrun_open': (c_uint32, BYTES, c_size_t, c_uint32, c_uint32, AT),
+    'lockrun_take_station': (c_uint32, AT, AT),
+    'lockrun_take_session': (c_uint32, AT, AT),
+    'lockrun_turn': (c_uint32, AT),
+    'lockrun_submit': (c_uint32, AT, c_uint32, c_uint8, c_uint32, c_uint32),
+    'lockrun_poll': (c_uint32, AT, COUNT),
+    'lockrun_left': (c_uint32, AT),
+    'lockrun_client': (c_uint32, AT),
+    'lockrun_home': (c_uint32, AT),
+    'lockrun_give': (c_uint32, AT, AT),
+    'lockrun_finish': (c_uint32, AT, AT),
+    'lockrun_copy': (c_size_t, AT, c_size_t, BYTES, c_size_t),
+    'lockrun_script': (c_size_t, AT, c_size_t, BYTES, c_size_t),
+    'lockrun_end': (c_uint32, AT, SIZE, SIZE),
+    'lockrun_free': (None, AT),
+}
+
+
+class LockError(Exception):
+    """A call that can't be answered; `code` is that of lockrun.h."""
+
+    def __init__(self, code):
+        super().__init__(FAULTS.get(code, f'code {code}'))
+        self.code = code
+
+
+class StillWaits(Exception):
+    """The time is over, and the lock is still asked for: `Session.wait` goes on waiting."""
+
+
+def load(path):
+    """The library, with the types of its exports."""
+    library = ctypes.CDLL(path)
+    for name, (result, *arguments) in EXPORTS.items():
+        call = getattr(library, name)
+        call.restype, call.argtypes = result, arguments
+    return library
+
+
+def said(code):
+    """Raises the error that a code stands for."""
+    if code != OK:
+        raise LockError(code)
+
+
+def named(script, word):
+    """The numbers of the sets, or of the clients, by their names."""
+    lines = (line.split() for line in script.splitlines())
+    return {words[1]: number for number, words in enumerate(words for words in lines if words[:1] == [word])}
+
+
+class Nodes:
+    """The nodes of an open script, with a session for each client."""
+
+    def __init__(self, script, limit=1 << 20, library=None):
+        self.library = load(library or os.environ['LOCKRUN_LIBRARY'])
+        self.sets, self.clients = named(script, 'set'), named(script, 'client')
+        self.service, text = Handle(), script.encode()
+        said(self.library.lockrun_open((c_uint8 * len(text))(*text), len(text), limit, 4, self.service))
+        self.stations = [(station, threading.Lock()) for station in self._all(self.library.lockrun_take_station)]
+        self.sessions = [Session(self, session) for session in self._all(self.library.lockrun_take_session)]
+
+    def _all(self, take):
+        found = []
+        while True:
+            handle = Handle()
+            code = take(self.service, handle)
+            if code == NOTHING:
+                return found
+            said(code)
+            found.append(handle)
+
+    def session(self, client):
+        """The session of the client with this name."""
+        return self.sessions[self.clients[client]]
+
+    def turn(self, node):
+        """One turn of a node, unless another thread is turning it: whether it made a move."""
+        station, lock = self.stations[node]
+        if not lock.acquire(blocking=False):
+            return False
+        try:
+            code = self.library.lockrun_turn(station)
+        finally:
+            lock.release()
+        if code not in (OK, NOTHING):
+            raise LockError(code)
+        return code == OK
+
+    def turn_all(self):
+        """A turn of each node: whether one made a move."""
+        return any([self.turn(node) for node in range(len(self.stations))])
+
+    def finish(self):
+        """Ends the nodes, while no other thread is in a call: what they did."""
+        while any([self.turn_all(), self.turn_all()]):
+            pass
+        for handle in [station for station, _ in self.stations] + [session.handle for session in self.sessions]:
+            said(self.library.lockrun_give(self.service, handle))
+        journal = Handle()
+        said(self.library.lockrun_finish(self.service, journal))
+        return Journal(self.library, journal)
+
+
+class Journal:
+    """The text of the script with all commands, the journal, and how many lines of it say what is held and who waits."""
+
+    def __init__(self, library, handle):
+        held, waiting = c_size_t(), c_size_t()
+        said(library.lockrun_end(handle, held, waiting))
+        self.held, self.waiting = held.value, waiting.value
+        self.script, self.text = (self._text(copy, handle) for copy in (library.lockrun_script, library.lockrun_copy))
+        library.lockrun_free(handle)
+
+    @staticmethod
+    def _text(copy, handle):
+        whole, part = bytearray(), (c_uint8 * 4096)()
+        while count := copy(handle, len(whole), part, len(part)):
+            whole += bytes(part[:count])
+        return whole.decode()
+
+
+class Session:
+    """The session of one client. Its calls wait by turning the nodes."""
+
+    def __init__(self, nodes, handle):
+        self.nodes, self.handle, self.asked = nodes, handle, None
+        self.home = nodes.library.lockrun_home(handle)
+        self.client = nodes.library.lockrun_client(handle)
+
+    def left(self):
+        """How many commands may still be submitted."""
+        return self.nodes.library.lockrun_left(self.handle)
+
+    def lock(self, name, mode, patience=None):
+        """Waits until the lock is granted, or for so many seconds; then StillWaits is raised."""
+        self._submit(LOCK, name, MODES.index(mode))
+        self.asked = Guard(self, name, mode)
+        return self.wait(patience)
+
+    def wait(self, patience=None):
+        """Goes on waiting for the lock that was asked for."""
+        if self.asked is None:
+            raise LockError(NOTHING)
+        code, _ = self._reply(patience)
+        guard, self.asked = self.asked, None
+        if code != GRANTED:
+            raise LockError(code)
+        return guard
+
+    def try_lock(self, name, mode):
+        """Has the lock at once, or None."""
+        code, _ = self._call(TRY, name, MODES.index(mode))
+        return Guard(self, name, mode) if code == TRUE else None
+
+    def drop(self, name, whose):
+        """Drops the locks of a client of the same node in the set's family: how many they were."""
+        code, count = self._call(DROP, name, self.nodes.clients[whose])
+        if code != DROPPED:
+            raise LockError(code)
+        return count
+
+    def _submit(self, kind, name, first, second=0):
+        if self.asked is not None:
+            raise StillWaits
+        said(self.nodes.library.lockrun_submit(self.handle, kind, self.nodes.sets[name], first, second))
+
+    def _call(self, kind, name, first, second=0):
+        self._submit(kind, name, first, second)
+        return self._reply(None)
+
+    def _reply(self, patience):
+        end = None if patience is None else time.monotonic() + patience
+        count, tries = c_uint32(), 0
+        while True:
+            self.nodes.turn(self.home) if tries < OWN else self.nodes.turn_all()
+            code = self.nodes.library.lockrun_poll(self.handle, count)
+            if code != NOTHING:
+                return code, count.value
+            if tries >= OWN and end is not None and time.monotonic() >= end:
+                raise StillWaits
+            if tries >= SPINS:
+                time.sleep(min(LONGEST_NAP, (tries - SPINS) * 1e-6))
+            tries += 1
+
+
+class Guard:
+    """A lock that a session holds: a context manager that gives it up."""
+
+    def __init__(self, session, name, mode):
+        self.session, self.name, self.mode = session, name, mode
+
+    def change(self, mode):
+        """Changes the mode. It waits until the new one goes with what others hold."""
+        code, _ = self.session._call(CHANGE, self.name, MODES.index(self.mode), MODES.index(mode))
+        if code != CHANGED:
+            raise LockError(code)
+        self.mode = mode
+
+    def unlock(self):
+        """Gives the lock up."""
+        code, _ = self.session._call(UNLOCK, self.name, MODES.index(self.mode))
+        if code != UNLOCKED:
+            raise LockError(code)
+
+    def __enter__(self):
+        return self
+
+    def __exit__(self, *_):
+        self.unlock()

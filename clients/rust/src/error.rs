@@ -1,0 +1,65 @@
+use crate::exports;
+use std::fmt;
+
+#[derive(Clone, Copy, Debug, PartialEq, Eq)]
+pub enum Error {
+    NoMemory,
+    /// A number out of range, or a command that names what the script doesn't have.
+    BadArgument,
+    BadScript,
+    /// The session's share of commands is used up.
+    Spent,
+    /// A node made as many moves as it may.
+    LogFull,
+    /// The client didn't hold the mode that it gives up.
+    NotHeld,
+    /// The client whose locks should be dropped waits.
+    Busy,
+    /// The time is over, and the command is still asked for: `Session::wait` goes on waiting.
+    StillWaits,
+    /// Nothing is asked for.
+    NothingAsked,
+    /// These are not all sessions that were opened with the nodes.
+    OtherSessions,
+}
+
+impl Error {
+    pub(crate) fn of(code: u32) -> Error {
+        match code {
+            exports::NO_MEMORY => Error::NoMemory,
+            exports::BAD_SCRIPT => Error::BadScript,
+            exports::SPENT => Error::Spent,
+            exports::LOG_FULL => Error::LogFull,
+            exports::NOT_HELD => Error::NotHeld,
+            exports::BUSY => Error::Busy,
+            _ => Error::BadArgument,
+        }
+    }
+}
+
+impl fmt::Display for Error {
+    fn fmt(&self, out: &mut fmt::Formatter<'_>) -> fmt::Result {
+        out.write_str(match self {
+            Error::NoMemory => "out of memory",
+            Error::BadArgument => "the script has no such set, mode or client",
+            Error::BadScript => "the script has a fault",
+            Error::Spent => "the session's share of commands is used up",
+            Error::LogFull => "a node made as many moves as it may",
+            Error::NotHeld => "the client doesn't hold this mode",
+            Error::Busy => "the client whose locks should be dropped waits",
+            Error::StillWaits => "the client still waits",
+            Error::NothingAsked => "the client asked for nothing",
+            Error::OtherSessions => "these are not all sessions of the nodes",
+        })
+    }
+}
+
+impl std::error::Error for Error {}
+
+pub(crate) fn check(code: u32) -> Result<(), Error> {
+    if code == exports::OK {
+        Ok(())
+    } else {
+        Err(Error::of(code))
+    }
+}

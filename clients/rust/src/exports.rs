@@ -1,0 +1,69 @@
+//! The exports of the library, and a handle that is freed when it is dropped. tests/exports.py compares this file with
+//! the crate lt_live_c.
+#![allow(dead_code)]
+use std::ffi::c_void;
+use std::ptr::null_mut;
+
+#[repr(C)]
+pub struct Handle {
+    at: *mut c_void,
+}
+
+// SAFETY: it is proved of the library's handle that it may go from thread to thread.
+unsafe impl Send for Handle {}
+
+extern "C" {
+    pub fn lockrun_open(text: *const u8, length: usize, limit: u32, places: u32, service: *mut Handle) -> u32;
+    pub fn lockrun_take_station(service: *mut Handle, station: *mut Handle) -> u32;
+    pub fn lockrun_take_session(service: *mut Handle, session: *mut Handle) -> u32;
+    pub fn lockrun_turn(station: *mut Handle) -> u32;
+    pub fn lockrun_submit(session: *mut Handle, kind: u32, set: u8, first: u32, second: u32) -> u32;
+    pub fn lockrun_poll(session: *mut Handle, count: *mut u32) -> u32;
+    pub fn lockrun_left(session: *mut Handle) -> u32;
+    pub fn lockrun_client(session: *mut Handle) -> u32;
+    pub fn lockrun_home(session: *mut Handle) -> u32;
+    pub fn lockrun_give(service: *mut Handle, given: *mut Handle) -> u32;
+    pub fn lockrun_finish(service: *mut Handle, journal: *mut Handle) -> u32;
+    pub fn lockrun_copy(journal: *mut Handle, from: usize, out: *mut u8, room: usize) -> usize;
+    pub fn lockrun_script(journal: *mut Handle, from: usize, out: *mut u8, room: usize) -> usize;
+    pub fn lockrun_end(journal: *mut Handle, held: *mut usize, waiting: *mut usize) -> u32;
+    fn lockrun_free(handle: *mut Handle);
+}
+
+impl Handle {
+    pub const NONE: Handle = Handle { at: null_mut() };
+}
+
+impl Drop for Handle {
+    fn drop(&mut self) {
+        if !self.at.is_null() {
+            // SAFETY: a handle that isn't null stands for something.
+            unsafe { lockrun_free(self) }
+        }
+    }
+}
+
+pub const OK: u32 = 0;
+pub const NOTHING: u32 = 1;
+pub const WRONG_HANDLE: u32 = 2;
+pub const NO_MEMORY: u32 = 3;
+pub const BAD_ARGUMENT: u32 = 4;
+pub const BAD_SCRIPT: u32 = 5;
+pub const SPENT: u32 = 6;
+pub const FULL: u32 = 7;
+pub const LOG_FULL: u32 = 8;
+
+pub const LOCK: u32 = 0;
+pub const TRY: u32 = 1;
+pub const UNLOCK: u32 = 2;
+pub const CHANGE: u32 = 3;
+pub const DROP: u32 = 4;
+
+pub const GRANTED: u32 = 16;
+pub const TRUE: u32 = 17;
+pub const FALSE: u32 = 18;
+pub const UNLOCKED: u32 = 19;
+pub const NOT_HELD: u32 = 20;
+pub const CHANGED: u32 = 21;
+pub const DROPPED: u32 = 22;
+pub const BUSY: u32 = 23;

@@ -1,0 +1,132 @@
+//! Nodes: opened, turned by whoever waits, and finished.
+use crate::error::{check, Error};
+use crate::exports::{self, Handle};
+use crate::session::Session;
+use std::sync::{Arc, Mutex, TryLockError};
+
+/// The stations, each behind a lock that no thread waits for.
+pub(crate) struct Stations(Vec<Mutex<Handle>>);
+
+/// The nodes of an open script.
+pub struct Nodes {
+    service: Handle,
+    stations: Arc<Stations>,
+    clients: usize,
+}
+
+/// What the nodes did: the text of the script with all commands, and the journal of their run.
+pub struct Journal {
+    pub script: Vec<u8>,
+    pub text: Vec<u8>,
+    /// How many lines of the journal say what is held at the end, and how many say who waits.
+    pub held: usize,
+    pub waiting: usize,
+}
+
+/// Opens the script's nodes, sets and clients: its nodes, and a session for each client, in order. Each node makes at most
+/// `limit` moves.
+pub fn open(script: &str, limit: u32) -> Result<(Nodes, Vec<Session>), Error> {
+    let mut service = Handle::NONE;
+    // SAFETY: the text is borrowed for the call, and the handle stands for nothing.
+    check(unsafe { exports::lockrun_open(script.as_ptr(), script.len(), limit, 4, &mut service) })?;
+    let stations = take_all(&mut service, exports::lockrun_take_station)?;
+    let sessions = take_all(&mut service, exports::lockrun_take_session)?;
+    let stations = Arc::new(Stations(stations.into_iter().map(Mutex::new).collect()));
+    let nodes = Nodes { service, stations: stations.clone(), clients: sessions.len() };
+    Ok((nodes, sessions.into_iter().map(|raw| Session::new(raw, stations.clone())).collect()))
+}
+
+fn take_all(
+    service: &mut Handle,
+    take: unsafe extern "C" fn(*mut Handle, *mut Handle) -> u32,
+) -> Result<Vec<Handle>, Error> {
+    let mut found = Vec::new();
+    loop {
+        let mut next = Handle::NONE;
+        // SAFETY: the service stands for something, and the two handles are two.
+        match unsafe { take(service, &mut next) } {
+            exports::NOTHING => return Ok(found),
+            code => check(code)?,
+        }
+        found.push(next);
+    }
+}
+
+impl Stations {
+    /// A turn of a node, unless another thread is turning it: whether it made a move.
+    pub(crate) fn turn(&self, node: usize) -> Result<bool, Error> {
+        let mut station = match self.0[node].try_lock() {
+            Ok(station) => station,
+            Err(TryLockError::WouldBlock) => return Ok(false),
+            Err(TryLockError::Poisoned(station)) => station.into_inner(),
+        };
+        // SAFETY: the lock gives the handle to one call at a time.
+        match unsafe { exports::lockrun_turn(&mut *station) } {
+            exports::OK => Ok(true),
+            exports::NOTHING => Ok(false),
+            code => Err(Error::of(code)),
+        }
+    }
+
+    /// A turn of each node: whether one made a move.
+    pub(crate) fn turn_all(&self) -> Result<bool, Error> {
+        let mut moved = false;
+        for node in 0..self.0.len() {
+            moved |= self.turn(node)?;
+        }
+        Ok(moved)
+    }
+}
+
+impl Nodes {
+    /// Lets all nodes make turns until none makes a move, and ends them. It takes all sessions that were opened with them,
+    /// in any order. If these aren't they, or an error comes, all is dropped.
+    pub fn finish(mut self, mut sessions: Vec<Session>) -> Result<Journal, Error> {
+        sessions.sort_by_key(Session::client);
+        let own = sessions.iter().all(|session| session.is_of(&self.stations));
+        let each = sessions.iter().enumerate().all(|(client, session)| session.client() as usize == client);
+        if !own || !each || sessions.len() != self.clients {
+            return Err(Error::OtherSessions);
+        }
+        while self.stations.turn_all()? | self.stations.turn_all()? {}
+        let sessions: Vec<Handle> = sessions.into_iter().map(Session::into_handle).collect();
+        let stations = Arc::into_inner(self.stations).ok_or(Error::OtherSessions)?;
+        for station in stations.0 {
+            give(&mut self.service, station.into_inner().unwrap_or_else(|poisoned| poisoned.into_inner()))?;
+        }
+        for session in sessions {
+            give(&mut self.service, session)?;
+        }
+        finish(self.service)
+    }
+}
+
+fn give(service: &mut Handle, mut given: Handle) -> Result<(), Error> {
+    // SAFETY: two handles, each of which stands for something.
+    check(unsafe { exports::lockrun_give(service, &mut given) })
+}
+
+fn finish(mut service: Handle) -> Result<Journal, Error> {
+    let (mut journal, mut held, mut waiting) = (Handle::NONE, 0, 0);
+    // SAFETY: all stations and all sessions of one `open` were given back in order.
+    check(unsafe { exports::lockrun_finish(&mut service, &mut journal) })?;
+    // SAFETY: the journal stands for something.
+    check(unsafe { exports::lockrun_end(&mut journal, &mut held, &mut waiting) })?;
+    let script = text(&mut journal, exports::lockrun_script);
+    let text = text(&mut journal, exports::lockrun_copy);
+    Ok(Journal { script, text, held, waiting })
+}
+
+fn text(
+    journal: &mut Handle,
+    copy: unsafe extern "C" fn(*mut Handle, usize, *mut u8, usize) -> usize,
+) -> Vec<u8> {
+    let (mut whole, mut part) = (Vec::new(), [0; 4096]);
+    loop {
+        // SAFETY: the journal stands for something, and the part has so many bytes.
+        match unsafe { copy(journal, whole.len(), part.as_mut_ptr(), part.len()) } {
+            0 => return whole,
+            count => whole.extend_from_slice(&part[..count]),
+        }
+    }
+}

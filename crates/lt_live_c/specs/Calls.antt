@@ -1,0 +1,91 @@
+-- What calls on stations and sessions do.
+use Rattle.std.specs.Prelude.{◌≡◌, ◌≢◌, ◌++◌, ◌∷◌, [], ◌+◌, ◌≤◌, ◌⊎◌, ℕ, Option, Some, None, IsSomeAnd, length, ⊤}
+use mathlib.Core.List.{IsPrefix}
+use Rattle.lt_modes.specs.declared.command.Command.{Command}
+use Rattle.lt_spec.specs.Families.{home}
+use Rattle.lt_script.specs.Script.{HasTargets, HasModesOf}
+use Rattle.lt_runner.specs.declared.turning.Turned.{Turned}
+use Rattle.lt_live.specs.declared.ends.Session.{Session}
+use Rattle.lt_live.specs.declared.reply.Reply.{Reply}
+use Rattle.lt_live.specs.Words.{submitted, polled, known_replies, places}
+use Rattle.lt_live.specs.Stations.{StationData, StationTurns}
+use Rattle.lt_live_c.specs.declared.code.TheConstants.{OK, NOTHING, BAD_ARGUMENT, SPENT, FULL}
+use Rattle.lt_live_c.specs.declared.content.Content.{Content}
+use Rattle.lt_live_c.specs.declared.content.Content.TheVariants as contents
+use Rattle.lt_live_c.specs.Numbers.{number_of_reply, count_after, number_of_turn}
+
+-- a turn of the station, which ended as the code says
+abbrev pub Turns : ℕ → StationData → StationData → Type 0
+Turns code a b = (turned : Turned) × (code ≡ number_of_turn turned) × StationTurns turned a.runner a.seats b.runner b.seats
+
+-- all that the command names is of the session's script
+abbrev pub MaySubmit : Session → Command → Type 0
+MaySubmit s command = HasTargets s.script.sets s.script.clients s.client command × HasModesOf s.script.version command
+
+-- the command is the next one of the session's client
+pub record IsSubmitted (command : Command) (s t : Session) : Type 0 where
+  pub may : MaySubmit s command
+  pub next : submitted t ≡ submitted s ++ command ∷ []
+  pub left : t.left + 1 ≡ s.left
+
+-- the numbers are those of no command, or it names what isn't of the session's script
+abbrev pub MayNot : Option Command → Session → Type 0
+MayNot None s = ⊤
+MayNot (Some command) s = MaySubmit s command → ⊥
+
+-- the command was submitted, or none was, and the code says why
+pub record Submits (code : ℕ) (command : Option Command) (s t : Session) : Type 0 where
+  pub replies : (polled t ≡ polled s) × (known_replies t ≡ known_replies s)
+  pub ok : code ≡ OK → IsSomeAnd command (λ c. IsSubmitted c s t)
+  pub none : code ≢ OK → (submitted t ≡ submitted s) × (t.left ≡ s.left)
+  pub bad_argument : code ≡ BAD_ARGUMENT → MayNot command s
+  pub spent : code ≡ SPENT → s.left ≡ 0
+  pub full : code ≡ FULL → places s ≤ length (submitted s)
+  pub only : (code ≡ OK) ⊎ ((code ≡ BAD_ARGUMENT) ⊎ ((code ≡ SPENT) ⊎ (code ≡ FULL)))
+
+-- no reply was known here, and none is
+pub record HasNoReply (code was count : ℕ) (s t : Session) : Type 0 where
+  pub code_is : code ≡ NOTHING
+  pub known : (known_replies s ≡ []) × (known_replies t ≡ [])
+  pub polled : polled t ≡ polled s
+  pub stays : count ≡ was
+
+-- the next reply, which is the first one that is known here, if one is
+pub record TellsReply (reply : Reply) (code was count : ℕ) (s t : Session) : Type 0 where
+  pub code_is : code ≡ number_of_reply reply
+  pub known : IsPrefix (known_replies s) (reply ∷ known_replies t)
+  pub polled : polled t ≡ polled s ++ reply ∷ []
+  pub tells : count ≡ count_after reply was
+
+abbrev pub PollEnds : ℕ → ℕ → ℕ → Session → Session → Type 0
+PollEnds code was count s t = HasNoReply code was count s t ⊎ ((reply : Reply) × TellsReply reply code was count s t)
+
+pub record Polls (code was count : ℕ) (s t : Session) : Type 0 where
+  pub ends : PollEnds code was count s t
+  pub commands : (submitted t ≡ submitted s) × (t.left ≡ s.left)
+
+-- how many commands may still be submitted; 0 where it is no session
+abbrev pub left_of : Content → ℕ
+left_of (contents.Session s) = s.left
+left_of other = 0
+
+abbrev pub left_at : Option Content → ℕ
+left_at None = 0
+left_at (Some content) = left_of content
+
+-- the number of the session's client, and its node; 0 where it is no session
+abbrev pub client_of : Content → ℕ
+client_of (contents.Session s) = s.client
+client_of other = 0
+
+abbrev pub client_at : Option Content → ℕ
+client_at None = 0
+client_at (Some content) = client_of content
+
+abbrev pub home_of : Content → ℕ
+home_of (contents.Session s) = home s.script s.client
+home_of other = 0
+
+abbrev pub home_at : Option Content → ℕ
+home_at None = 0
+home_at (Some content) = home_of content

@@ -1,0 +1,83 @@
+-- The journal of a service's run.
+use Rattle.std.specs.Prelude.{◌≡◌, ℕ, ◌-◌, ◌++◌, ◌⊎◌, Bool, true, false, List, [], Option, Some, None, min, length, take, drop, count_by, ⊤}
+use Rattle.lt_modes.specs.Script.{ScriptData}
+use Rattle.lt_spec.specs.Log.{Logged}
+use Rattle.lt_script.specs.Printing.{print_of}
+use Rattle.lt_journal.specs.declared.line.Line.{Line}
+use Rattle.lt_journal.specs.declared.line.Line.TheVariants.{Held, Waiting}
+use Rattle.lt_journal.specs.RunLines.{closing_lines}
+use Rattle.lt_journal.specs.Text.{text_of}
+use Rattle.lt_live.specs.Live.{AreLive}
+use Rattle.lt_live.specs.Finished.{IsServedRun}
+use Rattle.lt_live_c.specs.declared.code.TheConstants.{OK, WRONG_HANDLE, NO_MEMORY}
+use Rattle.lt_live_c.specs.declared.journal.Journal.{Journal}
+use Rattle.lt_live_c.specs.declared.service.Service.{Service}
+use Rattle.lt_live_c.specs.declared.content.Content.{Content}
+use Rattle.lt_live_c.specs.declared.content.Content.TheVariants as contents
+use Rattle.lt_live_c.specs.Contents.{Both}
+
+-- the line says what is held at the end
+abbrev pub is_held : Line → Bool
+is_held (Held client set mode count) = true
+is_held other = false
+
+-- the line says who waits at the end
+abbrev pub is_waiting : Line → Bool
+is_waiting (Waiting client set mode) = true
+is_waiting other = false
+
+-- the texts of the script and of the run, and how many lines of it say what is held and who waits at the end
+pub record TellsOf (script : ScriptData) (run : List Logged) (journal : Journal) : Type 0 where
+  pub script_is : journal.script.items ≡ print_of script
+  pub text_is : journal.text.items ≡ text_of script run None
+  pub held : journal.held ≡ count_by is_held (closing_lines script run None)
+  pub waiting : journal.waiting ≡ count_by is_waiting (closing_lines script run None)
+
+-- it tells of a run by the rules, in which each client's commands are a first part of those that its session submitted, and what
+-- the session polled is a first part of its replies
+abbrev pub IsJournalOf : Service → Journal → Type 0
+IsJournalOf s journal = (first : ScriptData) → AreLive first s.stations.items s.sessions.items
+    → (script : ScriptData) × (run : List Logged) × IsServedRun first s.sessions.items script run × TellsOf script run journal
+
+abbrev pub JournalIsOf : Content → Content → Type 0
+JournalIsOf (contents.Service s) (contents.Journal journal) = IsJournalOf s journal
+JournalIsOf a b = ⊥
+
+abbrev pub HandleFinishes : Option Content → Option Content → Type 0
+HandleFinishes a b = Both JournalIsOf a b
+
+-- why there is no journal
+abbrev pub FinishRefused : ℕ → Type 0
+FinishRefused code = (code ≡ WRONG_HANDLE) ⊎ (code ≡ NO_MEMORY)
+
+-- the text of the script with its commands; empty where it is no journal
+abbrev pub script_in : Content → List ℕ
+script_in (contents.Journal journal) = journal.script.items
+script_in other = []
+
+abbrev pub script_at : Option Content → List ℕ
+script_at None = []
+script_at (Some content) = script_in content
+
+-- the text of the run
+abbrev pub text_in : Content → List ℕ
+text_in (contents.Journal journal) = journal.text.items
+text_in other = []
+
+abbrev pub text_at : Option Content → List ℕ
+text_at None = []
+text_at (Some content) = text_in content
+
+-- so many bytes of the text from this one on, as many as there are or as have room, stand first now
+pub record CopiesFrom (text : List ℕ) (from count : ℕ) (old new : List ℕ) : Type 0 where
+  pub many : count ≡ min (length old) (length text - from)
+  pub bytes : new ≡ take count (drop from text) ++ drop count old
+
+-- C is told how many lines say what is held, and how many who waits
+abbrev pub TellsEnd : Content → ℕ → ℕ → ℕ → ℕ → ℕ → Type 0
+TellsEnd (contents.Journal journal) code was held waited waiting = (code ≡ OK) × (held ≡ journal.held) × (waiting ≡ journal.waiting)
+TellsEnd other code was held waited waiting = (code ≡ WRONG_HANDLE) × (held ≡ was) × (waiting ≡ waited)
+
+abbrev pub HandleTellsEnd : Option Content → ℕ → ℕ → ℕ → ℕ → ℕ → Type 0
+HandleTellsEnd None code was held waited waiting = ⊤
+HandleTellsEnd (Some content) code was held waited waiting = TellsEnd content code was held waited waiting

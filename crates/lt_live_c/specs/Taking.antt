@@ -1,0 +1,118 @@
+-- Which station or session is taken from a service, or given to it.
+use Rattle.std.specs.Prelude.{◌≡◌, ◌++◌, ◌∷◌, [], ℕ, ◌⊎◌, Bool, false, true, Option, Some, None, drop, slice_get, ⊤}
+use Rattle.lt_live.specs.declared.ends.Session.{Session}
+use Rattle.lt_live.specs.Stations.{StationData}
+use Rattle.lt_live_c.specs.declared.code.TheConstants.{NOTHING, WRONG_HANDLE, NO_MEMORY}
+use Rattle.lt_live_c.specs.declared.service.Service.{Service}
+use Rattle.lt_live_c.specs.declared.content.Content.{Content}
+use Rattle.lt_live_c.specs.declared.content.Content.TheVariants as contents
+use Rattle.lt_live_c.specs.Contents.{is_service, Both}
+
+-- it is the first station of the service, which has the others left
+abbrev pub TakesFirstStation : StationData → Service → Service → Type 0
+TakesFirstStation x s t = (slice_get s.stations.items 0 ≡ Some x) × (t.stations.items ≡ drop 1 s.stations.items) × (t.sessions ≡ s.sessions)
+
+abbrev pub TakesStation : StationData → Content → Content → Type 0
+TakesStation x (contents.Service s) (contents.Service t) = TakesFirstStation x s t
+TakesStation x a b = ⊥
+
+abbrev pub HandleTakesStation : Option Content → Option Content → Option Content → Type 0
+HandleTakesStation (Some (contents.Station x)) a b = Both (TakesStation x) a b
+HandleTakesStation other a b = ⊥
+
+-- the same of the first session
+abbrev pub TakesFirstSession : Session → Service → Service → Type 0
+TakesFirstSession x s t = (slice_get s.sessions.items 0 ≡ Some x) × (t.sessions.items ≡ drop 1 s.sessions.items) × (t.stations ≡ s.stations)
+
+abbrev pub TakesSession : Session → Content → Content → Type 0
+TakesSession x (contents.Service s) (contents.Service t) = TakesFirstSession x s t
+TakesSession x a b = ⊥
+
+abbrev pub HandleTakesSession : Option Content → Option Content → Option Content → Type 0
+HandleTakesSession (Some (contents.Session x)) a b = Both (TakesSession x) a b
+HandleTakesSession other a b = ⊥
+
+-- a service that has no station, or no session, left
+abbrev pub HasNoStation : Content → Type 0
+HasNoStation (contents.Service s) = s.stations.items ≡ []
+HasNoStation other = ⊥
+
+abbrev pub HasNoSession : Content → Type 0
+HasNoSession (contents.Service s) = s.sessions.items ≡ []
+HasNoSession other = ⊥
+
+-- why none was taken
+pub record NoStation (code : ℕ) (a : Content) : Type 0 where
+  pub nothing : code ≡ NOTHING → HasNoStation a
+  pub wrong : code ≡ WRONG_HANDLE → is_service a ≡ false
+  pub only : (code ≡ NOTHING) ⊎ ((code ≡ WRONG_HANDLE) ⊎ (code ≡ NO_MEMORY))
+
+pub record NoSession (code : ℕ) (a : Content) : Type 0 where
+  pub nothing : code ≡ NOTHING → HasNoSession a
+  pub wrong : code ≡ WRONG_HANDLE → is_service a ≡ false
+  pub only : (code ≡ NOTHING) ⊎ ((code ≡ WRONG_HANDLE) ⊎ (code ≡ NO_MEMORY))
+
+abbrev pub StationRefused : ℕ → Content → Content → Type 0
+StationRefused code a b = NoStation code a × (b ≡ a)
+
+abbrev pub SessionRefused : ℕ → Content → Content → Type 0
+SessionRefused code a b = NoSession code a × (b ≡ a)
+
+abbrev pub HandleHasNoStation : ℕ → Option Content → Type 0
+HandleHasNoStation code None = ⊤
+HandleHasNoStation code (Some a) = NoStation code a
+
+abbrev pub HandleHasNoSession : ℕ → Option Content → Type 0
+HandleHasNoSession code None = ⊤
+HandleHasNoSession code (Some a) = NoSession code a
+
+-- it is behind all other stations, or sessions, of the service
+abbrev pub GivesTo : Content → Service → Service → Type 0
+GivesTo (contents.Station x) s t = (t.stations.items ≡ s.stations.items ++ x ∷ []) × (t.sessions ≡ s.sessions)
+GivesTo (contents.Session x) s t = (t.sessions.items ≡ s.sessions.items ++ x ∷ []) × (t.stations ≡ s.stations)
+GivesTo other s t = ⊥
+
+abbrev pub Gives : Content → Content → Content → Type 0
+Gives x (contents.Service s) (contents.Service t) = GivesTo x s t
+Gives x a b = ⊥
+
+abbrev pub HandleGives : Option Content → Option Content → Option Content → Type 0
+HandleGives (Some x) a b = Both (Gives x) a b
+HandleGives None a b = ⊤
+
+-- a station or a session
+abbrev pub is_end : Content → Bool
+is_end (contents.Station x) = true
+is_end (contents.Session x) = true
+is_end other = false
+
+-- the service has the stations and sessions that it had
+abbrev pub SameEnds : Service → Service → Type 0
+SameEnds s t = (t.stations.items ≡ s.stations.items) × (t.sessions.items ≡ s.sessions.items)
+
+abbrev pub Keeps : Content → Content → Type 0
+Keeps (contents.Service s) (contents.Service t) = SameEnds s t
+Keeps (contents.Service s) other = ⊥
+Keeps other b = b ≡ other
+
+abbrev pub HandleKeeps : Option Content → Option Content → Type 0
+HandleKeeps a b = Both Keeps a b
+
+-- it is no station and no session, or goes to what is no service
+abbrev pub IsNoGift : Content → Content → Type 0
+IsNoGift x a = (is_end x ≡ false) ⊎ (is_service a ≡ false)
+
+-- why it was not given
+pub record NotGiven (code : ℕ) (x a : Content) : Type 0 where
+  pub wrong : code ≡ WRONG_HANDLE → IsNoGift x a
+  pub only : (code ≡ WRONG_HANDLE) ⊎ (code ≡ NO_MEMORY)
+
+abbrev pub GiveRefused : ℕ → Content → Content → Content → Type 0
+GiveRefused code x a b = NotGiven code x a × Keeps a b
+
+abbrev pub GiveRefusedBy : ℕ → Content → Service → Service → Type 0
+GiveRefusedBy code x s t = NotGiven code x (contents.Service s) × SameEnds s t
+
+abbrev pub HandleGiveRefused : ℕ → Option Content → Option Content → Type 0
+HandleGiveRefused code (Some x) (Some a) = NotGiven code x a
+HandleGiveRefused code x a = ⊤

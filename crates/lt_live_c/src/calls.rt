@@ -1,0 +1,114 @@
+// What the calls on stations and sessions do with what a handle stands for.
+ghost use Rattle.std.specs.Prelude.{◌≡◌};
+ghost use Rattle.lt_live.specs.Words.{SameSession};
+ghost use Rattle.lt_live.specs.Live.{StationGoesOn};
+ghost use Rattle.lt_live_c.specs.Contents.{GoesOn, OnStation, OnSession};
+ghost use Rattle.lt_live_c.specs.Calls.{Turns, Submits, Polls, left_of, client_of, home_of};
+
+use crate::code::{
+    BAD_ARGUMENT, FULL, NOTHING, OK, SPENT, WRONG_HANDLE, number_of_reply, number_of_turn,
+};
+use crate::content::Content;
+use lt_live::{Session, Station};
+use lt_modes::Command;
+use lt_runner::Open;
+
+#[tactic(auto, using(lt_live::proofs::Settling::same_sessions))]
+pub fn turn(content: &mut Content) -> u32
+    ensures goes_on { GoesOn content.old content.new }
+    ensures turns { OnStation result (Turns result) content.old content.new }
+{
+    match content {
+        Content::Station(station) => turn_of(station),
+        _ => WRONG_HANDLE,
+    }
+}
+
+fn turn_of(station: &mut Station) -> u32
+    ensures goes_on { StationGoesOn station.old station.new }
+    ensures turns { Turns result station.old station.new }
+{
+    number_of_turn(station.turn(&Open))
+}
+
+#[tactic(auto, using(lt_live::specs::Same::station_goes_on_itself))]
+pub fn submit(content: &mut Content, command: Option<Command>) -> u32
+    ensures goes_on { GoesOn content.old content.new }
+    ensures submits { OnSession result (Submits result command) content.old content.new }
+{
+    match content {
+        Content::Session(session) => submit_to(session, command),
+        _ => WRONG_HANDLE,
+    }
+}
+
+#[tactic(auto, using(lt_live::proofs::Settling::same_sessions, crate::proofs::Refusing::may_not))]
+fn submit_to(session: &mut Session, command: Option<Command>) -> u32
+    ensures same { SameSession session.old session.new }
+    ensures submits { Submits result command session.old session.new }
+{
+    let Some(command) = command else {
+        return BAD_ARGUMENT;
+    };
+    if !session.may_submit(command) {
+        return BAD_ARGUMENT;
+    }
+    if session.left() == 0 {
+        return SPENT;
+    }
+    match session.submit(command) {
+        Ok(()) => OK,
+        Err(_) => FULL,
+    }
+}
+
+#[tactic(auto, using(lt_live::specs::Same::station_goes_on_itself))]
+pub fn poll(content: &mut Content, count: &mut u32) -> u32
+    ensures goes_on { GoesOn content.old content.new }
+    ensures polls { OnSession result (Polls result count.old count.new) content.old content.new }
+{
+    match content {
+        Content::Session(session) => poll_from(session, count),
+        _ => WRONG_HANDLE,
+    }
+}
+
+fn poll_from(session: &mut Session, count: &mut u32) -> u32
+    ensures same { SameSession session.old session.new }
+    ensures polls { Polls result count.old count.new session.old session.new }
+{
+    match session.poll() {
+        Some(reply) => number_of_reply(reply, count),
+        None => NOTHING,
+    }
+}
+
+/// How many commands may still be submitted; 0 where it is no session.
+pub fn left(content: &Content) -> u32
+    ensures { result ≡ left_of content.now }
+{
+    match content {
+        Content::Session(session) => session.left(),
+        _ => 0,
+    }
+}
+
+/// The number of the session's client; 0 where it is no session.
+pub fn client(content: &Content) -> u32
+    ensures { result ≡ client_of content.now }
+{
+    match content {
+        Content::Session(session) => u32::from(session.client()),
+        _ => 0,
+    }
+}
+
+/// The node of the session's client; 0 where it is no session.
+pub fn home(content: &Content) -> u32
+    ensures { result ≡ home_of content.now }
+{
+    match content {
+        Content::Session(session) => u32::from(session.script().home(session.client())),
+        _ => 0,
+    }
+}

@@ -1,0 +1,144 @@
+// Numbers for C: how a call ended, replies, modes and commands.
+ghost use Rattle.std.specs.Prelude.{◌≡◌};
+ghost use Rattle.lt_live_c.specs.Numbers.{number_of_reply, count_after, number_of_turn, mode_numbered, command_numbered, with_mode, with_modes, drop_of};
+ghost use Rattle.lt_modes.specs.declared.command.Command.TheVariants as commands;
+
+use lt_live::Reply;
+use lt_modes::{Command, Mode};
+use lt_runner::Turned;
+
+pub const OK: u32 = 0;
+
+/// Nothing is there to be taken, made or told.
+pub const NOTHING: u32 = 1;
+
+/// The handle stands for something else.
+pub const WRONG_HANDLE: u32 = 2;
+
+pub const NO_MEMORY: u32 = 3;
+
+pub const BAD_ARGUMENT: u32 = 4;
+
+pub const BAD_SCRIPT: u32 = 5;
+
+/// The session's share of commands is used up.
+pub const SPENT: u32 = 6;
+
+/// The ring has no place now.
+pub const FULL: u32 = 7;
+
+/// A move was found, and the log has no place for it.
+pub const LOG_FULL: u32 = 8;
+
+/// How a turn ended.
+pub fn number_of_turn(turned: Turned) -> u32
+    ensures { result ≡ number_of_turn turned }
+{
+    match turned {
+        Turned::Moved => OK,
+        Turned::Quiet => NOTHING,
+        Turned::Full => LOG_FULL,
+        Turned::NoMemory => NO_MEMORY,
+    }
+}
+
+/// The reply's number. Of dropped locks `count` tells how many they were.
+pub fn number_of_reply(reply: Reply, count: &mut u32) -> u32
+    ensures number { result ≡ number_of_reply reply }
+    ensures count { count.new ≡ count_after reply count.old }
+{
+    match reply {
+        Reply::Granted => 16,
+        Reply::True => 17,
+        Reply::False => 18,
+        Reply::Unlocked => 19,
+        Reply::NotHeld => 20,
+        Reply::Changed => 21,
+        Reply::Dropped(dropped) => {
+            *count = dropped;
+            22
+        }
+        Reply::Busy => 23,
+    }
+}
+
+/// The command of this kind.
+pub fn command_numbered(kind: u32, set: u8, first: u32, second: u32) -> Option<Command>
+    ensures { result ≡ command_numbered kind set first second }
+{
+    match kind {
+        0 => lock(set, mode_numbered(first)),
+        1 => try_lock(set, mode_numbered(first)),
+        2 => unlock(set, mode_numbered(first)),
+        3 => change(set, mode_numbered(first), mode_numbered(second)),
+        4 => drop_locks(set, first),
+        _ => None,
+    }
+}
+
+fn mode_numbered(number: u32) -> Option<Mode>
+    ensures { result ≡ mode_numbered number }
+{
+    match number {
+        0 => Some(Mode::IntentionRead),
+        1 => Some(Mode::Read),
+        2 => Some(Mode::Upgrade),
+        3 => Some(Mode::IntentionWrite),
+        4 => Some(Mode::ReadIntentionWrite),
+        5 => Some(Mode::Write),
+        _ => None,
+    }
+}
+
+fn lock(set: u8, mode: Option<Mode>) -> Option<Command>
+    ensures { result ≡ with_mode (λ mode. commands.Lock set mode) mode }
+{
+    match mode {
+        Some(mode) => Some(Command::Lock { set, mode }),
+        None => None,
+    }
+}
+
+fn try_lock(set: u8, mode: Option<Mode>) -> Option<Command>
+    ensures { result ≡ with_mode (λ mode. commands.Try set mode) mode }
+{
+    match mode {
+        Some(mode) => Some(Command::Try { set, mode }),
+        None => None,
+    }
+}
+
+fn unlock(set: u8, mode: Option<Mode>) -> Option<Command>
+    ensures { result ≡ with_mode (λ mode. commands.Unlock set mode) mode }
+{
+    match mode {
+        Some(mode) => Some(Command::Unlock { set, mode }),
+        None => None,
+    }
+}
+
+fn change(set: u8, gives_up: Option<Mode>, mode: Option<Mode>) -> Option<Command>
+    ensures { result ≡ with_modes (λ gives_up mode. commands.Change set gives_up mode) gives_up mode }
+{
+    match (gives_up, mode) {
+        (Some(gives_up), Some(mode)) => Some(Command::Change {
+            set,
+            gives_up,
+            mode,
+        }),
+        _ => None,
+    }
+}
+
+fn drop_locks(set: u8, client: u32) -> Option<Command>
+    ensures { result ≡ drop_of set client }
+{
+    if client < 65536 {
+        Some(Command::DropAll {
+            client: client as u16,
+            set,
+        })
+    } else {
+        None
+    }
+}

@@ -1,0 +1,20 @@
+//! Sessions and stations of lt_live for programs that aren't Rattle.
+//!
+//! Each call takes handles. A handle is a pointer to a box of its own, which the call takes out of the handle and puts
+//! back; its ghost field says what is in the box, or that there is none.
+#![tactic(auto)]
+
+mod boxes;
+mod calls;
+mod code;
+mod content;
+mod handle;
+mod journal;
+mod journals;
+mod limits;
+mod parts;
+mod service;
+mod services;
+mod sessions;
+mod taking;
+mod texts;

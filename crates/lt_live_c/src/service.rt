@@ -1,0 +1,102 @@
+// The stations and sessions of a script, until they are taken, and after they are given back.
+ghost use Rattle.std.specs.Prelude.{◌≡◌, ◌≢◌, ◌<◌, ◌≤◌, ◌∷◌, ◌++◌, [], drop, slice_get, IfOk, IfErr, IfSome, IfNone, OnOk};
+ghost use Rattle.lt_limits.specs.declared.moves.TheConstants.{MAX_MOVES};
+ghost use Rattle.lt_script.specs.declared.limits.TheConstants.{MAX_COMMANDS};
+ghost use Rattle.lt_live.specs.Opened.{Opened};
+ghost use Rattle.lt_live.specs.Live.{LiveScript};
+ghost use Rattle.lt_live_c.specs.Opening.{IsOpenedFrom, OpenRefused, fits};
+ghost use Rattle.lt_live_c.specs.Journals.{IsJournalOf};
+ghost use Rattle.lt_live_c.specs.Taking.{TakesFirstStation, TakesFirstSession};
+
+use crate::code::{BAD_ARGUMENT, BAD_SCRIPT, NO_MEMORY};
+use crate::journal::Journal;
+use crate::limits::MAX_BYTES;
+use lt_limits::MAX_MOVES;
+use lt_live::{Session, Station, finish, law_live_lasts, open};
+use lt_script::{MAX_COMMANDS, ReadError, Script};
+use std::alloc::{AllocError, Global};
+
+#[derive(Drop)]
+pub struct Service {
+    pub stations: Vec<Station>,
+    pub sessions: Vec<Session>,
+}
+
+impl Service {
+    /// The stations and sessions of the script, whose commands are left out.
+    #[tactic(auto, using(crate::proofs::Fitting::limit_fits, crate::proofs::Fitting::places_fit, crate::proofs::Fitting::length_fits))]
+    pub fn open(alloc: Global, text: &[u8], limit: u32, places: u32) -> Result<Service, u32>
+        ensures opened { IfOk result (λ s. IsOpenedFrom text.now limit places s) }
+        ensures whole { IfOk result (λ s. LiveScript s.stations.items s.sessions.items) }
+        ensures refused { IfErr result (λ code. OpenRefused code text.now limit places) }
+    {
+        if !fits(text, limit, places) {
+            return Err(BAD_ARGUMENT);
+        }
+        let script = match lt_script::read(alloc, text) {
+            Ok(script) => script,
+            Err(ReadError::Memory) => return Err(NO_MEMORY),
+            Err(ReadError::Fault(_)) => return Err(BAD_SCRIPT),
+        };
+        let Ok(script) = script.without_commands(alloc) else {
+            return Err(NO_MEMORY);
+        };
+        match Service::of(alloc, &script, limit, places) {
+            Ok(service) => Ok(service),
+            Err(_) => Err(NO_MEMORY),
+        }
+    }
+
+    fn of(alloc: Global, script: &Script, limit: u32, places: u32) -> Result<Service, AllocError>
+        requires commands { script.now.commands ≡ [] }
+        requires limit { (0 < limit) × (limit ≤ MAX_MOVES) }
+        requires places { (0 < places) × (places ≤ MAX_COMMANDS) }
+        ensures opened { IfOk result (λ s. Opened script.now limit places s.stations.items s.sessions.items) }
+        ensures whole { IfOk result (λ s. LiveScript s.stations.items s.sessions.items) }
+    {
+        law_live_lasts();
+        let (stations, sessions) = open(alloc, script, limit, places)?;
+        Ok(Service { stations, sessions })
+    }
+
+    /// The journal of the run that the stations made. Without memory all is dropped.
+    pub fn finish(self, alloc: Global) -> Result<Journal, AllocError>
+        requires { LiveScript self.stations.items self.sessions.items }
+        ensures { IfOk result (λ journal. IsJournalOf self journal) }
+    {
+        let (script, run) = finish(alloc, self.stations, self.sessions)?;
+        let journal = Journal::of(alloc, &script, &run)?;
+        Ok(journal)
+    }
+
+    pub fn next_station(&mut self) -> Option<Station>
+        ensures some { IfSome result (λ station. TakesFirstStation station self.old self.new) }
+        ensures none { IfNone result ((self.new ≡ self.old) × (self.old.stations.items ≡ [])) }
+    {
+        if self.stations.is_empty() {
+            None
+        } else {
+            Some(self.stations.remove(0))
+        }
+    }
+
+    pub fn next_session(&mut self) -> Option<Session>
+        ensures some { IfSome result (λ session. TakesFirstSession session self.old self.new) }
+        ensures none { IfNone result ((self.new ≡ self.old) × (self.old.sessions.items ≡ [])) }
+    {
+        if self.sessions.is_empty() {
+            None
+        } else {
+            Some(self.sessions.remove(0))
+        }
+    }
+}
+
+// Whether the numbers are in range, and the text isn't too long.
+fn fits(text: &[u8], limit: u32, places: u32) -> bool
+    ensures { result ≡ fits text.now limit places }
+{
+    text.len() <= MAX_BYTES
+        && (0 < limit && limit <= MAX_MOVES)
+        && (0 < places && places <= MAX_COMMANDS)
+}

@@ -1,0 +1,147 @@
+// The calls on services.
+ghost use Rattle.std.specs.Prelude.{◌≡◌, ◌≢◌, None, IsSome};
+ghost use Rattle.lt_live_c.specs.Contents.{IsWholeHandle, IsOfOther};
+ghost use Rattle.lt_live_c.specs.Opening.{HandleOpened, OpenRefused};
+ghost use Rattle.lt_live_c.specs.Taking.{HandleTakesStation, HandleTakesSession, HandleHasNoStation, HandleHasNoSession, HandleGives, HandleKeeps, HandleGiveRefused};
+ghost use Rattle.lt_live_c.specs.Journals.{HandleFinishes, FinishRefused};
+
+use crate::boxes::{put, room, take};
+use crate::code::{NO_MEMORY, OK, WRONG_HANDLE};
+use crate::content::Content;
+use crate::handle::Handle;
+use crate::journal::Journal;
+use crate::service::Service;
+use crate::taking::{give_back, is_service, journal_of, next_session, next_station};
+use std::alloc::Global;
+use std::mem::replace;
+
+/// Opens the script: `service` stands for its stations and sessions.
+#[unsafe(no_mangle)]
+pub extern "C" fn lockrun_open(
+    alloc: Global,
+    text: &[u8],
+    limit: u32,
+    places: u32,
+    service: &mut Handle,
+) -> u32
+    ensures opened { result ≡ OK → HandleOpened text.now limit places service.new.value }
+    ensures whole { result ≡ OK → IsWholeHandle service.new.value }
+    ensures keeps { result ≢ OK → service.new.value ≡ service.old.value }
+    ensures refused { result ≢ OK → OpenRefused result text.now limit places }
+{
+    let Ok(room) = room(alloc) else {
+        return NO_MEMORY;
+    };
+    match Service::open(alloc, text, limit, places) {
+        Ok(opened) => put(room, Content::Service(opened), service),
+        Err(code) => code,
+    }
+}
+
+/// Takes the next station of the service.
+#[unsafe(no_mangle)]
+pub extern "C" fn lockrun_take_station(
+    alloc: Global,
+    service: &mut Handle,
+    station: &mut Handle,
+) -> u32
+    requires { IsSome service.old.value }
+    ensures takes { result ≡ OK → HandleTakesStation station.new.value service.old.value service.new.value }
+    ensures keeps { result ≢ OK → (service.new.value ≡ service.old.value) × (station.new.value ≡ station.old.value) }
+    ensures refused { result ≢ OK → HandleHasNoStation result service.old.value }
+    ensures some { IsSome service.new.value }
+{
+    let Ok(room) = room(alloc) else {
+        return NO_MEMORY;
+    };
+    let mut inside = take(alloc, service);
+    let next = next_station(&mut inside);
+    *service = Handle::of(inside);
+    match next {
+        Ok(next) => put(room, Content::Station(next), station),
+        Err(code) => code,
+    }
+}
+
+/// Takes the next session of the service.
+#[unsafe(no_mangle)]
+pub extern "C" fn lockrun_take_session(
+    alloc: Global,
+    service: &mut Handle,
+    session: &mut Handle,
+) -> u32
+    requires { IsSome service.old.value }
+    ensures takes { result ≡ OK → HandleTakesSession session.new.value service.old.value service.new.value }
+    ensures keeps { result ≢ OK → (service.new.value ≡ service.old.value) × (session.new.value ≡ session.old.value) }
+    ensures refused { result ≢ OK → HandleHasNoSession result service.old.value }
+    ensures some { IsSome service.new.value }
+{
+    let Ok(room) = room(alloc) else {
+        return NO_MEMORY;
+    };
+    let mut inside = take(alloc, service);
+    let next = next_session(&mut inside);
+    *service = Handle::of(inside);
+    match next {
+        Ok(next) => put(room, Content::Session(next), session),
+        Err(code) => code,
+    }
+}
+
+/// Gives a station or a session back to the service: behind all others that it has.
+#[unsafe(no_mangle)]
+pub extern "C" fn lockrun_give(alloc: Global, service: &mut Handle, given: &mut Handle) -> u32
+    requires service { IsSome service.old.value }
+    requires given { IsSome given.old.value }
+    ensures gives { result ≡ OK → HandleGives given.old.value service.old.value service.new.value }
+    ensures gone { result ≡ OK → given.new.value ≡ None }
+    ensures keeps { result ≢ OK → (given.new.value ≡ given.old.value) × HandleKeeps service.old.value service.new.value }
+    ensures refused { result ≢ OK → HandleGiveRefused result given.old.value service.old.value }
+    ensures some { IsSome service.new.value }
+{
+    let mut room = take(alloc, given);
+    let content = replace(&mut *room, Content::Journal(Journal::empty(alloc)));
+    let mut inside = take(alloc, service);
+    let gave = give_back(&mut inside, content);
+    *service = Handle::of(inside);
+    match gave {
+        Ok(()) => OK,
+        Err((code, back)) => {
+            put(room, back, given);
+            code
+        }
+    }
+}
+
+/// Ends the service, all of whose stations and sessions were given back in order: `journal` stands for what they did.
+/// Without memory all is dropped.
+#[unsafe(no_mangle)]
+pub extern "C" fn lockrun_finish(alloc: Global, service: &mut Handle, journal: &mut Handle) -> u32
+    requires some { IsSome service.old.value }
+    requires whole { IsWholeHandle service.old.value }
+    ensures journal { result ≡ OK → HandleFinishes service.old.value journal.new.value }
+    ensures gone { result ≢ WRONG_HANDLE → service.new.value ≡ None }
+    ensures wrong { result ≡ WRONG_HANDLE → IsOfOther service.old.value × (service.new.value ≡ service.old.value) }
+    ensures keeps { result ≢ OK → journal.new.value ≡ journal.old.value }
+    ensures refused { result ≢ OK → FinishRefused result }
+{
+    let mut room = take(alloc, service);
+    if !is_service(&room) {
+        *service = Handle::of(room);
+        return WRONG_HANDLE;
+    }
+    let content = replace(&mut *room, Content::Journal(Journal::empty(alloc)));
+    match journal_of(alloc, content) {
+        Ok(made) => put(room, made, journal),
+        Err(_) => NO_MEMORY,
+    }
+}
+
+/// Frees what the handle stands for.
+#[unsafe(no_mangle)]
+pub extern "C" fn lockrun_free(alloc: Global, handle: &mut Handle)
+    requires { IsSome handle.old.value }
+    ensures { handle.new.value ≡ None }
+{
+    drop(take(alloc, handle));
+}

@@ -1,0 +1,100 @@
+// The calls on stations and on sessions.
+ghost use Rattle.std.specs.Prelude.{◌≡◌, IsSome};
+ghost use Rattle.lt_live_c.specs.Contents.{HandleGoesOn, AtStation, AtSession};
+ghost use Rattle.lt_live_c.specs.Calls.{Turns, Submits, Polls, left_at, client_at, home_at};
+ghost use Rattle.lt_live_c.specs.Numbers.{command_numbered as the_command};
+
+use crate::boxes::take;
+use crate::calls;
+use crate::code::command_numbered;
+use crate::handle::Handle;
+use std::alloc::Global;
+
+/// Lets a station make a turn.
+#[unsafe(no_mangle)]
+pub extern "C" fn lockrun_turn(alloc: Global, station: &mut Handle) -> u32
+    requires { IsSome station.old.value }
+    ensures some { IsSome station.new.value }
+    ensures goes_on { HandleGoesOn station.old.value station.new.value }
+    ensures turns { AtStation result (Turns result) station.old.value station.new.value }
+{
+    let mut inside = take(alloc, station);
+    let code = calls::turn(&mut inside);
+    *station = Handle::of(inside);
+    code
+}
+
+/// Submits the command of these numbers.
+#[unsafe(no_mangle)]
+pub extern "C" fn lockrun_submit(
+    alloc: Global,
+    session: &mut Handle,
+    kind: u32,
+    set: u8,
+    first: u32,
+    second: u32,
+) -> u32
+    requires { IsSome session.old.value }
+    ensures some { IsSome session.new.value }
+    ensures goes_on { HandleGoesOn session.old.value session.new.value }
+    ensures submits { AtSession result (Submits result (the_command kind set first second)) session.old.value session.new.value }
+{
+    let command = command_numbered(kind, set, first, second);
+    let mut inside = take(alloc, session);
+    let code = calls::submit(&mut inside, command);
+    *session = Handle::of(inside);
+    code
+}
+
+/// Polls for the next reply.
+#[unsafe(no_mangle)]
+pub extern "C" fn lockrun_poll(alloc: Global, session: &mut Handle, count: &mut u32) -> u32
+    requires { IsSome session.old.value }
+    ensures some { IsSome session.new.value }
+    ensures goes_on { HandleGoesOn session.old.value session.new.value }
+    ensures polls { AtSession result (Polls result count.old count.new) session.old.value session.new.value }
+{
+    let mut inside = take(alloc, session);
+    let code = calls::poll(&mut inside, count);
+    *session = Handle::of(inside);
+    code
+}
+
+/// How many commands may still be submitted.
+#[unsafe(no_mangle)]
+pub extern "C" fn lockrun_left(alloc: Global, session: &mut Handle) -> u32
+    requires { IsSome session.old.value }
+    ensures keeps { session.new.value ≡ session.old.value }
+    ensures left { result ≡ left_at session.old.value }
+{
+    let inside = take(alloc, session);
+    let left = calls::left(&inside);
+    *session = Handle::of(inside);
+    left
+}
+
+/// The number of the session's client.
+#[unsafe(no_mangle)]
+pub extern "C" fn lockrun_client(alloc: Global, session: &mut Handle) -> u32
+    requires { IsSome session.old.value }
+    ensures keeps { session.new.value ≡ session.old.value }
+    ensures client { result ≡ client_at session.old.value }
+{
+    let inside = take(alloc, session);
+    let client = calls::client(&inside);
+    *session = Handle::of(inside);
+    client
+}
+
+/// The node of the session's client.
+#[unsafe(no_mangle)]
+pub extern "C" fn lockrun_home(alloc: Global, session: &mut Handle) -> u32
+    requires { IsSome session.old.value }
+    ensures keeps { session.new.value ≡ session.old.value }
+    ensures home { result ≡ home_at session.old.value }
+{
+    let inside = take(alloc, session);
+    let home = calls::home(&inside);
+    *session = Handle::of(inside);
+    home
+}
