@@ -217,7 +217,7 @@ def sentence(text):
 
 
 OWNER = re.compile(r'(?:pub )?trait (\w+)|(?:unsafe )?impl(?:<.*?>)? (?:[\w<>\', ]+ for )?(\w+)')
-CALL = re.compile(r'\s*(?:pub )?(?:const )?fn (\w+)')
+CALL = re.compile(r'\s*(?:pub )?(?:const )?(?:unsafe )?(?:extern "C" )?fn (\w+)')
 
 
 @dataclass(frozen=True)
