@@ -139,7 +139,7 @@ class House:
 def crates():
     """The crates of crates.txt, in its order, with what each names."""
     rows = (line.partition('#')[0] for line in (TOP / 'crates.txt').read_text().splitlines())
-    return {row.partition(':')[0].strip(): row.partition(':')[2].split() for row in rows if row.strip()}
+    return {row.split(':')[0].split()[0]: row.partition(':')[2].split() for row in rows if row.strip()}
 
 
 def laws_of(crate, text):
