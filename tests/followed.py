@@ -119,11 +119,12 @@ def main():
     named = words_of()
     counts, faults = Counter(), 0
     with ThreadPoolExecutor(named.jobs) as pool:
-        for seed, part, wanted, found in pool.map(lambda k: one(named.program, k), range(named.seed, named.seed + named.count)):
+        seeds = range(named.seed, named.seed + named.count)
+        for seed, part, wanted, found in pool.map(lambda k: one(named.program, k), seeds):
             counts[part, wanted.split()[0]] += 1
             if wanted != found:
                 faults += 1
-                print(f'tests/followed.py: seed {seed}, {part} spoilt: check says {wanted}, the tools say {found}')
+                print(f'tests/followed.py: seed {seed}, {part} spoilt: check says {wanted}, the tools say {found}', flush=True)
     for (part, said), count in sorted(counts.items()):
         print(f'tests/followed.py: {part} spoilt, {said}: {count}')
     print(f'tests/followed.py: {named.count} journals, {faults} faults')

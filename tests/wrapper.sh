@@ -224,6 +224,16 @@ rm "$top/crates/lockrun/out/sources" && is_stale 'the list of sources is gone'
 mkdir -p "$top/crates/lockrun/must-fail" && touch "$top/crates/lockrun/must-fail/x.edit"
 expect 'what no program is made from' '<run>' "$(said "$top/lockrun" run </dev/null | head -n 1)"
 
+# A file behind the words is the input; a help page that can't be written.
+echo '# stuck' >"$room/stuck"
+expect 'a file as the input' '<sim><first>
+# stuck
+status 3' "$(said "$top/lockrun" sim first "$room/stuck")"
+expect 'a file as the input of no command' 'status 1' "$(said "$top/lockrun" soak 7 "$room/stuck" | tail -n 1)"
+expect 'help on a full disk' 'lockrun: write fault
+status 5' "$("$top/lockrun" --help 2>&1 >/dev/full; echo "status $?")"
+expect 'called by the shell' '<check>' "$(cd "$top" && sh lockrun check "$room/stuck" "$room/stuck" 2>&1 | head -n 1)"
+
 # The build: how far it is, what it leaves, and what it can't do. Its stand-in for the toolchain has two crates to prove.
 made=$room/made
 make_top "$made" && mkdir -p "$made/crates/lt_low/src" && printf 'lt_low:\nlockrun: lt_low\n' >"$made/crates.txt"

@@ -11,11 +11,14 @@ WORD = re.compile(r'[^\s(){},;:.λ→×⊎↔≡≢∷]+')
 OPENED = re.compile(r'^(?:pub )?use (Rattle[\w.◌-]*)\.\{(.*)\}')
 WHOLE = re.compile(r'^(?:pub )?use (Rattle[\w.]*?)(?: as (\w+))?$')
 BESIDE = re.compile(r'(?:pub )?use |(?:pub )?mod |unfolding')
-HEAD = re.compile(r'(?:(?:unfoldable|abbrev|opaque|tabled)\s+)*(?:pub\s+)?(?:(?:record|data)\s+)?(?:pub\s+)?([^\s:(){}]+)')
+HEAD = re.compile(r'(?:(?:unfoldable|abbrev|opaque|tabled)\s+)*(?:pub\s+)?(?:(?:record|data)\s+)?(?:pub\s+)?'
+                  r'([^\s:(){}]+)')
 MADE = re.compile(r'\s+(?:pub )?(\w+)\s*:')
 GHOST = re.compile(r'^(?:ghost )?use (Rattle[\w.]*)\.\{([^}]*)\}', re.M)
 LAW = re.compile(r'pub fn (law_\w+)\(\)$')
 CLAUSE = re.compile(r'(requires|ensures) *(\w*) *\{ *(.*)')
+OWNER = re.compile(r'(?:pub )?trait (\w+)|(?:unsafe )?impl(?:<.*?>)? (?:[\w<>\', ]+ for )?(\w+)')
+CALL = re.compile(r'\s*(?:pub )?(?:const )?(?:unsafe )?(?:extern "C" )?fn (\w+)')
 
 
 @dataclass(frozen=True)
@@ -50,13 +53,21 @@ class Definition:
 
 @dataclass(frozen=True)
 class Law:
-    """A public function without parameters whose name begins with `law_`: `clauses` has for each clause its kind, name and
-    formula."""
+    """A public function without parameters whose name begins with `law_`: of each clause the kind, name and formula."""
     crate: str
     name: str
     comment: str
     clauses: tuple
     imports: dict
+
+
+@dataclass(frozen=True)
+class Call:
+    """A public function, or one of a trait, with the names of its clauses."""
+    crate: str
+    name: str
+    comment: str
+    clauses: tuple
 
 
 class House:
@@ -87,7 +98,8 @@ class House:
             comment = ' '.join(line[2:].strip() for line in lines if line.startswith('--'))
             first = number + lines.index(code[0])
             found = Definition(module, name, first, '\n'.join(code), comment)
-            makers = [made[1] for line in code[1:] if (made := MADE.match(line))] if re.search(r'\bdata\b', code[0]) else []
+            is_data = re.search(r'\bdata\b', code[0])
+            makers = [made[1] for line in code[1:] if is_data and (made := MADE.match(line))]
             for known in [name, *makers]:
                 self.known.setdefault((module, known), found)
                 imports.setdefault(known, (module, known))
@@ -110,8 +122,10 @@ class House:
         imports, wholes = self.imports[found.module], self.wholes[found.module]
         body = re.sub(r'codes "[^"]*"', '', found.text)
         names = [imports[word] for word in WORD.findall(body) if word in imports]
-        names += [(wholes[before], after) for before, after in re.findall(r'\b(\w+)\.([A-Za-z_]\w*)', body) if before in wholes]
-        names += [key for word, key in imports.items() if '◌' in word and (sign := word.replace('◌', '')) and sign in body]
+        pairs = re.findall(r'\b(\w+)\.([A-Za-z_]\w*)', body)
+        names += [(wholes[before], after) for before, after in pairs if before in wholes]
+        signs = {word.replace('◌', ''): key for word, key in imports.items() if '◌' in word}
+        names += [key for sign, key in signs.items() if sign and sign in body]
         return list(dict.fromkeys(names))
 
     def opened(self, start):
@@ -139,7 +153,7 @@ class House:
 def crates():
     """The crates of crates.txt, in its order, with what each names."""
     rows = (line.partition('#')[0] for line in (TOP / 'crates.txt').read_text().splitlines())
-    return {row.partition(':')[0].strip(): row.partition(':')[2].split() for row in rows if row.strip()}
+    return {row.split(':')[0].split()[0]: row.partition(':')[2].split() for row in rows if row.strip()}
 
 
 def laws_of(crate, text):
@@ -216,19 +230,6 @@ def sentence(text):
     return text.partition('. ')[0].removesuffix('.')
 
 
-OWNER = re.compile(r'(?:pub )?trait (\w+)|(?:unsafe )?impl(?:<.*?>)? (?:[\w<>\', ]+ for )?(\w+)')
-CALL = re.compile(r'\s*(?:pub )?(?:const )?fn (\w+)')
-
-
-@dataclass(frozen=True)
-class Call:
-    """A public function, or one of a trait, with the names of its clauses."""
-    crate: str
-    name: str
-    comment: str
-    clauses: tuple
-
-
 def calls_of(crate):
     """The public calls of a crate, in the order of its files."""
     for path in sorted((CRATES / crate / 'src').rglob('*.rt')):
@@ -239,8 +240,9 @@ def calls_of(crate):
                 owner, of_trait = '', False
             if match := OWNER.match(line):
                 owner, of_trait = match[1] or match[2], bool(match[1])
-            elif (match := CALL.match(line)) and (line.lstrip().startswith('pub ') or of_trait and line.startswith('    fn ')):
-                if not match[1].startswith('law_') and (owner or not line.startswith(' ')):
+            elif match := CALL.match(line):
+                is_public = line.lstrip().startswith('pub ') or of_trait and line.startswith('    fn ')
+                if is_public and not match[1].startswith('law_') and (owner or not line.startswith(' ')):
                     name = f'{owner}::{match[1]}' if owner else match[1]
                     yield Call(crate, name, comment_above(lines, number), clauses_below(lines, number))
 

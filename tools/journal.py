@@ -31,7 +31,7 @@ EVENTS = {
 }
 CLOSING = {'held': 'csmn', 'waiting': 'csm', 'owner': 'spn', 'end': 'n', 'cut': 'p'}
 
-# The forms of the lines of a script, after the first word of a declaration, or after the client and the word of a command.
+# The words of a command, after the client and the word that says which command it is.
 COMMANDS = {'lock': 'sm', 'try': 'sm', 'unlock': 'sm', 'change': 'smm', 'drop': 'cs'}
 NO_NAMES = ('nodes', 'set', 'client', 'journal', 'version')
 

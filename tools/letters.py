@@ -106,7 +106,7 @@ class Core:
     firm: tuple = (0, 0)
     hoped: Optional[tuple] = None
     pending: dict = field(default_factory=dict)      # the ask of a client
-    items: list = field(default_factory=list)        # asks and tells that wait here for the token, or behind an older ask
+    items: list = field(default_factory=list)        # asks and tells that wait here for the token or an older ask
 
     @property
     def parked(self):

@@ -44,7 +44,8 @@ def waits_of(follower, name):
         if ask:
             against = [lock for lock in locks if lock.mode in CONFLICTS[ask.mode] and lock.client != client]
             earlier = queue[:queue.index(client)] if client in queue else []
-            found = {*earlier, *(lock.client for lock in against), *older_at_parked(follower, name, ask, places[client])}
+            older = older_at_parked(follower, name, ask, places[client])
+            found = {*earlier, *(lock.client for lock in against), *older}
             rows.append(Wait(client, name, ask.mode, places[client], sorted(found - {client}, key=order.get), against))
     return rows
 
@@ -114,7 +115,7 @@ def ring_members(edges):
 
 
 def ring_of(waits):
-    """The clients of a shortest ring, each of which waits for the next: by locks alone if there is one such, or none."""
+    """The clients of a shortest ring, each of which waits for the next, by locks alone if there is one such."""
     return shortest_ring(lock_edges_of(waits)) or shortest_ring(edges_of(waits))
 
 
@@ -158,7 +159,7 @@ def behind(waits, ring):
     """The clients that wait for one of a ring, directly or not, and aren't of it: the nearest first."""
     found = dict.fromkeys(ring)
     edges = edges_of(waits)
-    while more := [client for client in edges if client not in found and any(other in found for other in edges[client])]:
+    while more := [client for client in edges if client not in found and not found.keys().isdisjoint(edges[client])]:
         found.update(dict.fromkeys(more))
     return list(found)[len(ring):]
 
