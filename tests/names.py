@@ -2,7 +2,8 @@
 """Sees that each name that stands in backticks in README.md and docs/ exists: as a file, a crate, an item of a crate,
 or a word of a command or of a format; that it is an item of the crate, or of the file of definitions, that it is said
 to be of; that each clause that docs/PROOFS.md names is one of the call or the law that it is said of, or a field of a
-record that such a clause is; and that the code in docs/READING.md and docs/LIBRARY.md stands in the sources."""
+record that such a clause is; that each link leads to a file or a heading; and that the code in docs/READING.md and
+docs/LIBRARY.md stands in the sources."""
 import re
 import sys
 from functools import cache
@@ -198,6 +199,25 @@ def misplaced_names(page):
                 yield f'{page.relative_to(TOP)}:{number}: `{name}` is not of {place}'
 
 
+@cache
+def anchors(path):
+    """The anchors of the headings of a page."""
+    heads = re.findall(r'^#+ (.*)$', path.read_text(), re.M)
+    return {re.sub(r'[^\w -]', '', head.lower()).replace(' ', '-') for head in heads}
+
+
+def unknown_links(page):
+    """The faults of a page: links to files or headings that don't exist."""
+    for number, line in enumerate(page.read_text().splitlines(), 1):
+        for link in re.findall(r'\]\(([^)\s]+)\)', line):
+            if link.startswith(('http://', 'https://')):
+                continue
+            name, _, anchor = link.partition('#')
+            path = (page.parent / name).resolve() if name else page
+            if not path.exists() or anchor and anchor not in anchors(path):
+                yield f'{page.relative_to(TOP)}:{number}: {link} leads nowhere'
+
+
 def said_of_calls(line):
     """Each call that a line names with clauses behind it, and these clauses."""
     cells = line.strip('|').split(' | ')
@@ -242,6 +262,7 @@ def main():
     known = items() | words()
     faults = [fault for page in PAGES
               for fault in [*unknown_names(page, known), *unknown_files(page), *misplaced_names(page)]]
+    faults += [fault for page in [*PAGES, TOP / 'CONTRIBUTING.md'] for fault in unknown_links(page)]
     faults += [*unknown_clauses(TOP / 'docs' / 'PROOFS.md'), *unknown_code(TOP / 'docs' / 'READING.md'),
                *unknown_code(TOP / 'docs' / 'LIBRARY.md')]
     for fault in faults:
