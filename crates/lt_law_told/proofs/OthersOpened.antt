@@ -1,5 +1,5 @@
 -- Each field of what is said of the other commands.
-use Rattle.std.proofs.Common.{◌≡◌, ℕ, List, [], ◌++◌, Ok, Option, None, refl, ap, subst, ◌∙◌}
+use Rattle.std.proofs.Common.{◌≡◌, ℕ, List, [], ◌++◌, Ok, Option, Some, None, refl, ap, subst, ◌∙◌}
 use Rattle.std.specs.Prelude.{◌&&◌, ◌==◌, not, nat_lt, take}
 use Rattle.std.proofs.lemmas.Bool.{and_parts, false≢true}
 use Rattle.lt_modes.specs.Script.{ScriptData}
@@ -13,7 +13,7 @@ use Rattle.lt_journal.specs.Split.{input_parts}
 use Rattle.lt_law_checking.specs.Journals.{IsFinished}
 use Rattle.lt_words.specs.declared.command.Command.TheVariants.{Soak}
 use Rattle.lt_serve.specs.declared.status.Status.TheVariants.{Done, Stuck}
-use Rattle.lt_serve.specs.TopCall.{Checks, greatest_script}
+use Rattle.lt_serve.specs.TopCall.{Checks, HasLinesOf, greatest_script}
 use Rattle.lt_law_texts.proofs.DrawnScript.{drawn_is}
 use Rattle.lt_law_told.specs.Runs.{two_writers, two_writers_script}
 use Rattle.lt_law_told.specs.Others.{SoakTold, CheckedRun, CheckTold, MakeTold, checked_writers, letter_first}
@@ -45,11 +45,15 @@ begins_with_letter script f =
     let to = and_parts (nat_lt 0 script.nodes) (not (1 == 0) && is_some_letter []) from.1 in
     false≢true to.1
 
+-- the script of these lines
+writers_checked : (run : List Logged) (text : List ℕ) → (k : Checks Done (Some checked_writers) run text) → k.script ≡ two_writers_script
+writers_checked run text k =
+    same_script k.script two_writers_script (read_of two_writers) (subst (λ (bytes : List ℕ). read_of bytes ≡ Ok k.script) writers_before k.denoted) writers_read
+
 pub check_told : CheckTold
 check_told = record {
-  run = λ run t.
-      let same = same_script t.1.script two_writers_script (read_of two_writers) (subst (λ (bytes : List ℕ). read_of bytes ≡ Ok t.1.script) writers_before t.1.denoted) writers_read in
-      subst (λ (s : ScriptData). CheckedRun s run) same (checked_so _ run t.0 t.1);
+  run = λ run t. subst (λ (s : ScriptData). CheckedRun s run) (writers_checked run t.0 t.1) (checked_so _ run t.0 t.1);
+  same_lines = λ run t. subst (λ (s : ScriptData). HasLinesOf (Some checked_writers) s run) (writers_checked run t.0 t.1) t.1.same_lines;
   unknown = λ run t. (t.1.script, checked_so _ run t.0 t.1);
   not_letter = λ t. begins_with_letter t.1.script t.1.finished;
   never_stuck = λ run t. not_done t.1.done;

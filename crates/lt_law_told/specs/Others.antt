@@ -3,6 +3,9 @@ use Rattle.std.specs.Prelude.{◌≡◌, ◌≤◌, true, ℕ, List, [], ◌∷�
 use Rattle.lt_modes.specs.Script.{ScriptData}
 use Rattle.lt_spec.specs.Log.{Logged}
 use Rattle.lt_spec.specs.World.{world_after, is_at_rest, is_of_node, IsRun}
+use Rattle.lt_text.specs.Text.{lines}
+use Rattle.lt_law_checking.specs.Input.{journal_in}
+use Rattle.lt_law_checking.specs.Journals.{journal_lines}
 use Rattle.lt_law_examples.specs.Worked.{act, taken_at}
 use Rattle.lt_law_promises.specs.Promised.{Promised}
 use Rattle.lt_summary.specs.Summary.{summary_of, summary_text}
@@ -52,6 +55,9 @@ letter_first = taken_at 1 0 1 [] ∷ []
 
 pub record CheckTold : Type 0 where
   pub run : (run : List Logged) → Tells 1073741824 Check Done (Some checked_writers) run → CheckedRun two_writers_script run
+  -- its journal has the lines after the line `journal`
+  pub same_lines : (run : List Logged) → Tells 1073741824 Check Done (Some checked_writers) run
+      → journal_in (lines checked_writers) ≡ journal_lines two_writers_script run
   -- where the input isn't known, the run is one of some script, and no run begins with a letter
   pub unknown : (run : List Logged) → Tells 1073741824 Check Done None run → (script : ScriptData) × CheckedRun script run
   pub not_letter : IsNeverTold 1073741824 Check Done None letter_first
