@@ -46,7 +46,7 @@ asks_have_place script parts is_script joined q client part is_part can =
     subst (λ (n : NodeState). IsTrue (leaves_asks script n)) (ap w.node (eqb-true (home script client) q at_home.0) ∙ run.node q part is_part) place
 
 pub clocks_below : ClocksBelow
-clocks_below script parts is_script joined short q part is_part =
+clocks_below script parts is_script joined q part is_part =
     omega (
       arith,
       ap (λ (p : Part). p.last.clock) (part_is script parts q part is_part),
@@ -54,7 +54,7 @@ clocks_below script parts is_script joined short q part is_part =
     )
 
 pub letters_left_fit : LettersLeftFit
-letters_left_fit script parts is_script joined short p q a b rest letter is_a is_b e among =
+letters_left_fit script parts is_script joined p q a b rest letter is_a is_b e among =
     let run = merged script.nodes (logs_of script parts).log in
     let is_joined = joined_merges script parts joined in
     let all : take (length run) run ≡ run = take_all (length run) run (omega arith) in

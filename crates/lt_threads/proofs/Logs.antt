@@ -51,9 +51,10 @@ crew_entries (p ∷ rs) (log ∷ logs) e =
       sum_by-cons (λ (part : Part). length part.log) (part_of p) (map part_of rs),
     )
 
-from_first : (n : ℕ) (f : ℕ → ℕ) → sum_below (suc n) f ≡ f 0 + sum_below n (λ k. f (suc k))
-from_first zero f = omega arith
-from_first (suc n) f = omega (arith, from_first n f)
+-- a sum without its first term
+sum_rest : (n : ℕ) (f : ℕ → ℕ) → sum_below (suc n) f ≡ f 0 + sum_below n (λ k. f (suc k))
+sum_rest zero f = omega arith
+sum_rest (suc n) f = omega (arith, sum_rest n f)
 
 -- what the parts logged, by their places
 places_sum : (parts : List Part) (at : ℕ → Part) → ((k : ℕ) (part : Part) → slice_get parts k ≡ Some part → at k ≡ part)
@@ -63,7 +64,7 @@ places_sum (part ∷ rest) at is =
     let more = places_sum rest (λ k. at (suc k)) (λ k p e. is (suc k) p e) in
     omega (
       arith,
-      from_first (length rest) (λ k. length (at k).log),
+      sum_rest (length rest) (λ k. length (at k).log),
       more,
       ap (λ (p : Part). length p.log) (is 0 part refl),
       sum_by-cons (λ (p : Part). length p.log) part rest,
