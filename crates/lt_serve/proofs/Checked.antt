@@ -46,6 +46,7 @@ counted left script world run made means kept ended is promised h =
     record {
       done = h.0;
       script = script;
+      is_script = kept;
       denoted = ended.denoted;
       accepted = subst (λ (r : List Logged). IsJournalOf left script r) same ended.accepted;
       same_lines = subst (λ (r : List Logged). HasLinesOf left script r) same (has_lines left script world.run means kept ended.accepted);

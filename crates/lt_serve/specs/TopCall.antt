@@ -18,6 +18,7 @@ use Rattle.lt_gen.specs.Generator.{script_of}
 use Rattle.lt_order.specs.Ordered.{first_bad}
 use Rattle.lt_summary.specs.Summary.{summary_of, summary_text}
 use Rattle.lt_script.specs.declared.fault.ScriptFault.{ScriptFault}
+use Rattle.lt_script.specs.Script.{IsScript}
 use Rattle.lt_script.specs.Printing.{print_of}
 use Rattle.lt_script.specs.Reading.{read_of}
 use Rattle.lt_words.specs.declared.command.Command.{Command}
@@ -104,6 +105,7 @@ HasLinesOf (Some bytes) script run = journal_in (lines bytes) ≡ journal_lines 
 pub record Checks (ending : Status) (left : Option (List ℕ)) (run : List Logged) (text : List ℕ) : Type 0 where
   pub done : ending ≡ Done
   pub script : ScriptData
+  pub is_script : IsScript script
   pub denoted : DenotesBefore left script
   pub accepted : IsJournalOf left script run
   pub same_lines : HasLinesOf left script run
