@@ -25,7 +25,7 @@ OTHERS = '''
     abbrev pub record unfoldable ensures requires ghost result self.old self.new IfOk IfErr IfSome OnFalse IsTrue Err Model
     true false none λ (x clap awk sh args stdin stdout HANDLES lt_ lt_law_ line rand_pcg rand_core itoa rtrb arrayvec anyhow
     atomic_table seed_from_u64 for_each_mut join_mut rattle-kit-13f specs/declared Goals Given crates/lockrun/out/sources
-    --help --version --kind --moves --waits --set --client --json --chrome --words --write --nested chrome://tracing
+    --help --version --kind --moves --waits --set --client --json --chrome --words --write --nested --commands chrome://tracing
     pg_locks readers chain
     File crates/lt_modes/specs/File.antt tests/bugs/CRATE.edits
     s0 s1 s2 s3 c0 c1 cI name'''.split()

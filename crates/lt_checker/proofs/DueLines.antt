@@ -7,12 +7,11 @@ use Rattle.lt_law_checking.specs.Journals.{HasCome}
 use Rattle.lt_law_checking.proofs.Heard.{come_due}
 use Rattle.lt_checker.specs.Place.{IsPlace}
 
-pub due_place : (script : ScriptData) (world : WorldData) (counts : List ℕ) (all due : List Line) (x : Line) → all ≡ x ∷ due → IsPlace script world counts all
-    → IsPlace script world counts due
-due_place script world counts all due x e place = record {
+pub due_place : (script : ScriptData) (world : WorldData) (all due : List Line) (x : Line) → all ≡ x ∷ due → IsPlace script world all
+    → IsPlace script world due
+due_place script world all due x e place = record {
   is_script = place.is_script;
   script_is = place.script_is;
   limit = place.limit;
-  counts_are = place.counts_are;
   come = come_due script world.run x due (subst (λ (d : List Line). HasCome script (record { run = world.run; due = d })) e place.come);
 }

@@ -3,91 +3,50 @@ use Rattle.std.proofs.Common.{◌≡◌, ℕ, suc, ◌+◌, ◌-◌, ◌<◌, �
 use Rattle.std.specs.Option.{option_map}
 use Rattle.std.proofs.lemmas.Bool.{cases_eq, eq-eqb, ne_eqb, eqb-true, ltb-true, and_parts, and_from}
 use Rattle.std.proofs.lemmas.List.{length_push}
+use Rattle.std.proofs.lemmas.List.Sums.{count_by-le-length}
 use Rattle.lt_modes.specs.declared.moves.Move.{Move}
 use Rattle.lt_modes.specs.declared.moves.Step.{Step}
 use Rattle.lt_modes.specs.declared.moves.Step.TheVariants.{Act, Take}
 use Rattle.lt_modes.specs.Script.{ScriptData}
 use Rattle.lt_spec.specs.Log.{Logged}
-use Rattle.lt_spec.specs.Families.{home}
-use Rattle.lt_spec.specs.World.{World, world_after, is_runnable, is_some_letter, is_enabled, move_stamp, logged}
+use Rattle.lt_spec.specs.World.{World, world_after, is_enabled, is_of_node, move_stamp, logged}
 use Rattle.lt_script.specs.Script.{IsScript}
-use Rattle.lt_limits.specs.declared.moves.TheConstants.{MAX_MOVES}
+use Rattle.lt_limits.specs.Cut.{moves_of}
 use Rattle.lt_merge.specs.Run.{made_at, events_at}
 use Rattle.lt_modes.specs.declared.event.Event.{Event}
 use Rattle.lt_journal.specs.declared.line.Line.{Line}
 use Rattle.lt_journal.specs.declared.line.Line.TheVariants.{Move as MoveLine}
 use Rattle.lt_journal.specs.RunLines.{event_lines}
 use Rattle.lt_world.specs.Fields.{WorldData, world_of}
-use Rattle.lt_law_checking.specs.Checking.{closing_at_rest, moved, has_moves_left, by_move}
-use Rattle.lt_law_checking.proofs.Places.{stamp_node, count_push}
+use Rattle.lt_law_checking.specs.Checking.{closing_at_rest, moved, by_move}
+use Rattle.lt_law_ends.proofs.Short.{runs_are_short}
 use Rattle.lt_law_checking.proofs.Heard.{come_moved}
-use Rattle.lt_checker.specs.Place.{AreCounts, IsPlace}
-
--- a move that is enabled is one of a node of the script
-node_inside : (script : ScriptData) (w : World) (q : ℕ) (step : Step) → IsScript script → is_enabled script w q step ≡ true → q < script.nodes
-node_inside script w q (Act client) is_script e =
-    let parts = and_parts (nat_lt client (length script.clients)) (home script client == q && is_runnable script w client) e in
-    let more = and_parts (home script client == q) (is_runnable script w client) parts.1 in
-    subst (λ (n : ℕ). n < script.nodes) (eqb-true (home script client) q more.0)
-    (is_script.homes client (ltb-true client (length script.clients) parts.0))
-node_inside script w q (Take p) is_script e =
-    let parts = and_parts (nat_lt p script.nodes) (nat_lt q script.nodes && (not (p == q) && is_some_letter (w.mail p q))) e in
-    ltb-true q script.nodes (and_parts (nat_lt q script.nodes) (not (p == q) && is_some_letter (w.mail p q)) parts.1).0
-
--- the node's count is one more after its move
-counts_more : (script : ScriptData) (counts : List ℕ) (run : List Logged) (entry : Logged) (q : ℕ) → AreCounts script counts run → entry.made.stamp.node ≡ q → q < script.nodes
-    → AreCounts script (set counts q (get_or counts q 0 + 1)) (run ++ entry ∷ [])
-counts_more script counts run entry q were is_q inside = record {
-  nodes = length-set counts q (get_or counts q 0 + 1) ∙ were.nodes;
-  each = λ node within. elim (cases_eq entry.made.stamp.node node) [
-    | inl e ↦
-        let same : node ≡ q = sym e ∙ is_q in
-        omega (
-          arith,
-          ap (λ (k : ℕ). get_or (set counts q (get_or counts q 0 + 1)) k 0) same,
-          get_or-set_same counts q (get_or counts q 0 + 1) 0 (omega (arith, were.nodes, inside)),
-          ap (λ (k : ℕ). get_or counts k 0) same,
-          were.each node within,
-          count_push run entry node,
-          ap {B = ℕ} (λ (b : Bool). cond b 1 0) (eq-eqb entry.made.stamp.node node e),
-        )
-    | inr d ↦ omega (
-      arith,
-      get_or-set_other counts q node (get_or counts q 0 + 1) 0 (λ e. d (is_q ∙ sym e)),
-      were.each node within,
-      count_push run entry node,
-      ap {B = ℕ} (λ (b : Bool). cond b 1 0) (ne_eqb entry.made.stamp.node node d),
-    )
-  ];
-}
+use Rattle.lt_checker.specs.Place.{IsPlace}
 
 -- a move that may be the next one was made
-pub record IsStepped (script : ScriptData) (world : WorldData) (counts : List ℕ) (node : ℕ) (step : Step) (next : WorldData) : Type 0 where
-  pub place : IsPlace script world counts []
+pub record IsStepped (script : ScriptData) (world : WorldData) (node : ℕ) (step : Step) (next : WorldData) : Type 0 where
+  pub place : IsPlace script world []
   pub enabled : is_enabled script (world_after script world.run) node step ≡ true
-  pub may : has_moves_left world.run node ≡ true
   pub next_is : next ≡ record world { run = world.run ++ logged script (world_after script world.run) node step ∷ [] }
 
-pub inside : (script : ScriptData) (world : WorldData) (counts : List ℕ) (node : ℕ) (step : Step) → IsPlace script world counts []
-    → is_enabled world.script (world_of world) node step ≡ true → node < script.nodes
-inside script world counts node step place enabled =
-    node_inside script (world_after script world.run) node step place.is_script
-    (subst (λ (s : ScriptData). is_enabled s (world_after s world.run) node step ≡ true) place.script_is enabled)
+-- no node has made 2^30 moves
+pub room_for_move : (script : ScriptData) (world : WorldData) (node : ℕ) → IsPlace script world [] → moves_of node world.run < world.limit
+room_for_move script world node place =
+    omega (arith, runs_are_short script world.run place.is_script place.come.1.is_run, count_by-le-length (is_of_node node) world.run, place.limit)
 
-pub stepped : (script : ScriptData) (world : WorldData) (counts : List ℕ) (node : ℕ) (step : Step) (next : WorldData) → IsPlace script world counts []
-    → is_enabled world.script (world_of world) node step ≡ true → nat_lt (get_or counts node 0) MAX_MOVES ≡ true
+pub stepped : (script : ScriptData) (world : WorldData) (node : ℕ) (step : Step) (next : WorldData) → IsPlace script world []
+    → is_enabled world.script (world_of world) node step ≡ true
     → next ≡ record world { run = world.run ++ logged world.script (world_of world) node step ∷ [] }
-    → IsStepped script world counts node step next
-stepped script world counts node step next place enabled may next_is = record {
+    → IsStepped script world node step next
+stepped script world node step next place enabled next_is = record {
   place = place;
   enabled = subst (λ (s : ScriptData). is_enabled s (world_after s world.run) node step ≡ true) place.script_is enabled;
-  may = ap (λ (n : ℕ). nat_lt n MAX_MOVES) (sym (place.counts_are.each node (inside script world counts node step place enabled))) ∙ may;
   next_is = subst (λ (s : ScriptData). next ≡ record world { run = world.run ++ logged s (world_after s world.run) node step ∷ [] }) place.script_is next_is;
 }
 
-next_run : (script : ScriptData) (world : WorldData) (counts : List ℕ) (node : ℕ) (step : Step) (next : WorldData) → IsStepped script world counts node step next
+next_run : (script : ScriptData) (world : WorldData) (node : ℕ) (step : Step) (next : WorldData) → IsStepped script world node step next
     → next.run ≡ world.run ++ logged script (world_after script world.run) node step ∷ []
-next_run script world counts node step next s = ap (λ (w : WorldData). w.run) s.next_is
+next_run script world node step next s = ap (λ (w : WorldData). w.run) s.next_is
 
 last_get : (run : List Logged) (entry : Logged) → slice_get (run ++ entry ∷ []) (length run) ≡ Some entry
 last_get [] entry = refl
@@ -100,33 +59,32 @@ last_made run entry k made last is =
     let found : Some entry.made ≡ Some made = sym (ap (option_map (λ (e : Logged). e.made)) (last_get run entry)) ∙ (ap (made_at (run ++ entry ∷ [])) (sym place) ∙ is) in
     cc
 
-pub next_clock : (script : ScriptData) (world : WorldData) (counts : List ℕ) (node : ℕ) (step : Step) (next : WorldData) (k : ℕ) (made : Move) → IsStepped script world counts node step next
+pub next_clock : (script : ScriptData) (world : WorldData) (node : ℕ) (step : Step) (next : WorldData) (k : ℕ) (made : Move) → IsStepped script world node step next
     → suc k ≡ length next.run → made_at next.run k ≡ Some made → (move_stamp (world_after script world.run) node step).clock ≡ made.stamp.clock
-next_clock script world counts node step next k made s last is =
-    let run_is = next_run script world counts node step next s in
+next_clock script world node step next k made s last is =
+    let run_is = next_run script world node step next s in
     ap (λ (m : Move). m.stamp.clock)
     (last_made world.run (logged script (world_after script world.run) node step) k made (last ∙ ap (λ (r : List Logged). length r) run_is) (ap (λ (r : List Logged). made_at r k) (sym run_is) ∙ is))
 
-no_next : (a b c : Bool) → b ≡ false → a && (b && c) ≡ false
-no_next true false c e = refl
-no_next false false c e = refl
-no_next a true c e = absurd (cc)
+no_next : (a b : Bool) → b ≡ false → a && b ≡ false
+no_next true false e = refl
+no_next false false e = refl
+no_next a true e = absurd (cc)
 
 pub wrong_clock : (script : ScriptData) (run : List Logged) (clock node : ℕ) (step : Step) → (clock ≡ (move_stamp (world_after script run) node step).clock → ⊥)
     → by_move script run (MoveLine clock node step) ≡ None
 wrong_clock script run clock node step apart =
     let w = world_after script run in
     ap (λ (b : Bool). cond b (Some (moved script run (logged script w node step))) None)
-    (no_next (is_enabled script w node step) (clock == (move_stamp w node step).clock) (has_moves_left run node) (ne_eqb clock (move_stamp w node step).clock apart))
+    (no_next (is_enabled script w node step) (clock == (move_stamp w node step).clock) (ne_eqb clock (move_stamp w node step).clock apart))
 
-pub right_move : (script : ScriptData) (world : WorldData) (counts : List ℕ) (node : ℕ) (step : Step) (next : WorldData) (clock : ℕ) → IsStepped script world counts node step next
+pub right_move : (script : ScriptData) (world : WorldData) (node : ℕ) (step : Step) (next : WorldData) (clock : ℕ) → IsStepped script world node step next
     → clock ≡ (move_stamp (world_after script world.run) node step).clock
     → by_move script world.run (MoveLine clock node step) ≡ Some (moved script world.run (logged script (world_after script world.run) node step))
-right_move script world counts node step next clock s same =
+right_move script world node step next clock s same =
     let w = world_after script world.run in
     ap (λ (b : Bool). cond b (Some (moved script world.run (logged script w node step))) None)
-    (and_from (is_enabled script w node step) ((clock == (move_stamp w node step).clock) && has_moves_left world.run node) s.enabled
-    (and_from (clock == (move_stamp w node step).clock) (has_moves_left world.run node) (eq-eqb clock (move_stamp w node step).clock same) s.may))
+    (and_from (is_enabled script w node step) (clock == (move_stamp w node step).clock) s.enabled (eq-eqb clock (move_stamp w node step).clock same))
 
 -- the events that stand last in the run are those of the move
 pub last_events : (run : List Logged) (entry : Logged) (k : ℕ) (events : List Event) → suc k ≡ length (run ++ entry ∷ []) → events_at (run ++ entry ∷ []) k ≡ Some events → entry.events ≡ events
@@ -136,12 +94,12 @@ last_events run entry k events last is =
     cc
 
 -- the next run, with the lines that are then due, is the place after the move
-pub next_place : (script : ScriptData) (world : WorldData) (counts : List ℕ) (node : ℕ) (step : Step) (next : WorldData) (k : ℕ) (events : List Event) (due : List Line)
-    → IsStepped script world counts node step next → suc k ≡ length next.run → events_at next.run k ≡ Some events
+pub next_place : (script : ScriptData) (world : WorldData) (node : ℕ) (step : Step) (next : WorldData) (k : ℕ) (events : List Event) (due : List Line)
+    → IsStepped script world node step next → suc k ≡ length next.run → events_at next.run k ≡ Some events
     → due ≡ event_lines script.version events ++ closing_at_rest script next.run
     → moved script world.run (logged script (world_after script world.run) node step) ≡ record { run = next.run; due = due }
-next_place script world counts node step next k events due s last is due_is =
-    let run_is = next_run script world counts node step next s in
+next_place script world node step next k events due s last is due_is =
+    let run_is = next_run script world node step next s in
     let entry = logged script (world_after script world.run) node step in
     let told = last_events world.run entry k events (last ∙ ap (λ (r : List Logged). length r) run_is) (ap (λ (r : List Logged). events_at r k) (sym run_is) ∙ is) in
     let same : event_lines script.version entry.events ++ closing_at_rest script (world.run ++ entry ∷ []) ≡ due =
@@ -149,24 +107,22 @@ next_place script world counts node step next k events due s last is due_is =
     λ i. record { run = sym run_is i; due = same i }
 
 -- and a reader can come to it
-pub next_is_place : (script : ScriptData) (world : WorldData) (counts : List ℕ) (node : ℕ) (step : Step) (next : WorldData) (line : Line) (due : List Line)
-    → IsStepped script world counts node step next → node < script.nodes → by_move script world.run line ≡ Some (record { run = next.run; due = due })
-    → IsPlace script next (set counts node (get_or counts node 0 + 1)) due
-next_is_place script world counts node step next line due s within led =
-    let run_is = next_run script world counts node step next s in
+pub next_is_place : (script : ScriptData) (world : WorldData) (node : ℕ) (step : Step) (next : WorldData) (line : Line) (due : List Line)
+    → IsStepped script world node step next → by_move script world.run line ≡ Some (record { run = next.run; due = due })
+    → IsPlace script next due
+next_is_place script world node step next line due s led =
+    let run_is = next_run script world node step next s in
     let entry = logged script (world_after script world.run) node step in
     record {
       is_script = s.place.is_script;
       script_is = ap (λ (w : WorldData). w.script) s.next_is ∙ s.place.script_is;
       limit = ap (λ (w : WorldData). w.limit) s.next_is ∙ s.place.limit;
-      counts_are = subst (AreCounts script (set counts node (get_or counts node 0 + 1))) (sym run_is)
-          (counts_more script counts world.run entry node s.place.counts_are (stamp_node (world_after script world.run) node step) within);
       come = come_moved script world.run line (record { run = next.run; due = due }) s.place.come led;
     }
 
 -- the place of the last move of the next run
-pub last_place : (script : ScriptData) (world : WorldData) (counts : List ℕ) (node : ℕ) (step : Step) (next : WorldData) (n : ℕ) → IsStepped script world counts node step next
+pub last_place : (script : ScriptData) (world : WorldData) (node : ℕ) (step : Step) (next : WorldData) (n : ℕ) → IsStepped script world node step next
     → n ≡ length next.run → suc (n - 1) ≡ length next.run
-last_place script world counts node step next n s is =
+last_place script world node step next n s is =
     let entry = logged script (world_after script world.run) node step in
-    omega (arith, is, ap (λ (r : List Logged). length r) (next_run script world counts node step next s), length_push world.run entry)
+    omega (arith, is, ap (λ (r : List Logged). length r) (next_run script world node step next s), length_push world.run entry)

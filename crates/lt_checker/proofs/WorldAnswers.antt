@@ -24,14 +24,14 @@ error_told script told Memory same = same
 error_told script told (Bad line) same = same
 
 -- at rest, where no line is due, the run ended in the world
-pub ends_in : (script : ScriptData) (world : WorldData) (counts : List ℕ) (good : ℕ) → IsPlace script world counts []
+pub ends_in : (script : ScriptData) (world : WorldData) (good : ℕ) → IsPlace script world []
     → is_at_rest world.script (world_of world) ≡ true
     → EndsIn script (verdict script (record { place = place_now false world.run []; good = good })) world
-ends_in script world counts good place rests =
+ends_in script world good place rests =
     let rest : is_at_rest script (world_after script world.run) ≡ true =
     subst (λ (s : ScriptData). is_at_rest s (world_after s world.run) ≡ true) place.script_is rests in
     record {
       script_is = place.script_is;
       run_is = rw rest refl;
-      finished = record { is_run = place.come.1.is_run; at_rest = rest; few = place.come.1.few };
+      finished = record { is_run = place.come.1.is_run; at_rest = rest };
     }

@@ -1,6 +1,7 @@
 ghost use Rattle.std.specs.Prelude.{◌≡◌, [], ◌∷◌, ◌++◌, OnOk};
 ghost use Rattle.lt_journal.specs.RunLines.{first_lines, event_lines};
 ghost use Rattle.lt_law_checking.specs.Checking.{closing_at_rest};
+ghost use Rattle.lt_script.specs.Script.{IsScript};
 
 use lt_journal::{Line, closing_lines, shown_event};
 use lt_modes::Event;
@@ -23,7 +24,8 @@ fn push(due: &mut VecDeque<Line>, line: Line) -> Result<(), AllocError>
 
 /// Adds the line before all moves, where the script has version 2.
 pub(crate) fn push_first(due: &mut VecDeque<Line>, script: &Script) -> Result<(), AllocError>
-    ensures { OnOk result (due.new.items ≡ due.old.items ++ first_lines script.now.version) }
+    ensures lines { OnOk result (due.new.items ≡ due.old.items ++ first_lines script.now.version) }
+    ensures is_script { IsScript script.now }
 {
     if script.version() != 1 {
         push(due, Line::Version)?;

@@ -2,7 +2,6 @@ ghost use Rattle.std.specs.Prelude.{◌≡◌, [], IfOk, IsTrue};
 ghost use Rattle.lt_law_checking.specs.Checking.{by_move, place_after};
 ghost use Rattle.lt_checker.specs.Place.{IsPlace, LedTo};
 
-use crate::counts::Counts;
 use crate::due::{push_closing, push_events};
 use lt_journal::{Line, Text, read_line, write_words};
 use lt_script::Script;
@@ -19,18 +18,17 @@ pub(crate) fn follow(
     alloc: Global,
     script: &Script,
     world: &mut World,
-    counts: &mut Counts,
     due: &mut VecDeque<Line>,
     words: &mut Text,
     line: &[u8],
 ) -> Result<bool, AllocError>
-    requires { IsPlace script.now world.old counts.old due.old.items }
-    ensures place { IfOk result (λ good. IsTrue good → IsPlace script.now world.new counts.new due.new.items) }
+    requires { IsPlace script.now world.old due.old.items }
+    ensures place { IfOk result (λ good. IsTrue good → IsPlace script.now world.new due.new.items) }
     ensures led { IfOk result (λ good.
         LedTo (place_after script.now (record { run = world.old.run; due = due.old.items }) line.now) good world.new.run due.new.items) }
 {
     let Some(expected) = due.pop_front() else {
-        return next_move(alloc, script, world, counts, due, read_line(script, line));
+        return next_move(alloc, script, world, due, read_line(script, line));
     };
     words.clear();
     write_words(words, script, expected)?;
@@ -42,24 +40,22 @@ fn next_move(
     alloc: Global,
     script: &Script,
     world: &mut World,
-    counts: &mut Counts,
     due: &mut VecDeque<Line>,
     line: Line,
 ) -> Result<bool, AllocError>
-    requires place { IsPlace script.now world.old counts.old [] }
+    requires place { IsPlace script.now world.old [] }
     requires none_due { due.old.items ≡ [] }
-    ensures place { IfOk result (λ good. IsTrue good → IsPlace script.now world.new counts.new due.new.items) }
+    ensures place { IfOk result (λ good. IsTrue good → IsPlace script.now world.new due.new.items) }
     ensures led { IfOk result (λ good. LedTo (by_move script.now world.old.run line) good world.new.run due.new.items) }
 {
     let Line::Move { clock, node, step } = line else {
         return Ok(false);
     };
     let choice = Choice { node, step };
-    if !world.enabled(choice) || !counts.may_move(node) {
+    if !world.enabled(choice) {
         return Ok(false);
     }
     world.step(choice)?;
-    counts.add(node);
     let last = world.run().len() - 1;
     if world.run().made(last).stamp.clock != clock {
         return Ok(false);

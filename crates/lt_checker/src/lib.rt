@@ -3,7 +3,6 @@
 #![tactic(auto)]
 
 mod checker;
-mod counts;
 mod due;
 mod error;
 mod following;

@@ -4,7 +4,6 @@ ghost use Rattle.lt_law_checking.specs.Checking.{first_reader, read_on, verdict}
 ghost use Rattle.lt_checker.specs.Checker.{IsAnswer, IsMemory};
 ghost use Rattle.lt_checker.specs.Endings.{IsWorldAnswer};
 
-use crate::counts::Counts;
 use crate::due::{push_closing, push_first};
 use crate::error::ReplayError;
 use crate::following::follow;
@@ -24,7 +23,6 @@ pub(crate) struct Reader {
     alloc: Global,
     script: Script,
     world: World,
-    counts: Counts,
     due: VecDeque<Line>,
     // The words of the last line that was due.
     words: Text,
@@ -45,7 +43,7 @@ impl Model for Reader {
       reader = record { place = place_now r.bad r.world.run r.due.items; good = r.good };
     } };
 
-    ghost invariant = { λ r. IsScript r.script × (r.good + 1 < 2 ^ 32) × KeepsPlace r.bad r.script r.world r.counts r.due.items };
+    ghost invariant = { λ r. IsScript r.script × (r.good + 1 < 2 ^ 32) × KeepsPlace r.bad r.script r.world r.due.items };
 }
 
 impl Reader {
@@ -54,7 +52,6 @@ impl Reader {
         ensures { IfOk result (λ reader. reader ≡ record { script = script.now; reader = first_reader script.now }) }
     {
         let world = World::new(alloc, script, MAX_MOVES)?;
-        let counts = Counts::new(alloc, script)?;
         let mut due = VecDeque::new(alloc);
         push_first(&mut due, script)?;
         push_closing(alloc, &mut due, script, &world)?;
@@ -63,7 +60,6 @@ impl Reader {
             alloc,
             script,
             world,
-            counts,
             due,
             words: Text::new(alloc),
             good: 0,
@@ -94,7 +90,6 @@ impl Reader {
             self.alloc,
             &self.script,
             &mut self.world,
-            &mut self.counts,
             &mut self.due,
             &mut self.words,
             line,

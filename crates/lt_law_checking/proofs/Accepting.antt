@@ -16,9 +16,8 @@ use Rattle.lt_journal.specs.LineFits.{FitsLine}
 use Rattle.lt_journal.specs.RunLines.{first_lines, event_lines, entry_lines, moves_lines, closing_lines, run_lines}
 use Rattle.lt_journal.proofs.Named.{named, few_nodes}
 use Rattle.lt_journal.proofs.Written.{line_back}
-use Rattle.lt_limits.specs.declared.moves.TheConstants.{MAX_MOVES}
-use Rattle.lt_law_checking.specs.Checking.{first_reader, Place, Reader, written, closing_at_rest, first_place, moved, is_next, has_moves_left, by_move, by_due, place_after, read_on, reader_after, led_to, verdict, verdict_at, checked}
-use Rattle.lt_law_checking.specs.Journals.{HasFewMoves, IsFinished, journal_lines, lines_so_far, BeginsWith}
+use Rattle.lt_law_checking.specs.Checking.{first_reader, Place, Reader, written, closing_at_rest, first_place, moved, is_next, by_move, by_due, place_after, read_on, reader_after, led_to, verdict, verdict_at, checked}
+use Rattle.lt_law_checking.specs.Journals.{IsFinished, journal_lines, lines_so_far, BeginsWith}
 use Rattle.lt_law_checking.proofs.Fitting.{all_fit, fit_left, fit_right, journal_written}
 use Rattle.lt_law_checking.proofs.Places.{not_at_rest, first_begins, begins_after}
 
@@ -84,8 +83,8 @@ means script all run is_script e =
     let end = accepted_at script (reader_after script all) run e in
     let b = begins_all script [] (first_place script) 0 all (record { run = run; due = [] }) (first_begins script) end.place in
     let told : b.told ≡ run_lines script run None = sym (append-nil b.told) ∙ (b.parts ∙ all_lines script run end.at_rest) in (
-      record { is_run = b.is_run; at_rest = end.at_rest; few = b.few },
-      b.lines ∙ (ap (map (written script)) told ∙ sym (journal_written script run is_script b.is_run b.few)),
+      record { is_run = b.is_run; at_rest = end.at_rest },
+      b.lines ∙ (ap (map (written script)) told ∙ sym (journal_written script run is_script b.is_run)),
     )
 
 -- lines that are due are read
@@ -105,39 +104,26 @@ reads_due script run (x ∷ xs) ys n more =
       omega (arith, rest.2),
     )
 
-count_within : (run later : List Logged) (entry : Logged) → HasFewMoves (run ++ entry ∷ later) → has_moves_left run entry.made.stamp.node ≡ true
-count_within run later entry few =
-    let node = entry.made.stamp.node in
-    lt-ltb (count_by (is_of_node node) run) MAX_MOVES
-    (omega (
-      arith,
-      few node,
-      sum_by-append (λ (x : Logged). cond (is_of_node node x) 1 0) run (entry ∷ later),
-      sum_by-cons (λ (x : Logged). cond (is_of_node node x) 1 0) entry later,
-      ap {B = ℕ} (λ (b : Bool). cond b 1 0) (eq-eqb node node refl),
-    ))
-
 -- the line of a next move is read
-after_move : (script : ScriptData) (run later : List Logged) (entry : Logged) → IsScript script → IsMove script (world_after script run) entry → HasFewMoves (run ++ entry ∷ later)
+after_move : (script : ScriptData) (run : List Logged) (entry : Logged) → IsScript script → IsMove script (world_after script run) entry
     → FitsLine script (MoveLine entry.made.stamp.clock entry.made.stamp.node entry.made.step)
     → by_due script run [] (written script (MoveLine entry.made.stamp.clock entry.made.stamp.node entry.made.step)) ≡ Some (moved script run entry)
-after_move script run later entry is_script move few fits =
+after_move script run entry is_script move fits =
     let w = world_after script run in
     let q = entry.made.stamp.node in
     let clock : entry.made.stamp.clock ≡ (move_stamp w q entry.made.step).clock = ap (λ (l : Logged). l.made.stamp.clock) move.made in
     let next : is_next script run entry.made.stamp.clock q entry.made.step ≡ true =
-    and_from (is_enabled script w q entry.made.step) ((entry.made.stamp.clock == (move_stamp w q entry.made.step).clock) && has_moves_left run q) move.enabled
-    (and_from (entry.made.stamp.clock == (move_stamp w q entry.made.step).clock) (has_moves_left run q) (eq-eqb _ _ clock) (count_within run later entry few)) in
+    and_from (is_enabled script w q entry.made.step) (entry.made.stamp.clock == (move_stamp w q entry.made.step).clock) move.enabled (eq-eqb _ _ clock) in
     ap (by_move script run) (line_back script (MoveLine entry.made.stamp.clock q entry.made.step) (named script is_script) (few_nodes script is_script) fits)
     ∙ (ap (λ (b : Bool). cond b (Some (moved script run (logged script w q entry.made.step))) None) next
     ∙ ap (λ (l : Logged). Some (moved script run l)) (sym move.made))
 
 -- what a reader comes to who has read the moves of a run, and at rest the closing lines
 reads_run : (script : ScriptData) (later run : List Logged) (xs : List Line) (n : ℕ) → IsScript script → IsRunFrom script (world_after script run) later
-    → HasFewMoves (run ++ later) → AllByRecursion (FitsLine script) (moves_lines script.version later)
+    → AllByRecursion (FitsLine script) (moves_lines script.version later)
     → (m : ℕ) × (fold (read_on script) (at_place (record { run = run; due = xs ++ closing_at_rest script run }) n)
     (map (written script) (xs ++ (moves_lines script.version later ++ closing_at_rest script (run ++ later)))) ≡ at_place (record { run = run ++ later; due = [] }) m)
-reads_run script [] run xs n is_script is_run few fits =
+reads_run script [] run xs n is_script is_run fits =
     let same : run ++ [] ≡ run = append-nil run in
     let all = xs ++ closing_at_rest script run in
     let read = reads_due script run all [] n [] in (
@@ -146,7 +132,7 @@ reads_run script [] run xs n is_script is_run few fits =
           ∙ (ap₂ (λ (ys : List Line) (ls : List (List ℕ)). fold (read_on script) (at_place (record { run = run; due = ys }) n) ls) (sym (append-nil all)) (sym (append-nil (map (written script) all)))
           ∙ (read.1 ∙ ap (λ (r : List Logged). at_place (record { run = r; due = [] }) read.0) (sym same))),
     )
-reads_run script (entry ∷ later) run xs n is_script is_run few fits =
+reads_run script (entry ∷ later) run xs n is_script is_run fits =
     let w = world_after script run in
     let x = MoveLine entry.made.stamp.clock entry.made.stamp.node entry.made.step in
     let events = event_lines script.version entry.events in
@@ -164,29 +150,28 @@ reads_run script (entry ∷ later) run xs n is_script is_run few fits =
     let read = reads_due script run xs [] n more in
     let again = reads_run script later (run ++ entry ∷ []) events (suc read.0) is_script
     (subst (λ (v : World). IsRunFrom script v later) (sym (after_run-push script (start script) run entry)) is_run.1)
-    (subst HasFewMoves (sym same) few)
     (fit_right (FitsLine script) (entry_lines script.version entry) (moves_lines script.version later) fits) in (
       again.0,
       ap₂ (λ (ys : List Line) (ls : List (List ℕ)). fold (read_on script) (at_place (record { run = run; due = xs ++ ys }) n) ls) none split
           ∙ (read.1
           ∙ (ap (λ (p : Option Place). fold (read_on script) (led_to (at_place (record { run = run; due = [] }) read.0) p) (map (written script) (events ++ rest)))
-          (after_move script run later entry is_script is_run.0 few fits.0)
+          (after_move script run entry is_script is_run.0 fits.0)
           ∙ (again.1 ∙ ap (λ (r : List Logged). at_place (record { run = r; due = [] }) again.0) same))),
     )
 
 -- all lines so far of a run are read
-reads_so_far : (script : ScriptData) (run : List Logged) → IsScript script → IsRun script run → HasFewMoves run
+reads_so_far : (script : ScriptData) (run : List Logged) → IsScript script → IsRun script run
     → (m : ℕ) × (reader_after script (map (written script) (lines_so_far script run)) ≡ at_place (record { run = run; due = [] }) m)
-reads_so_far script run is_script is_run few =
+reads_so_far script run is_script is_run =
     let first = first_lines script.version in
-    reads_run script run [] first 0 is_script is_run few
+    reads_run script run [] first 0 is_script is_run
     (fit_left (FitsLine script) (moves_lines script.version run) (closing_lines script run None)
-    (fit_right (FitsLine script) first (moves_lines script.version run ++ closing_lines script run None) (all_fit script run is_script is_run few)))
+    (fit_right (FitsLine script) first (moves_lines script.version run ++ closing_lines script run None) (all_fit script run is_script is_run)))
 
 pub accepts : (script : ScriptData) (run : List Logged) → IsScript script → IsFinished script run → checked script (journal_lines script run) ≡ Ok run
 accepts script run is_script done =
-    let read = reads_so_far script run is_script done.is_run done.few in
-    ap (checked script) (journal_written script run is_script done.is_run done.few ∙ ap (map (written script)) (sym (all_lines script run done.at_rest)))
+    let read = reads_so_far script run is_script done.is_run in
+    ap (checked script) (journal_written script run is_script done.is_run ∙ ap (map (written script)) (sym (all_lines script run done.at_rest)))
     ∙ (ap (verdict script) read.1 ∙ ap (λ (b : Bool). cond b (Ok run) (Err (suc read.0))) done.at_rest)
 
 pub none_is_some : {A : Type 0} (place : Place) → None ≡ Some place → A
@@ -201,7 +186,7 @@ begun script read place is_script b = by_place (reader_after script read).place 
 
     whole : (m : ℕ) × (fold (read_on script) (reader_after script read) (map (written script) place.due) ≡ at_place (record { run = place.run; due = [] }) m)
     whole =
-        let read_all = reads_so_far script place.run is_script b.is_run b.few in
+        let read_all = reads_so_far script place.run is_script b.is_run in
         (read_all.0, sym (fold-append (read_on script) (first_reader script) read (map (written script) place.due)) ∙ (ap (reader_after script) (sym all) ∙ read_all.1))
 
     by_place : (o : Option Place) → (reader_after script read).place ≡ o → (here : Place) × ((reader_after script read).place ≡ Some here)

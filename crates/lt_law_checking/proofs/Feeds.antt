@@ -36,7 +36,7 @@ sound_on script (Some place) n line sound = sound_next script place line n (plac
 
 pub all_so_far : (script : ScriptData) (read : List (List ℕ)) (place : Place) → IsScript script → BeginsWith script read place → AllByRecursion (FitsLine script) (lines_so_far script place.run)
 all_so_far script read place is_script b =
-    let fits = all_fit script place.run is_script b.is_run b.few in
+    let fits = all_fit script place.run is_script b.is_run in
     let first = first_lines script.version in
     let moves = moves_lines script.version place.run in
     let closing = closing_lines script place.run None in

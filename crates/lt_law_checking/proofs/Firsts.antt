@@ -194,6 +194,6 @@ continued script read place is_script e = record { only = only; each = each }
         let rest = left later done in (
           map (written script) rest.0,
           ap (λ (ls : List (List ℕ)). checked script (ls ++ map (written script) rest.0)) b.lines
-              ∙ (ap (checked script) (sym (map-append (written script) b.told rest.0) ∙ (ap (map (written script)) (sym rest.1) ∙ sym (journal_written script (place.run ++ later) is_script done.is_run done.few)))
+              ∙ (ap (checked script) (sym (map-append (written script) b.told rest.0) ∙ (ap (map (written script)) (sym rest.1) ∙ sym (journal_written script (place.run ++ later) is_script done.is_run)))
               ∙ accepts script (place.run ++ later) is_script done),
         )

@@ -68,7 +68,7 @@ reads_as script line x is_script fits = (
   λ is. sym (same_test script line x is_script fits) ∙ (bytes_eq-Decides (written script (read_line script line)) (written script x)).1 (ap (written script) is),
 )
 
--- place_after a line that is due, and place_after what says a next move, a reader has come to a place
+-- after a line that is due, and after what says a next move, a reader has come to a place
 pub come_due : (script : ScriptData) (run : List Logged) (x : Line) (due : List Line) → HasCome script (record { run = run; due = x ∷ due }) → HasCome script (record { run = run; due = due })
 come_due script run x due come =
     (come.0 ++ written script x ∷ [], begins_after script come.0 (record { run = run; due = x ∷ due }) (written script x) (record { run = run; due = due }) come.1 (after_due script run x due))

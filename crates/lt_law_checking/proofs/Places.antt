@@ -21,9 +21,8 @@ use Rattle.lt_journal.specs.Grammar.{read_line}
 use Rattle.lt_journal.specs.Text.{IsAsWritten}
 use Rattle.lt_journal.specs.RunLines.{first_lines, event_lines, entry_lines, moves_lines}
 use Rattle.lt_journal.proofs.Found.{as_written}
-use Rattle.lt_limits.specs.declared.moves.TheConstants.{MAX_MOVES}
-use Rattle.lt_law_checking.specs.Checking.{Place, written, closing_at_rest, first_place, moved, is_next, has_moves_left, by_move, by_due, place_after}
-use Rattle.lt_law_checking.specs.Journals.{HasFewMoves, lines_so_far, BeginsWith}
+use Rattle.lt_law_checking.specs.Checking.{Place, written, closing_at_rest, first_place, moved, is_next, by_move, by_due, place_after}
+use Rattle.lt_law_checking.specs.Journals.{lines_so_far, BeginsWith}
 
 any_below_at : (n k : ℕ) (test : ℕ → Bool) → k < n → test k ≡ true → any_below n test ≡ true
 any_below_at zero k test inside e = absurd (omega (arith, inside))
@@ -73,34 +72,14 @@ is_logged script w q step e = record {
   made = ap (λ (n : ℕ). logged script w n step) (sym (stamp_node w q step));
 }
 
-pub count_push : (run : List Logged) (entry : Logged) (node : ℕ) → count_by (is_of_node node) (run ++ entry ∷ []) ≡ count_by (is_of_node node) run + cond (is_of_node node entry) 1 0
-count_push run entry node =
-    omega (arith, sum_by-append (λ (x : Logged). cond (is_of_node node x) 1 0) run (entry ∷ []), sum_by-cons (λ (x : Logged). cond (is_of_node node x) 1 0) entry [])
-
-at_most_one : (b : Bool) → cond b 1 0 ≤ 1
-at_most_one true = omega arith
-at_most_one false = omega arith
-
-pub few_push : (run : List Logged) (entry : Logged) (q : ℕ) → HasFewMoves run → entry.made.stamp.node ≡ q → has_moves_left run q ≡ true → HasFewMoves (run ++ entry ∷ [])
-few_push run entry q few is_q may node = elim (cases_eq entry.made.stamp.node node) [
-  | inl e ↦ omega (
-    arith,
-    count_push run entry node,
-    at_most_one (is_of_node node entry),
-    subst (λ (n : ℕ). count_by (is_of_node n) run < MAX_MOVES) (sym is_q ∙ e) (ltb-true (count_by (is_of_node q) run) MAX_MOVES may),
-  )
-  | inr d ↦ omega (arith, count_push run entry node, few node, ap {B = ℕ} (λ (b : Bool). cond b 1 0) (ne_eqb entry.made.stamp.node node d))
-]
-
 pub first_begins : (script : ScriptData) → BeginsWith script [] (first_place script)
-first_begins script = record { is_run = tt; few = λ node. omega arith; told = []; parts = refl; lines = refl }
+first_begins script = record { is_run = tt; told = []; parts = refl; lines = refl }
 
 -- the line of a next move
 pub record IsNextMove (script : ScriptData) (run : List Logged) (line : List ℕ) (place : Place) : Type 0 where
   pub node : ℕ
   pub step : Step
   pub enabled : is_enabled script (world_after script run) node step ≡ true
-  pub may : has_moves_left run node ≡ true
   pub place_is : place ≡ moved script run (logged script (world_after script run) node step)
   pub line_is : line ≡ written script (MoveLine (move_stamp (world_after script run) node step).clock node step)
 
@@ -116,16 +95,14 @@ pub next_move : (script : ScriptData) (run : List Logged) (line : List ℕ) (pla
 next_move script run line place (MoveLine clock node step) same e = elim (cases_Bool (is_next script run clock node step)) [
   | inl next ↦
       let w = world_after script run in
-      let parts = and_parts (is_enabled script w node step) ((clock == (move_stamp w node step).clock) && has_moves_left run node) next in
-      let more = and_parts (clock == (move_stamp w node step).clock) (has_moves_left run node) parts.1 in
+      let parts = and_parts (is_enabled script w node step) (clock == (move_stamp w node step).clock) next in
       let e' : Some (moved script run (logged script w node step)) ≡ Some place = sym (ap (λ (b : Bool). cond b (Some (moved script run (logged script w node step))) None) next) ∙ e in
       record {
         node = node;
         step = step;
         enabled = parts.0;
-        may = more.1;
         place_is = cc;
-        line_is = same (λ bad. absurd (cc)) ∙ ap (λ (c : ℕ). written script (MoveLine c node step)) (eqb-true clock (move_stamp w node step).clock more.0);
+        line_is = same (λ bad. absurd (cc)) ∙ ap (λ (c : ℕ). written script (MoveLine c node step)) (eqb-true clock (move_stamp w node step).clock parts.1);
       }
   | inr none ↦ absurd (let e' : None ≡ Some place = sym (ap (λ (b : Bool). cond b (Some (moved script run (logged script (world_after script run) node step))) None) none) ∙ e in cc)
 ]
@@ -166,7 +143,6 @@ begins_moved script read run line place b m =
     ∙ append_assoc first (moves_lines v (run ++ entry ∷ [])) closing)) in
     let at : BeginsWith script (read ++ line ∷ []) (moved script run entry) = record {
       is_run = IsRunFrom-push script (start script) run entry b.is_run (is_logged script w m.node m.step m.enabled);
-      few = few_push run entry m.node b.few (stamp_node w m.node m.step) m.may;
       told = b.told ++ x ∷ [];
       parts = moves;
       lines = ap₂ (λ (s : List (List ℕ)) (t : List ℕ). s ++ t ∷ []) b.lines m.line_is ∙ sym (map-append (written script) b.told (x ∷ []));
@@ -182,7 +158,6 @@ begins_due script read run (x ∷ due) line place b e = elim (cases_Bool (bytes_
       let is : record { run = run; due = due } ≡ place = cc in
       let at : BeginsWith script (read ++ line ∷ []) (record { run = run; due = due }) = record {
         is_run = b.is_run;
-        few = b.few;
         told = b.told ++ x ∷ [];
         parts = append_assoc b.told (x ∷ []) due ∙ b.parts;
         lines = ap₂ (λ (s : List (List ℕ)) (t : List ℕ). s ++ t ∷ []) b.lines ((bytes_eq-Decides line (written script x)).0 same) ∙ sym (map-append (written script) b.told (x ∷ []));

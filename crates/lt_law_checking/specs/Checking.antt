@@ -1,17 +1,16 @@
 -- Which lines are the journal of a run of a script, and which line is the first bad one. A line stands here without its line end.
-use Rattle.std.specs.Prelude.{ℕ, suc, List, [], ◌∷◌, ◌++◌, Bool, false, ◌&&◌, ◌==◌, nat_lt, fold, count_by, Option, Some, None, Result, Ok, Err, if◌then◌else◌}
+use Rattle.std.specs.Prelude.{ℕ, suc, List, [], ◌∷◌, ◌++◌, Bool, false, ◌&&◌, ◌==◌, fold, Option, Some, None, Result, Ok, Err, if◌then◌else◌}
 use Rattle.std.specs.Str.{bytes_eq}
 use Rattle.lt_modes.specs.declared.moves.Step.{Step}
 use Rattle.lt_modes.specs.Script.{ScriptData}
 use Rattle.lt_spec.specs.Log.{Logged}
-use Rattle.lt_spec.specs.World.{world_after, is_enabled, is_at_rest, move_stamp, logged, is_of_node}
+use Rattle.lt_spec.specs.World.{world_after, is_enabled, is_at_rest, move_stamp, logged}
 use Rattle.lt_text.specs.Text.{spaced}
 use Rattle.lt_journal.specs.declared.line.Line.{Line}
 use Rattle.lt_journal.specs.declared.line.Line.TheVariants.{Version, Move as MoveLine, Event as EventLine, Held, Waiting, Owner, End, Cut, Bad}
 use Rattle.lt_journal.specs.Grammar.{read_line}
 use Rattle.lt_journal.specs.Words.{line_words}
 use Rattle.lt_journal.specs.RunLines.{first_lines, event_lines, closing_lines}
-use Rattle.lt_limits.specs.declared.moves.TheConstants.{MAX_MOVES}
 
 -- how the line is written
 abbrev pub written : ScriptData → Line → List ℕ
@@ -30,23 +29,19 @@ pub record Place : Type 0 where
 abbrev pub first_place : ScriptData → Place
 first_place script = record { run = []; due = first_lines script.version ++ closing_at_rest script [] }
 
--- place_after the line of a move: its event lines are due, and at rest the closing lines place_after them
+-- after the line of a move: its event lines are due, and at rest the closing lines after them
 abbrev pub moved : ScriptData → List Logged → Logged → Place
 moved script run entry = record {
   run = run ++ entry ∷ [];
   due = event_lines script.version entry.events ++ closing_at_rest script (run ++ entry ∷ []);
 }
 
--- the node has made fewer moves than one may
-abbrev pub has_moves_left : List Logged → ℕ → Bool
-has_moves_left run node = nat_lt (count_by (is_of_node node) run) MAX_MOVES
-
--- the move is enabled place_after the run, the clock is its own, and the node may make one move more
+-- the move is enabled after the run, and the clock is its own
 abbrev pub is_next : ScriptData → List Logged → ℕ → ℕ → Step → Bool
 is_next script run clock node step =
-    is_enabled script (world_after script run) node step && ((clock == (move_stamp (world_after script run) node step).clock) && has_moves_left run node)
+    is_enabled script (world_after script run) node step && clock == (move_stamp (world_after script run) node step).clock
 
--- place_after a line that says this, where no line is due: it must be the line of a next move. At rest there is none
+-- after a line that says this, where no line is due: it must be the line of a next move. At rest there is none
 abbrev pub by_move : ScriptData → List Logged → Line → Option Place
 by_move script run (MoveLine clock node step) =
     if is_next script run clock node step then Some (moved script run (logged script (world_after script run) node step)) else None
@@ -59,12 +54,12 @@ by_move script run (End count) = None
 by_move script run (Cut node) = None
 by_move script run Bad = None
 
--- place_after this line: the first line that is due, word for word, or where none is due the line of a next move
+-- after this line: the first line that is due, word for word, or where none is due the line of a next move
 abbrev pub by_due : ScriptData → List Logged → List Line → List ℕ → Option Place
 by_due script run [] line = by_move script run (read_line script line)
 by_due script run (x ∷ due) line = if bytes_eq line (written script x) then Some (record { run = run; due = due }) else None
 
--- where the reader is place_after this line, if the line is not bad there
+-- where the reader is after this line, if the line is not bad there
 abbrev pub place_after : ScriptData → Place → List ℕ → Option Place
 place_after script place line = by_due script place.run place.due line
 
@@ -76,7 +71,7 @@ pub record Reader : Type 0 where
 abbrev pub first_reader : ScriptData → Reader
 first_reader script = record { place = Some (first_place script); good = 0 }
 
--- the reader place_after a line that led to this place, or was bad
+-- the reader after a line that led to this place, or was bad
 abbrev pub led_to : Reader → Option Place → Reader
 led_to reader None = record reader { place = None }
 led_to reader (Some place) = record { place = Some place; good = suc reader.good }
@@ -85,11 +80,11 @@ abbrev pub read_at : ScriptData → Reader → List ℕ → Option Place → Rea
 read_at script reader line None = reader
 read_at script reader line (Some place) = led_to reader (place_after script place line)
 
--- the reader place_after one line more; place_after a bad line no other counts
+-- the reader after one line more; after a bad line no other counts
 abbrev pub read_on : ScriptData → Reader → List ℕ → Reader
 read_on script reader line = read_at script reader line reader.place
 
--- the reader place_after these lines
+-- the reader after these lines
 abbrev pub reader_after : ScriptData → List (List ℕ) → Reader
 reader_after script lines = fold (read_on script) (first_reader script) lines
 
@@ -102,7 +97,7 @@ abbrev pub verdict_at : ScriptData → ℕ → Option Place → Result (List Log
 verdict_at script good None = Err (suc good)
 verdict_at script good (Some place) = if is_over script place.run place.due then Ok place.run else Err (suc good)
 
--- the run, where all is there; else the number of the first bad line, which comes place_after the good ones: it is bad, or missing
+-- the run, where all is there; else the number of the first bad line, which comes after the good ones: it is bad, or missing
 abbrev pub verdict : ScriptData → Reader → Result (List Logged) ℕ
 verdict script reader = verdict_at script reader.good reader.place
 

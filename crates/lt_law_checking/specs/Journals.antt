@@ -1,24 +1,18 @@
 -- What the laws of checking say of runs and their journals.
-use Rattle.std.specs.Prelude.{◌≡◌, ◌<◌, ◌≤◌, ◌+◌, ℕ, List, ◌++◌, map, take, length, count_by, None, Err, Ok, IsTrue}
+use Rattle.std.specs.Prelude.{◌≡◌, ◌<◌, ◌≤◌, ◌+◌, ℕ, List, ◌++◌, map, take, length, None, Err, Ok, IsTrue}
 use Rattle.lt_modes.specs.Script.{ScriptData}
 use Rattle.lt_spec.specs.Log.{Logged}
-use Rattle.lt_spec.specs.World.{world_after, is_at_rest, is_of_node, IsRun}
+use Rattle.lt_spec.specs.World.{world_after, is_at_rest, IsRun}
 use Rattle.lt_journal.specs.Text.{text_of}
 use Rattle.lt_text.specs.Text.{lines}
 use Rattle.lt_journal.specs.declared.line.Line.{Line}
 use Rattle.lt_journal.specs.RunLines.{first_lines, moves_lines}
-use Rattle.lt_limits.specs.declared.moves.TheConstants.{MAX_MOVES}
 use Rattle.lt_law_checking.specs.Checking.{Place, written, closing_at_rest, checked}
 
--- no node made more moves than one may
-abbrev pub HasFewMoves : List Logged → Type 0
-HasFewMoves run = (node : ℕ) → count_by (is_of_node node) run ≤ MAX_MOVES
-
--- a run of the script that ends at rest, with not too many moves
+-- a run of the script that ends at rest
 pub record IsFinished (script : ScriptData) (run : List Logged) : Type 0 where
   pub is_run : IsRun script run
   pub at_rest : IsTrue (is_at_rest script (world_after script run))
-  pub few : HasFewMoves run
 
 -- the lines of the text of a run that ends at rest
 abbrev pub journal_lines : ScriptData → List Logged → List (List ℕ)
@@ -31,7 +25,6 @@ lines_so_far script run = first_lines script.version ++ (moves_lines script.vers
 -- the place is that of a reader who has read these lines: its run is one of the script, and its lines are those that were read and then those that are due
 pub record BeginsWith (script : ScriptData) (read : List (List ℕ)) (place : Place) : Type 0 where
   pub is_run : IsRun script place.run
-  pub few : HasFewMoves place.run
   pub told : List Line
   pub parts : told ++ place.due ≡ lines_so_far script place.run
   pub lines : read ≡ map (written script) told

@@ -1,5 +1,5 @@
 -- What nodes keep after joined plays, and which letters are left.
-use Rattle.std.proofs.Common.{◌≡◌, ℕ, ◌<◌, ◌≤◌, List, length, Option, Some, None, refl, sym, ap, subst, arith, take, ◌∙◌}
+use Rattle.std.proofs.Common.{◌≡◌, ℕ, ◌<◌, List, length, Some, sym, ap, subst, arith, take, ◌∙◌}
 use Rattle.std.specs.Prelude.{slice_get, IsTrue, Contains}
 use Rattle.std.proofs.lemmas.Bool.{and_parts, eqb-true, ltb-true}
 use Rattle.std.proofs.lemmas.List.{take_all}
@@ -13,15 +13,14 @@ use Rattle.lt_spec.specs.Families.{home}
 use Rattle.lt_spec.specs.NodeMove.{NodeState}
 use Rattle.lt_spec.specs.World.{world_after, is_runnable, is_enabled}
 use Rattle.lt_law_invariant.proofs.KeptRuns.{letters_fit_in_runs}
-use Rattle.lt_limits.specs.declared.moves.TheConstants.{MAX_MOVES}
 use Rattle.lt_limits.specs.Limits.{node_within, leaves_asks}
 use Rattle.lt_law_limits.proofs.Within.{whole, nodes_within, asks_placed}
 use Rattle.lt_law_plays.specs.Plays.{can_act}
 use Rattle.lt_law_plays.specs.Merged.{merged}
-use Rattle.lt_law_plays.specs.Parts.{Part, part_or, logs_of, Joined}
-use Rattle.lt_law_plays.proofs.LowClocks.{sum_within, clocks_are_low}
+use Rattle.lt_law_plays.specs.Parts.{Part, logs_of, Joined}
+use Rattle.lt_law_ends.proofs.Short.{plays_are_short}
 use Rattle.lt_law_plays.proofs.JoinedParts.{joined_are_plays}
-use Rattle.lt_law_merged.specs.States.{StatesWithin, AsksHavePlace, AreShort, ClocksBelow, LettersLeftFit}
+use Rattle.lt_law_merged.specs.States.{StatesWithin, AsksHavePlace, ClocksBelow, LettersLeftFit}
 use Rattle.lt_law_merged.proofs.Joining.{part_is, joined_merges}
 use Rattle.lt_law_merged.proofs.Moving.{act_is_seen}
 
@@ -46,28 +45,20 @@ asks_have_place script parts is_script joined q client part is_part can =
     let place = asks_placed script _ is_script run.is_run client (ltb-true client _ known.0) at_home.1 in
     subst (λ (n : NodeState). IsTrue (leaves_asks script n)) (ap w.node (eqb-true (home script client) q at_home.0) ∙ run.node q part is_part) place
 
--- no log is longer than a node's log may be
-short_logs : (script : ScriptData) (parts : List Part) → AreShort parts → (x : ℕ) → length ((logs_of script parts).log x) ≤ MAX_MOVES
-short_logs script parts short x = by_part (slice_get parts x) refl
-  where
-    by_part : (o : Option Part) → slice_get parts x ≡ o → length (part_or script x o).log ≤ MAX_MOVES
-    by_part (Some part) e = short x part e
-    by_part None e = omega arith
-
 pub clocks_below : ClocksBelow
-clocks_below script parts is_script joined short q part is_part =
+clocks_below script parts is_script joined q part is_part =
     omega (
       arith,
       ap (λ (p : Part). p.last.clock) (part_is script parts q part is_part),
-      clocks_are_low script (logs_of script parts) (joined_are_plays script parts joined) (omega (arith, is_script.few_nodes)) (short_logs script parts short) q,
+      (plays_are_short script (logs_of script parts) is_script (joined_are_plays script parts joined)).1 q,
     )
 
 pub letters_left_fit : LettersLeftFit
-letters_left_fit script parts is_script joined short p q a b rest letter is_a is_b e among =
+letters_left_fit script parts is_script joined p q a b rest letter is_a is_b e among =
     let run = merged script.nodes (logs_of script parts).log in
     let is_joined = joined_merges script parts joined in
     let all : take (length run) run ≡ run = take_all (length run) run (omega arith) in
-    let few = sum_within script.nodes (λ x. length ((logs_of script parts).log x)) (short_logs script parts short) in
+    let few = (plays_are_short script (logs_of script parts) is_script (joined_are_plays script parts joined)).0 in
     let here = subst (λ (letters : List Letter). Contains letters letter)
     (sym (ap (λ (r : List Logged). (world_after script r).mail p q) all ∙ is_joined.mail p q a b rest is_a is_b e)) among in
     subst (λ (n : NodeState). IsTrue (fits (numbers_of script) q n.clock (n.set letter.set) letter))

@@ -1,5 +1,5 @@
 -- Which nodes can make a move.
-use Rattle.std.proofs.Common.{◌≡◌, ℕ, zero, suc, ◌<◌, inl, inr, length, Bool, true, false, ap, arith, subst}
+use Rattle.std.proofs.Common.{◌≡◌, ℕ, ◌<◌, inl, inr, length, Bool, true, false, ap, subst}
 use Rattle.std.specs.Prelude.{◌&&◌, ◌||◌, ◌==◌, nat_lt, IsTrue}
 use Rattle.std.proofs.lemmas.Bool.{or_cases, or_left, or_right, and_parts, false_from_ne_true, eqb-true, both_ways, ltb-true}
 use Rattle.lt_modes.specs.declared.moves.Step.{Step}
@@ -14,19 +14,12 @@ use Rattle.lt_limits.specs.Cut.{can_move}
 use Rattle.lt_law_plays.specs.Plays.{can_act}
 use Rattle.lt_law_plays.proofs.LowClocks.{same_runnable}
 use Rattle.lt_law_enabled.specs.OrderLaws.{RestsWithoutMove}
+use Rattle.lt_law_ends.proofs.Reach.{any_below_which}
 use Rattle.lt_law_merged.specs.CanMove.{CanMoveIsSeen, CanMoveIsEnabled, RestIsNoMove}
 
 -- an act is enabled where the node alone can make it
 pub act_is_seen : (script : ScriptData) (w : World) (q client : ℕ) → is_enabled script w q (Act client) ≡ can_act script q (w.node q) client
 act_is_seen script w q client = ap (λ (t : Bool). nat_lt client (length script.clients) && t) (same_runnable script w q client)
-
--- a search that finds something finds it at some number
-any_below_which : (n : ℕ) (test : ℕ → Bool) → any_below n test ≡ true → (k : ℕ) × (k < n) × (test k ≡ true)
-any_below_which zero test e = cc
-any_below_which (suc n) test e = elim (or_cases (any_below n test) (test n) e) [
-  | inl before ↦ let found = any_below_which n test before in (found.0, omega (arith, found.1), found.2)
-  | inr last ↦ (n, omega arith, last)
-]
 
 pub can_move_is_seen : CanMoveIsSeen
 can_move_is_seen script w q =

@@ -1,10 +1,9 @@
 -- What nodes keep and are sent in joined plays, as statements.
-use Rattle.std.specs.Prelude.{◌≡◌, ◌<◌, ◌≤◌, ◌+◌, ◌^◌, ℕ, List, ◌++◌, Some, length, slice_get, IsTrue, Contains}
+use Rattle.std.specs.Prelude.{◌≡◌, ◌<◌, ◌+◌, ◌^◌, ℕ, List, ◌++◌, Some, length, slice_get, IsTrue, Contains}
 use Rattle.lt_modes.specs.Script.{ScriptData}
 use Rattle.lt_modes.specs.State.{Letter}
 use Rattle.lt_modes.specs.Fits.{fits, numbers_of}
 use Rattle.lt_script.specs.Script.{IsScript}
-use Rattle.lt_limits.specs.declared.moves.TheConstants.{MAX_MOVES}
 use Rattle.lt_limits.specs.Limits.{node_within, leaves_asks}
 use Rattle.lt_law_plays.specs.Plays.{can_act}
 use Rattle.lt_law_plays.specs.Parts.{Part, Joined}
@@ -19,18 +18,14 @@ abbrev pub AsksHavePlace : Type 0
 AsksHavePlace = (script : ScriptData) (parts : List Part) → IsScript script → Joined script parts
     → (q client : ℕ) (part : Part) → slice_get parts q ≡ Some part → IsTrue (can_act script q part.last client) → IsTrue (leaves_asks script part.last)
 
--- no part has more moves than a script may let a node make
-abbrev pub AreShort : List Part → Type 0
-AreShort parts = (x : ℕ) (part : Part) → slice_get parts x ≡ Some part → length part.log ≤ MAX_MOVES
-
 -- no clock is at its bound
 abbrev pub ClocksBelow : Type 0
-ClocksBelow = (script : ScriptData) (parts : List Part) → IsScript script → Joined script parts → AreShort parts
+ClocksBelow = (script : ScriptData) (parts : List Part) → IsScript script → Joined script parts
     → (q : ℕ) (part : Part) → slice_get parts q ≡ Some part → part.last.clock + 1 < 2 ^ 32
 
 -- each letter that was sent and not used fits its receiver
 abbrev pub LettersLeftFit : Type 0
-LettersLeftFit = (script : ScriptData) (parts : List Part) → IsScript script → Joined script parts → AreShort parts
+LettersLeftFit = (script : ScriptData) (parts : List Part) → IsScript script → Joined script parts
     → (p q : ℕ) (a b : Part) (rest : List Letter) (letter : Letter) → slice_get parts p ≡ Some a → slice_get parts q ≡ Some b
     → a.sent q ≡ b.used p ++ rest → Contains rest letter
     → IsTrue (fits (numbers_of script) q b.last.clock (b.last.set letter.set) letter)

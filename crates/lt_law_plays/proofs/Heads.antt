@@ -10,11 +10,11 @@ use Rattle.lt_model.proofs.TimedMove.{timed_in_runs}
 use Rattle.lt_law_plays.specs.Merged.{merged}
 use Rattle.lt_law_plays.specs.MergeLaws.{HeadsFit}
 use Rattle.lt_law_plays.proofs.MergedLogs.{merged_exists}
-use Rattle.lt_law_plays.proofs.LowClocks.{clocks_are_low, letters_are_low}
+use Rattle.lt_law_plays.proofs.LowClocks.{clocks_are_counted, letters_are_counted}
 use Rattle.lt_law_plays.proofs.MergedRun.{merged_is_run, sent_were_on_way}
 
 pub heads_fit : HeadsFit
-heads_fit script l whole h few short p q letter below among =
+heads_fit script l whole h few p q letter below among =
     let run = merged script.nodes l.log in
     let is_merged = merged_exists script l h in
     let is_run = merged_is_run script l run h is_merged in
@@ -26,10 +26,10 @@ heads_fit script l whole h few short p q letter below among =
     let link = (paths.letters p q letter below on).link in
     let named = paths.went letter.link.epoch 0 link.epoch in
     let timed = (timed_in_runs script run is_run found.0 letter.set).letters p q letter below on in
-    let low = letters_are_low script l h few short p q letter among in
-    let clock = clocks_are_low script l h few short q in
+    let low = letters_are_counted script l h p q letter among in
+    let clock = clocks_are_counted script l h q in
     and_from (nat_lt letter.set (length script.sets)) _ (lt-ltb letter.set (length script.sets) home.set)
     (and_from (nat_lt letter.link.node script.nodes) _ (lt-ltb letter.link.node script.nodes (subst (λ x. x < script.nodes) link.node named))
     (and_from (nat_le letter.link.epoch letter.stamp.clock) _ (le-leb letter.link.epoch letter.stamp.clock timed.epoch)
-    (and_from (nat_lt (letter.stamp.clock + 1) 4294967296) _ (lt-ltb (letter.stamp.clock + 1) 4294967296 (omega (arith, low)))
-    (lt-ltb ((l.last q).clock + 1) 4294967296 (omega (arith, clock))))))
+    (and_from (nat_lt (letter.stamp.clock + 1) 4294967296) _ (lt-ltb (letter.stamp.clock + 1) 4294967296 (omega (arith, low, few)))
+    (lt-ltb ((l.last q).clock + 1) 4294967296 (omega (arith, clock, few))))))

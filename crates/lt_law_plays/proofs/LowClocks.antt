@@ -1,18 +1,17 @@
 -- How far clocks get in plays, and what is enabled after them.
-use Rattle.std.proofs.Common.{◌≡◌, ℕ, zero, suc, ◌*◌, ◌≤◌, List, length, Bool, true, false, refl, ap, arith, ◌∙◌, take as take_first}
+use Rattle.std.proofs.Common.{◌≡◌, ℕ, List, length, Bool, true, false, refl, ap, arith, ◌∙◌, take as take_first}
 use Rattle.std.specs.Prelude.{◌&&◌, ◌==◌, not, nat_lt}
 use Rattle.std.proofs.lemmas.Bool.{eqb-true}
 use Rattle.std.proofs.lemmas.List.{take_all}
 use Rattle.std.proofs.lemmas.List.Elements.{All-contains, All-from_recursion}
 use Rattle.lt_modes.specs.Script.{ScriptData}
 use Rattle.lt_spec.specs.Log.{Logged}
-use Rattle.lt_lists.specs.Below.{sum_below}
 use Rattle.lt_spec.specs.Families.{home}
 use Rattle.lt_spec.specs.NodeMove.{has_command, node_waits}
 use Rattle.lt_spec.specs.World.{World, start, is_some_letter, is_runnable, world_after}
 use Rattle.lt_model.proofs.ClocksGrow.{clocks_in_runs}
 use Rattle.lt_law_plays.specs.Merged.{merged}
-use Rattle.lt_law_plays.specs.MergeLaws.{joined_world, EnabledIsSeen, ClocksAreCounted, ClocksAreLow, LettersAreLow}
+use Rattle.lt_law_plays.specs.MergeLaws.{joined_world, EnabledIsSeen, ClocksAreCounted, LettersAreCounted}
 use Rattle.lt_law_plays.proofs.PlayLemmas.{IsSentIn, plays_send_stamped}
 use Rattle.lt_law_plays.proofs.MergedLogs.{merged_exists, merged_has_all}
 use Rattle.lt_law_plays.proofs.MergedRun.{merged_is_run, merged_ends}
@@ -27,20 +26,12 @@ clocks_are_counted script l h x =
     ap (λ (r : List Logged). ((world_after script r).node x).clock) whole ∙ ap (λ (w : World). (w.node x).clock) (merged_ends script l run h is_merged) in
     omega (arith, bound, clock, merged_has_all script l run h is_merged)
 
-pub sum_within : (n : ℕ) (f : ℕ → ℕ) → ((x : ℕ) → f x ≤ 1048576) → sum_below n f ≤ n * 1048576
-sum_within zero f h = omega arith
-sum_within (suc n) f h = omega (arith, sum_within n f h, h n)
-
-pub clocks_are_low : ClocksAreLow
-clocks_are_low script l h few short x =
-    omega (arith, clocks_are_counted script l h x, sum_within script.nodes (λ y. length (l.log y)) short, few)
-
-pub letters_are_low : LettersAreLow
-letters_are_low script l h few short p q letter among =
+pub letters_are_counted : LettersAreCounted
+letters_are_counted script l h p q letter among =
     let sent = plays_send_stamped script p (l.log p) ((start script).node p) (l.last p) (l.used p) (l.sent p) (h.plays p) q in
     let here : IsSentIn p 0 (l.last p).clock letter = All-contains (IsSentIn p 0 (l.last p).clock) (l.sent p q) letter
     (All-from_recursion (IsSentIn p 0 (l.last p).clock) (l.sent p q) sent) among in
-    omega (arith, here.2, clocks_are_low script l h few short p)
+    omega (arith, here.2, clocks_are_counted script l h p)
 
 pub same_runnable : (script : ScriptData) (w : World) (q client : ℕ)
     → home script client == q && is_runnable script w client ≡ (home script client == q && (not (node_waits script (w.node q) client) && has_command script (w.node q) client))

@@ -1,5 +1,5 @@
 -- The laws of merging, as statements.
-use Rattle.std.specs.Prelude.{◌≡◌, ◌<◌, ◌≤◌, ◌-◌, ◌^◌, ℕ, List, [], ◌∷◌, length, take, slice_index, filter, IsTrue, Contains}
+use Rattle.std.specs.Prelude.{◌≡◌, ◌<◌, ◌≤◌, ◌+◌, ◌^◌, ℕ, List, [], ◌∷◌, length, take, slice_index, filter, IsTrue, Contains}
 use Rattle.lt_modes.specs.declared.moves.Step.TheVariants.{Act, Take}
 use Rattle.lt_modes.specs.Script.{ScriptData}
 use Rattle.lt_modes.specs.State.{Letter, Desk, TokenBody}
@@ -86,19 +86,15 @@ abbrev pub ClocksAreCounted : Type 0
 ClocksAreCounted = (script : ScriptData) (l : Logs) → ArePlays script l
     → (x : ℕ) → (l.last x).clock ≤ sum_below script.nodes (λ y. length (l.log y))
 
--- where each of at most 64 nodes makes at most 1,048,576 moves, no clock comes near 2^32
-abbrev pub ClocksAreLow : Type 0
-ClocksAreLow = (script : ScriptData) (l : Logs) → ArePlays script l → script.nodes ≤ 64 → ((x : ℕ) → length (l.log x) ≤ 1048576)
-    → (x : ℕ) → (l.last x).clock < 2 ^ 32 - 1
+-- and neither is that of a letter that was sent
+abbrev pub LettersAreCounted : Type 0
+LettersAreCounted = (script : ScriptData) (l : Logs) → ArePlays script l
+    → (p q : ℕ) (letter : Letter) → Contains (l.sent p q) letter → letter.stamp.clock ≤ sum_below script.nodes (λ y. length (l.log y))
 
--- and neither does that of a letter that was sent
-abbrev pub LettersAreLow : Type 0
-LettersAreLow = (script : ScriptData) (l : Logs) → ArePlays script l → script.nodes ≤ 64 → ((x : ℕ) → length (l.log x) ≤ 1048576)
-    → (p q : ℕ) (letter : Letter) → Contains (l.sent p q) letter → letter.stamp.clock < 2 ^ 32 - 1
-
--- so what each node tests first of a letter holds of every letter that was sent to it: its set, its link and the clocks
+-- so where all nodes together make fewer than 2^32 - 1 moves, what each node tests first of a letter holds of every letter that was
+-- sent to it: its set, its link and the clocks
 abbrev pub HeadsFit : Type 0
-HeadsFit = (script : ScriptData) (l : Logs) → IsWhole script → ArePlays script l → script.nodes ≤ 64 → ((x : ℕ) → length (l.log x) ≤ 1048576)
+HeadsFit = (script : ScriptData) (l : Logs) → IsWhole script → ArePlays script l → sum_below script.nodes (λ y. length (l.log y)) + 1 < 2 ^ 32
     → (p q : ℕ) (letter : Letter) → p < script.nodes → Contains (l.sent p q) letter → IsTrue (head_fits (numbers_of script) (l.last q).clock letter)
 
 -- what nodes log in a run, where they use and send these letters

@@ -1,6 +1,6 @@
 ghost use Rattle.lt_law_plays.specs.PlayLaws.{OneMovePlays, PlaysJoin, PlaysGrow, PlaysRise, PlaysSendStamped, TakesNothingOfItself, TakesNothingFromBeyond};
 ghost use Rattle.lt_law_plays.specs.Parts.{JoinedArePlays};
-ghost use Rattle.lt_law_plays.specs.MergeLaws.{MergedIsRun, MergedEnds, MergedExists, MergedHasAll, MergedIsOne, HandIsFront, SentWereOnWay, OnWayWereSent, TokenStands, TokenCame, EnabledIsSeen, ClocksAreCounted, ClocksAreLow, LettersAreLow, HeadsFit, RunsArePlays};
+ghost use Rattle.lt_law_plays.specs.MergeLaws.{MergedIsRun, MergedEnds, MergedExists, MergedHasAll, MergedIsOne, HandIsFront, SentWereOnWay, OnWayWereSent, TokenStands, TokenCame, EnabledIsSeen, ClocksAreCounted, LettersAreCounted, HeadsFit, RunsArePlays};
 
 /// One move is a play; a play and one that begins where it ended are a play; in a play the node's stamps rise.
 pub fn law_plays()
@@ -38,11 +38,10 @@ pub fn law_tokens()
     ensures came { TokenCame }
 {}
 
-/// Clocks stay below their bound where nodes make no more moves than they may, so that no letter is refused for its numbers.
+/// Clocks are no greater than the number of moves, so no letter is refused for its numbers in plays of fewer than 2^32 - 1 moves.
 pub fn law_low_clocks()
     ensures counted { ClocksAreCounted }
-    ensures nodes { ClocksAreLow }
-    ensures letters { LettersAreLow }
+    ensures letters { LettersAreCounted }
     ensures heads { HeadsFit }
 {}
 

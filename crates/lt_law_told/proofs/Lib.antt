@@ -1,3 +1,5 @@
 pub mod RunsOpened
 pub mod OthersOpened
 pub mod LimitsOpened
+pub mod LiveCallsOpened
+pub mod LiveRunsOpened

@@ -2,5 +2,7 @@
 #![tactic(auto)]
 
 mod laws;
+mod live;
 
 pub use laws::law_told;
+pub use live::law_live_told;

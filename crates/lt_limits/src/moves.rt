@@ -1,2 +1,2 @@
 /// The most moves that a node may make.
-pub const MAX_MOVES: u32 = 1_048_576;
+pub const MAX_MOVES: u32 = 1 << 30;

@@ -18,4 +18,5 @@ pub mod LiveShares
 pub mod Live
 pub mod Settling
 pub mod Finished
+pub mod Now
 pub mod AnsweredLemmas

@@ -9,6 +9,7 @@ pub mod Opened
 pub mod Live
 pub mod LiveLaws
 pub mod Finished
+pub mod NowLaws
 pub mod Same
 pub mod Visits
 pub mod Answered

@@ -1,6 +1,7 @@
 ghost use Rattle.lt_live.specs.LiveLaws.{OpenedAreLive, LiveLasts, OneStationLasts, OneSessionLasts};
 ghost use Rattle.lt_live.specs.ReplyLaws.{RepliesOfLines, RepliesInLog};
 ghost use Rattle.lt_live.specs.Answered.{PolledInTurn, NoMoreThanSubmitted};
+ghost use Rattle.lt_live.specs.NowLaws.{SharedNow, ServedNow};
 
 /// What sessions are told are the replies of the run: a station tells them from the log of its node alone.
 pub fn law_told()
@@ -20,4 +21,11 @@ pub fn law_live_lasts()
 pub fn law_polled_in_turn()
     ensures turn { PolledInTurn }
     ensures no_more { NoMoreThanSubmitted }
+{}
+
+/// At any time there is a run in which all sessions were served so far, though nobody made one list of the moves: what stations
+/// and sessions keep says so, once they have looked at the rings between them.
+pub fn law_served_now()
+    ensures shared { SharedNow }
+    ensures served { ServedNow }
 {}

@@ -1,6 +1,6 @@
 // Stations in a pool, which workers share.
-ghost use Rattle.std.specs.Prelude.{◌≡◌, ◌<◌, [], length, None, OnSome};
-ghost use Rattle.lt_live.specs.Visits.{IsRefused};
+ghost use Rattle.std.specs.Prelude.{◌≡◌, ◌<◌, [], length, None, IfSome, OnSome};
+ghost use Rattle.lt_live.specs.Visits.{IsVisit, IsRefused};
 
 use crate::station::Station;
 use lt_pool::{Pool, Post};
@@ -20,6 +20,7 @@ pub fn visit<G: Gate>(
     requires free { post.old.claimed ≡ [] }
     ensures post { post.new ≡ record post.old { refused = post.new.refused } }
     ensures visited { OnSome result (post.new.refused ≡ post.old.refused) }
+    ensures turned { IfSome result (IsVisit pool.now.firsts node) }
     ensures refused { result ≡ None → IsRefused node post.old.refused post.new.refused }
 {
     let Ok(mut station) = pool.claim(post, node) else {

@@ -1,11 +1,14 @@
 -- What an answer says: once the journal is written, where there is no run, and where there is a word.
-use Rattle.std.proofs.Common.{◌≡◌, ◌≢◌, ◌<◌, ◌≤◌, ◌+◌, ◌⊎◌, ℕ, List, Option, [], refl, sym, subst, arith, inl, inr}
+use Rattle.std.proofs.Common.{◌≡◌, ◌≢◌, ◌<◌, ◌≤◌, ◌+◌, ◌⊎◌, ℕ, List, Option, Some, None, Ok, [], refl, sym, subst, arith, inl, inr}
 use Rattle.lt_io.specs.FaultCounts.{CountsFaults, RoseBy, count_after}
 use Rattle.lt_io.specs.Source.{SourceState}
 use Rattle.lt_io.specs.Whole.{IsReadWhole}
+use Rattle.lt_modes.specs.Script.{ScriptData}
 use Rattle.lt_limits.specs.declared.ending.Ending.{Ending}
 use Rattle.lt_limits.specs.declared.ending.Ending.TheVariants as ending
 use Rattle.lt_script.specs.declared.fault.ScriptFault.{ScriptFault}
+use Rattle.lt_script.specs.Reading.{read_of}
+use Rattle.lt_order.specs.Ordered.{IsOrdered}
 use Rattle.lt_spec.specs.Log.{Logged}
 use Rattle.lt_live.specs.declared.reply.Reply.{Reply}
 use Rattle.lt_live_serve.specs.declared.limits.TheConstants.{MAX_INPUT}
@@ -13,7 +16,7 @@ use Rattle.lt_live_serve.specs.declared.served.Served.{Served}
 use Rattle.lt_live_serve.specs.declared.status.Status.{Status}
 use Rattle.lt_live_serve.specs.declared.status.Status.TheVariants.{Done, Stuck, Usage, Refused, TooLong, ReadFault, WriteFault, NoMemory, Cut, Share}
 use Rattle.lt_live_serve.specs.Status.{status_of_end}
-use Rattle.lt_live_serve.specs.Serves.{Serves, Did, SaysOfSource, SaysOfSink, IsEnding, WritesNothing, IsRefusal, IsGood}
+use Rattle.lt_live_serve.specs.Serves.{Serves, Did, Ends, NothingFails, SaysOfSource, SaysOfSink, IsEnding, WritesNothing, IsRefusal, IsGood, IsOrderedInput}
 
 at_least : (a b : ℕ) → b ≡ a → a ≤ b
 at_least a b e = omega (arith, e)
@@ -54,6 +57,57 @@ written_reading status before after whole h = record {
   whole = λ read. whole.ended;
 }
 
+-- what is known where nothing fails
+abbrev pub IsComplete : ℕ → Status → SourceState → SourceState → ℕ → ℕ → Type 0
+IsComplete words status before after writes_before writes_after =
+    NothingFails words status before after writes_before writes_after → IsEnding status
+
+-- no journal is that of a run that was cut
+not_cut : (status : Status) (left : Option (List ℕ)) (run : List Logged) (polled : List (ℕ × Reply)) (old new : Option (List ℕ))
+    → Did status left run polled old new → (node : ℕ) → status ≢ Cut node
+not_cut status left run polled old new did node cut =
+    let wrote : Did (Cut node) left run polled old new = subst (λ (s : Status). Did s left run polled old new) cut did in
+    wrote.1.live.never_cut node refl
+
+-- nor one of an ordered script at whose end somebody waits
+not_stuck : (left : Option (List ℕ)) (run : List Logged) (polled : List (ℕ × Reply)) (old new : Option (List ℕ))
+    → Did Stuck left run polled old new → IsOrderedInput left → ⊥
+not_stuck None run polled old new did ordered = ordered
+not_stuck (Some bytes) run polled old new did ordered =
+    let journals = did.1 in
+    let read : read_of bytes ≡ Ok journals.script = journals.denoted in
+    let reads = ordered.1 in
+    let same : ordered.0 ≡ journals.script = cc in
+    journals.live.ordered (subst (λ (script : ScriptData). IsOrdered script) same ordered.2) refl
+
+at_rest : (status : Status) → IsEnding status → ((node : ℕ) → status ≢ Cut node) → (status ≡ Done) ⊎ (status ≡ Stuck)
+at_rest Done h never = inl refl
+at_rest Stuck h never = inr refl
+at_rest (Cut node) h never = absurd (never node refl)
+at_rest Usage h never = absurd h
+at_rest (Refused fault) h never = absurd h
+at_rest TooLong h never = absurd h
+at_rest ReadFault h never = absurd h
+at_rest WriteFault h never = absurd h
+at_rest NoMemory h never = absurd h
+at_rest (Share client) h never = absurd h
+
+-- how the run ends
+ends_by : (words : ℕ) (status : Status) (before after : SourceState) (run : List Logged) (polled : List (ℕ × Reply)) (old new : Option (List ℕ)) (writes_before writes_after : ℕ)
+    → Did status before.left run polled old new → IsComplete words status before after writes_before writes_after
+    → Ends words status before after writes_before writes_after
+ends_by words status before after run polled old new writes_before writes_after did complete = record {
+  never_cut = never;
+  done_or_stuck = λ fine. at_rest status (complete fine) never;
+  ordered = λ fine ordered. elim (at_rest status (complete fine) never) [
+    | inl done ↦ done
+    | inr stuck ↦ absurd (not_stuck before.left run polled old new (subst (λ (s : Status). Did s before.left run polled old new) stuck did) ordered)
+  ];
+}
+  where
+    never : (node : ℕ) → status ≢ Cut node
+    never = not_cut status before.left run polled old new did
+
 -- where the journal was written, or a part of it
 pub written_serves : {S K : Type 0} (state : S → SourceState) (held : K → Option (List ℕ)) (write_faults : K → ℕ) (words : ℕ) (answer : Served) (before after : S) (sink sink_after : K)
     → words ≡ 0 → HasWritten answer.status
@@ -70,10 +124,12 @@ written_serves state held write_faults words answer before after sink sink_after
   reading = λ other. written_reading answer.status (state before) (state after) whole written;
   writing = writing;
   unwritten = unwritten;
-  complete = λ no_word good writes memory. elim written [
-    | inl h ↦ h
-    | inr e ↦ absurd (writes (rose 1 (write_faults sink) (write_faults sink_after) (writing.write_fault e)))
-  ];
+  ends = ends_by words answer.status (state before) (state after) answer.run.entries answer.polled.items (held sink) (held sink_after) (write_faults sink)
+      (write_faults sink_after) did
+      (λ fine. elim written [
+        | inl h ↦ h
+        | inr e ↦ absurd (fine.no_write_fault (rose 1 (write_faults sink) (write_faults sink_after) (writing.write_fault e)))
+      ]);
 }
 
 refusal_did : (status : Status) (left : Option (List ℕ)) (run : List Logged) (polled : List (ℕ × Reply)) (held : Option (List ℕ))
@@ -109,8 +165,9 @@ pub refusal_serves : {S K : Type 0} (state : S → SourceState) (held : K → Op
 refusal_serves state held write_faults words answer status before after sink none same no_run no_reply refused reading =
     let refusal : IsRefusal (state before).left answer.status = subst (λ (s : Status). IsRefusal (state before).left s) (sym same) refused in
     let tells : SaysOfSource answer.status (state before) (state after) = subst (λ (s : Status). SaysOfSource s (state before) (state after)) (sym same) reading in
+    let did = refusal_did answer.status (state before).left answer.run.entries answer.polled.items (held sink) refusal no_run no_reply in
     record {
-      did = refusal_did answer.status (state before).left answer.run.entries answer.polled.items (held sink) refusal no_run no_reply;
+      did = did;
       usage = λ e. absurd (subst (λ (s : Status). IsRefusal (state before).left s) e refusal);
       no_words = λ some. absurd (omega (arith, none, some));
       unread = λ e. absurd (subst (λ (s : Status). IsRefusal (state before).left s) e refusal);
@@ -122,14 +179,15 @@ refusal_serves state held write_faults words answer status before after sink non
         no_write_fault = λ other. refl;
       };
       unwritten = λ nothing. refl;
-      complete = λ no_word good writes memory. refusal_complete answer.status (state before) (state after) refusal tells good memory;
+      ends = ends_by words answer.status (state before) (state after) answer.run.entries answer.polled.items (held sink) (held sink) (write_faults sink)
+          (write_faults sink) did (λ fine. refusal_complete answer.status (state before) (state after) refusal tells fine.good fine.memory);
     }
 
 -- where there is a word
 pub usage_serves : {S K : Type 0} (state : S → SourceState) (held : K → Option (List ℕ)) (write_faults : K → ℕ) (words : ℕ) (answer : Served) (source : S) (sink : K)
     → 0 < words → answer.status ≡ Usage → answer.run.entries ≡ [] → answer.polled.items ≡ [] → Serves state held write_faults words answer source source sink sink
 usage_serves state held write_faults words answer source sink some is no_run no_reply = record {
-  did = subst (λ (s : Status). Did s (state source).left answer.run.entries answer.polled.items (held sink) (held sink)) (sym is) (no_run, no_reply, refl);
+  did = did;
   usage = λ e. some;
   no_words = λ h. is;
   unread = λ e. refl;
@@ -138,8 +196,12 @@ usage_serves state held write_faults words answer source sink some is no_run no_
   reading = λ other. absurd (other is);
   writing = record { write_fault = λ e. absurd (cc); no_write_fault = λ other. refl };
   unwritten = λ nothing. refl;
-  complete = λ none good writes memory. absurd (omega (arith, none, some));
+  ends = ends_by words answer.status (state source) (state source) answer.run.entries answer.polled.items (held sink) (held sink) (write_faults sink)
+      (write_faults sink) did (λ fine. absurd (let none = fine.no_words in omega (arith, none, some)));
 }
+  where
+    did : Did answer.status (state source).left answer.run.entries answer.polled.items (held sink) (held sink)
+    did = subst (λ (s : Status). Did s (state source).left answer.run.entries answer.polled.items (held sink) (held sink)) (sym is) (no_run, no_reply, refl)
 
 -- what was written of each ending
 pub end_is_ending : (end : Ending) → IsEnding (status_of_end end)

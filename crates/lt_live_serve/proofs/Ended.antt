@@ -1,5 +1,5 @@
--- How a run of an ordered script ends.
-use Rattle.std.proofs.Common.{◌≢◌, List, length, take, sym, subst, arith, ◌∙◌}
+-- How a run ends, and how one of an ordered script does.
+use Rattle.std.proofs.Common.{◌≢◌, ℕ, List, length, take, sym, subst, arith, ◌∙◌}
 use Rattle.std.specs.Prelude.{IsTrue, IsFalse}
 use Rattle.std.proofs.lemmas.Bool.{false≢true}
 use Rattle.std.proofs.lemmas.List.{take_all}
@@ -7,6 +7,7 @@ use Rattle.lt_modes.specs.Script.{ScriptData}
 use Rattle.lt_script.specs.Script.{IsScript}
 use Rattle.lt_spec.specs.Log.{Logged}
 use Rattle.lt_spec.specs.World.{world_after, is_at_rest, anyone_waits, IsRun}
+use Rattle.lt_law_ends.specs.EndLaws.{NeverCutAtAll}
 use Rattle.lt_order.specs.Ordered.{IsOrdered}
 use Rattle.lt_law_ordered.specs.OrderedLaws.{OrderedFinish}
 use Rattle.lt_law_limits.proofs.Within.{whole}
@@ -14,6 +15,13 @@ use Rattle.lt_limits.specs.declared.ending.Ending.{Ending}
 use Rattle.lt_limits.specs.declared.ending.Ending.TheVariants.{Done, Stuck, Cut}
 use Rattle.lt_limits.specs.declared.moves.TheConstants.{MAX_MOVES}
 use Rattle.lt_limits.specs.Endings.{EndsBy}
+
+-- a run has fewer moves than a node may make, so none is cut
+pub not_cut : NeverCutAtAll → (end : Ending) (script : ScriptData) (run : List Logged) → IsScript script → IsRun script run → EndsBy MAX_MOVES end script run
+    → (node : ℕ) → end ≢ Cut node
+not_cut never Done script run is_script is_run e node cut = cc
+not_cut never Stuck script run is_script is_run e node cut = cc
+not_cut never (Cut full) script run is_script is_run e node cut = let none = never script run MAX_MOVES is_script is_run (omega arith) in cc
 
 -- at rest in a run of an ordered script no client waits
 pub not_stuck : (end : Ending) (script : ScriptData) (run : List Logged) → IsScript script → IsRun script run → EndsBy MAX_MOVES end script run

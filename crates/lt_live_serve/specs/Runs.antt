@@ -46,6 +46,8 @@ all_replies script run = replies_below (length script.clients) run
 pub record LiveRun (end : Ending) (script : ScriptData) (run : List Logged) (polled : List (ℕ × Reply)) : Type 0 where
   pub ran : IsThreadRun MAX_MOVES end script run
   pub promised : Promised script run
+  -- no node made as many moves as it may
+  pub never_cut : (node : ℕ) → end ≢ ending.Cut node
   -- if the script is ordered, no client waits at its end
   pub ordered : IsOrdered script → end ≢ ending.Stuck
   pub polled_is : polled ≡ all_replies script run

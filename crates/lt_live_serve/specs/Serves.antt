@@ -1,12 +1,15 @@
 -- All that the top call says of an answer: what was written, why the answer comes, and what it says of the source and the sink.
-use Rattle.std.specs.Prelude.{◌≡◌, ◌≢◌, ◌<◌, ◌≤◌, ◌+◌, ℕ, List, [], Option}
+use Rattle.std.specs.Prelude.{◌≡◌, ◌≢◌, ◌<◌, ◌≤◌, ◌+◌, ◌⊎◌, ℕ, List, [], Option, Some, None, Ok}
 use Rattle.std.specs.Io.KnownBytes.{Appends}
 use Rattle.lt_io.specs.FaultCounts.{CountsFaults, Rose, RoseBy}
 use Rattle.lt_io.specs.Source.{SourceState}
 use Rattle.lt_io.specs.Sink.{AppendsPart}
+use Rattle.lt_modes.specs.Script.{ScriptData}
 use Rattle.lt_limits.specs.declared.ending.Ending.{Ending}
 use Rattle.lt_limits.specs.declared.ending.Ending.TheVariants as ending
 use Rattle.lt_script.specs.declared.fault.ScriptFault.{ScriptFault}
+use Rattle.lt_script.specs.Reading.{read_of}
+use Rattle.lt_order.specs.Ordered.{IsOrdered}
 use Rattle.lt_spec.specs.Log.{Logged}
 use Rattle.lt_live.specs.declared.reply.Reply.{Reply}
 use Rattle.lt_live_serve.specs.declared.limits.TheConstants.{MAX_INPUT}
@@ -66,7 +69,7 @@ pub record SaysOfSink (answer : Status) (before after : ℕ) : Type 0 where
   pub write_fault : answer ≡ WriteFault → CountsFaults 1 before after
   pub no_write_fault : answer ≢ WriteFault → after ≡ before
 
--- the run came to an end, and its journal was written
+-- the run came to an end, and its journal was written; `Ends` says which of these ends come
 abbrev pub IsEnding : Status → Type 0
 IsEnding Done = Unit {0}
 IsEnding Stuck = Unit {0}
@@ -97,6 +100,27 @@ pub record IsGood (before after : SourceState) : Type 0 where
   pub no_fault : (fault : ScriptFault) → HasFault before.left fault → ⊥
   pub none_over : (client : ℕ) → IsOverShare before.left client → ⊥
 
+-- the bytes are known, and denote an ordered script
+abbrev pub IsOrderedInput : Option (List ℕ) → Type 0
+IsOrderedInput None = ⊥
+IsOrderedInput (Some bytes) = (script : ScriptData) × (read_of bytes ≡ Ok script) × IsOrdered script
+
+-- there are no words, the input is good, no write failed, and memory wasn't wanting
+pub record NothingFails (words : ℕ) (answer : Status) (before after : SourceState) (writes_before writes_after : ℕ) : Type 0 where
+  pub no_words : words ≡ 0
+  pub good : IsGood before after
+  pub no_write_fault : Rose writes_before writes_after → ⊥
+  pub memory : answer ≢ NoMemory
+
+-- how the run ends
+pub record Ends (words : ℕ) (answer : Status) (before after : SourceState) (writes_before writes_after : ℕ) : Type 0 where
+  -- it is never cut
+  pub never_cut : (node : ℕ) → answer ≢ Cut node
+  -- where nothing fails it ends at rest
+  pub done_or_stuck : NothingFails words answer before after writes_before writes_after → (answer ≡ Done) ⊎ (answer ≡ Stuck)
+  -- with nobody waiting, if the script is ordered
+  pub ordered : NothingFails words answer before after writes_before writes_after → IsOrderedInput before.left → answer ≡ Done
+
 -- the answer to so many words; and the source and the sink before and after, with what they tell of themselves
 pub record Serves {S K : Type 0} (state : S → SourceState) (held : K → Option (List ℕ)) (write_faults : K → ℕ) (words : ℕ) (answer : Served) (source_before source_after : S) (sink_before sink_after : K) : Type 0 where
   -- what the run is, how it ended, what was polled, and what was written
@@ -112,6 +136,5 @@ pub record Serves {S K : Type 0} (state : S → SourceState) (held : K → Optio
   pub reading : answer.status ≢ Usage → SaysOfSource answer.status (state source_before) (state source_after)
   pub writing : SaysOfSink answer.status (write_faults sink_before) (write_faults sink_after)
   pub unwritten : WritesNothing answer.status → sink_after ≡ sink_before
-  -- what it is where nothing goes wrong
-  pub complete : words ≡ 0 → IsGood (state source_before) (state source_after) → (Rose (write_faults sink_before) (write_faults sink_after) → ⊥)
-      → answer.status ≢ NoMemory → IsEnding answer.status
+  -- how it ends where nothing fails
+  pub ends : Ends words answer.status (state source_before) (state source_after) (write_faults sink_before) (write_faults sink_after)

@@ -13,6 +13,7 @@ use crate::opening::begin;
 use crate::rounds::rounds;
 use crate::running::run_on;
 use crate::telling::{gather, tell_all};
+use lt_law_ends::law_never_cut;
 use lt_law_merged::law_can_move;
 use lt_law_ordered::law_ordered;
 use lt_law_promises::law_promised;
@@ -47,6 +48,7 @@ pub(crate) fn live_run<R: Threads + Sync, G: Gate>(
     law_can_move();
     law_promised();
     law_ordered();
+    law_never_cut();
     let (mut stations, mut callers) = begin(alloc, script)?;
     first_round(rt, &mut stations, &mut callers, gate);
     rounds(rt, &mut stations, &mut callers, gate);

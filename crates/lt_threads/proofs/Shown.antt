@@ -17,7 +17,6 @@ use Rattle.lt_limits.specs.declared.moves.TheConstants.{MAX_MOVES}
 use Rattle.lt_law_plays.specs.Plays.{can_act}
 use Rattle.lt_law_plays.specs.Parts.{Part, Joined}
 use Rattle.lt_law_merged.specs.JoinedRun.{IsJoinedRun}
-use Rattle.lt_law_merged.specs.States.{AreShort}
 use Rattle.lt_limits.specs.Cut.{can_move}
 use Rattle.lt_law_merged.proofs.Joining.{joined_merges}
 use Rattle.lt_law_merged.proofs.Moving.{can_move_is_seen}
@@ -86,25 +85,18 @@ record Seen (script : ScriptData) (rs : List Parts) (k : ℕ) (p : Parts) : Type
   here : slice_get rs k ≡ Some p
   plays : Joined script (map part_of rs)
   run : IsJoinedRun script (map part_of rs) (crew_run script rs)
-  short : AreShort (map part_of rs)
 
 seen_at : (script : ScriptData) (rs : List Parts) (k : ℕ) (p : Parts) → CrewMet script rs → slice_get rs k ≡ Some p → Seen script rs k p
 seen_at script rs k p s here =
     let plays = joined script rs s.crew s.kept s.met in
-    record { met_crew = s; here = here; plays = plays; run = joined_merges script (map part_of rs) plays; short = short }
-  where
-    short : AreShort (map part_of rs)
-    short x part e =
-        let (y, there, same) = part_from rs x part e in
-        let within : length y.log.entries ≤ MAX_MOVES = omega (arith, (s.kept x y there).bounded, (s.crew.each x y there).limit) in
-        subst (λ (a : Part). length a.log ≤ MAX_MOVES) same within
+    record { met_crew = s; here = here; plays = plays; run = joined_merges script (map part_of rs) plays }
 
 -- the node has no clock at its bound, and keeps what leaves room
 may_move_is : (script : ScriptData) (rs : List Parts) (k : ℕ) (p : Parts) → Seen script rs k p → may_move script (state_of p.node) ≡ true
 may_move_is script rs k p seen =
     let is_script = seen.met_crew.crew.is_script in
     let part = part_here rs k p seen.here in
-    let low = clocks_below script (map part_of rs) is_script seen.plays seen.short k (part_of p) part in
+    let low = clocks_below script (map part_of rs) is_script seen.plays k (part_of p) part in
     and_from _ _ (lt-ltb p.node.clock LAST_CLOCK (omega (arith, low))) (states_within script (map part_of rs) is_script seen.plays k (part_of p) part)
 
 -- the letters on their way to node k in the world of the crew
@@ -135,7 +127,7 @@ takes_hand script rs k p seen hand e =
     let first : Contains (left_for hand.from k x p) (letter_seen hand.letter) =
     subst (λ (letters : List Letter). Contains letters (letter_seen hand.letter)) (sym left)
     (contains_first (letter_seen hand.letter) (letter_seen hand.letter) (known_from p.mail hand.from ++ waiting_to x.mail k) refl) in
-    let fitting = letters_left_fit script (map part_of rs) s.crew.is_script seen.plays seen.short hand.from k (part_of x) (part_of p) (left_for hand.from k x p)
+    let fitting = letters_left_fit script (map part_of rs) s.crew.is_script seen.plays hand.from k (part_of x) (part_of p) (left_for hand.from k x p)
     (letter_seen hand.letter) (part_here rs hand.from x there) (part_here rs k p seen.here) comes first in
     let mail = mail_is script rs k p seen hand.from x there apart ∙ left in (
       and_from _ _ (may_move_is script rs k p seen) fitting,

@@ -1,10 +1,10 @@
 -- How many moves each node has made, and all nodes together.
-use Rattle.std.proofs.Common.{◌≡◌, ◌≢◌, Bool, true, false, ℕ, zero, suc, ◌+◌, ◌*◌, ◌<◌, ◌≤◌, ◌^◌, List, [], ◌∷◌, ◌++◌, length, inl, inr, refl, sym, ap, subst, ◌∙◌, arith, length-set, get_or-set_same, get_or-set_other}
+use Rattle.std.proofs.Common.{◌≡◌, ◌≢◌, Bool, true, false, ℕ, ◌+◌, ◌<◌, ◌≤◌, ◌^◌, List, [], ◌∷◌, ◌++◌, length, inl, inr, refl, sym, ap, subst, ◌∙◌, arith, length-set, get_or-set_same, get_or-set_other}
 use Rattle.std.specs.Prelude.{◌==◌, if◌then◌else◌, slice_set, slice_index_or, count_by, IsTrue}
 use Rattle.std.proofs.lemmas.Bool.{cases_eq, eq-eqb, ne_eqb, and_from, or_left, or_right, false≢true}
 use Rattle.std.proofs.lemmas.List.{length_push}
 use Rattle.std.proofs.lemmas.List.Sums.{sum_by-append}
-use Rattle.lt_lists.specs.Below.{sum_below, any_below}
+use Rattle.lt_lists.specs.Below.{any_below}
 use Rattle.lt_lists.proofs.Sums.{sum_below-change, sum_below-none}
 use Rattle.lt_lists.proofs.Searches.{any_below_at}
 use Rattle.lt_modes.specs.declared.moves.Step.{Step}
@@ -12,22 +12,17 @@ use Rattle.lt_modes.specs.declared.moves.Step.TheVariants.{Act, Take}
 use Rattle.lt_modes.specs.Script.{ScriptData}
 use Rattle.lt_script.specs.Script.{IsScript}
 use Rattle.lt_spec.specs.Log.{Logged}
-use Rattle.lt_spec.specs.World.{World, world_after, is_enabled, is_of_node}
+use Rattle.lt_spec.specs.World.{World, world_after, is_enabled, is_of_node, IsRun}
 use Rattle.lt_law_enabled.proofs.Order.{takes_where}
 use Rattle.lt_limits.specs.declared.moves.TheConstants.{MAX_MOVES}
 use Rattle.lt_limits.specs.Cut.{moves_of, can_move, is_full}
+use Rattle.lt_law_ends.proofs.Short.{runs_are_short}
 use Rattle.lt_world.specs.Fields.{AreCounted, AreAtMost}
 use Rattle.lt_world.proofs.Premises.{act_parts, act_inside}
 
-few_below : (n : ℕ) (f : ℕ → ℕ) → ((k : ℕ) → k < n → f k ≤ MAX_MOVES) → sum_below n f ≤ n * MAX_MOVES
-few_below zero f h = omega arith
-few_below (suc n) f h = omega (arith, few_below n f (λ k below. h k (omega (arith, below))), h n (omega arith))
-
 -- a run is far from the most moves that a log may have
-pub few_moves : (script : ScriptData) (limit : ℕ) (moves : List ℕ) (run : List Logged) → IsScript script → AreCounted script limit moves run
-    → length run + 1 < 2 ^ 32
-few_moves script limit moves run good h =
-    omega (arith, few_below script.nodes (λ q. moves_of q run) (λ q below. omega (arith, h.within q below, h.small)), h.all, good.few_nodes)
+pub few_moves : (script : ScriptData) (run : List Logged) → IsScript script → IsRun script run → length run + 1 < 2 ^ 32
+few_moves script run good is_run = omega (arith, runs_are_short script run good is_run)
 
 -- one move more
 moves_more : (q : ℕ) (run : List Logged) (entry : Logged) → moves_of q (run ++ entry ∷ []) ≡ moves_of q run + (if entry.made.stamp.node == q then 1 else 0)

@@ -9,71 +9,51 @@ use Rattle.lt_journal.specs.RunLines.{event_lines}
 use Rattle.lt_world.specs.Fields.{world_of}
 use Rattle.lt_law_checking.specs.Checking.{Place, by_move, closing_at_rest}
 use Rattle.lt_checker.specs.Place.{IsPlace}
-use Rattle.lt_checker.proofs.Moving.{inside, stepped, last_place, next_clock, wrong_clock, right_move, next_place, next_is_place}
+use Rattle.lt_checker.proofs.Moving.{room_for_move, stepped, last_place, next_clock, wrong_clock, right_move, next_place, next_is_place}
 use Rattle.lt_checker.proofs.following.next_move.Goals as goal
 
 pub step-requires-clause-room : goal.step-requires-clause-room
-step-requires-clause-room c =
-    let world = c.args.world.now in
-    let node = c.in-Move.node in
-    let enabled : is_enabled world.script (world_of world) node c.in-Move.step ≡ true = search rules in
-    let within = inside c.args.script.now world c.args.counts.now node c.in-Move.step c.requires.place enabled in
-    let may : nat_lt (get_or c.args.counts.now node 0) MAX_MOVES ≡ true = search rules in
-    omega (arith, ltb-true (get_or c.args.counts.now node 0) MAX_MOVES may, c.requires.place.counts_are.each node within, c.requires.place.limit)
-
-pub add-requires-clause-node : goal.add-requires-clause-node
-add-requires-clause-node c =
-    let world = c.args.world.now in
-    let enabled : is_enabled world.script (world_of world) c.in-Move.node c.in-Move.step ≡ true = search rules in
-    omega (arith, inside c.args.script.now world c.args.counts.now c.in-Move.node c.in-Move.step c.requires.place enabled, c.requires.place.counts_are.nodes)
+step-requires-clause-room c = room_for_move c.args.script.now c.args.world.now c.in-Move.node c.requires.place
 
 pub returns-then-made-clock-clause-led : goal.returns-then-made-clock-clause-led
 returns-then-made-clock-clause-led c =
     let world = c.args.world.now in
     let script = c.args.script.now in
-    let counts = c.args.counts.now in
     let node = c.in-Move.node in
     let step = c.in-Move.step in
     let next = c.step.new.self in
     let enabled : is_enabled world.script (world_of world) node step ≡ true = search rules in
-    let may : nat_lt (get_or counts node 0) MAX_MOVES ≡ true = search rules in
-    let s = stepped script world counts node step next c.requires.place enabled may c.in_ok-step.ensures.ok in
+    let s = stepped script world node step next c.requires.place enabled c.in_ok-step.ensures.ok in
     let k = c.len-last.result - 1 in
-    let last = last_place script world counts node step next c.len-last.result s (c.len-last.ensures ∙ ap (λ (r : List Logged). length r) c.run.ensures) in
-    let clock = next_clock script world counts node step next k c.made.result s last (ap (λ (r : List Logged). made_at r k) (sym c.run-2.ensures) ∙ c.made.ensures) in
+    let last = last_place script world node step next c.len-last.result s (c.len-last.ensures ∙ ap (λ (r : List Logged). length r) c.run.ensures) in
+    let clock = next_clock script world node step next k c.made.result s last (ap (λ (r : List Logged). made_at r k) (sym c.run-2.ensures) ∙ c.made.ensures) in
     ap (by_move script world.run) c.in-Move.is ∙ wrong_clock script world.run c.in-Move.clock node step (λ e. c.if-made-clock.true (sym (e ∙ clock)))
 
 pub returns-clause-led : goal.returns-clause-led
 returns-clause-led c =
     let world = c.args.world.now in
     let script = c.args.script.now in
-    let counts = c.args.counts.now in
     let node = c.in-Move.node in
     let step = c.in-Move.step in
     let next = c.step.new.self in
     let enabled : is_enabled world.script (world_of world) node step ≡ true = search rules in
-    let may : nat_lt (get_or counts node 0) MAX_MOVES ≡ true = search rules in
-    let s = stepped script world counts node step next c.requires.place enabled may c.in_ok-step.ensures.ok in
+    let s = stepped script world node step next c.requires.place enabled c.in_ok-step.ensures.ok in
     let k = c.len-last.result - 1 in
-    let last = last_place script world counts node step next c.len-last.result s (c.len-last.ensures ∙ ap (λ (r : List Logged). length r) c.run.ensures) in
-    let clock = next_clock script world counts node step next k c.made.result s last (ap (λ (r : List Logged). made_at r k) (sym c.run-2.ensures) ∙ c.made.ensures) in
+    let last = last_place script world node step next c.len-last.result s (c.len-last.ensures ∙ ap (λ (r : List Logged). length r) c.run.ensures) in
+    let clock = next_clock script world node step next k c.made.result s last (ap (λ (r : List Logged). made_at r k) (sym c.run-2.ensures) ∙ c.made.ensures) in
     let right : c.in-Move.clock ≡ c.made.result.stamp.clock = search rules in
     let due = c.in_ok-push_closing.ensures ∙ ap (λ (t : List Line). t ++ closing_at_rest script next.run) (c.in_ok-push_events.ensures ∙ ap (λ (t : List Line). t ++ event_lines script.version c.events.result.now) c.requires.none_due) in
-    let at = next_place script world counts node step next k c.events.result.now c.push_closing.new.due.items s last
+    let at = next_place script world node step next k c.events.result.now c.push_closing.new.due.items s last
     (ap (λ (r : List Logged). events_at r k) (sym c.run-3.ensures) ∙ c.events.ensures) due in
-    ap (by_move script world.run) c.in-Move.is ∙ (right_move script world counts node step next c.in-Move.clock s (right ∙ sym clock) ∙ ap (λ (p : Place). Some p) at)
+    ap (by_move script world.run) c.in-Move.is ∙ (right_move script world node step next c.in-Move.clock s (right ∙ sym clock) ∙ ap (λ (p : Place). Some p) at)
 
 pub returns-clause-place : goal.returns-clause-place
 returns-clause-place c = λ good.
     let world = c.args.world.now in
     let script = c.args.script.now in
-    let counts = c.args.counts.now in
     let node = c.in-Move.node in
     let step = c.in-Move.step in
     let next = c.step.new.self in
     let enabled : is_enabled world.script (world_of world) node step ≡ true = search rules in
-    let may : nat_lt (get_or counts node 0) MAX_MOVES ≡ true = search rules in
-    let s = stepped script world counts node step next c.requires.place enabled may c.in_ok-step.ensures.ok in
-    let within = inside script world counts node step c.requires.place enabled in
-    subst (λ (now : List ℕ). IsPlace script next now c.push_closing.new.due.items) (sym c.add.ensures)
-    (next_is_place script world counts node step next c.args.line c.push_closing.new.due.items s within (returns-clause-led c))
+    let s = stepped script world node step next c.requires.place enabled c.in_ok-step.ensures.ok in
+    next_is_place script world node step next c.args.line c.push_closing.new.due.items s (returns-clause-led c)

@@ -7,7 +7,6 @@ use Rattle.lt_world.specs.Fields.{WorldData}
 use Rattle.lt_law_checking.specs.Checking.{Place, first_place, closing_at_rest}
 use Rattle.lt_law_checking.specs.Journals.{HasCome}
 use Rattle.lt_law_checking.proofs.Places.{first_begins}
-use Rattle.lt_checker.specs.Place.{AreCounts}
 use Rattle.lt_checker.proofs.reader.Reader.new.Goals as goal
 
 pub invariant_of-result : goal.invariant_of-result
@@ -17,17 +16,16 @@ invariant_of-result c =
     let due = c.push_closing.new.due.items in
     let world_is : world ≡ record { script = script; limit = MAX_MOVES; run = [] } = c.in_ok-world.ensures in
     let run_is = ap (λ (w : WorldData). w.run) world_is in
-    let first : c.push_first.new.due.items ≡ first_lines script.version = c.in_ok-push_first.ensures ∙ ap (λ (t : List Line). t ++ first_lines script.version) c.new-due.ensures.items in
+    let first : c.push_first.new.due.items ≡ first_lines script.version = c.in_ok-push_first.ensures.lines ∙ ap (λ (t : List Line). t ++ first_lines script.version) c.new-due.ensures.items in
     let due_is : due ≡ first_lines script.version ++ closing_at_rest script [] =
     c.in_ok-push_closing.ensures ∙ ap₂ (λ (t : List Line) (run : List Logged). t ++ closing_at_rest script run) first run_is in
     let at : first_place script ≡ record { run = world.run; due = due } = λ i. record { run = sym run_is i; due = sym due_is i } in rw c.in_ok-script.ensures (
-      c.in_ok-counts.ensures.is_script,
+      c.in_ok-push_first.ensures.is_script,
       omega arith,
       record {
-        is_script = c.in_ok-counts.ensures.is_script;
+        is_script = c.in_ok-push_first.ensures.is_script;
         script_is = ap (λ (w : WorldData). w.script) world_is;
         limit = ap (λ (w : WorldData). w.limit) world_is;
-        counts_are = subst (AreCounts script c.in_ok-counts.counts) (sym run_is) c.in_ok-counts.ensures.counts;
         come = subst (λ (p : Place). HasCome script p) at ([], first_begins script);
       },
     )
