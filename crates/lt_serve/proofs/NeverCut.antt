@@ -1,5 +1,5 @@
 -- No run is cut where a node may make more moves than any run has; so each comes to rest.
-use Rattle.std.proofs.Common.{◌≡◌, ◌≢◌, ◌≤◌, ◌∙◌, ℕ, List, Option, Some, None, refl, sym, subst, inl, inr}
+use Rattle.std.proofs.Common.{arith, ◌≡◌, ◌≢◌, ◌≤◌, ◌∙◌, ℕ, List, Option, Some, None, refl, sym, subst, inl, inr}
 use Rattle.std.specs.Prelude.{◌⊎◌, ◌^◌}
 use Rattle.lt_io.specs.Source.{SourceState}
 use Rattle.lt_modes.specs.Script.{ScriptData}
@@ -96,6 +96,10 @@ done_of : (asked : Option Command) (status : Status) (left : Option (List ℕ)) 
     → (status ≡ Stuck → MayGetStuck asked left) → RunsOrdered asked left → status ≡ Done
 done_of asked status left (inl done) stuck ordered = done
 done_of asked status left (inr same) stuck ordered = absurd (not_stuck asked left ordered (stuck same))
+
+-- the usual limit of moves
+pub usual_is_far : 2 ^ 30 ≤ 1073741824
+usual_is_far = omega arith
 
 -- what is said of each answer has it that runs end
 pub ends : {S K : Type 0} (state : S → SourceState) (held : K → Option (List ℕ)) (write_faults : K → ℕ)
