@@ -151,6 +151,7 @@ refusal_serves state held write_faults words answer status before after sink non
       ends = ends_by words answer.status (state before) (state after) answer.run.entries answer.polled.items (held sink) (held sink) (write_faults sink)
           (write_faults sink) did (λ fine. refusal_complete answer.status (state before) (state after) refusal tells fine.good fine.memory);
     }
+
 -- where there is a word
 pub usage_serves : {S K : Type 0} (state : S → SourceState) (held : K → Option (List ℕ)) (write_faults : K → ℕ) (words : ℕ) (answer : Served) (source : S) (sink : K)
     → 0 < words → answer.status ≡ Usage → answer.run.entries ≡ [] → answer.polled.items ≡ [] → Serves state held write_faults words answer source source sink sink
@@ -170,6 +171,7 @@ usage_serves state held write_faults words answer source sink some is no_run no_
   where
     not_write : outcome.Usage ≡ outcome.WriteFault → ⊥
     not_write e = cc
+
     did : Did answer.status (state source).left answer.run.entries answer.polled.items (held sink) (held sink)
     did = subst (λ (s : Status). Did s (state source).left answer.run.entries answer.polled.items (held sink) (held sink)) (sym is) (no_run, no_reply, refl)
 
