@@ -1,8 +1,8 @@
 //! The lock service at the command line.
 #![tactic(auto)]
 
+use lt_call::{end_with, words};
 use lt_io::{ReaderSource, WriterSink};
-use lt_main::{end_with, words};
 use lt_serve::{Open, program};
 use std::process::ExitCode;
 
@@ -10,10 +10,5 @@ fn main(rt: HostRuntime) -> ExitCode {
     let mut source = ReaderSource::new(rt.stdin());
     let mut sink = WriterSink::new(rt.stdout());
     let status = program(&rt, rt.alloc(), &words(&rt), &mut source, &mut sink, &Open).status;
-    let line = if status.has_line() {
-        Some(&status)
-    } else {
-        None
-    };
-    end_with(&rt, status.code(), line)
+    end_with(&rt, &status)
 }

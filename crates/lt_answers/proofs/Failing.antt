@@ -13,7 +13,8 @@ use Rattle.lt_checker.specs.declared.limits.TheConstants.{MAX_JOURNAL}
 use Rattle.lt_serve.specs.declared.limits.TheConstants.{MAX_INPUT}
 use Rattle.lt_serve.specs.declared.status.Status.{Status}
 use Rattle.lt_serve.specs.declared.status.Status.TheVariants.{Done, Stuck, Usage, Refused, TooLong, ReadFault, WriteFault, NoMemory, Cut, BadJournal}
-use Rattle.lt_serve.specs.Causes.{IsEnding}
+use Rattle.lt_call.specs.Outcomes.{IsEnding}
+use Rattle.lt_serve.specs.Status.{outcome_of}
 use Rattle.lt_serve.specs.Complete.{IsGood, IsAnswered}
 use Rattle.lt_serve.specs.TopCall.{HasFault}
 use Rattle.lt_answers.specs.Examples.{Says, OnlyJournal, one_lock, one_lock_script, one_lock_journal}
@@ -71,7 +72,7 @@ good_check : IsGood Check (untouched (Some checked_lock)) (read_whole checked_lo
 good_check = record { no_read_fault = no_rise; not_too_long = short_journal; no_fault = without_fault; no_bad_line = λ e. never_bad }
 
 -- of the ends that a run can have only one is that of the script with one lock
-only_done : (command : Command) → OnlyJournal command one_lock one_lock_journal → (answer : Status) → IsEnding answer
+only_done : (command : Command) → OnlyJournal command one_lock one_lock_journal → (answer : Status) → IsEnding (outcome_of answer)
     → (run : List Logged) (old new : List ℕ) → Says MAX_MOVES command answer one_lock run old new → answer ≡ Done
 only_done command only Done e run old new t = refl
 only_done command only Stuck e run old new t = absurd (only.never_stuck run old new t)
@@ -85,7 +86,7 @@ only_done command only NoMemory e run old new t = absurd e
 only_done command only (BadJournal line) e run old new t = absurd e
 
 is_done : (command : Command) → OnlyJournal command one_lock one_lock_journal → IsGood command (untouched (Some one_lock)) (read_whole one_lock)
-    → ((answer : Status) → IsAnswered command answer → IsEnding answer) → IsDone command
+    → ((answer : Status) → IsAnswered command answer → IsEnding (outcome_of answer)) → IsDone command
 is_done command only good ends answer run old new complete t there =
     only_done command only answer (ends answer (complete (λ reads. good) no_rise there)) run old new t
 

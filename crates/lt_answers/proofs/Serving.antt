@@ -8,7 +8,9 @@ use Rattle.lt_words.specs.declared.command.Command.{Command}
 use Rattle.lt_words.specs.declared.command.Command.TheVariants.{SimFirst, Check}
 use Rattle.lt_serve.specs.declared.status.Status.{Status}
 use Rattle.lt_serve.specs.declared.status.Status.TheVariants.{Done, Cut}
-use Rattle.lt_serve.specs.Causes.{HasStatusCause, SaysOfSource, SaysOfSink, WritesNothing, limit_of}
+use Rattle.lt_call.specs.Outcomes.{SaysOfSource, SaysOfSink, WritesNothing}
+use Rattle.lt_serve.specs.Causes.{HasStatusCause, limit_of}
+use Rattle.lt_serve.specs.Status.{outcome_of}
 use Rattle.lt_serve.specs.Complete.{IsComplete}
 use Rattle.lt_serve.specs.TopCall.{Did}
 use Rattle.lt_answers.specs.Examples.{two_writers}
@@ -35,12 +37,12 @@ complete_so a before after first last at_first lastly none still h =
 
 pub serves_say : {S K : Type 0} (state : S → SourceState) (held : K → Option (List ℕ)) (faults : K → ℕ) → ServesSay state held faults
 serves_say state held faults = record {
-  unwritten = λ answer s t k l h is. h.unwritten (subst WritesNothing (sym is) tt);
+  unwritten = λ answer s t k l h is. h.unwritten (subst (λ (a : Status). WritesNothing (outcome_of a)) (sym is) tt);
   unread = λ answer s t k l h. h.unread refl;
   writing = λ answer s t k l h is.
-      (subst (λ (a : Status). SaysOfSink a (faults k) (faults l)) is h.writing).no_write_fault (λ e. cc);
+      (subst (λ (a : Status). SaysOfSink (outcome_of a) (faults k) (faults l)) is h.writing).no_write_fault (λ e. cc);
   reading = λ answer s t k l h is.
-      let told = subst (λ (a : Status). SaysOfSource (limit_of (Some SimFirst)) a (state s) (state t)) is (h.reading refl) in
+      let told = subst (λ (a : Status). SaysOfSource (limit_of (Some SimFirst)) (outcome_of a) (state s) (state t)) is (h.reading refl) in
       (told.no_read_fault (λ e. cc), told.not_too_long (λ e. cc));
   told = λ answer s t k l h is input old new before after.
       let so = told MAX_MOVES Check answer.status Done (state s).left (Some checked_lock) answer.run.entries (held k) (Some old) (held l) (Some new)
@@ -54,7 +56,7 @@ serves_say state held faults = record {
       check_says.bad line (subst₂ (λ (left : Option (List ℕ)) (a : Status). HasStatusCause (Some Check) left a) input is h.causes);
   wrong_words = λ answer s t k l h.
       let usage = h.causes.no_command refl in
-      (usage, h.unread refl, h.unwritten (subst WritesNothing (sym usage) tt));
+      (usage, h.unread refl, h.unwritten (subst (λ (a : Status). WritesNothing (outcome_of a)) (sym usage) tt));
   complete = λ answer s t k l h at_first lastly none still there.
       complete_says.check answer.status (complete_so answer.status (state s) (state t) (faults k) (faults l) at_first lastly none still h.complete) there;
 }

@@ -8,7 +8,8 @@ use Rattle.lt_words.specs.declared.command.Command.{Command}
 use Rattle.lt_words.specs.declared.command.Command.TheVariants.{Run, SimFirst, Sim, Check, Make, Order}
 use Rattle.lt_serve.specs.declared.status.Status.{Status}
 use Rattle.lt_serve.specs.declared.status.Status.TheVariants.{Done, Usage, Refused, TooLong, ReadFault, NoMemory, BadJournal}
-use Rattle.lt_serve.specs.Causes.{WritesNothing}
+use Rattle.lt_call.specs.Outcomes.{WritesNothing}
+use Rattle.lt_serve.specs.Status.{outcome_of}
 use Rattle.lt_serve.specs.Complete.{IsComplete}
 use Rattle.lt_answers.specs.Examples.{Says, SaysNothing, one_lock}
 use Rattle.lt_answers.specs.OtherAnswers.{checked_lock, wrong_mode, untouched}
@@ -20,12 +21,12 @@ pub record FailuresSay : Type 0 where
   pub bad_journal : SaysNothing Check (BadJournal 7) wrong_mode
 
 pub record UnwrittenSays : Type 0 where
-  pub usage : WritesNothing Usage
-  pub refused : (fault : ScriptFault) → WritesNothing (Refused fault)
-  pub too_long : WritesNothing TooLong
-  pub read_fault : WritesNothing ReadFault
-  pub no_memory : WritesNothing NoMemory
-  pub bad_journal : (line : ℕ) → WritesNothing (BadJournal line)
+  pub usage : WritesNothing (outcome_of Usage)
+  pub refused : (fault : ScriptFault) → WritesNothing (outcome_of (Refused fault))
+  pub too_long : WritesNothing (outcome_of TooLong)
+  pub read_fault : WritesNothing (outcome_of ReadFault)
+  pub no_memory : WritesNothing (outcome_of NoMemory)
+  pub bad_journal : (line : ℕ) → WritesNothing (outcome_of (BadJournal line))
 
 -- a source after these bytes of it were read to their end
 abbrev pub read_whole : List ℕ → SourceState

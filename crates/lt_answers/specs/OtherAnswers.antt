@@ -11,7 +11,9 @@ use Rattle.lt_words.specs.Words.{command_of}
 use Rattle.lt_serve.specs.declared.limits.TheConstants.{MAX_INPUT}
 use Rattle.lt_serve.specs.declared.status.Status.{Status}
 use Rattle.lt_serve.specs.declared.status.Status.TheVariants.{Done, Stuck, Usage, Refused, TooLong, ReadFault, WriteFault, Cut, BadJournal}
-use Rattle.lt_serve.specs.Causes.{HasStatusCause, SaysOfSource, SaysOfSink, reads, limit_of}
+use Rattle.lt_call.specs.Outcomes.{SaysOfSource, SaysOfSink}
+use Rattle.lt_serve.specs.Causes.{HasStatusCause, reads, limit_of}
+use Rattle.lt_serve.specs.Status.{outcome_of}
 use Rattle.lt_serve.specs.TopCall.{Did}
 use Rattle.lt_answers.specs.Examples.{Says, SaysNothing, Writes, IsNever, one_lock, one_lock_journal, the_move}
 
@@ -76,19 +78,19 @@ untouched left = record { left = left; given = 0; faults = 0; ends = 0 }
 -- at this answer a source that was never at its end has come to it
 abbrev pub ComesToEnd : Command → Status → Type 0
 ComesToEnd command status =
-    (left : Option (List ℕ)) (now : SourceState) → SaysOfSource (limit_of (Some command)) status (untouched left) now → now.ends ≡ 1
+    (left : Option (List ℕ)) (now : SourceState) → SaysOfSource (limit_of (Some command)) (outcome_of status) (untouched left) now → now.ends ≡ 1
 
 pub record CountsSay : Type 0 where
-  pub done : (left : Option (List ℕ)) (now : SourceState) → SaysOfSource (limit_of (Some SimFirst)) Done (untouched left) now
+  pub done : (left : Option (List ℕ)) (now : SourceState) → SaysOfSource (limit_of (Some SimFirst)) (outcome_of Done) (untouched left) now
       → (now.given ≤ 1048576) × (now.faults ≡ 0) × (now.ends ≡ 1)
-  pub checked : (left : Option (List ℕ)) (now : SourceState) → SaysOfSource (limit_of (Some Check)) Done (untouched left) now → now.given ≤ 67108864
-  pub refused : (fault : ScriptFault) (left : Option (List ℕ)) (now : SourceState) → SaysOfSource MAX_INPUT (Refused fault) (untouched left) now
+  pub checked : (left : Option (List ℕ)) (now : SourceState) → SaysOfSource (limit_of (Some Check)) (outcome_of Done) (untouched left) now → now.given ≤ 67108864
+  pub refused : (fault : ScriptFault) (left : Option (List ℕ)) (now : SourceState) → SaysOfSource MAX_INPUT (outcome_of (Refused fault)) (untouched left) now
       → (now.faults ≡ 0) × (now.ends ≡ 1)
-  pub too_long : (left : Option (List ℕ)) (now : SourceState) → SaysOfSource (limit_of (Some Run)) TooLong (untouched left) now → (now.given ≡ 1048577) × (now.faults ≡ 0)
-  pub read_fault : (left : Option (List ℕ)) (now : SourceState) → SaysOfSource MAX_INPUT ReadFault (untouched left) now → (now.given ≤ 1048576) × (now.faults ≡ 1)
+  pub too_long : (left : Option (List ℕ)) (now : SourceState) → SaysOfSource (limit_of (Some Run)) (outcome_of TooLong) (untouched left) now → (now.given ≡ 1048577) × (now.faults ≡ 0)
+  pub read_fault : (left : Option (List ℕ)) (now : SourceState) → SaysOfSource MAX_INPUT (outcome_of ReadFault) (untouched left) now → (now.given ≤ 1048576) × (now.faults ≡ 1)
   pub stuck : ComesToEnd SimFirst Stuck
   pub cut : ComesToEnd (Sim 7) (Cut 0)
   pub unwritten : ComesToEnd Run WriteFault
   pub bad_journal : ComesToEnd Check (BadJournal 7)
-  pub written : (now : ℕ) → SaysOfSink Done 0 now → now ≡ 0
-  pub write_fault : (now : ℕ) → SaysOfSink WriteFault 0 now → now ≡ 1
+  pub written : (now : ℕ) → SaysOfSink (outcome_of Done) 0 now → now ≡ 0
+  pub write_fault : (now : ℕ) → SaysOfSink (outcome_of WriteFault) 0 now → now ≡ 1

@@ -6,6 +6,8 @@ use Rattle.lt_modes.specs.Script.{ScriptData}
 use Rattle.lt_text.specs.Text as text
 use Rattle.lt_io.specs.FaultCounts.{count_after}
 use Rattle.lt_io.specs.Source.{SourceState}
+use Rattle.lt_call.specs.declared.outcome.Outcome.TheVariants as outcome
+use Rattle.lt_call.specs.Outcomes.{HasRead, WritesNothing, SaysOfSource}
 use Rattle.lt_script.specs.declared.fault.ScriptFault.{ScriptFault}
 use Rattle.lt_script.specs.Reading.{read_of}
 use Rattle.lt_script.specs.Reading as reading
@@ -19,7 +21,8 @@ use Rattle.lt_live_serve.specs.declared.status.Status.{Status}
 use Rattle.lt_live_serve.specs.declared.status.Status.TheVariants.{Done, Stuck, Usage, Refused, TooLong, ReadFault, WriteFault, NoMemory, Share}
 use Rattle.lt_live_serve.specs.Over.{is_over}
 use Rattle.lt_live_serve.specs.Runs.{HasFault, IsOverShare, LiveRun, Journals}
-use Rattle.lt_live_serve.specs.Serves.{Did, HasRead, WritesNothing, SaysOfSource, NothingFails, IsOrderedInput}
+use Rattle.lt_live_serve.specs.Serves.{Did, NothingFails, IsOrderedInput}
+use Rattle.lt_live_serve.specs.Status.{outcome_of}
 use Rattle.lt_law_told.specs.Runs.{two_writers, two_writers_script}
 use Rattle.lt_law_told.specs.LiveCalls.{LiveCodesAre, LiveTextsAre, Call, IsCall, Answers, Reads, IsUntroubled, ReadsWhole, LiveWordsTold, LiveRefusalsTold, LiveCountsTold, LiveEndsTold, no_nodes, one_lock, one_lock_script}
 use Rattle.lt_law_texts.proofs.Numbers.{one_text, three_text, five_text, seven_text}
@@ -124,11 +127,15 @@ two_writers_fit = record { read = writers_read; fit = two_fit }
 one_lock_fits : Fits one_lock one_lock_script
 one_lock_fits = record { read = one_lock_read; fit = one_fits }
 
+-- it writes nothing, with its status in its place
+leaves : (c : Call) (status : Status) → c.answer.status ≡ status → WritesNothing (outcome_of status) → WritesNothing (outcome_of c.answer.status)
+leaves c status e nothing = subst (λ (s : Status). WritesNothing (outcome_of s)) (sym e) nothing
+
 pub live_words_told : LiveWordsTold
 live_words_told = record {
   usage = usage;
   unread = λ c serves one. serves.unread (usage c serves one);
-  unwritten = λ c serves one. serves.unwritten (subst WritesNothing (sym (usage c serves one)) tt);
+  unwritten = λ c serves one. serves.unwritten (leaves c Usage (usage c serves one) tt);
   no_run = λ c serves one. let did = did_so c Usage serves (usage c serves one) in (did.0, did.1);
   no_usage = not_usage;
 }
@@ -144,32 +151,32 @@ live_refusals_told = record {
       not_over two_writers two_writers_script two_writers_fit client
       (subst (λ (left : Option (List ℕ)). IsOverShare left client) reads.input (reads.serves.share client e));
   no_run = λ c h. let did = did_so c (Share 3) h.serves h.status_is in (did.0, did.1);
-  unwritten = λ c h. h.serves.unwritten (subst WritesNothing (sym h.status_is) tt);
-  unwritten_fault = λ c h. h.serves.unwritten (subst WritesNothing (sym h.status_is) tt);
-  unwritten_memory = λ c h. h.serves.unwritten (subst WritesNothing (sym h.status_is) tt);
+  unwritten = λ c h. h.serves.unwritten (leaves c _ h.status_is tt);
+  unwritten_fault = λ c h. h.serves.unwritten (leaves c _ h.status_is tt);
+  unwritten_memory = λ c h. h.serves.unwritten (leaves c _ h.status_is tt);
 }
   where
     fault_in : (c : Call) (bytes : List ℕ) (fault : ScriptFault) → Reads bytes c → c.answer.status ≡ Refused fault → read_of bytes ≡ Err fault
     fault_in c bytes fault reads e = subst (λ (left : Option (List ℕ)). HasFault left fault) reads.input (reads.serves.refused fault e)
 
-says_of : (c : Call) (status : Status) → Answers status c → SaysOfSource status c.source c.source_after
+says_of : (c : Call) (status : Status) → Answers status c → SaysOfSource MAX_INPUT (outcome_of status) c.source c.source_after
 says_of c status h =
-    subst (λ (s : Status). SaysOfSource s c.source c.source_after) h.status_is (h.serves.reading (not_usage c h.serves h.no_words))
+    subst (λ (s : Status). SaysOfSource MAX_INPUT (outcome_of s) c.source c.source_after) h.status_is (h.serves.reading (not_usage c h.serves h.no_words))
 
 -- a count that began at 0
 from_zero : (n before now : ℕ) → before ≡ 0 → now ≡ count_after before n → now ≡ count_after 0 n
 from_zero n before now began e = e ∙ ap (λ (k : ℕ). count_after k n) began
 
-whole : (status : Status) → HasRead status → ReadsWhole status
+whole : (status : Status) → HasRead (outcome_of status) → ReadsWhole status
 whole status read c h = from_zero 1 c.source.ends c.source_after.ends h.counts.2 ((says_of c status h).whole read).count
 
-not_long : NoMemory ≡ TooLong → ⊥
+not_long : outcome.NoMemory ≡ outcome.TooLong → ⊥
 not_long e = cc
 
-not_failed : NoMemory ≡ ReadFault → ⊥
+not_failed : outcome.NoMemory ≡ outcome.ReadFault → ⊥
 not_failed e = cc
 
-not_write : Done ≡ WriteFault → ⊥
+not_write : outcome.Done ≡ outcome.WriteFault → ⊥
 not_write e = cc
 
 pub live_counts_told : LiveCountsTold
@@ -184,8 +191,8 @@ live_counts_told = record {
   whole_write = whole WriteFault tt;
   whole_fault = whole (Refused no_nodes) tt;
   whole_share = whole (Share 3) tt;
-  write_fault = λ c h. from_zero 1 c.sink.faults c.sink_after.faults h.writes (h.serves.writing.write_fault h.status_is).count;
-  no_write_fault = λ c h. h.serves.writing.no_write_fault (λ e. absurd (not_write (sym h.status_is ∙ e))) ∙ h.writes;
+  write_fault = λ c h. from_zero 1 c.sink.faults c.sink_after.faults h.writes (h.serves.writing.write_fault (ap outcome_of h.status_is)).count;
+  no_write_fault = λ c h. h.serves.writing.no_write_fault (λ e. absurd (not_write (sym (ap outcome_of h.status_is) ∙ e))) ∙ h.writes;
 }
 
 -- a count that stands at 0 didn't rise

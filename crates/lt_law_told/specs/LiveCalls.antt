@@ -4,6 +4,7 @@ use Rattle.lt_modes.specs.declared.mode.Mode.TheVariants.{Write}
 use Rattle.lt_modes.specs.declared.command.Command.TheVariants.{Lock, Unlock}
 use Rattle.lt_modes.specs.Script.{ScriptData, ClientData}
 use Rattle.lt_io.specs.Source.{SourceState}
+use Rattle.lt_call.specs.Outcomes.{exit_code}
 use Rattle.lt_script.specs.declared.fault.Fault.TheVariants as faults
 use Rattle.lt_script.specs.declared.fault.ScriptFault.{ScriptFault}
 use Rattle.lt_law_examples.specs.Worked.{declared_set, declared_client}
@@ -12,7 +13,7 @@ use Rattle.lt_live_serve.specs.declared.served.Served.{Served}
 use Rattle.lt_live_serve.specs.declared.status.Status.{Status}
 use Rattle.lt_live_serve.specs.declared.status.Status.TheVariants.{Done, Stuck, Usage, Refused, TooLong, ReadFault, WriteFault, NoMemory, Cut, Share}
 use Rattle.lt_live_serve.specs.Serves.{Serves}
-use Rattle.lt_live_serve.specs.Status.{code_of, status_text}
+use Rattle.lt_live_serve.specs.Status.{outcome_of, status_text}
 use Rattle.lt_law_told.specs.Runs.{two_writers}
 
 -- the fault of a script of nothing
@@ -20,16 +21,16 @@ abbrev pub no_nodes : ScriptFault
 no_nodes = record { line = 1; fault = faults.Nodes }
 
 pub record LiveCodesAre : Type 0 where
-  pub done : code_of Done ≡ 0
-  pub usage : code_of Usage ≡ 1
-  pub refused : code_of (Refused no_nodes) ≡ 2
-  pub too_long : code_of TooLong ≡ 2
-  pub stuck : code_of Stuck ≡ 3
-  pub read_fault : code_of ReadFault ≡ 4
-  pub write_fault : code_of WriteFault ≡ 5
-  pub no_memory : code_of NoMemory ≡ 6
-  pub cut : code_of (Cut 7) ≡ 7
-  pub share : code_of (Share 3) ≡ 10
+  pub done : exit_code (outcome_of Done) ≡ 0
+  pub usage : exit_code (outcome_of Usage) ≡ 1
+  pub refused : exit_code (outcome_of (Refused no_nodes)) ≡ 2
+  pub too_long : exit_code (outcome_of TooLong) ≡ 2
+  pub stuck : exit_code (outcome_of Stuck) ≡ 3
+  pub read_fault : exit_code (outcome_of ReadFault) ≡ 4
+  pub write_fault : exit_code (outcome_of WriteFault) ≡ 5
+  pub no_memory : exit_code (outcome_of NoMemory) ≡ 6
+  pub cut : exit_code (outcome_of (Cut 7)) ≡ 7
+  pub share : exit_code (outcome_of (Share 3)) ≡ 10
   pub input : MAX_INPUT ≡ 1048576
 
 pub record LiveTextsAre : Type 0 where

@@ -1,8 +1,10 @@
 -- What an answer says: once the journal is written, where there is no run, and where there is a word.
-use Rattle.std.proofs.Common.{◌≡◌, ◌≢◌, ◌<◌, ◌≤◌, ◌+◌, ◌⊎◌, ℕ, List, Option, Some, None, Ok, [], refl, sym, subst, arith, inl, inr}
-use Rattle.lt_io.specs.FaultCounts.{CountsFaults, RoseBy, count_after}
+use Rattle.std.proofs.Common.{◌≡◌, ◌≢◌, ◌<◌, ◌≤◌, ◌+◌, ◌⊎◌, ℕ, List, Option, Some, None, Ok, [], refl, sym, ap, subst, arith, inl, inr}
 use Rattle.lt_io.specs.Source.{SourceState}
 use Rattle.lt_io.specs.Whole.{IsReadWhole}
+use Rattle.lt_call.specs.declared.outcome.Outcome.TheVariants as outcome
+use Rattle.lt_call.specs.Outcomes.{IsEnding, IsRefusal, WritesNothing, SaysOfSource, SaysOfSink}
+use Rattle.lt_call.proofs.Answering.{HasWritten, is_other, rose, written_reading}
 use Rattle.lt_modes.specs.Script.{ScriptData}
 use Rattle.lt_limits.specs.declared.ending.Ending.{Ending}
 use Rattle.lt_limits.specs.declared.ending.Ending.TheVariants as ending
@@ -15,52 +17,13 @@ use Rattle.lt_live_serve.specs.declared.limits.TheConstants.{MAX_INPUT}
 use Rattle.lt_live_serve.specs.declared.served.Served.{Served}
 use Rattle.lt_live_serve.specs.declared.status.Status.{Status}
 use Rattle.lt_live_serve.specs.declared.status.Status.TheVariants.{Done, Stuck, Usage, Refused, TooLong, ReadFault, WriteFault, NoMemory, Cut, Share}
-use Rattle.lt_live_serve.specs.Status.{status_of_end}
-use Rattle.lt_live_serve.specs.Serves.{Serves, Did, Ends, NothingFails, SaysOfSource, SaysOfSink, IsEnding, WritesNothing, IsRefusal, IsGood, IsOrderedInput}
-
-at_least : (a b : ℕ) → b ≡ a → a ≤ b
-at_least a b e = omega (arith, e)
-
-rose : (n before now : ℕ) → CountsFaults n before now → RoseBy n before now
-rose n before now h = at_least (count_after before n) now h.count
-
--- the writing has begun
-abbrev pub HasWritten : Status → Type 0
-HasWritten status = IsEnding status ⊎ (status ≡ WriteFault)
-
-not_usage : (status : Status) → HasWritten status → status ≡ Usage → ⊥
-not_usage status (inl h) e = subst IsEnding e h
-not_usage status (inr h) e = cc
-
-not_refused : (status : Status) (fault : ScriptFault) → HasWritten status → status ≡ Refused fault → ⊥
-not_refused status fault (inl h) e = subst IsEnding e h
-not_refused status fault (inr h) e = cc
-
-not_shared : (status : Status) (client : ℕ) → HasWritten status → status ≡ Share client → ⊥
-not_shared status client (inl h) e = subst IsEnding e h
-not_shared status client (inr h) e = cc
-
-not_long : (status : Status) → HasWritten status → status ≡ TooLong → ⊥
-not_long status (inl h) e = subst IsEnding e h
-not_long status (inr h) e = cc
-
-not_failed : (status : Status) → HasWritten status → status ≡ ReadFault → ⊥
-not_failed status (inl h) e = subst IsEnding e h
-not_failed status (inr h) e = cc
-
-written_reading : (status : Status) (before after : SourceState) → IsReadWhole MAX_INPUT before after → HasWritten status → SaysOfSource status before after
-written_reading status before after whole h = record {
-  too_long = λ e. absurd (not_long status h e);
-  not_too_long = λ other. whole.few;
-  read_fault = λ e. absurd (not_failed status h e);
-  no_read_fault = λ other. whole.without_fault;
-  whole = λ read. whole.ended;
-}
+use Rattle.lt_live_serve.specs.Status.{outcome_of, status_of_end}
+use Rattle.lt_live_serve.specs.Serves.{Serves, Did, Ends, NothingFails, IsUnfit, IsGood, IsOrderedInput}
 
 -- what is known where nothing fails
 abbrev pub IsComplete : ℕ → Status → SourceState → SourceState → ℕ → ℕ → Type 0
 IsComplete words status before after writes_before writes_after =
-    NothingFails words status before after writes_before writes_after → IsEnding status
+    NothingFails words status before after writes_before writes_after → IsEnding (outcome_of status)
 
 -- no journal is that of a run that was cut
 not_cut : (status : Status) (left : Option (List ℕ)) (run : List Logged) (polled : List (ℕ × Reply)) (old new : Option (List ℕ))
@@ -80,7 +43,7 @@ not_stuck (Some bytes) run polled old new did ordered =
     let same : ordered.0 ≡ journals.script = cc in
     journals.live.ordered (subst (λ (script : ScriptData). IsOrdered script) same ordered.2) refl
 
-at_rest : (status : Status) → IsEnding status → ((node : ℕ) → status ≢ Cut node) → (status ≡ Done) ⊎ (status ≡ Stuck)
+at_rest : (status : Status) → IsEnding (outcome_of status) → ((node : ℕ) → status ≢ Cut node) → (status ≡ Done) ⊎ (status ≡ Stuck)
 at_rest Done h never = inl refl
 at_rest Stuck h never = inr refl
 at_rest (Cut node) h never = absurd (never node refl)
@@ -110,30 +73,36 @@ ends_by words status before after run polled old new writes_before writes_after 
 
 -- where the journal was written, or a part of it
 pub written_serves : {S K : Type 0} (state : S → SourceState) (held : K → Option (List ℕ)) (write_faults : K → ℕ) (words : ℕ) (answer : Served) (before after : S) (sink sink_after : K)
-    → words ≡ 0 → HasWritten answer.status
+    → words ≡ 0 → IsEnding (outcome_of answer.status) ⊎ (answer.status ≡ WriteFault)
     → Did answer.status (state before).left answer.run.entries answer.polled.items (held sink) (held sink_after)
-    → IsReadWhole MAX_INPUT (state before) (state after) → SaysOfSink answer.status (write_faults sink) (write_faults sink_after)
-    → (WritesNothing answer.status → sink_after ≡ sink) → Serves state held write_faults words answer before after sink sink_after
-written_serves state held write_faults words answer before after sink sink_after none written did whole writing unwritten = record {
-  did = did;
-  usage = λ e. absurd (not_usage answer.status written e);
-  no_words = λ some. absurd (omega (arith, none, some));
-  unread = λ e. absurd (not_usage answer.status written e);
-  refused = λ fault e. absurd (not_refused answer.status fault written e);
-  share = λ client e. absurd (not_shared answer.status client written e);
-  reading = λ other. written_reading answer.status (state before) (state after) whole written;
-  writing = writing;
-  unwritten = unwritten;
-  ends = ends_by words answer.status (state before) (state after) answer.run.entries answer.polled.items (held sink) (held sink_after) (write_faults sink)
-      (write_faults sink_after) did
-      (λ fine. elim written [
-        | inl h ↦ h
-        | inr e ↦ absurd (fine.no_write_fault (rose 1 (write_faults sink) (write_faults sink_after) (writing.write_fault e)))
-      ]);
-}
+    → IsReadWhole MAX_INPUT (state before) (state after) → SaysOfSink (outcome_of answer.status) (write_faults sink) (write_faults sink_after)
+    → (WritesNothing (outcome_of answer.status) → sink_after ≡ sink) → Serves state held write_faults words answer before after sink sink_after
+written_serves state held write_faults words answer before after sink sink_after none told did whole writing unwritten =
+    let written : HasWritten (outcome_of answer.status) = elim told [ inl h ↦ inl h | inr e ↦ inr (ap outcome_of e) ] in
+    record {
+      did = did;
+      usage = λ e. absurd (is_other (outcome_of answer.status) outcome.Usage written tt (ap outcome_of e));
+      no_words = λ some. absurd (omega (arith, none, some));
+      unread = λ e. absurd (is_other (outcome_of answer.status) outcome.Usage written tt (ap outcome_of e));
+      refused = λ fault e. absurd (is_other (outcome_of answer.status) outcome.Refused written tt (ap outcome_of e));
+      share = λ client e. absurd (is_other (outcome_of answer.status) outcome.Share written tt (ap outcome_of e));
+      reading = λ other. written_reading MAX_INPUT (outcome_of answer.status) (state before) (state after) whole written;
+      writing = writing;
+      unwritten = unwritten;
+      ends = ends_by words answer.status (state before) (state after) answer.run.entries answer.polled.items (held sink) (held sink_after) (write_faults sink)
+          (write_faults sink_after) did
+          (λ fine. elim written [
+            | inl h ↦ h
+            | inr e ↦ absurd (fine.no_write_fault (rose 1 (write_faults sink) (write_faults sink_after) (writing.write_fault e)))
+          ]);
+    }
+
+-- the status says why there is no run
+abbrev pub Refuses : Option (List ℕ) → Status → Type 0
+Refuses left status = IsRefusal (IsUnfit left status) (outcome_of status)
 
 refusal_did : (status : Status) (left : Option (List ℕ)) (run : List Logged) (polled : List (ℕ × Reply)) (held : Option (List ℕ))
-    → IsRefusal left status → run ≡ [] → polled ≡ [] → Did status left run polled held held
+    → Refuses left status → run ≡ [] → polled ≡ [] → Did status left run polled held held
 refusal_did (Refused fault) left run polled held h none no_reply = (none, no_reply, refl)
 refusal_did (Share client) left run polled held h none no_reply = (none, no_reply, refl)
 refusal_did TooLong left run polled held h none no_reply = (none, no_reply, refl)
@@ -145,8 +114,8 @@ refusal_did Stuck left run polled held h none no_reply = absurd h
 refusal_did (Cut node) left run polled held h none no_reply = absurd h
 refusal_did WriteFault left run polled held h none no_reply = absurd h
 
-refusal_complete : (status : Status) (before after : SourceState) → IsRefusal before.left status → SaysOfSource status before after → IsGood before after
-    → status ≢ NoMemory → IsEnding status
+refusal_complete : (status : Status) (before after : SourceState) → Refuses before.left status
+    → SaysOfSource MAX_INPUT (outcome_of status) before after → IsGood before after → status ≢ NoMemory → IsEnding (outcome_of status)
 refusal_complete (Refused fault) before after h tells good memory = absurd (good.no_fault fault h)
 refusal_complete (Share client) before after h tells good memory = absurd (good.none_over client h)
 refusal_complete TooLong before after h tells good memory = absurd (good.not_too_long (rose (MAX_INPUT + 1) before.given after.given (tells.too_long refl)))
@@ -160,22 +129,22 @@ refusal_complete WriteFault before after h tells good memory = absurd h
 
 -- where there is no run
 pub refusal_serves : {S K : Type 0} (state : S → SourceState) (held : K → Option (List ℕ)) (write_faults : K → ℕ) (words : ℕ) (answer : Served) (status : Status) (before after : S) (sink : K)
-    → words ≡ 0 → answer.status ≡ status → answer.run.entries ≡ [] → answer.polled.items ≡ [] → IsRefusal (state before).left status
-    → SaysOfSource status (state before) (state after) → Serves state held write_faults words answer before after sink sink
+    → words ≡ 0 → answer.status ≡ status → answer.run.entries ≡ [] → answer.polled.items ≡ [] → Refuses (state before).left status
+    → SaysOfSource MAX_INPUT (outcome_of status) (state before) (state after) → Serves state held write_faults words answer before after sink sink
 refusal_serves state held write_faults words answer status before after sink none same no_run no_reply refused reading =
-    let refusal : IsRefusal (state before).left answer.status = subst (λ (s : Status). IsRefusal (state before).left s) (sym same) refused in
-    let tells : SaysOfSource answer.status (state before) (state after) = subst (λ (s : Status). SaysOfSource s (state before) (state after)) (sym same) reading in
+    let refusal = subst (Refuses (state before).left) (sym same) refused in
+    let tells = subst (λ (s : Status). SaysOfSource MAX_INPUT (outcome_of s) (state before) (state after)) (sym same) reading in
     let did = refusal_did answer.status (state before).left answer.run.entries answer.polled.items (held sink) refusal no_run no_reply in
     record {
       did = did;
-      usage = λ e. absurd (subst (λ (s : Status). IsRefusal (state before).left s) e refusal);
+      usage = λ e. absurd (subst (Refuses (state before).left) e refusal);
       no_words = λ some. absurd (omega (arith, none, some));
-      unread = λ e. absurd (subst (λ (s : Status). IsRefusal (state before).left s) e refusal);
-      refused = λ fault e. subst (λ (s : Status). IsRefusal (state before).left s) e refusal;
-      share = λ client e. subst (λ (s : Status). IsRefusal (state before).left s) e refusal;
+      unread = λ e. absurd (subst (Refuses (state before).left) e refusal);
+      refused = λ fault e. subst (Refuses (state before).left) e refusal;
+      share = λ client e. subst (Refuses (state before).left) e refusal;
       reading = λ other. tells;
       writing = record {
-        write_fault = λ e. absurd (subst (λ (s : Status). IsRefusal (state before).left s) e refusal);
+        write_fault = λ e. absurd (subst (IsRefusal (IsUnfit (state before).left answer.status)) e refusal);
         no_write_fault = λ other. refl;
       };
       unwritten = λ nothing. refl;
@@ -194,17 +163,20 @@ usage_serves state held write_faults words answer source sink some is no_run no_
   refused = λ fault e. absurd (cc);
   share = λ client e. absurd (cc);
   reading = λ other. absurd (other is);
-  writing = record { write_fault = λ e. absurd (cc); no_write_fault = λ other. refl };
+  writing = record { write_fault = λ e. absurd (not_write (subst (λ (s : Status). outcome_of s ≡ outcome.WriteFault) is e)); no_write_fault = λ other. refl };
   unwritten = λ nothing. refl;
   ends = ends_by words answer.status (state source) (state source) answer.run.entries answer.polled.items (held sink) (held sink) (write_faults sink)
       (write_faults sink) did (λ fine. absurd (let none = fine.no_words in omega (arith, none, some)));
 }
   where
+    not_write : outcome.Usage ≡ outcome.WriteFault → ⊥
+    not_write e = cc
+
     did : Did answer.status (state source).left answer.run.entries answer.polled.items (held sink) (held sink)
     did = subst (λ (s : Status). Did s (state source).left answer.run.entries answer.polled.items (held sink) (held sink)) (sym is) (no_run, no_reply, refl)
 
 -- what was written of each ending
-pub end_is_ending : (end : Ending) → IsEnding (status_of_end end)
+pub end_is_ending : (end : Ending) → IsEnding (outcome_of (status_of_end end))
 end_is_ending ending.Done = tt
 end_is_ending ending.Stuck = tt
 end_is_ending (ending.Cut node) = tt

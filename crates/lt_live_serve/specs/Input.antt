@@ -2,14 +2,7 @@
 use Rattle.std.specs.Prelude.{◌≡◌, ℕ, List, Err}
 use Rattle.lt_script.specs.Reading.{read_of}
 use Rattle.lt_live_serve.specs.declared.status.Status.{Status}
-use Rattle.lt_live_serve.specs.declared.status.Status.TheVariants.{Refused, TooLong, ReadFault, NoMemory}
-
--- the answers of reading bytes
-abbrev pub IsReadFailure : Status → Type 0
-IsReadFailure TooLong = Unit {0}
-IsReadFailure ReadFault = Unit {0}
-IsReadFailure NoMemory = Unit {0}
-IsReadFailure other = ⊥
+use Rattle.lt_live_serve.specs.declared.status.Status.TheVariants.{Refused, NoMemory}
 
 -- the bytes have this fault, or memory was wanting
 abbrev pub IsFaultOf : List ℕ → Status → Type 0

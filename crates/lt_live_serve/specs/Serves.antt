@@ -1,9 +1,10 @@
 -- All that the top call says of an answer: what was written, why the answer comes, and what it says of the source and the sink.
-use Rattle.std.specs.Prelude.{◌≡◌, ◌≢◌, ◌<◌, ◌≤◌, ◌+◌, ◌⊎◌, ℕ, List, [], Option, Some, None, Ok}
+use Rattle.std.specs.Prelude.{◌≡◌, ◌≢◌, ◌<◌, ◌+◌, ◌⊎◌, ℕ, List, [], Option, Some, None, Ok}
 use Rattle.std.specs.Io.KnownBytes.{Appends}
-use Rattle.lt_io.specs.FaultCounts.{CountsFaults, Rose, RoseBy}
+use Rattle.lt_io.specs.FaultCounts.{Rose, RoseBy}
 use Rattle.lt_io.specs.Source.{SourceState}
 use Rattle.lt_io.specs.Sink.{AppendsPart}
+use Rattle.lt_call.specs.Outcomes.{WritesNothing, SaysOfSource, SaysOfSink}
 use Rattle.lt_modes.specs.Script.{ScriptData}
 use Rattle.lt_limits.specs.declared.ending.Ending.{Ending}
 use Rattle.lt_limits.specs.declared.ending.Ending.TheVariants as ending
@@ -17,6 +18,7 @@ use Rattle.lt_live_serve.specs.declared.served.Served.{Served}
 use Rattle.lt_live_serve.specs.declared.status.Status.{Status}
 use Rattle.lt_live_serve.specs.declared.status.Status.TheVariants.{Done, Stuck, Usage, Refused, TooLong, ReadFault, WriteFault, NoMemory, Cut, Share}
 use Rattle.lt_live_serve.specs.Runs.{HasFault, IsOverShare, Journals}
+use Rattle.lt_live_serve.specs.Status.{outcome_of}
 
 -- it gives no run and no replies, and nothing was written
 abbrev pub DidNothing : List Logged → List (ℕ × Reply) → Option (List ℕ) → Option (List ℕ) → Type 0
@@ -43,55 +45,11 @@ Did ReadFault left run polled old new = DidNothing run polled old new
 Did NoMemory left run polled old new = DidNothing run polled old new
 Did (Share client) left run polled old new = DidNothing run polled old new
 
--- the answer says what the bytes are, or what came of them
-abbrev pub HasRead : Status → Type 0
-HasRead Done = Unit {0}
-HasRead Stuck = Unit {0}
-HasRead (Cut node) = Unit {0}
-HasRead WriteFault = Unit {0}
-HasRead (Refused fault) = Unit {0}
-HasRead (Share client) = Unit {0}
-HasRead other = ⊥
-
--- what the answer says of the source's counts, before and after
-pub record SaysOfSource (answer : Status) (before after : SourceState) : Type 0 where
-  -- it gave one byte more than an input may have, or no more than that
-  pub too_long : answer ≡ TooLong → CountsFaults (MAX_INPUT + 1) before.given after.given
-  pub not_too_long : answer ≢ TooLong → after.given ≤ before.given + MAX_INPUT
-  -- one read failed, or none
-  pub read_fault : answer ≡ ReadFault → CountsFaults 1 before.faults after.faults
-  pub no_read_fault : answer ≢ ReadFault → after.faults ≡ before.faults
-  -- it came to its end
-  pub whole : HasRead answer → CountsFaults 1 before.ends after.ends
-
--- what the answer says of the sink's count of faults: one write failed, or none
-pub record SaysOfSink (answer : Status) (before after : ℕ) : Type 0 where
-  pub write_fault : answer ≡ WriteFault → CountsFaults 1 before after
-  pub no_write_fault : answer ≢ WriteFault → after ≡ before
-
--- the run came to an end, and its journal was written; `Ends` says which of these ends come
-abbrev pub IsEnding : Status → Type 0
-IsEnding Done = Unit {0}
-IsEnding Stuck = Unit {0}
-IsEnding (Cut node) = Unit {0}
-IsEnding other = ⊥
-
--- no write is made before the answer
-abbrev pub WritesNothing : Status → Type 0
-WritesNothing Done = ⊥
-WritesNothing Stuck = ⊥
-WritesNothing (Cut node) = ⊥
-WritesNothing WriteFault = ⊥
-WritesNothing other = Unit {0}
-
--- why there is no run, where there are no words
-abbrev pub IsRefusal : Option (List ℕ) → Status → Type 0
-IsRefusal left (Refused fault) = HasFault left fault
-IsRefusal left (Share client) = IsOverShare left client
-IsRefusal left TooLong = Unit {0}
-IsRefusal left ReadFault = Unit {0}
-IsRefusal left NoMemory = Unit {0}
-IsRefusal left other = ⊥
+-- the script has this fault, or this client more commands than its session may submit
+abbrev pub IsUnfit : Option (List ℕ) → Status → Type 0
+IsUnfit left (Refused fault) = HasFault left fault
+IsUnfit left (Share client) = IsOverShare left client
+IsUnfit left other = ⊥
 
 -- the source failed at no read and gave no more than the input may have, its script has no fault, and no client has too many commands
 pub record IsGood (before after : SourceState) : Type 0 where
@@ -133,8 +91,8 @@ pub record Serves {S K : Type 0} (state : S → SourceState) (held : K → Optio
   pub refused : (fault : ScriptFault) → answer.status ≡ Refused fault → HasFault (state source_before).left fault
   pub share : (client : ℕ) → answer.status ≡ Share client → IsOverShare (state source_before).left client
   -- what the answer says of the source, and of the sink
-  pub reading : answer.status ≢ Usage → SaysOfSource answer.status (state source_before) (state source_after)
-  pub writing : SaysOfSink answer.status (write_faults sink_before) (write_faults sink_after)
-  pub unwritten : WritesNothing answer.status → sink_after ≡ sink_before
+  pub reading : answer.status ≢ Usage → SaysOfSource MAX_INPUT (outcome_of answer.status) (state source_before) (state source_after)
+  pub writing : SaysOfSink (outcome_of answer.status) (write_faults sink_before) (write_faults sink_after)
+  pub unwritten : WritesNothing (outcome_of answer.status) → sink_after ≡ sink_before
   -- how it ends where nothing fails
   pub ends : Ends words answer.status (state source_before) (state source_after) (write_faults sink_before) (write_faults sink_after)

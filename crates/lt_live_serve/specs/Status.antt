@@ -1,37 +1,36 @@
--- The exit status of each answer, and the line that says it.
+-- What each answer says of reading and writing, and the line that tells it.
 use Rattle.std.specs.Prelude.{ℕ, List, [], ◌++◌, codes, Option, Some, None}
 use Rattle.std.specs.Fmt.{decimal}
-use Rattle.lt_io.specs.declared.whole.ReadFailure.{ReadFailure}
-use Rattle.lt_io.specs.declared.whole.ReadFailure.TheVariants.{Memory, Failed, TooLong as Long}
+use Rattle.lt_call.specs.declared.outcome.Outcome.{Outcome}
+use Rattle.lt_call.specs.declared.outcome.Outcome.TheVariants as outcome
+use Rattle.lt_call.specs.Outcomes.{fixed_text}
 use Rattle.lt_limits.specs.declared.ending.Ending.{Ending}
 use Rattle.lt_limits.specs.declared.ending.Ending.TheVariants as ending
 use Rattle.lt_script.specs.Fault.{text_of_fault}
 use Rattle.lt_live_serve.specs.declared.status.Status.{Status}
 use Rattle.lt_live_serve.specs.declared.status.Status.TheVariants.{Done, Stuck, Usage, Refused, TooLong, ReadFault, WriteFault, NoMemory, Cut, Share}
 
-abbrev pub code_of : Status → ℕ
-code_of Done = 0
-code_of Usage = 1
-code_of (Refused fault) = 2
-code_of TooLong = 2
-code_of Stuck = 3
-code_of ReadFault = 4
-code_of WriteFault = 5
-code_of NoMemory = 6
-code_of (Cut node) = 7
-code_of (Share client) = 10
+-- what it says of reading and of writing
+abbrev pub outcome_of : Status → Outcome
+outcome_of Done = outcome.Done
+outcome_of Stuck = outcome.Stuck
+outcome_of Usage = outcome.Usage
+outcome_of (Refused fault) = outcome.Refused
+outcome_of TooLong = outcome.TooLong
+outcome_of ReadFault = outcome.ReadFault
+outcome_of WriteFault = outcome.WriteFault
+outcome_of NoMemory = outcome.NoMemory
+outcome_of (Cut node) = outcome.Cut
+outcome_of (Share client) = outcome.Share
 
 abbrev pub status_text : Status → List ℕ
 status_text Done = []
 status_text Stuck = []
 status_text Usage = codes "locklive: usage: locklive"
 status_text (Refused fault) = codes "locklive: " ++ text_of_fault fault
-status_text TooLong = codes "locklive: input too long"
-status_text ReadFault = codes "locklive: read fault"
-status_text WriteFault = codes "locklive: write fault"
-status_text NoMemory = codes "locklive: no memory"
 status_text (Cut node) = codes "locklive: cut at node " ++ decimal node
 status_text (Share client) = codes "locklive: too many commands of client " ++ decimal client
+status_text other = codes "locklive: " ++ fixed_text (outcome_of other)
 
 -- the node at which the run was cut
 abbrev pub cut_of : Ending → Option ℕ
@@ -43,9 +42,3 @@ abbrev pub status_of_end : Ending → Status
 status_of_end ending.Done = Done
 status_of_end ending.Stuck = Stuck
 status_of_end (ending.Cut node) = Cut node
-
--- why a source could not be read, as a status
-abbrev pub status_of : ReadFailure → Status
-status_of Memory = NoMemory
-status_of Failed = ReadFault
-status_of Long = TooLong

@@ -1,18 +1,20 @@
 ghost use Rattle.std.specs.Prelude.{◌≡◌, ◌≤◌, Ok, None, length, IfOk, OnOk, IfErr};
-ghost use Rattle.lt_io.specs.Whole.{Left, IsReadWhole};
+ghost use Rattle.lt_io.specs.Whole.{IsReadWhole};
+ghost use Rattle.lt_call.specs.Outcomes.{IsRefusal, SaysOfSource};
 ghost use Rattle.lt_script.specs.Script.{IsScript};
 ghost use Rattle.lt_script.specs.Reading.{read_of};
 ghost use Rattle.lt_live_serve.specs.declared.limits.TheConstants.{MAX_INPUT};
 ghost use Rattle.lt_live_serve.specs.Over.{IsFirstOver};
 ghost use Rattle.lt_live_serve.specs.Runs.{Denotes};
-ghost use Rattle.lt_live_serve.specs.Serves.{SaysOfSource, IsRefusal};
-ghost use Rattle.lt_live_serve.specs.Status.{status_of};
-ghost use Rattle.lt_live_serve.specs.Input.{IsReadFailure, IsFaultOf};
+ghost use Rattle.lt_live_serve.specs.Serves.{IsUnfit};
+ghost use Rattle.lt_live_serve.specs.Status.{outcome_of};
+ghost use Rattle.lt_live_serve.specs.Input.{IsFaultOf};
 
 use crate::limits::MAX_INPUT;
 use crate::over::first_over;
 use crate::status::Status;
-use lt_io::{ReadFailure, Source, read_all};
+use lt_call::read_bytes;
+use lt_io::Source;
 use lt_script::{ReadError, Script, read};
 use std::alloc::Global;
 
@@ -22,28 +24,14 @@ pub(crate) fn read_shared<S: Source>(alloc: Global, source: &mut S) -> Result<Sc
     ensures kept { IfOk result IsScript }
     ensures shared { IfOk result (λ script. IsFirstOver script None) }
     ensures whole { OnOk result (IsReadWhole MAX_INPUT (S.state source.old) (S.state source.new)) }
-    ensures reading { IfErr result (λ answer. SaysOfSource answer (S.state source.old) (S.state source.new)) }
-    ensures refused { IfErr result (IsRefusal (S.state source.old).left) }
+    ensures reading { IfErr result (λ answer. SaysOfSource MAX_INPUT (outcome_of answer) (S.state source.old) (S.state source.new)) }
+    ensures refused { IfErr result (λ answer. IsRefusal (IsUnfit (S.state source.old).left answer) (outcome_of answer)) }
 {
-    let bytes = read_bytes(alloc, source)?;
+    let bytes = read_bytes::<Status, S>(alloc, source, MAX_INPUT)?;
     let script = script_of(alloc, &bytes)?;
     match first_over(&script) {
         Some(client) => Err(Status::Share { client }),
         None => Ok(script),
-    }
-}
-
-// Reads the source to its end.
-fn read_bytes<S: Source>(alloc: Global, source: &mut S) -> Result<Vec<u8>, Status>
-    ensures bytes { IfOk result (λ bytes. Left (S.state source.old).left bytes.items) }
-    ensures few { IfOk result (λ bytes. length bytes.items ≤ MAX_INPUT) }
-    ensures whole { OnOk result (IsReadWhole MAX_INPUT (S.state source.old) (S.state source.new)) }
-    ensures reading { IfErr result (λ answer. SaysOfSource answer (S.state source.old) (S.state source.new)) }
-    ensures refused { IfErr result IsReadFailure }
-{
-    match read_all(alloc, source, MAX_INPUT) {
-        Ok(bytes) => Ok(bytes),
-        Err(failure) => Err(status_of(failure)),
     }
 }
 
@@ -58,16 +46,5 @@ fn script_of(alloc: Global, bytes: &[u8]) -> Result<Script, Status>
         Ok(script) => Ok(script),
         Err(ReadError::Fault(fault)) => Err(Status::Refused(fault)),
         Err(ReadError::Memory) => Err(Status::NoMemory),
-    }
-}
-
-// Why a source could not be read, as a status.
-fn status_of(failure: ReadFailure) -> Status
-    ensures { result ≡ status_of failure }
-{
-    match failure {
-        ReadFailure::Memory => Status::NoMemory,
-        ReadFailure::Failed => Status::ReadFault,
-        ReadFailure::TooLong => Status::TooLong,
     }
 }

@@ -1,8 +1,10 @@
 ghost use Rattle.std.specs.Prelude.{◌≡◌, ◌⊎◌, ℕ, [], List, Option, length, IfOk, IfErr, OnOk};
 ghost use Rattle.lt_io.specs.Whole.{IsReadWhole};
+ghost use Rattle.lt_call.specs.Outcomes.{IsEnding, IsRefusal, SaysOfSink, SaysOfSource, WritesNothing};
 ghost use Rattle.lt_live_serve.specs.declared.limits.TheConstants.{MAX_INPUT};
 ghost use Rattle.lt_live_serve.specs.Runs.{Journals};
-ghost use Rattle.lt_live_serve.specs.Serves.{Serves, Did, SaysOfSource, SaysOfSink, IsRefusal, IsEnding, WritesNothing};
+ghost use Rattle.lt_live_serve.specs.Serves.{Serves, Did, IsUnfit};
+ghost use Rattle.lt_live_serve.specs.Status.{outcome_of};
 
 use crate::live::live_run;
 use crate::reading::read_shared;
@@ -46,8 +48,8 @@ fn make<R: Threads + Sync, S: Source, G: Gate>(
 ) -> Result<Made, Status>
     ensures journals { IfOk result (λ made. Journals made.ending (S.state source.old).left made.run.entries made.polled.items made.text.items) }
     ensures whole { OnOk result (IsReadWhole MAX_INPUT (S.state source.old) (S.state source.new)) }
-    ensures reading { IfErr result (λ answer. SaysOfSource answer (S.state source.old) (S.state source.new)) }
-    ensures refused { IfErr result (IsRefusal (S.state source.old).left) }
+    ensures reading { IfErr result (λ answer. SaysOfSource MAX_INPUT (outcome_of answer) (S.state source.old) (S.state source.new)) }
+    ensures refused { IfErr result (λ answer. IsRefusal (IsUnfit (S.state source.old).left answer) (outcome_of answer)) }
 {
     let script = read_shared(alloc, source)?;
     let Ok(live) = live_run(rt, alloc, &script, gate) else {
@@ -68,9 +70,9 @@ fn make<R: Threads + Sync, S: Source, G: Gate>(
 fn write_made<K: Sink>(sink: &mut K, made: Made) -> Served
     ensures did { (left : Option (List ℕ)) → Journals made.ending left made.run.entries made.polled.items made.text.items
         → Did result.status left result.run.entries result.polled.items (K.held sink.old) (K.held sink.new) }
-    ensures written { IsEnding result.status ⊎ (result.status ≡ Status.WriteFault) }
-    ensures writing { SaysOfSink result.status (K.faults sink.old) (K.faults sink.new) }
-    ensures unwritten { WritesNothing result.status → sink.new ≡ sink.old }
+    ensures written { IsEnding (outcome_of result.status) ⊎ (result.status ≡ Status.WriteFault) }
+    ensures writing { SaysOfSink (outcome_of result.status) (K.faults sink.old) (K.faults sink.new) }
+    ensures unwritten { WritesNothing (outcome_of result.status) → sink.new ≡ sink.old }
 {
     let status = match write_all(sink, &made.text) {
         Ok(()) => Status::from(made.ending),

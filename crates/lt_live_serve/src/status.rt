@@ -1,6 +1,7 @@
 ghost use Rattle.std.specs.Prelude.{◌≡◌, ◌≢◌, ◌↔◌, [], IsTrue};
-ghost use Rattle.lt_live_serve.specs.Status.{code_of, status_text, cut_of};
+ghost use Rattle.lt_live_serve.specs.Status.{status_text, cut_of};
 
+use lt_call::{Outcome, Status as CallStatus};
 use lt_limits::Ending;
 use lt_script::ScriptFault;
 use std::fmt;
@@ -28,28 +29,44 @@ pub enum Status {
 }
 
 impl Status {
-    /// The exit status of the program.
-    pub fn code(&self) -> u8
-        ensures { result ≡ code_of self.now }
-    {
-        match self {
-            Status::Done => 0,
-            Status::Usage => 1,
-            Status::Refused(_) | Status::TooLong => 2,
-            Status::Stuck => 3,
-            Status::ReadFault => 4,
-            Status::WriteFault => 5,
-            Status::NoMemory => 6,
-            Status::Cut { .. } => 7,
-            Status::Share { .. } => 10,
-        }
-    }
-
     /// Whether the program writes a line on standard error.
     pub fn has_line(&self) -> bool
         ensures { IsTrue result ↔ (status_text self.now ≢ []) }
     {
-        !matches!(self, Status::Done | Status::Stuck)
+        self.outcome().has_line()
+    }
+}
+
+impl CallStatus for Status {
+    ghost use Rattle.lt_live_serve.specs.Status.{outcome_of};
+
+    ghost outcome = { outcome_of };
+
+    fn outcome(&self) -> Outcome {
+        match self {
+            Status::Done => Outcome::Done,
+            Status::Stuck => Outcome::Stuck,
+            Status::Usage => Outcome::Usage,
+            Status::Refused(_) => Outcome::Refused,
+            Status::TooLong => Outcome::TooLong,
+            Status::ReadFault => Outcome::ReadFault,
+            Status::WriteFault => Outcome::WriteFault,
+            Status::NoMemory => Outcome::NoMemory,
+            Status::Cut { .. } => Outcome::Cut,
+            Status::Share { .. } => Outcome::Share,
+        }
+    }
+
+    fn of(plain: Outcome) -> Status {
+        match plain {
+            Outcome::Done => Status::Done,
+            Outcome::Usage => Status::Usage,
+            Outcome::TooLong => Status::TooLong,
+            Outcome::ReadFault => Status::ReadFault,
+            Outcome::WriteFault => Status::WriteFault,
+            Outcome::NoMemory => Status::NoMemory,
+            _ => unreachable!(),
+        }
     }
 }
 
@@ -79,13 +96,13 @@ impl fmt::Display for Status {
             Status::Done | Status::Stuck => Ok(()),
             Status::Usage => f.write_str("locklive: usage: locklive"),
             Status::Refused(fault) => write!(f, "locklive: {fault}"),
-            Status::TooLong => f.write_str("locklive: input too long"),
-            Status::ReadFault => f.write_str("locklive: read fault"),
-            Status::WriteFault => f.write_str("locklive: write fault"),
-            Status::NoMemory => f.write_str("locklive: no memory"),
             Status::Cut { node } => write!(f, "locklive: cut at node {node}"),
             Status::Share { client } => {
                 write!(f, "locklive: too many commands of client {client}")
+            }
+            other => {
+                let outcome = other.outcome();
+                write!(f, "locklive: {outcome}")
             }
         }
     }

@@ -2,8 +2,8 @@
 use Rattle.std.proofs.Common.{◌≡◌, ℕ, Bool, true, false, List, [], ◌∷◌, Option, Some, None, refl, sym, subst, inl, inr, ◌∙◌, ap}
 use Rattle.std.specs.Prelude.{◌⊎◌, option_map, if◌then◌else◌, codes}
 use Rattle.std.specs.Str.{bytes_eq}
-use Rattle.lt_io.specs.Source.{SourceState}
-use Rattle.lt_io.specs.Whole.{IsReadWhole}
+use Rattle.lt_call.specs.declared.outcome.Outcome.TheVariants as outcome
+use Rattle.lt_call.proofs.Answering.{HasWritten, is_other}
 use Rattle.lt_text.specs.Number.{number}
 use Rattle.lt_words.specs.declared.command.Command.{Command}
 use Rattle.lt_words.specs.declared.command.Command.TheVariants.{Sim, Make, Soak}
@@ -11,47 +11,19 @@ use Rattle.lt_serve.specs.declared.status.Status.{Status}
 use Rattle.lt_serve.specs.declared.status.Status.TheVariants.{Done, Stuck, Usage, Refused, TooLong, ReadFault, WriteFault, NoMemory, Cut, BadJournal}
 use Rattle.lt_words.specs.Words.{seed_of, make_of, command_of}
 use Rattle.lt_gen.specs.Sizes.{can_make}
-use Rattle.lt_serve.specs.Causes.{HasStatusCause, SaysOfSource, MayGetStuck, WritesNothing, IsEnding, CanBeMade, IsRefusal}
-
--- the writing has begun
-abbrev pub HasWritten : Status → Type 0
-HasWritten status = IsEnding status ⊎ (status ≡ WriteFault)
-
-never_written : (status : Status) → HasWritten status → WritesNothing status → ⊥
-never_written Done (inl h) n = n
-never_written Done (inr e) n = n
-never_written Stuck (inl h) n = n
-never_written Stuck (inr e) n = n
-never_written (Cut node) (inl h) n = n
-never_written (Cut node) (inr e) n = n
-never_written WriteFault h n = n
-never_written Usage (inl h) n = h
-never_written Usage (inr e) n = cc
-never_written (Refused fault) (inl h) n = h
-never_written (Refused fault) (inr e) n = cc
-never_written TooLong (inl h) n = h
-never_written TooLong (inr e) n = cc
-never_written ReadFault (inl h) n = h
-never_written ReadFault (inr e) n = cc
-never_written NoMemory (inl h) n = h
-never_written NoMemory (inr e) n = cc
-never_written (BadJournal line) (inl h) n = h
-never_written (BadJournal line) (inr e) n = cc
-
--- so the answer is none that comes before
-is_other : (status other : Status) → HasWritten status → WritesNothing other → status ≡ other → ⊥
-is_other status other h n e = never_written status h (subst WritesNothing (sym e) n)
+use Rattle.lt_serve.specs.Causes.{HasStatusCause, MayGetStuck, CanBeMade, IsRefusal}
+use Rattle.lt_serve.specs.Status.{outcome_of}
 
 pub written_causes : (asked : Option Command) (command : Command) (left : Option (List ℕ)) (status : Status) → asked ≡ Some command
-    → HasWritten status → (status ≡ Stuck → MayGetStuck asked left) → HasStatusCause asked left status
+    → HasWritten (outcome_of status) → (status ≡ Stuck → MayGetStuck asked left) → HasStatusCause asked left status
 written_causes asked command left status is h stuck = record {
-  usage = λ e. absurd (is_other status Usage h tt e);
+  usage = λ e. absurd (is_other (outcome_of status) outcome.Usage h tt (ap outcome_of e));
   no_command = λ none. absurd (not_none (sym none ∙ is));
-  refused = λ fault e. absurd (is_other status (Refused fault) h tt e);
-  bad_journal = λ line e. absurd (is_other status (BadJournal line) h tt e);
+  refused = λ fault e. absurd (is_other (outcome_of status) outcome.Refused h tt (ap outcome_of e));
+  bad_journal = λ line e. absurd (is_other (outcome_of status) outcome.BadJournal h tt (ap outcome_of e));
   stuck = stuck;
-  read_fault = λ e. absurd (is_other status ReadFault h tt e);
-  too_long = λ e. absurd (is_other status TooLong h tt e);
+  read_fault = λ e. absurd (is_other (outcome_of status) outcome.ReadFault h tt (ap outcome_of e));
+  too_long = λ e. absurd (is_other (outcome_of status) outcome.TooLong h tt (ap outcome_of e));
 }
   where
     not_none : None ≡ Some command → ⊥
@@ -71,16 +43,6 @@ refused_causes asked command left status is h = subst (λ (a : Option Command). 
   where
     not_none : Some command ≡ None → ⊥
     not_none e = cc
-
-pub written_reading : (limit : ℕ) (status : Status) (before after : SourceState) → IsReadWhole limit before after → HasWritten status
-    → SaysOfSource limit status before after
-written_reading limit status before after whole h = record {
-  too_long = λ e. absurd (is_other status TooLong h tt e);
-  not_too_long = λ other. whole.few;
-  read_fault = λ e. absurd (is_other status ReadFault h tt e);
-  no_read_fault = λ other. whole.without_fault;
-  whole = λ read. whole.ended;
-}
 
 -- a command as an answer to words, if it is one of a script to make
 abbrev pub MayBeMade : Option Command → Type 0

@@ -2,6 +2,9 @@
 use Rattle.std.proofs.Common.{◌≡◌, ◌∙◌, ℕ, List, Option, Some, None, Result, Ok, Err, refl, sym, ap, subst}
 use Rattle.lt_io.specs.Source.{SourceState}
 use Rattle.lt_io.specs.Whole.{IsReadWhole}
+use Rattle.lt_call.specs.declared.outcome.Outcome.TheVariants as outcome
+use Rattle.lt_call.specs.Outcomes.{SaysOfSource}
+use Rattle.lt_call.proofs.Answering.{failed_reading, long_reading, memory_reading, refused_reading}
 use Rattle.lt_spec.specs.Log.{Logged}
 use Rattle.lt_modes.specs.Script.{ScriptData}
 use Rattle.lt_text.specs.Text.{lines}
@@ -18,7 +21,8 @@ use Rattle.lt_law_checking.specs.Journals.{IsFinished, journal_lines}
 use Rattle.lt_words.specs.declared.command.Command.TheVariants.{Check}
 use Rattle.lt_serve.specs.declared.made.Made.{Made}
 use Rattle.lt_serve.specs.declared.status.Status.TheVariants.{Done, NoMemory}
-use Rattle.lt_serve.specs.Causes.{SaysOfSource, IsRefusal, status_of_input}
+use Rattle.lt_serve.specs.Causes.{IsRefusal, status_of_input}
+use Rattle.lt_serve.specs.Status.{outcome_of}
 use Rattle.lt_serve.specs.TopCall.{Checks, HasLinesOf, ok_text}
 
 -- lines that are accepted are those of the text of a finished run
@@ -56,42 +60,12 @@ counted left script world run made means kept ended is promised h =
     }
 
 -- what an answer says of the source, where the input says nothing
-pub fails_says : (e : InputError) (before after : SourceState) → FailsInput e before after → SaysOfSource MAX_JOURNAL (status_of_input e) before after
-fails_says error.ReadFault before after fails = record {
-  too_long = λ e. absurd (cc e);
-  not_too_long = λ other. fails.1;
-  read_fault = λ e. fails.0;
-  no_read_fault = λ other. absurd (other refl);
-  whole = λ read. absurd read;
-}
-fails_says error.TooLong before after fails = record {
-  too_long = λ e. fails.0;
-  not_too_long = λ other. absurd (other refl);
-  read_fault = λ e. absurd (cc e);
-  no_read_fault = λ other. fails.1;
-  whole = λ read. absurd read;
-}
-fails_says error.NoMemory before after fails = record {
-  too_long = λ e. absurd (cc e);
-  not_too_long = λ other. fails.0;
-  read_fault = λ e. absurd (cc e);
-  no_read_fault = λ other. fails.1;
-  whole = λ read. absurd read;
-}
-fails_says (error.Refused fault) before after fails = record {
-  too_long = λ e. absurd (cc e);
-  not_too_long = λ other. fails.1.few;
-  read_fault = λ e. absurd (cc e);
-  no_read_fault = λ other. fails.1.without_fault;
-  whole = λ read. fails.1.ended;
-}
-fails_says (error.BadJournal line) before after fails = record {
-  too_long = λ e. absurd (cc e);
-  not_too_long = λ other. fails.1.few;
-  read_fault = λ e. absurd (cc e);
-  no_read_fault = λ other. fails.1.without_fault;
-  whole = λ read. fails.1.ended;
-}
+pub fails_says : (e : InputError) (before after : SourceState) → FailsInput e before after → SaysOfSource MAX_JOURNAL (outcome_of (status_of_input e)) before after
+fails_says error.ReadFault before after fails = failed_reading MAX_JOURNAL before after fails.0 fails.1
+fails_says error.TooLong before after fails = long_reading MAX_JOURNAL before after fails.0 fails.1
+fails_says error.NoMemory before after fails = memory_reading MAX_JOURNAL before after fails.0 fails.1
+fails_says (error.Refused fault) before after fails = refused_reading MAX_JOURNAL outcome.Refused before after fails.1 tt
+fails_says (error.BadJournal line) before after fails = refused_reading MAX_JOURNAL outcome.BadJournal before after fails.1 tt
 
 -- why it is the answer
 pub fails_refused : (e : InputError) (before after : SourceState) → FailsInput e before after → IsRefusal Check before.left (status_of_input e)
@@ -102,11 +76,5 @@ fails_refused (error.Refused fault) before after fails = (refl, fails.0)
 fails_refused (error.BadJournal line) before after fails = (refl, refl, fails.0)
 
 -- memory was refused once all was read
-pub memory_says : (before after : SourceState) → IsReadWhole MAX_JOURNAL before after → SaysOfSource MAX_JOURNAL NoMemory before after
-memory_says before after whole = record {
-  too_long = λ e. absurd (cc e);
-  not_too_long = λ other. whole.few;
-  read_fault = λ e. absurd (cc e);
-  no_read_fault = λ other. whole.without_fault;
-  whole = λ read. absurd read;
-}
+pub memory_says : (before after : SourceState) → IsReadWhole MAX_JOURNAL before after → SaysOfSource MAX_JOURNAL outcome.NoMemory before after
+memory_says before after whole = memory_reading MAX_JOURNAL before after whole.few whole.without_fault

@@ -1,22 +1,18 @@
 -- A command that came to no end has something against it.
 use Rattle.std.proofs.Common.{◌≡◌, ◌≤◌, ℕ, Some, refl, arith, true}
-use Rattle.lt_io.specs.FaultCounts.{CountsFaults, RoseBy, count_after}
 use Rattle.lt_io.specs.Source.{SourceState}
+use Rattle.lt_call.specs.Outcomes.{SaysOfSource}
+use Rattle.lt_call.proofs.Answering.{rose}
 use Rattle.lt_words.specs.declared.command.Command.{Command}
 use Rattle.lt_serve.specs.declared.status.Status.{Status}
 use Rattle.lt_serve.specs.declared.status.Status.TheVariants.{Done, Stuck, Usage, Refused, TooLong, ReadFault, WriteFault, NoMemory, Cut, BadJournal}
-use Rattle.lt_serve.specs.Causes.{SaysOfSource, IsRefusal, reads, limit_of}
+use Rattle.lt_serve.specs.Causes.{IsRefusal, reads, limit_of}
 use Rattle.lt_serve.specs.Complete.{IsComplete}
-
-at_least : (a b : ℕ) → b ≡ a → a ≤ b
-at_least a b e = omega (arith, e)
-
-pub rose : (n before now : ℕ) → CountsFaults n before now → RoseBy n before now
-rose n before now h = at_least (count_after before n) now h.count
+use Rattle.lt_serve.specs.Status.{outcome_of}
 
 pub refusal_complete : (command : Command) (status : Status) (before after : SourceState) (w v : ℕ)
     → IsRefusal command before.left status
-    → (reads (Some command) ≡ true → SaysOfSource (limit_of (Some command)) status before after)
+    → (reads (Some command) ≡ true → SaysOfSource (limit_of (Some command)) (outcome_of status) before after)
     → IsComplete (Some command) status before after w v
 refusal_complete command (Refused fault) before after w v h tells = λ good writes memory. absurd ((good h.0).no_fault fault h.1)
 refusal_complete command TooLong before after w v h tells = λ good writes memory.

@@ -5,16 +5,18 @@ use Rattle.lt_io.specs.Source.{SourceState}
 use Rattle.lt_modes.specs.Script.{ScriptData}
 use Rattle.lt_spec.specs.Log.{Logged}
 use Rattle.lt_law_ends.specs.EndLaws.{NeverCutAtAll}
+use Rattle.lt_call.specs.Outcomes.{IsEnding}
 use Rattle.lt_words.specs.declared.command.Command.{Command}
 use Rattle.lt_words.specs.declared.command.Command.TheVariants.{Run, SimFirst, Sim, Check, Make, Soak, Order}
 use Rattle.lt_serve.specs.declared.serving.Served.{Served}
 use Rattle.lt_serve.specs.declared.status.Status.{Status}
 use Rattle.lt_serve.specs.declared.status.Status.TheVariants.{Done, Stuck, Usage, Refused, TooLong, ReadFault, WriteFault, NoMemory, Cut, BadJournal}
-use Rattle.lt_serve.specs.Causes.{MayGetStuck, IsUnordered, IsEnding}
+use Rattle.lt_serve.specs.Causes.{MayGetStuck, IsUnordered}
 use Rattle.lt_serve.specs.Complete.{IsComplete, IsAnswered}
 use Rattle.lt_serve.specs.Endings.{RanTo}
 use Rattle.lt_serve.specs.Ends.{Ends, GoesWell, DenotesOrdered, RunsOrdered}
 use Rattle.lt_serve.specs.Serves.{Serves}
+use Rattle.lt_serve.specs.Status.{outcome_of}
 use Rattle.lt_serve.specs.TopCall.{JournalsBy, DidOf, Did, greatest_script}
 
 none_some : (node : ℕ) → None ≡ Some node → ⊥
@@ -48,7 +50,7 @@ never_cut moves (Some command) status left run old new never far told usage = λ
     let wrote = subst (λ (s : Status). DidOf moves command s left run old new) e told in
     not_cut_by moves command node left run wrote.0 never far wrote.1
 
-ending_rests : (status : Status) → IsEnding status → ((node : ℕ) → status ≢ Cut node) → (status ≡ Done) ⊎ (status ≡ Stuck)
+ending_rests : (status : Status) → IsEnding (outcome_of status) → ((node : ℕ) → status ≢ Cut node) → (status ≡ Done) ⊎ (status ≡ Stuck)
 ending_rests Done h uncut = inl refl
 ending_rests Stuck h uncut = inr refl
 ending_rests (Cut node) h uncut = absurd (uncut node refl)

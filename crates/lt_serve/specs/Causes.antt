@@ -1,9 +1,5 @@
 -- Why an answer comes, and what it says of the source and the sink.
 use Rattle.std.specs.Prelude.{◌≡◌, ◌≢◌, Bool, true, false, ℕ, ◌+◌, ◌≤◌, Option, Some, None, Ok, List}
-use Rattle.lt_io.specs.FaultCounts.{CountsFaults}
-use Rattle.lt_io.specs.Source.{SourceState}
-use Rattle.lt_io.specs.declared.whole.ReadFailure.{ReadFailure}
-use Rattle.lt_io.specs.declared.whole.ReadFailure.TheVariants.{Memory, Failed, TooLong as Long}
 use Rattle.lt_script.specs.declared.fault.ScriptFault.{ScriptFault}
 use Rattle.lt_script.specs.Reading.{read_of}
 use Rattle.lt_order.specs.Ordered.{IsOrdered}
@@ -64,47 +60,6 @@ pub record HasStatusCause (asked : Option Command) (left : Option (List ℕ)) (a
   pub read_fault : answer ≡ ReadFault → reads asked ≡ true
   pub too_long : answer ≡ TooLong → reads asked ≡ true
 
--- the answer says what the bytes are, or what came of them
-abbrev pub HasRead : Status → Type 0
-HasRead Done = Unit {0}
-HasRead Stuck = Unit {0}
-HasRead (Cut node) = Unit {0}
-HasRead WriteFault = Unit {0}
-HasRead (BadJournal line) = Unit {0}
-HasRead (Refused fault) = Unit {0}
-HasRead other = ⊥
-
--- what the answer says of the source's counts, before and after, where the input may have so many bytes
-pub record SaysOfSource (limit : ℕ) (answer : Status) (before after : SourceState) : Type 0 where
-  -- it gave one byte more than that, or no more than that
-  pub too_long : answer ≡ TooLong → CountsFaults (limit + 1) before.given after.given
-  pub not_too_long : answer ≢ TooLong → after.given ≤ before.given + limit
-  -- one read failed, or none
-  pub read_fault : answer ≡ ReadFault → CountsFaults 1 before.faults after.faults
-  pub no_read_fault : answer ≢ ReadFault → after.faults ≡ before.faults
-  -- it came to its end
-  pub whole : HasRead answer → CountsFaults 1 before.ends after.ends
-
--- what the answer says of the sink's count of faults: one write failed, or none
-pub record SaysOfSink (answer : Status) (before after : ℕ) : Type 0 where
-  pub write_fault : answer ≡ WriteFault → CountsFaults 1 before after
-  pub no_write_fault : answer ≢ WriteFault → after ≡ before
-
--- no write is made before the answer
-abbrev pub WritesNothing : Status → Type 0
-WritesNothing Done = ⊥
-WritesNothing Stuck = ⊥
-WritesNothing (Cut node) = ⊥
-WritesNothing WriteFault = ⊥
-WritesNothing other = Unit {0}
-
--- the command's work came to an end, and its text is to be written
-abbrev pub IsEnding : Status → Type 0
-IsEnding Done = Unit {0}
-IsEnding Stuck = Unit {0}
-IsEnding (Cut node) = Unit {0}
-IsEnding other = ⊥
-
 -- why a command came to no end
 abbrev pub IsRefusal : Command → Option (List ℕ) → Status → Type 0
 IsRefusal command left (Refused fault) = (reads (Some command) ≡ true) × IsRefused (Some command) left fault
@@ -118,12 +73,6 @@ IsRefusal command left other = ⊥
 abbrev pub CanBeMade : Command → Type 0
 CanBeMade (Make nodes clients commands seed) = can_make nodes clients commands ≡ true
 CanBeMade other = Unit {0}
-
--- why a source could not be read, as a status
-abbrev pub status_of : ReadFailure → Status
-status_of Memory = NoMemory
-status_of Failed = ReadFault
-status_of Long = TooLong
 
 -- why an input is no script and journal, as a status
 abbrev pub status_of_input : InputError → Status

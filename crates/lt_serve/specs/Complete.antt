@@ -2,13 +2,15 @@
 use Rattle.std.specs.Prelude.{◌≡◌, ◌≢◌, true, ℕ, ◌+◌, Option, Some, None}
 use Rattle.lt_io.specs.FaultCounts.{Rose, RoseBy}
 use Rattle.lt_io.specs.Source.{SourceState}
+use Rattle.lt_call.specs.Outcomes.{IsEnding}
 use Rattle.lt_script.specs.declared.fault.ScriptFault.{ScriptFault}
 use Rattle.lt_words.specs.declared.command.Command.{Command}
 use Rattle.lt_words.specs.declared.command.Command.TheVariants.{Check, Make, Order}
 use Rattle.lt_checker.specs.Input.{IsBad}
 use Rattle.lt_serve.specs.declared.status.Status.{Status}
 use Rattle.lt_serve.specs.declared.status.Status.TheVariants.{Done, NoMemory}
-use Rattle.lt_serve.specs.Causes.{IsRefused, IsEnding, reads, limit_of}
+use Rattle.lt_serve.specs.Causes.{IsRefused, reads, limit_of}
+use Rattle.lt_serve.specs.Status.{outcome_of}
 
 -- the source failed at no read and gave no more than the input may have, and its bytes are known: their script has no fault,
 -- and the journal that `check` reads has no bad line
@@ -24,7 +26,7 @@ abbrev pub IsAnswered : Command → Status → Type 0
 IsAnswered (Make nodes clients commands seed) answer = answer ≡ Done
 IsAnswered Check answer = answer ≡ Done
 IsAnswered Order answer = answer ≡ Done
-IsAnswered other answer = IsEnding answer
+IsAnswered other answer = IsEnding (outcome_of answer)
 
 -- where the input is good, if the command reads one, no write failed, and memory wasn't wanting, the command is answered so
 abbrev pub IsComplete : Option Command → Status → SourceState → SourceState → ℕ → ℕ → Type 0

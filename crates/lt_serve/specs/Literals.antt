@@ -2,6 +2,7 @@
 use Rattle.std.specs.Prelude.{◌≡◌, ℕ, [], codes}
 use Rattle.lt_script.specs.declared.fault.Fault.TheVariants as faults
 use Rattle.lt_io.specs.declared.piece.TheConstants.{MAX_PIECE}
+use Rattle.lt_call.specs.Outcomes.{exit_code}
 use Rattle.lt_held.specs.HeldData.{most_locks}
 use Rattle.lt_gen.specs.Generator.{HasSizes}
 use Rattle.lt_summary.specs.Summary.{summary_text}
@@ -12,7 +13,7 @@ use Rattle.lt_serve.specs.declared.limits.TheConstants.{MAX_INPUT}
 use Rattle.lt_serve.specs.declared.serving.TheConstants.{USUAL}
 use Rattle.lt_serve.specs.declared.status.Status.{Status}
 use Rattle.lt_serve.specs.declared.status.Status.TheVariants.{Done, Stuck, Usage, Refused, TooLong, ReadFault, WriteFault, NoMemory, Cut, BadJournal}
-use Rattle.lt_serve.specs.Status.{code_of, status_text}
+use Rattle.lt_serve.specs.Status.{outcome_of, status_text}
 use Rattle.lt_serve.specs.TopCall.{greatest_script}
 
 -- the fault that a script of nothing has
@@ -20,16 +21,16 @@ abbrev pub fault_of_nothing : Status
 fault_of_nothing = Refused (record { line = 1; fault = faults.Nodes })
 
 pub record CodesAre : Type 0 where
-  pub done : code_of Done ≡ 0
-  pub usage : code_of Usage ≡ 1
-  pub refused : code_of fault_of_nothing ≡ 2
-  pub too_long : code_of TooLong ≡ 2
-  pub stuck : code_of Stuck ≡ 3
-  pub read_fault : code_of ReadFault ≡ 4
-  pub write_fault : code_of WriteFault ≡ 5
-  pub no_memory : code_of NoMemory ≡ 6
-  pub cut : code_of (Cut 7) ≡ 7
-  pub bad_journal : code_of (BadJournal 4) ≡ 8
+  pub done : exit_code (outcome_of Done) ≡ 0
+  pub usage : exit_code (outcome_of Usage) ≡ 1
+  pub refused : exit_code (outcome_of fault_of_nothing) ≡ 2
+  pub too_long : exit_code (outcome_of TooLong) ≡ 2
+  pub stuck : exit_code (outcome_of Stuck) ≡ 3
+  pub read_fault : exit_code (outcome_of ReadFault) ≡ 4
+  pub write_fault : exit_code (outcome_of WriteFault) ≡ 5
+  pub no_memory : exit_code (outcome_of NoMemory) ≡ 6
+  pub cut : exit_code (outcome_of (Cut 7)) ≡ 7
+  pub bad_journal : exit_code (outcome_of (BadJournal 4)) ≡ 8
 
 pub record TextsAre : Type 0 where
   pub done : status_text Done ≡ []

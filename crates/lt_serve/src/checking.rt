@@ -1,10 +1,12 @@
 ghost use Rattle.std.specs.Prelude.{◌≡◌, ◌++◌, codes, IfOk, OnOk, IfErr};
 ghost use Rattle.std.specs.Fmt.{decimal};
 ghost use Rattle.std.specs.String.{string_bytes};
+ghost use Rattle.lt_call.specs.Outcomes.{SaysOfSource};
 ghost use Rattle.lt_io.specs.Whole.{IsReadWhole};
 ghost use Rattle.lt_checker.specs.declared.limits.TheConstants.{MAX_JOURNAL};
 ghost use Rattle.lt_words.specs.declared.command.Command.TheVariants as command;
-ghost use Rattle.lt_serve.specs.Causes.{SaysOfSource, IsRefusal};
+ghost use Rattle.lt_serve.specs.Causes.{IsRefusal};
+ghost use Rattle.lt_serve.specs.Status.{outcome_of};
 ghost use Rattle.lt_serve.specs.TopCall.{Checks, ok_text};
 
 use crate::made::Made;
@@ -22,7 +24,7 @@ use std::fmt::Write;
 pub(crate) fn checked<S: Source>(alloc: Global, source: &mut S) -> Result<Made, Status>
     ensures does { IfOk result (λ made. Checks made.ending (S.state source.old).left made.run.entries made.text.items) }
     ensures whole { OnOk result (IsReadWhole MAX_JOURNAL (S.state source.old) (S.state source.new)) }
-    ensures reading { IfErr result (λ answer. SaysOfSource MAX_JOURNAL answer (S.state source.old) (S.state source.new)) }
+    ensures reading { IfErr result (λ answer. SaysOfSource MAX_JOURNAL (outcome_of answer) (S.state source.old) (S.state source.new)) }
     ensures refused { IfErr result (IsRefusal command.Check (S.state source.old).left) }
 {
     law_means();

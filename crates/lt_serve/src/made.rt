@@ -1,6 +1,7 @@
 ghost use Rattle.std.specs.Prelude.{◌≡◌, ◌⊎◌, ℕ, Option, List};
+ghost use Rattle.lt_call.specs.Outcomes.{SaysOfSink, WritesNothing, IsEnding};
 ghost use Rattle.lt_words.specs.declared.command.Command.{Command as AnyCommand};
-ghost use Rattle.lt_serve.specs.Causes.{SaysOfSink, WritesNothing, IsEnding};
+ghost use Rattle.lt_serve.specs.Status.{outcome_of};
 ghost use Rattle.lt_serve.specs.TopCall.{JournalsBy, DidOf};
 
 use crate::serving::{Served, Setup};
@@ -18,13 +19,13 @@ pub struct Made {
 
 /// Writes the text.
 pub(crate) fn write_made<K: Sink>(sink: &mut K, setup: Setup, made: Made) -> Served
-    requires ended { IsEnding made.ending }
+    requires ended { IsEnding (outcome_of made.ending) }
     ensures did { (moves : ℕ) → (command : AnyCommand) → (left : Option (List ℕ))
         → JournalsBy moves command made.ending left made.run.entries made.text.items
         → DidOf moves command result.status left result.run.entries (K.held sink.old) (K.held sink.new) }
-    ensures written { IsEnding result.status ⊎ (result.status ≡ Status.WriteFault) }
-    ensures writing { SaysOfSink result.status (K.faults sink.old) (K.faults sink.new) }
-    ensures unwritten { WritesNothing result.status → sink.new ≡ sink.old }
+    ensures written { IsEnding (outcome_of result.status) ⊎ (result.status ≡ Status.WriteFault) }
+    ensures writing { SaysOfSink (outcome_of result.status) (K.faults sink.old) (K.faults sink.new) }
+    ensures unwritten { WritesNothing (outcome_of result.status) → sink.new ≡ sink.old }
     ensures setup { result.setup ≡ setup }
 {
     let status = match write_all(sink, &made.text) {

@@ -1,9 +1,11 @@
 ghost use Rattle.std.specs.Prelude.{◌≡◌, IfOk, IfErr, OnOk};
+ghost use Rattle.lt_call.specs.Outcomes.{SaysOfSource};
 ghost use Rattle.lt_io.specs.Whole.{IsReadWhole};
 ghost use Rattle.lt_order.specs.Ordered.{first_bad};
 ghost use Rattle.lt_words.specs.declared.command.Command.TheVariants as command;
 ghost use Rattle.lt_serve.specs.declared.limits.TheConstants.{MAX_INPUT};
-ghost use Rattle.lt_serve.specs.Causes.{SaysOfSource, IsRefusal};
+ghost use Rattle.lt_serve.specs.Causes.{IsRefusal};
+ghost use Rattle.lt_serve.specs.Status.{outcome_of};
 ghost use Rattle.lt_serve.specs.TopCall.{TellsOrder, order_answer};
 
 use crate::made::Made;
@@ -19,7 +21,7 @@ use std::alloc::{AllocError, Global};
 pub(crate) fn order_told<S: Source>(alloc: Global, source: &mut S) -> Result<Made, Status>
     ensures does { IfOk result (λ made. TellsOrder made.ending (S.state source.old).left made.run.entries made.text.items) }
     ensures whole { OnOk result (IsReadWhole MAX_INPUT (S.state source.old) (S.state source.new)) }
-    ensures reading { IfErr result (λ answer. SaysOfSource MAX_INPUT answer (S.state source.old) (S.state source.new)) }
+    ensures reading { IfErr result (λ answer. SaysOfSource MAX_INPUT (outcome_of answer) (S.state source.old) (S.state source.new)) }
     ensures refused { IfErr result (IsRefusal command.Order (S.state source.old).left) }
 {
     let script = read_script(alloc, source)?;

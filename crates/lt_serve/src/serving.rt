@@ -1,11 +1,13 @@
 ghost use Rattle.std.specs.Prelude.{◌≡◌, ◌<◌, ◌≤◌, ◌^◌, true, false, map, [], Some, IfOk, IfErr, OnOk};
 ghost use Rattle.std.specs.String.{string_bytes};
+ghost use Rattle.lt_call.specs.Outcomes.{SaysOfSource, IsEnding};
 ghost use Rattle.lt_io.specs.Whole.{IsReadWhole};
 ghost use Rattle.lt_limits.specs.declared.moves.TheConstants.{MAX_MOVES};
 ghost use Rattle.lt_mail.specs.declared.opening.TheConstants.{MAX_CAPACITY};
 ghost use Rattle.lt_threads.specs.declared.sharing.TheConstants.{MAX_WORKERS};
 ghost use Rattle.lt_words.specs.Words.{command_of};
-ghost use Rattle.lt_serve.specs.Causes.{SaysOfSource, IsEnding, IsRefusal, CanBeMade, reads, limit_of};
+ghost use Rattle.lt_serve.specs.Causes.{IsRefusal, CanBeMade, reads, limit_of};
+ghost use Rattle.lt_serve.specs.Status.{outcome_of};
 ghost use Rattle.lt_serve.specs.Ends.{Ends};
 ghost use Rattle.lt_serve.specs.Serves.{Serves};
 ghost use Rattle.lt_serve.specs.declared.serving.TheConstants.{USUAL};
@@ -154,10 +156,10 @@ fn make<R: Threads + Sync, S: Source, G: Gate>(
     requires capacity { (0 < setup.capacity) × (setup.capacity ≤ MAX_CAPACITY) }
     requires workers { (0 < setup.workers) × (setup.workers ≤ MAX_WORKERS) }
     requires possible { CanBeMade command }
-    ensures ended { IfOk result (λ made. IsEnding made.ending) }
+    ensures ended { IfOk result (λ made. IsEnding (outcome_of made.ending)) }
     ensures does { IfOk result (λ made. JournalsBy setup.moves command made.ending (S.state source.old).left made.run.entries made.text.items) }
     ensures whole { OnOk result (reads (Some command) ≡ true → IsReadWhole (limit_of (Some command)) (S.state source.old) (S.state source.new)) }
-    ensures reading { IfErr result (λ answer. reads (Some command) ≡ true → SaysOfSource (limit_of (Some command)) answer (S.state source.old) (S.state source.new)) }
+    ensures reading { IfErr result (λ answer. reads (Some command) ≡ true → SaysOfSource (limit_of (Some command)) (outcome_of answer) (S.state source.old) (S.state source.new)) }
     ensures refused { IfErr result (IsRefusal command (S.state source.old).left) }
     ensures unread { reads (Some command) ≡ false → source.new ≡ source.old }
 {

@@ -1,6 +1,7 @@
 ghost use Rattle.std.specs.Prelude.{◌≡◌, ◌≢◌, ◌↔◌, [], IsTrue};
-ghost use Rattle.lt_serve.specs.Status.{code_of, status_text};
+ghost use Rattle.lt_serve.specs.Status.{status_text};
 
+use lt_call::{Outcome, Status as CallStatus};
 use lt_checker::InputError;
 use lt_limits::Ending;
 use lt_script::ScriptFault;
@@ -31,23 +32,6 @@ pub enum Status {
 impl Status {
     ghost use Rattle.lt_serve.specs.Endings.{cut_of};
 
-    /// The exit status of the program.
-    pub fn code(&self) -> u8
-        ensures { result ≡ code_of self.now }
-    {
-        match self {
-            Status::Done => 0,
-            Status::Usage => 1,
-            Status::Refused(_) | Status::TooLong => 2,
-            Status::Stuck => 3,
-            Status::ReadFault => 4,
-            Status::WriteFault => 5,
-            Status::NoMemory => 6,
-            Status::Cut { .. } => 7,
-            Status::BadJournal { .. } => 8,
-        }
-    }
-
     // The node at which the run was cut.
     pub(crate) fn cut(&self) -> Option<u8>
         ensures { result ≡ cut_of self.now }
@@ -62,7 +46,40 @@ impl Status {
     pub fn has_line(&self) -> bool
         ensures { IsTrue result ↔ (status_text self.now ≢ []) }
     {
-        !matches!(self, Status::Done | Status::Stuck)
+        self.outcome().has_line()
+    }
+}
+
+impl CallStatus for Status {
+    ghost use Rattle.lt_serve.specs.Status.{outcome_of};
+
+    ghost outcome = { outcome_of };
+
+    fn outcome(&self) -> Outcome {
+        match self {
+            Status::Done => Outcome::Done,
+            Status::Stuck => Outcome::Stuck,
+            Status::Usage => Outcome::Usage,
+            Status::Refused(_) => Outcome::Refused,
+            Status::TooLong => Outcome::TooLong,
+            Status::ReadFault => Outcome::ReadFault,
+            Status::WriteFault => Outcome::WriteFault,
+            Status::NoMemory => Outcome::NoMemory,
+            Status::Cut { .. } => Outcome::Cut,
+            Status::BadJournal { .. } => Outcome::BadJournal,
+        }
+    }
+
+    fn of(plain: Outcome) -> Status {
+        match plain {
+            Outcome::Done => Status::Done,
+            Outcome::Usage => Status::Usage,
+            Outcome::TooLong => Status::TooLong,
+            Outcome::ReadFault => Status::ReadFault,
+            Outcome::WriteFault => Status::WriteFault,
+            Outcome::NoMemory => Status::NoMemory,
+            _ => unreachable!(),
+        }
     }
 }
 
@@ -108,12 +125,12 @@ impl fmt::Display for Status {
             Status::Done | Status::Stuck => Ok(()),
             Status::Usage => f.write_str(USAGE),
             Status::Refused(fault) => write!(f, "lockrun: {fault}"),
-            Status::TooLong => f.write_str("lockrun: input too long"),
-            Status::ReadFault => f.write_str("lockrun: read fault"),
-            Status::WriteFault => f.write_str("lockrun: write fault"),
-            Status::NoMemory => f.write_str("lockrun: no memory"),
             Status::Cut { node } => write!(f, "lockrun: cut at node {node}"),
             Status::BadJournal { line } => write!(f, "lockrun: line {line}: journal"),
+            other => {
+                let outcome = other.outcome();
+                write!(f, "lockrun: {outcome}")
+            }
         }
     }
 }

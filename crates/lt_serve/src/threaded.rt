@@ -1,4 +1,5 @@
 ghost use Rattle.std.specs.Prelude.{◌≡◌, ◌<◌, ◌≤◌, IfOk, IfErr, OnOk};
+ghost use Rattle.lt_call.specs.Outcomes.{SaysOfSource};
 ghost use Rattle.lt_io.specs.Whole.{IsReadWhole};
 ghost use Rattle.lt_script.specs.Script.{IsScript};
 ghost use Rattle.lt_merge.specs.Merging.{AreRising};
@@ -10,7 +11,8 @@ ghost use Rattle.lt_threads.specs.declared.sharing.TheConstants.{MAX_WORKERS};
 ghost use Rattle.lt_threads.specs.Threads.{GoesFar};
 ghost use Rattle.lt_serve.specs.declared.limits.TheConstants.{MAX_INPUT};
 ghost use Rattle.lt_words.specs.declared.command.Command.TheVariants as command;
-ghost use Rattle.lt_serve.specs.Causes.{SaysOfSource, IsRefusal};
+ghost use Rattle.lt_serve.specs.Causes.{IsRefusal};
+ghost use Rattle.lt_serve.specs.Status.{outcome_of};
 ghost use Rattle.lt_serve.specs.TopCall.{JournalsBy};
 
 use crate::made::Made;
@@ -96,7 +98,7 @@ pub(crate) fn threaded<R: Threads + Sync, S: Source, G: Gate>(
     requires workers { (0 < setup.workers) × (setup.workers ≤ MAX_WORKERS) }
     ensures does { IfOk result (λ made. JournalsBy setup.moves (command.Run) made.ending (S.state source.old).left made.run.entries made.text.items) }
     ensures whole { OnOk result (IsReadWhole MAX_INPUT (S.state source.old) (S.state source.new)) }
-    ensures reading { IfErr result (λ answer. SaysOfSource MAX_INPUT answer (S.state source.old) (S.state source.new)) }
+    ensures reading { IfErr result (λ answer. SaysOfSource MAX_INPUT (outcome_of answer) (S.state source.old) (S.state source.new)) }
     ensures refused { IfErr result (IsRefusal (command.Run) (S.state source.old).left) }
 {
     let script = read_script(alloc, source)?;

@@ -3,7 +3,7 @@ ghost use Rattle.std.specs.IoError.{error_kind};
 ghost use Rattle.lt_waits.specs.Serves.{ServesReport};
 
 use crate::answer::Answer;
-use crate::serving::serve;
+use crate::waits::Waits;
 use lt_io::{Sink, Source};
 use std::alloc::Global;
 use std::io::{self, ErrorKind};
@@ -21,9 +21,5 @@ pub fn program<S: Source, K: Sink>(
     ensures unread { IfErr words.now (λ error. source.new ≡ source.old) }
     ensures unwritten { IfErr words.now (λ error. sink.new ≡ sink.old) }
 {
-    match words {
-        Ok(words) => serve(alloc, words.as_slice(), source, sink),
-        Err(error) if error.kind() == ErrorKind::OutOfMemory => Answer::NoMemory,
-        Err(_) => Answer::Usage,
-    }
+    lt_call::program(alloc, &Waits, words, source, sink)
 }
