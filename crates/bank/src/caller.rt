@@ -1,93 +1,62 @@
-ghost use Rattle.std.specs.Prelude.{◌≡◌, map, IfOk};
-ghost use Rattle.lt_live.specs.Words.{SameSession};
-ghost use Rattle.bank.specs.GoingOn.{session_of, CallerGoesOn};
-
-use crate::transfers::{LOCKS, PARTS, TRANSFERS, command_of, transfer};
-use lt_live::Session;
+use crate::accounts::Bank;
+use crate::auditor::Auditor;
+use crate::clerk::Clerk;
+use lt_live::Reply;
+use lt_live_callers::Caller;
 use lt_modes::Command;
+use lt_script::Script;
 use std::alloc::{AllocError, Global};
-use std::sync::atomic::AtomicU64;
 
-/// A caller, and how many commands it has submitted, and how many replies it has polled.
+// The client who adds up the accounts.
+const AUDITOR: &str = "eve";
+
+/// Who acts for a client.
 #[derive(Drop)]
-pub struct Caller {
-    pub session: Session,
-    submitted: u32,
-    polled: u32,
+pub enum BankCaller<'a> {
+    Clerk(Clerk<'a>),
+    Auditor(Auditor<'a>),
 }
 
-/// A caller for each session.
-pub fn callers_of(alloc: Global, sessions: Vec<Session>) -> Result<Vec<Caller>, AllocError>
-    ensures { IfOk result (λ callers. map session_of callers.items ≡ sessions.items) }
-{
+impl Caller for BankCaller<'_> {
+    fn step(&mut self, reply: Option<Reply>) -> Option<Command> {
+        match self {
+            BankCaller::Clerk(clerk) => clerk.step(reply),
+            BankCaller::Auditor(auditor) => auditor.step(reply),
+        }
+    }
+
+    fn is_done(&self) -> bool {
+        match self {
+            BankCaller::Clerk(clerk) => clerk.is_done(),
+            BankCaller::Auditor(auditor) => auditor.is_done(),
+        }
+    }
+}
+
+impl BankCaller<'_> {
+    /// How often an audit found a wrong sum.
+    pub fn wrong(&self) -> u32 {
+        match self {
+            BankCaller::Clerk(_) => 0,
+            BankCaller::Auditor(auditor) => auditor.wrong,
+        }
+    }
+}
+
+/// A caller for each client.
+pub fn callers_of<'a>(
+    alloc: Global,
+    script: &Script,
+    bank: &'a Bank,
+) -> Result<Vec<BankCaller<'a>>, AllocError> {
+    let auditor = script.client_number(AUDITOR.as_bytes());
     let mut callers = Vec::new(alloc);
-    for session in sessions {
-        let caller = Caller {
-            session,
-            submitted: 0,
-            polled: 0,
-        };
-        callers.push(caller)?;
+    for client in 0..script.clients() {
+        callers.push(if auditor == Some(client) {
+            BankCaller::Auditor(Auditor::new(bank))
+        } else {
+            BankCaller::Clerk(Clerk::new(bank, client))
+        })?;
     }
     Ok(callers)
-}
-
-/// The callers' sessions.
-pub fn sessions_of(alloc: Global, callers: Vec<Caller>) -> Result<Vec<Session>, AllocError>
-    ensures { IfOk result (λ sessions. sessions.items ≡ map session_of callers.items) }
-{
-    let mut sessions = Vec::new(alloc);
-    for caller in callers {
-        sessions.push(caller.session)?;
-    }
-    Ok(sessions)
-}
-
-/// Submits the command, if it may and the ring has a place for it, and tells whether it did.
-pub fn try_submit(session: &mut Session, command: Command) -> bool
-    ensures { SameSession session.old session.new }
-{
-    session.left() > 0 && session.may_submit(command) && session.submit(command).is_ok()
-}
-
-impl Caller {
-    /// Whether all its commands have their replies.
-    pub fn is_done(&self) -> bool {
-        self.polled >= TRANSFERS * PARTS
-    }
-
-    /// Does one thing, and waits for nothing: takes a reply, or if none is there submits a command.
-    pub fn step(&mut self, money: &[AtomicU64])
-        ensures { CallerGoesOn self.old self.new }
-    {
-        match self.session.poll() {
-            Some(_) => self.note_reply(money),
-            None => self.submit_next(),
-        }
-    }
-
-    // Replies come in the order of the commands, one for each, and a lock has none before it is granted. So the third
-    // reply of a transfer says that all three locks are held.
-    fn note_reply(&mut self, money: &[AtomicU64])
-        ensures { CallerGoesOn self.old self.new }
-    {
-        self.polled = self.polled.saturating_add(1);
-        if self.polled % PARTS == LOCKS {
-            transfer(money, self.session.client(), self.polled / PARTS);
-        }
-    }
-
-    // No lock is given up before the money is moved.
-    fn submit_next(&mut self)
-        ensures { CallerGoesOn self.old self.new }
-    {
-        let is_locking = self.submitted % PARTS == LOCKS && self.polled < self.submitted;
-        if is_locking || self.submitted >= TRANSFERS * PARTS {
-            return;
-        }
-        let command = command_of(self.session.client(), self.submitted);
-        if try_submit(&mut self.session, command) {
-            self.submitted += 1;
-        }
-    }
 }

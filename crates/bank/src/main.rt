@@ -1,83 +1,41 @@
-//! A bank: an example of how programs call lt_live.
+//! A bank: an example of callers that prove nothing.
 //!
-//! It reads a script of nodes, sets and clients: the first set is the bank, and the next four are its accounts. Each
-//! client is a caller on a thread of its own that moves money, under locks, while the nodes are at work beside it.
-//! Then one caller adds up all accounts, under a lock of the bank, on one thread with the nodes. The program prints
-//! what is in the accounts, and whether the journal of all this is one of a run.
+//! Clerks move money between accounts, and an auditor adds them up, each under locks, while the nodes are at work. The program
+//! prints what is in the accounts, and whether the journal of all this is one of a run.
 #![tactic(auto)]
 
+mod accounts;
+mod auditor;
 mod caller;
-mod one_thread;
-mod threads;
-mod transfers;
+mod clerk;
 
-ghost use Rattle.std.specs.Prelude.{◌≡◌, []};
-ghost use Rattle.bank.specs.GoingOn.{StationsGoOn, CallersGoOn};
-
+use accounts::Bank;
 use anyhow::{Result, bail};
-use caller::{Caller, callers_of, sessions_of};
+use caller::{BankCaller, callers_of};
 use lt_checker::Checker;
 use lt_io::{ReaderSource, read_all};
-use lt_live::{Station, finish, law_live_lasts, open};
+use lt_live_callers::{Called, Caller, CallersError, serve_callers};
 use lt_merge::Run;
 use lt_script::Script;
-use one_thread::{audit, come_to_rest};
 use std::alloc::Global;
 use std::io::Print;
 use std::str;
-use std::sync::atomic::{AtomicU64, Ordering};
-use std::thread::Threads;
-use threads::serve;
-use transfers::{ACCOUNTS, FIRST};
+use std::sync::atomic::Ordering;
 
-// The most bytes of a script, the most moves of a node, and the places in the rings of a session.
+// The most bytes of a script, the most moves of a node, the threads of callers, with as many of stations, and the most rounds.
 const MOST_BYTES: usize = 1 << 16;
 
 const MOST_MOVES: u32 = 1 << 16;
 
-const PLACES: u32 = 8;
+const THREADS: usize = 4;
 
-// All callers make their transfers, and then one adds up all accounts: whether they came to an end, and the sum.
-fn run_day<R: Threads + Sync>(
-    rt: &R,
-    money: &[AtomicU64],
-    stations: &mut Vec<Station>,
-    callers: &mut Vec<Caller>,
-) -> (bool, Option<u64>)
-    ensures stations { StationsGoOn stations.old.items stations.new.items }
-    ensures callers { CallersGoOn callers.old.items callers.new.items }
-{
-    let done = serve(rt, money, stations, callers);
-    let sum = audit(money, stations, callers);
-    come_to_rest(stations);
-    (done, sum)
-}
+const ROUNDS: u32 = 10_000;
 
-// The sum at the end of the day, and the run of the day with its script.
-fn trade<R: Threads + Sync>(
-    rt: &R,
-    alloc: Global,
-    script: &Script,
-    money: &[AtomicU64],
-) -> Result<(u64, Script, Run)>
-    requires { script.now.commands ≡ [] }
-{
-    law_live_lasts();
-    let (mut stations, sessions) = open(alloc, script, MOST_MOVES, PLACES)?;
-    let mut callers = callers_of(alloc, sessions)?;
-    let (true, Some(sum)) = run_day(rt, money, &mut stations, &mut callers) else {
-        bail!("the callers didn't come to an end");
-    };
-    let sessions = sessions_of(alloc, callers)?;
-    let (script, run) = finish(alloc, stations, sessions)?;
-    Ok((sum, script, run))
-}
-
-fn print_accounts<R: Print>(rt: &R, script: &Script, money: &[AtomicU64]) -> Result<()> {
-    for set in 1..script.sets() {
-        if let Some(account) = money.get(usize::from(set) - 1) {
-            let name = str::from_utf8(script.set_name(set))?;
-            println!(rt; "{name}: {}", account.load(Ordering::SeqCst))?;
+fn print_accounts<R: Print>(rt: &R, script: &Script, bank: &Bank) -> Result<()> {
+    for account in &bank.accounts {
+        if account.set < script.sets() {
+            let name = str::from_utf8(script.set_name(account.set))?;
+            println!(rt; "{name}: {}", account.money.load(Ordering::SeqCst))?;
         }
     }
     Ok(())
@@ -90,18 +48,34 @@ fn is_accepted(alloc: Global, script: &Script, run: &Run) -> Result<bool> {
     Ok(checker.end().is_ok())
 }
 
+// Whether all callers came to an end, and the auditor found no wrong sum.
+fn look_at(callers: &[Called<BankCaller<'_>>]) -> Result<()> {
+    for called in callers {
+        if !called.caller.is_done() {
+            bail!("the callers didn't come to an end");
+        }
+        if called.caller.wrong() > 0 {
+            bail!("an audit found a wrong sum");
+        }
+    }
+    Ok(())
+}
+
 fn main(rt: HostRuntime) -> Result<()> {
     let alloc = rt.alloc();
     let text = read_all(alloc, &mut ReaderSource::new(rt.stdin()), MOST_BYTES)?;
-    let script = lt_script::read(alloc, &text)?.without_commands(alloc)?;
-    let mut money = Vec::new(alloc);
-    for _account in 0..ACCOUNTS {
-        money.push(AtomicU64::new(FIRST))?;
-    }
-    let (sum, script, run) = trade(&rt, alloc, &script, &money)?;
-    print_accounts(&rt, &script, &money)?;
-    println!(rt; "all together: {sum}")?;
-    if !is_accepted(alloc, &script, &run)? {
+    let script = lt_script::read(alloc, &text)?;
+    let bank = Bank::new(alloc, &script)?;
+    let callers = callers_of(alloc, &script, &bank)?;
+    let served = match serve_callers(&rt, alloc, &script, callers, MOST_MOVES, THREADS, ROUNDS) {
+        Ok(served) => served,
+        Err(CallersError::NoMemory) => bail!("memory ran out"),
+        Err(_) => bail!("there isn't a caller for each client"),
+    };
+    look_at(&served.callers)?;
+    print_accounts(&rt, &served.script, &bank)?;
+    println!(rt; "all together: {}", bank.sum())?;
+    if !is_accepted(alloc, &served.script, &served.run)? {
         bail!("the journal isn't one of a run");
     }
     println!(rt; "the journal is accepted")?;

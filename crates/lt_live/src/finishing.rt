@@ -36,8 +36,8 @@ pub fn finish(
     }
 }
 
-// All sessions and their seats look at their rings.
-fn settle_all(stations: &mut Vec<Station>, sessions: &mut Vec<Session>)
+/// All sessions and their seats look at their rings, so that each side knows all that is in the ring between them.
+pub fn settle_all(stations: &mut Vec<Station>, sessions: &mut Vec<Session>)
     requires { LiveScript stations.old.items sessions.old.items }
     ensures { (script : ScriptData) → AreLive script stations.old.items sessions.old.items → Settled script stations.old.items sessions.old.items stations.new.items sessions.new.items }
 {

@@ -20,7 +20,7 @@ mod turning;
 mod visiting;
 
 pub use ends::{Seat, Session};
-pub use finishing::{finish, take_runners};
+pub use finishing::{finish, settle_all, take_runners};
 pub use laws::{law_live_lasts, law_polled_in_turn, law_served_now, law_told};
 pub use limits::LETTER_PLACES;
 pub use reply::{Reply, reply_to};

@@ -1,0 +1,4 @@
+pub mod Steps
+pub mod GoingOn
+pub mod Made
+pub mod Ended

@@ -1,0 +1,98 @@
+-- Desks are made, and what callers made at them.
+use Rattle.std.proofs.Common.{◌≡◌, ℕ, zero, suc, List, [], ◌∷◌, ◌++◌, ◌<◌, length, map, Option, Some, None, refl, sym, ap, subst, ◌∙◌, rules, arith}
+use Rattle.std.specs.Prelude.{slice_get, slice_index_or, remove}
+use Rattle.std.specs.Option.{option_map}
+use Rattle.std.proofs.lemmas.Option.{same_Some, slice_get-get_or, slice_get-map}
+use Rattle.std.proofs.lemmas.List.{append-nil, append_assoc}
+use Rattle.lt_modes.specs.declared.command.Command.{Command}
+use Rattle.lt_modes.specs.Script.{ScriptData}
+use Rattle.lt_live.specs.declared.reply.Reply.{Reply}
+use Rattle.lt_live.specs.declared.ends.Session.{Session}
+use Rattle.lt_live.specs.Words.{submitted, polled, in_hand}
+use Rattle.lt_live.specs.Stations.{StationData}
+use Rattle.lt_live.specs.Opened.{Opened}
+use Rattle.lt_live.specs.Live.{AreLive}
+use Rattle.lt_live.specs.LiveLaws.{OpenedAreLive}
+use Rattle.lt_live_callers.specs.declared.desk.Desk.{Desk}
+use Rattle.lt_live_callers.specs.declared.served.Called.{Called}
+use Rattle.lt_live_callers.specs.declared.served.Served.{Served}
+use Rattle.lt_live_callers.specs.Desks.{caller_of, called_of, session_of}
+use Rattle.lt_live_callers.specs.Served.{CallsAt, NoneRefused, AreDesks, AreServing, AreEnded, IsServedBy}
+
+module _ {C : Type 0} where
+  no_more : (xs : List C) → length xs ≡ 0 → xs ≡ []
+  no_more [] none = refl
+  no_more (x ∷ xs) none = absurd (omega (arith, none))
+
+  pub are_desks : (callers rest : List C) (sessions left : List Session) (desks : List (Desk C)) → left ≡ [] → length rest ≡ length left
+      → map caller_of desks ++ rest ≡ callers → map session_of desks ++ left ≡ sessions → NoneRefused desks → AreDesks callers sessions desks
+  are_desks callers rest sessions left desks empty same first second free = record {
+    seated = sym (append-nil (map caller_of desks)) ∙ ap (λ (xs : List C). map caller_of desks ++ xs) (sym (no_more rest (same ∙ ap length empty))) ∙ first;
+    given = sym (append-nil (map session_of desks)) ∙ ap (λ (xs : List Session). map session_of desks ++ xs) (sym empty) ∙ second;
+    free = free;
+  }
+
+  pub one_more : (desks : List (Desk C)) (d : Desk C) → d.refused ≡ None → NoneRefused desks → NoneRefused (desks ++ d ∷ [])
+  one_more [] d free all = (free, tt)
+  one_more (x ∷ xs) d free all = (all.0, one_more xs d free all.1)
+
+  free_at : (desks : List (Desk C)) (k : ℕ) (d : Desk C) → slice_get desks k ≡ Some d → NoneRefused desks → d.refused ≡ None
+  free_at [] k d at all = search rules
+  free_at (x ∷ xs) zero d at all = search (rules, at, all)
+  free_at (x ∷ xs) (suc k) d at all = free_at xs k d at all.1
+
+  -- nobody has called yet
+  pub begun : (goes : C → Option Reply → Option Command → C → Type 0) → OpenedAreLive → (script : ScriptData) (limit capacity : ℕ) (stations : List StationData)
+      (sessions : List Session) (callers : List C) (desks : List (Desk C)) → script.commands ≡ [] → Opened script limit capacity stations sessions
+      → AreDesks callers sessions desks → AreServing goes script callers stations desks
+  begun goes opened_live script limit capacity stations sessions callers desks empty opened are = record {
+    live = subst (λ (all : List Session). AreLive script stations all) (sym are.given) (opened_live script limit capacity stations sessions empty opened);
+    each = λ client d here.
+        let new = (opened.each client d.session
+          (sym (ap (λ (xs : List Session). slice_get xs client) are.given) ∙ slice_get-map session_of desks client ∙ ap (option_map session_of) here)).0 in
+        subst (λ (o : Option C). CallsAt goes o d.session (Some (called_of d)))
+        (sym (slice_get-map caller_of desks client ∙ ap (option_map caller_of) here) ∙ ap (λ (xs : List C). slice_get xs client) are.seated)
+        (record {
+          steps = [];
+          went = refl;
+          told = new.replies.0;
+          asked = ap (λ (o : Option Command). submitted d.session ++ in_hand o) (free_at desks client d here are.free) ∙ append-nil (submitted d.session) ∙ new.commands;
+        });
+  }
+
+  -- what the desks did, as what their callers did
+  pub served_by : (goes : C → Option Reply → Option Command → C → Type 0) (script : ScriptData) (callers : List C) (stations : List StationData)
+      (desks : List (Desk C)) (served : Served C) → AreServing goes script callers stations desks → AreEnded script desks served → IsServedBy goes script callers served
+  served_by goes script callers stations desks served serving ended = record {
+    sessions = map session_of desks;
+    count = serving.live.count;
+    serves = ended.serves;
+    ends = ended.ends;
+    each = λ client s here.
+        subst (λ (o : Option (Called C)). CallsAt goes (slice_get callers client) s o)
+        (sym (slice_get-map called_of desks client) ∙ ap (λ (xs : List (Called C)). slice_get xs client) ended.callers)
+        (by_desk client s (slice_get desks client) refl (sym (slice_get-map session_of desks client) ∙ here));
+  }
+    where
+      by_desk : (client : ℕ) (s : Session) (o : Option (Desk C)) → slice_get desks client ≡ o → option_map session_of o ≡ Some s
+          → CallsAt goes (slice_get callers client) s (option_map called_of o)
+      by_desk client s None e is = absurd (cc)
+      by_desk client s (Some d) e is =
+          subst (λ (t : Session). CallsAt goes (slice_get callers client) t (Some (called_of d))) (same_Some d.session s is) (serving.each client d e)
+
+-- the element at a place of the list
+pub found : {X : Type 0} (xs : List X) (k : ℕ) (x : X) → k < length xs → x ≡ slice_index_or xs k x → slice_get xs k ≡ Some x
+found xs k x inside is = slice_get-get_or xs k x inside ∙ ap Some (sym is)
+
+-- the first of those that are left was taken
+module _ {X Y : Type 0} (f : Y → X) where
+  after_one : (ys : List Y) (y : Y) (rest : List X) → map f (ys ++ y ∷ []) ++ rest ≡ map f ys ++ (f y ∷ rest)
+  after_one [] y rest = refl
+  after_one (z ∷ ys) y rest = ap (λ (xs : List X). f z ∷ xs) (after_one ys y rest)
+
+  pub took_one : (ys zs : List Y) (y : Y) (rest left all : List X) → zs ≡ ys ++ y ∷ [] → f y ≡ slice_index_or rest 0 (f y) → left ≡ remove rest 0
+      → 0 < length rest → map f ys ++ rest ≡ all → map f zs ++ left ≡ all
+  took_one ys zs y [] left all more first less some before = absurd (omega (arith, some))
+  took_one ys zs y (x ∷ xs) left all more first less some before =
+      ap (λ (ds : List Y). map f ds ++ left) more ∙ ap (λ (ls : List X). map f (ys ++ y ∷ []) ++ ls) less ∙ after_one ys y xs
+      ∙ ap (λ (z : X). map f ys ++ (z ∷ xs)) first ∙ before

@@ -1,0 +1,23 @@
+-- The sessions are those of the desks.
+use Rattle.std.proofs.Common.{List, sym, subst}
+use Rattle.lt_live.specs.declared.ends.Session.{Session}
+use Rattle.lt_live.specs.Live.{AreLive}
+use Rattle.lt_live.specs.Finished.{IsServedRun}
+use Rattle.lt_live_callers.proofs.serving.end.Goals as goal
+
+pub end_run-requires : goal.end_run-requires
+end_run-requires g c = (
+  c.args._script.now,
+  subst (λ (all : List Session). AreLive c.args._script.now c.args.stations.items all) (sym c.in_ok-callers.ensures.sessions) c.requires,
+)
+
+pub returns : goal.returns
+returns g c =
+    let live : AreLive c.args._script.now c.args.stations.items c.in_ok-callers.sessions.items =
+    subst (λ (all : List Session). AreLive c.args._script.now c.args.stations.items all) (sym c.in_ok-callers.ensures.sessions) c.requires in
+    record {
+      serves = subst (λ (all : List Session). IsServedRun c.args._script.now all c.in_ok-script.script c.in_ok-script.run'.entries)
+          c.in_ok-callers.ensures.sessions (c.in_ok-script.ensures.served c.args._script.now live);
+      ends = c.in_ok-script.ensures.ends;
+      callers = sym c.in_ok-callers.ensures.callers;
+    }

@@ -1,0 +1,61 @@
+-- What callers made of a script.
+use Rattle.std.specs.Prelude.{◌≡◌, ℕ, List, [], ◌∷◌, ◌++◌, Option, Some, None, length, map, slice_get}
+use Rattle.lt_modes.specs.declared.command.Command.{Command}
+use Rattle.lt_modes.specs.Script.{ScriptData}
+use Rattle.lt_live.specs.declared.reply.Reply.{Reply}
+use Rattle.lt_live.specs.declared.ends.Session.{Session}
+use Rattle.lt_live.specs.Words.{submitted, polled, in_hand}
+use Rattle.lt_live.specs.Finished.{IsServedRun}
+use Rattle.lt_live.specs.Live.{AreLive}
+use Rattle.lt_live.specs.Stations.{StationData}
+use Rattle.lt_live_callers.specs.declared.desk.Desk.{Desk}
+use Rattle.lt_live_callers.specs.declared.served.Called.{Called}
+use Rattle.lt_live_callers.specs.declared.served.Served.{Served}
+use Rattle.lt_live_callers.specs.Desks.{StepOf, Went, replies_of, commands_of, caller_of, called_of, session_of}
+use Rattle.lt_live_callers.specs.Ends.{EndsSo}
+
+module _ {C : Type 0} where
+  -- the second caller is what its steps made of the first; in them it was told what the session polled, in order, and what it
+  -- answered is what the session submitted, in order, but for the last command, if that was refused
+  pub record Calls (goes : C → Option Reply → Option Command → C → Type 0) (a : C) (s : Session) (b : Called C) : Type 0 where
+    pub steps : List (StepOf C)
+    pub went : Went goes a steps b.caller
+    pub told : polled s ≡ replies_of steps
+    pub asked : submitted s ++ in_hand b.refused ≡ commands_of steps
+
+  abbrev pub CallsAt : (C → Option Reply → Option Command → C → Type 0) → Option C → Session → Option (Called C) → Type 0
+  CallsAt goes None s b = ⊥
+  CallsAt goes (Some a) s None = ⊥
+  CallsAt goes (Some a) s (Some b) = Calls goes a s b
+
+  -- a run by the rules of the first script with commands, which ended so, and for each client a session that it serves, by which
+  -- its caller called
+  pub record IsServedBy (goes : C → Option Reply → Option Command → C → Type 0) (first : ScriptData) (callers : List C) (served : Served C) : Type 0 where
+    pub sessions : List Session
+    pub count : length sessions ≡ length first.clients
+    pub serves : IsServedRun first sessions served.script served.run.entries
+    pub ends : EndsSo served.ending served.script served.run.entries
+    pub each : (client : ℕ) (s : Session) → slice_get sessions client ≡ Some s
+        → CallsAt goes (slice_get callers client) s (slice_get served.callers.items client)
+
+  abbrev pub NoneRefused : List (Desk C) → Type 0
+  NoneRefused [] = Unit {0}
+  NoneRefused (d ∷ ds) = (d.refused ≡ None) × NoneRefused ds
+
+  -- a desk for each caller, with the session at its place
+  pub record AreDesks (callers : List C) (sessions : List Session) (desks : List (Desk C)) : Type 0 where
+    pub seated : map caller_of desks ≡ callers
+    pub given : map session_of desks ≡ sessions
+    pub free : NoneRefused desks
+
+  -- the stations and the sessions are those of the script, and each caller called by the session at its place
+  pub record AreServing (goes : C → Option Reply → Option Command → C → Type 0) (script : ScriptData) (callers : List C)
+      (stations : List StationData) (desks : List (Desk C)) : Type 0 where
+    pub live : AreLive script stations (map session_of desks)
+    pub each : (client : ℕ) (d : Desk C) → slice_get desks client ≡ Some d → CallsAt goes (slice_get callers client) d.session (Some (called_of d))
+
+  -- the run that serves the sessions of these desks, how it ended, and their callers
+  pub record AreEnded (script : ScriptData) (desks : List (Desk C)) (served : Served C) : Type 0 where
+    pub serves : IsServedRun script (map session_of desks) served.script served.run.entries
+    pub ends : EndsSo served.ending served.script served.run.entries
+    pub callers : map called_of desks ≡ served.callers.items

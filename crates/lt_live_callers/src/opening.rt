@@ -1,0 +1,81 @@
+// Stations, and a desk for each caller.
+ghost use Rattle.std.specs.Prelude.{◌≡◌, ◌≢◌, ◌⊎◌, ◌≤◌, ◌<◌, [], length, IfOk, IfErr, OnOk};
+ghost use Rattle.lt_limits.specs.declared.moves.TheConstants.{MAX_MOVES};
+ghost use Rattle.lt_script.specs.declared.limits.TheConstants.{MAX_COMMANDS};
+ghost use Rattle.lt_live_callers.specs.declared.error.CallersError.TheVariants as errors;
+ghost use Rattle.lt_live_callers.specs.Served.{AreDesks, AreServing};
+
+use crate::caller::Caller;
+use crate::desk::Desk;
+use crate::error::CallersError;
+use lt_limits::MAX_MOVES;
+use lt_live::{Session, Station, law_live_lasts, open};
+use lt_script::{MAX_COMMANDS, Script};
+use std::alloc::{AllocError, Global};
+
+/// The stations of the script, whose nodes make up to `limit` moves each, and a desk for each client, with its caller.
+pub(crate) fn begin<C: Caller + Drop>(
+    alloc: Global,
+    script: &Script,
+    callers: Vec<C>,
+    limit: u32,
+) -> Result<(Vec<Station>, Vec<Desk<C>>), CallersError>
+    requires { script.now.commands ≡ [] }
+    ensures serving { IfOk result (λ begun. AreServing C.goes script.now callers.items begun.0.items begun.1.items) }
+    ensures count { IfErr result (λ error. error ≡ errors.Count → length callers.items ≢ length script.now.clients) }
+    ensures limit { IfErr result (λ error. error ≡ errors.Limit → (limit ≡ 0) ⊎ (MAX_MOVES < limit)) }
+{
+    law_live_lasts();
+    may_begin(script, callers.len(), limit)?;
+    let (stations, sessions) = open(alloc, script, limit, share_of(script))?;
+    let desks = desks_of(alloc, callers, sessions)?;
+    Ok((stations, desks))
+}
+
+// Whether there is a caller for each client, and a node may make so many moves.
+fn may_begin(script: &Script, callers: usize, limit: u32) -> Result<(), CallersError>
+    ensures ok { OnOk result ((callers ≡ length script.now.clients) × (0 < limit) × (limit ≤ MAX_MOVES)) }
+    ensures count { IfErr result (λ error. error ≡ errors.Count → callers ≢ length script.now.clients) }
+    ensures limit { IfErr result (λ error. error ≡ errors.Limit → (limit ≡ 0) ⊎ (MAX_MOVES < limit)) }
+{
+    if callers != usize::from(script.clients()) {
+        return Err(CallersError::Count);
+    }
+    if limit == 0 || limit > MAX_MOVES {
+        return Err(CallersError::Limit);
+    }
+    Ok(())
+}
+
+// How many commands each session may submit, or one where there is none: so its ring has a place for each.
+fn share_of(script: &Script) -> u32
+    ensures { (0 < result) × (result ≤ MAX_COMMANDS) }
+{
+    if script.clients() == 0 {
+        return 1;
+    }
+    MAX_COMMANDS / u32::from(script.clients())
+}
+
+// A desk for each caller, with the session at its place.
+#[tactic(auto, using(crate::proofs::Made::are_desks, crate::proofs::Made::one_more))]
+fn desks_of<C: Drop>(
+    alloc: Global,
+    mut callers: Vec<C>,
+    mut sessions: Vec<Session>,
+) -> Result<Vec<Desk<C>>, AllocError>
+    requires { length callers.items ≡ length sessions.items }
+    ensures { IfOk result (λ desks. AreDesks callers.items sessions.items desks.items) }
+{
+    let mut desks = Vec::new(alloc);
+    while !sessions.is_empty() {
+        let caller = callers.remove(0);
+        let session = sessions.remove(0);
+        desks.push(Desk {
+            caller,
+            session,
+            refused: None,
+        })?;
+    }
+    Ok(desks)
+}
