@@ -16,6 +16,7 @@ use lt_modes::{Ask, Event, Mode, Stamp};
 
 impl Core {
     /// A client's command: one move.
+    #[inline(always)]
     pub fn act(&mut self, client: u16, command: SetCommand, stamp: Stamp, out: &mut Out) -> Answer
         requires node { stamp.node ≡ self.old.node }
         requires room { RoomForCommand stamp.clock self.old command }
@@ -177,6 +178,7 @@ impl Core {
     }
 
     // The client waits, and its ask goes to the desk.
+    #[inline(always)]
     fn wait(&mut self, client: u16, mode: Mode, gives_up: Option<Mode>, stamp: Stamp, out: &mut Out)
         requires node { stamp.node ≡ self.old.node }
         requires room { RoomToAsk stamp.clock self.old }

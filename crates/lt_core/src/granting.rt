@@ -8,6 +8,7 @@ use lt_modes::Mode;
 
 impl Core {
     /// Whether the client can have a lock of this mode at once.
+    #[inline(always)]
     pub fn can_grant(&self, client: u16, mode: Mode) -> bool
         ensures { result ≡ can_grant self.now.node self.now.state client mode }
     {

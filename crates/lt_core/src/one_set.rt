@@ -133,6 +133,7 @@ impl Core {
     }
 
     // Makes room for one move, to which a letter brings so many asks.
+    #[inline(always)]
     fn reserve_with(&mut self, brought: u32) -> Result<(), AllocError>
         requires few { waiting_here self.old.state + brought + 2 < 2 ^ 32 }
         ensures state { self.new.state ≡ self.old.state }

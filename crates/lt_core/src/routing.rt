@@ -13,6 +13,7 @@ use lt_modes::{Link, Stamp};
 
 impl Core {
     /// The ask or the tell is dealt with, parked or sent on.
+    #[inline(always)]
     pub(crate) fn route(&mut self, by_hoped: bool, item: Parked, stamp: Stamp, out: &mut Out)
         requires node { stamp.node ≡ self.old.node }
         requires rows { waiting_here self.old.state + 1 ≤ self.old.room }
@@ -48,6 +49,7 @@ impl Core {
     }
 
     // The ask or the tell goes to this node.
+    #[inline(always)]
     fn send_on(&mut self, to: u8, marked: bool, item: Parked, stamp: Stamp, out: &mut Out)
         requires node { stamp.node ≡ self.old.node }
         requires fits { FitsOut (sent_on self.old.set stamp (parked_seen item) self.old.state (Goes to marked)) out.old }
@@ -84,6 +86,7 @@ impl Core {
 }
 
 /// The desk deals with an ask or a tell.
+#[inline(always)]
 pub(crate) fn deal(desk: &mut Desk, item: Parked)
     requires room { length desk.old.desk.queue + ask_count (parked_seen item) ≤ desk.old.room }
     ensures desk { desk.new.desk ≡ dealt desk.old.desk (parked_seen item) }

@@ -31,6 +31,7 @@ impl Core {
     }
 
     // What the desk does next, where it is here.
+    #[inline(always)]
     fn pick(&self) -> Pick
         ensures next { result ≡ picked self.now.node self.now.state }
         ensures within { IsInQueue (length (queue_of self.now.state)) result }
@@ -82,6 +83,7 @@ impl Core {
     }
 
     /// The ask's client gets the lock and waits no more.
+    #[inline(always)]
     pub(crate) fn answer(&mut self, ask: &Ask, out: &mut Out)
         requires room { 0 < self.old.room }
         requires locks { locks_in self.old.state.held + 1 ≤ most_locks }

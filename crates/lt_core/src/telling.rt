@@ -9,6 +9,7 @@ use lt_modes::Stamp;
 
 impl Core {
     /// The end of a move: the desk's turn where it is here, else a tell where one is due.
+    #[inline(always)]
     pub fn finish(&mut self, stamp: Stamp, out: &mut Out)
         requires node { stamp.node ≡ self.old.node }
         requires room { HasRoom 1 stamp.clock self.old }

@@ -42,6 +42,7 @@ impl Out {
     }
 
     /// Makes room for so many further letters and event lines. Where the room is there, nothing changes.
+    #[inline(always)]
     pub fn reserve(&mut self, letters: u32, events: u32) -> Result<(), AllocError>
         ensures posts { self.new.posts ≡ self.old.posts }
         ensures events { self.new.events ≡ self.old.events }

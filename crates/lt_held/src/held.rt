@@ -113,6 +113,7 @@ impl Held {
 
     /// Gives the client one lock more.
     #[tactic(auto, using(crate::proofs::RowLemmas::rows_pushed))]
+    #[inline(always)]
     pub fn add(&mut self, client: u16, mode: Mode)
         requires spare { 1 ≤ self.old.spare }
         requires count { count_of self.old.rows client mode < most_locks }
@@ -132,6 +133,7 @@ impl Held {
 
     /// Takes one lock away, where the client has one.
     #[tactic(auto, using(crate::proofs::RowLemmas::count_taken))]
+    #[inline(always)]
     pub fn take(&mut self, client: u16, mode: Mode) -> bool
         ensures taken { result ≡ not (count_of self.old.rows client mode == 0) }
         ensures rows { self.new.rows ≡ take_lock self.old.rows client mode }

@@ -34,6 +34,7 @@ pub fn move_line(text: &mut Text, wording: &Wording, made: Move) -> Result<(), A
 }
 
 /// Writes the line of an event.
+#[inline(always)]
 pub fn event_line(text: &mut Text, wording: &Wording, event: Event) -> Result<(), AllocError>
     ensures { OnOk result (text.new ≡ text.old ++ line_text wording.now (EventLine event)) }
 {
@@ -55,6 +56,7 @@ pub fn event_line(text: &mut Text, wording: &Wording, event: Event) -> Result<()
 }
 
 // Writes the words after the first of a line that names a client, a set and a mode, and the line end.
+#[inline(always)]
 fn last_words(
     text: &mut Text,
     wording: &Wording,

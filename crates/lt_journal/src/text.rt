@@ -80,6 +80,7 @@ impl Text {
 
     // Writes a number of one or two digits as a later word of a line.
     #[tactic(auto, using(crate::proofs::Digits::one_digit, crate::proofs::Digits::two_digits))]
+    #[inline(always)]
     fn short_number(&mut self, number: u64) -> Result<(), AllocError>
         requires { number < 100 }
         ensures { OnOk result (self.new ≡ self.old ++ after_space (decimal number)) }
@@ -95,6 +96,7 @@ impl Text {
     // Writes a number of three or four digits as a later word of a line.
     #[inline(never)]
     #[tactic(auto, using(crate::proofs::Digits::three_digits, crate::proofs::Digits::four_digits))]
+    #[inline(always)]
     fn middle_number(&mut self, number: u64) -> Result<(), AllocError>
         requires many { 100 ≤ number }
         requires few { number < 10000 }

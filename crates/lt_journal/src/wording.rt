@@ -68,6 +68,7 @@ impl<'a> Wording<'a> {
     }
 
     /// Writes the client's name as a later word of a line.
+    #[inline(always)]
     pub fn client(&self, text: &mut Text, client: u16) -> Result<(), AllocError>
         ensures { OnOk result (text.new ≡ text.old ++ after_space (client_name self.now client)) }
     {
@@ -78,6 +79,7 @@ impl<'a> Wording<'a> {
     }
 
     /// Writes the client's name as the last word of a line, with the line end.
+    #[inline(always)]
     pub fn last_client(&self, text: &mut Text, client: u16) -> Result<(), AllocError>
         ensures { OnOk result (text.new ≡ text.old ++ after_space (client_name self.now client) ++ 10 ∷ []) }
     {

@@ -74,6 +74,7 @@ impl Mode {
     }
 
     /// The mode with this word.
+    #[inline(always)]
     pub fn from_word(word: &[u8]) -> Option<Mode>
         ensures found { IfSome result (λ mode. word.now ≡ word_of mode) }
         ensures none { IfNone result ((mode : AnyMode) → word.now ≢ word_of mode) }

@@ -19,6 +19,7 @@ use lt_modes::{Command, Event, Stamp};
 
 impl Node {
     /// Makes the next command of a client of this node.
+    #[inline(always)]
     pub fn act(&mut self, client: u16, out: &mut Out) -> Answer
         requires client { client < length self.old.script.clients }
         requires home { home self.old.script client ≡ self.old.me }
@@ -94,6 +95,7 @@ impl Node {
     }
 
     // One set obeys.
+    #[inline(always)]
     fn touch(
         &mut self,
         set: u8,

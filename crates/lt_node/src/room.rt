@@ -15,6 +15,7 @@ use std::alloc::AllocError;
 
 impl Node {
     /// Makes room for one command.
+    #[inline(always)]
     pub fn reserve(&mut self, out: &mut Out) -> Result<(), AllocError>
         requires { IsTrue (node_within self.old.script (state_of self.old)) }
         ensures node { SameNode self.old self.new }

@@ -13,6 +13,7 @@ use lt_desk::{Letter, Out};
 
 impl Node {
     /// Takes the letter.
+    #[inline(always)]
     pub fn take(&mut self, letter: Letter, out: &mut Out)
         requires fits { IsTrue (fits (numbers_of self.old.script) self.old.me self.old.clock ((state_of self.old).set letter.set) (letter_seen letter)) }
         requires within { IsTrue (node_within self.old.script (state_of self.old)) }

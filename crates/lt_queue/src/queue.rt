@@ -80,6 +80,7 @@ impl Queue {
 
     /// Takes the ask at place k away.
     #[tactic(auto, using(crate::proofs::AskedLemmas::may_go))]
+    #[inline(always)]
     pub fn remove(&mut self, k: u32) -> Ask
         requires { k < length self.old.asks }
         ensures ask { result ≡ slice_index_or self.old.asks k no_ask }
@@ -119,6 +120,7 @@ impl Queue {
 
     /// Puts a new ask at its place.
     #[tactic(auto, using(crate::proofs::AskedLemmas::may_come, crate::proofs::AskedLemmas::one_came))]
+    #[inline(always)]
     pub fn insert(&mut self, ask: Ask)
         requires { length self.old.asks < self.old.room }
         ensures { self.new ≡ record self.old { asks = entered self.old.asks ask } }

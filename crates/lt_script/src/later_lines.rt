@@ -111,6 +111,7 @@ fn add_client(script: &mut Script, name: &[u8], node: &[u8]) -> Result<(), Alloc
 }
 
 // Adds the command, or tells its line's first fault.
+#[inline(always)]
 fn add_command_line(
     script: &mut Script,
     client: &[u8],

@@ -88,6 +88,7 @@ impl Table {
     }
 
     /// What counts of all nodes but this one: their records, and for node `me` its own part.
+    #[inline(always)]
     pub fn others(&self, node: u8, me: u8, own: ModeSet) -> ModeSet
         ensures { (s : SetState) (desk : Desk) → desk.entries ≡ self.now.entries → own_part me s desk ≡ own
             → result ≡ others me s desk node }

@@ -57,6 +57,7 @@ impl Turns {
     }
 
     /// From now on the player has this number; with none it can't act.
+    #[inline(always)]
     pub fn set(&mut self, player: u16, number: Option<u32>)
         requires { player < length self.old }
         ensures { self.new ≡ slice_set self.old player number }

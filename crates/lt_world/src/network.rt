@@ -164,6 +164,7 @@ fn take_at(nodes: &mut Vec<Node>, node: u8, letter: Letter, out: &mut Out) -> St
 }
 
 // Notes the move that its node made, and sends on what it sent out.
+#[inline(always)]
 fn record_move(inboxes: &mut Inboxes, run: &mut Run, made: Move, out: &mut Out)
     requires sender { made.stamp.node < inboxes.old.nodes }
     requires targets { All (λ (post : rules.Post). post.to < inboxes.old.nodes) out.old.posts }

@@ -107,6 +107,7 @@ impl World {
 
     /// The enabled move at place `k`, from 0: takes before acts; takes by receiver and then by sender; acts by the number of
     /// commands that the client has made, and then in the order of the clients' declaration.
+    #[inline(always)]
     pub fn pick(&self, k: u32) -> Option<Choice>
         ensures place { result ≡ option_map choice_of (pick self.now.script (world_of self.now) k) }
         ensures enabled { IfSome result (λ choice. IsTrue (is_enabled self.now.script (world_of self.now) choice.node choice.step)) }

@@ -52,6 +52,7 @@ impl Script {
     }
 
     /// Adds a last command, which this client makes.
+    #[inline(always)]
     pub fn add_command(&mut self, client: u16, command: Command) -> Result<(), AllocError>
         requires room { length self.old.commands < MAX_COMMANDS }
         requires request { IsRequest self.old.sets self.old.clients (client, command) }

@@ -9,6 +9,7 @@ use crate::script::Script;
 
 impl Script {
     /// The set with this name.
+    #[inline(always)]
     pub fn set_number(&self, name: &[u8]) -> Option<u8>
         ensures number { result ≡ set_number self.now name.now }
         ensures inside { IfSome result (λ set. set < length self.now.sets) }
@@ -24,6 +25,7 @@ impl Script {
     }
 
     /// The client with this name.
+    #[inline(always)]
     pub fn client_number(&self, name: &[u8]) -> Option<u16>
         ensures number { result ≡ client_number self.now name.now }
         ensures inside { IfSome result (λ client. client < length self.now.clients) }

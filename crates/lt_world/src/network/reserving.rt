@@ -132,6 +132,7 @@ impl Network {
 }
 
 // Makes room for what a node sends out, for which `out` has room.
+#[inline(always)]
 fn reserve_all(inboxes: &mut Inboxes, run: &mut Run, out: &Out) -> Result<(), AllocError>
     ensures letters { SameLetters inboxes.old inboxes.new }
     ensures entries { run.new.entries ≡ run.old.entries }
