@@ -53,14 +53,16 @@ live_runs_told = record {
       let live = live_so ending.Stuck two_writers two_writers_script c.answer.run.entries c.answer.polled.items did.0 writers_read did.1 in
       record { is_run = live.ran.is_run; rest = live.ran.ends.0; waits = live.ran.ends.1; promised = live.promised };
   some = λ c serves e.
-      let j = (did_so c Stuck serves e).1 in
-      (j.script, record {
-        is_run = j.live.ran.is_run;
-        promised = j.live.promised;
-        few = j.live.ran.within;
-        far = j.live.ran.far;
-        shared = λ client below. ltb-false (equal_share j.script) (length (commands_of j.script client)) (j.shared client below);
-      });
+      let j = (did_so c Stuck serves e).1 in (
+        j.script,
+        record {
+          is_run = j.live.ran.is_run;
+          promised = j.live.promised;
+          few = j.live.ran.within;
+          far = j.live.ran.far;
+          shared = λ client below. ltb-false (equal_share j.script) (length (commands_of j.script client)) (j.shared client below);
+        },
+      );
   not_falling = λ c serves e is.
       let rising : AreRising falling = subst (λ (run : List Logged). AreRising run) is (did_so c Done serves e).1.live.ran.rising in
       false≢true rising.0.0;

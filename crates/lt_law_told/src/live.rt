@@ -13,5 +13,4 @@ pub fn law_live_told()
     ensures ends { LiveEndsTold }
     ensures runs { LiveRunsTold }
     ensures shares { LiveSharesTold }
-{
-}
+{}
