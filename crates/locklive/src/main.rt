@@ -1,9 +1,9 @@
 //! The lock service on live sessions, at the command line.
 #![tactic(auto)]
 
+use lt_call::{end_by, words};
 use lt_io::{ReaderSource, WriterSink};
 use lt_live_serve::{Open, program};
-use lt_main::{end_with, words};
 use std::process::ExitCode;
 
 fn main(rt: HostRuntime) -> ExitCode {
@@ -15,5 +15,5 @@ fn main(rt: HostRuntime) -> ExitCode {
     } else {
         None
     };
-    end_with(&rt, status.code(), line)
+    end_by(&rt, status.code(), line)
 }

@@ -1,8 +1,8 @@
 //! The lock service at the command line.
 #![tactic(auto)]
 
+use lt_call::{end_by, words};
 use lt_io::{ReaderSource, WriterSink};
-use lt_main::{end_with, words};
 use lt_serve::{Open, program};
 use std::process::ExitCode;
 
@@ -15,5 +15,5 @@ fn main(rt: HostRuntime) -> ExitCode {
     } else {
         None
     };
-    end_with(&rt, status.code(), line)
+    end_by(&rt, status.code(), line)
 }

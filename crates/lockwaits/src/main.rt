@@ -1,8 +1,8 @@
 //! Who waits for whom at the end of a run, at the command line.
 #![tactic(auto)]
 
+use lt_call::{end_with, words};
 use lt_io::{ReaderSource, WriterSink};
-use lt_main::{end_with, words};
 use lt_waits::program;
 use std::process::ExitCode;
 
@@ -10,10 +10,5 @@ fn main(rt: HostRuntime) -> ExitCode {
     let mut source = ReaderSource::new(rt.stdin());
     let mut sink = WriterSink::new(rt.stdout());
     let answer = program(rt.alloc(), &words(&rt), &mut source, &mut sink);
-    let line = if answer.is_told() {
-        Some(&answer)
-    } else {
-        None
-    };
-    end_with(&rt, answer.code(), line)
+    end_with(&rt, &answer)
 }

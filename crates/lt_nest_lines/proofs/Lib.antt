@@ -3,3 +3,4 @@ pub mod SetsAsked
 pub mod Pieces
 pub mod Sizes
 pub mod FollowedOrders
+pub mod Judged

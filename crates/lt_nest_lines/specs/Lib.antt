@@ -3,3 +3,5 @@ pub mod Input
 pub mod Play
 pub mod Written
 pub mod Rows
+pub mod Answers
+pub mod Serves

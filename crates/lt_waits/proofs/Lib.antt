@@ -1,3 +1,8 @@
-mod Answering
 mod Explaining
+mod Judged
+mod Marks
+mod Rounds
 mod Rows
+mod SoFar
+mod Told
+mod Walks

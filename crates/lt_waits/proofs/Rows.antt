@@ -2,9 +2,9 @@
 use Rattle.std.proofs.Common.{◌≡◌, ◌∙◌, ◌+◌, ◌*◌, ◌++◌, ◌∷◌, [], ℕ, List, Bool, ap, ap₂, sym, map, length, append_assoc}
 use Rattle.std.proofs.lemmas.List.{map_push}
 use Rattle.lt_spec.specs.Rings.{Graph, numbers_below}
-use Rattle.lt_rings.specs.Graph.{marks}
-use Rattle.lt_rings.proofs.Marks.{length_marks}
-use Rattle.lt_rings.proofs.SoFar.{numbers_push}
+use Rattle.lt_waits.specs.Graph.{marks}
+use Rattle.lt_waits.proofs.Marks.{length_marks}
+use Rattle.lt_waits.proofs.SoFar.{numbers_push}
 
 pub row_push : (row : ℕ → Bool) (old before now : List Bool) (k : ℕ) → before ≡ old ++ map row (numbers_below k) → now ≡ before ++ row k ∷ []
     → now ≡ old ++ map row (numbers_below (k + 1))

@@ -1,3 +1,5 @@
 pub mod Answers
 pub mod Explained
+pub mod Graph
+pub mod Report
 pub mod Serves

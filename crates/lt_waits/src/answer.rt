@@ -1,6 +1,7 @@
 ghost use Rattle.std.specs.Prelude.{◌≡◌, ◌≢◌, ◌↔◌, [], IsTrue};
-ghost use Rattle.lt_waits.specs.Answers.{answer_code, answer_text};
+ghost use Rattle.lt_waits.specs.Answers.{answer_text};
 
+use lt_call::{Outcome, Status};
 use lt_checker::InputError;
 use lt_script::ScriptFault;
 use std::fmt;
@@ -24,26 +25,42 @@ pub enum Answer {
 }
 
 impl Answer {
-    /// The exit status of the program.
-    pub fn code(&self) -> u8
-        ensures { result ≡ answer_code self.now }
-    {
-        match self {
-            Answer::Done => 0,
-            Answer::Usage => 1,
-            Answer::Refused(_) | Answer::TooLong => 2,
-            Answer::ReadFault => 4,
-            Answer::WriteFault => 5,
-            Answer::NoMemory => 6,
-            Answer::BadJournal { .. } => 8,
-        }
-    }
-
     /// Whether the program writes a line on standard error.
     pub fn is_told(&self) -> bool
         ensures { IsTrue result ↔ (answer_text self.now ≢ []) }
     {
-        !matches!(self, Answer::Done)
+        self.outcome().has_line()
+    }
+}
+
+impl Status for Answer {
+    ghost use Rattle.lt_waits.specs.Answers.{outcome_of};
+
+    ghost outcome = { outcome_of };
+
+    fn outcome(&self) -> Outcome {
+        match self {
+            Answer::Done => Outcome::Done,
+            Answer::Usage => Outcome::Usage,
+            Answer::Refused(_) => Outcome::Refused,
+            Answer::TooLong => Outcome::TooLong,
+            Answer::ReadFault => Outcome::ReadFault,
+            Answer::WriteFault => Outcome::WriteFault,
+            Answer::NoMemory => Outcome::NoMemory,
+            Answer::BadJournal { .. } => Outcome::BadJournal,
+        }
+    }
+
+    fn of(plain: Outcome) -> Answer {
+        match plain {
+            Outcome::Done => Answer::Done,
+            Outcome::Usage => Answer::Usage,
+            Outcome::TooLong => Answer::TooLong,
+            Outcome::ReadFault => Answer::ReadFault,
+            Outcome::WriteFault => Answer::WriteFault,
+            Outcome::NoMemory => Answer::NoMemory,
+            _ => unreachable!(),
+        }
     }
 }
 
@@ -75,11 +92,11 @@ impl fmt::Display for Answer {
             Answer::Done => Ok(()),
             Answer::Usage => f.write_str("lockwaits: usage: lockwaits"),
             Answer::Refused(fault) => write!(f, "lockwaits: {fault}"),
-            Answer::TooLong => f.write_str("lockwaits: input too long"),
-            Answer::ReadFault => f.write_str("lockwaits: read fault"),
-            Answer::WriteFault => f.write_str("lockwaits: write fault"),
-            Answer::NoMemory => f.write_str("lockwaits: no memory"),
             Answer::BadJournal { line } => write!(f, "lockwaits: line {line}: journal"),
+            other => {
+                let outcome = other.outcome();
+                write!(f, "lockwaits: {outcome}")
+            }
         }
     }
 }

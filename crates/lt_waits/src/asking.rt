@@ -2,9 +2,9 @@ ghost use Rattle.std.specs.Prelude.{◌≡◌, ◌<◌, ◌++◌, map, length, I
 ghost use Rattle.lt_spec.specs.Rings.{numbers_below};
 ghost use Rattle.lt_spec.specs.Waiting.{waits_for};
 ghost use Rattle.lt_world.specs.Fields.{world_of};
-ghost use Rattle.lt_rings.specs.Graph.{Tells, marks};
+ghost use Rattle.lt_waits.specs.Graph.{Tells, marks};
 
-use lt_rings::WaitGraph;
+use crate::graph::WaitGraph;
 use lt_script::Script;
 use lt_world::World;
 use std::alloc::{AllocError, Global};

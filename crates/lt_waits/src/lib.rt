@@ -1,13 +1,21 @@
-//! Who waits for whom at the end of a run, at the command line: a script and a journal come in, a report goes out.
+//! Who waits for whom at the end of a run: as a graph of clients, with the clients that wait in a ring and where a walk from
+//! client to client ends; as a report that tells both; and at the command line, where a script and a journal come in and the
+//! report goes out.
 #![tactic(auto)]
 
 mod answer;
 mod arguments;
 mod asking;
+mod graph;
+mod lines;
 mod reporting;
+mod rings;
 mod serving;
+mod waits;
 
 pub use answer::Answer;
 pub use arguments::program;
+pub use graph::WaitGraph;
+pub use lines::report_of;
 pub use reporting::report;
 pub use serving::serve;

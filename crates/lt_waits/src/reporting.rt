@@ -1,9 +1,10 @@
 ghost use Rattle.std.specs.Prelude.{◌≡◌, IfOk};
 ghost use Rattle.lt_law_waiting.specs.Reports.{waits_report};
 ghost use Rattle.lt_world.specs.Fields.{world_of};
-ghost use Rattle.lt_rings.specs.Report.{waits_text};
+ghost use Rattle.lt_waits.specs.Report.{waits_text};
 
 use crate::asking::wait_graph;
+use crate::lines::report_of;
 use lt_script::Script;
 use lt_world::World;
 use std::alloc::{AllocError, Global};
@@ -14,5 +15,5 @@ pub fn report(alloc: Global, script: &Script, world: &World) -> Result<Vec<u8>, 
     ensures { IfOk result (λ text. text.items ≡ waits_text script.now (waits_report script.now (world_of world.now))) }
 {
     let graph = wait_graph(alloc, script, world)?;
-    lt_rings::report(alloc, script, &graph)
+    report_of(alloc, script, &graph)
 }

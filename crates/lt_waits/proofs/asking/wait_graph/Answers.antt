@@ -2,7 +2,7 @@ use Rattle.std.proofs.Common.{◌≡◌, ◌∙◌, ◌++◌, List, Bool, ap, sy
 use Rattle.lt_spec.specs.Rings.{numbers_below}
 use Rattle.lt_spec.specs.Waiting.{waits_for}
 use Rattle.lt_world.specs.Fields.{world_of}
-use Rattle.lt_rings.proofs.Marks.{marks_push}
+use Rattle.lt_waits.proofs.Marks.{marks_push}
 use Rattle.lt_waits.proofs.Rows.{square, all_marks}
 use Rattle.lt_waits.proofs.asking.wait_graph.Goals as goal
 

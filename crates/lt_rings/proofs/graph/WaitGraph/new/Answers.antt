@@ -1,5 +1,0 @@
-use Rattle.lt_rings.proofs.Marks.{marks_tell}
-use Rattle.lt_rings.proofs.graph.WaitGraph.new.Goals as goal
-
-pub returns-clause-told : goal.returns-clause-told
-returns-clause-told c = λ graph e. marks_tell c.args.clients c.args.pairs.items graph e

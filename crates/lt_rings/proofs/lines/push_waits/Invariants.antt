@@ -1,8 +1,0 @@
-use Rattle.std.proofs.Common.{◌≡◌, ◌++◌}
-use Rattle.lt_rings.specs.Graph.{graph_of}
-use Rattle.lt_rings.specs.Report.{waits_text}
-use Rattle.lt_rings.proofs.SoFar.{waits_so_far}
-use Rattle.lt_rings.proofs.lines.push_waits.Given as goal
-
-abbrev pub invariant-loop-client : goal.invariant-loop-client
-invariant-loop-client l = l.out.items ≡ l.fn.out.items ++ waits_text l.script (waits_so_far l.graph.clients (graph_of l.graph) l.client)

@@ -1,7 +1,0 @@
-use Rattle.std.proofs.Common.{◌≡◌, ◌++◌}
-use Rattle.lt_rings.specs.Graph.{graph_of}
-use Rattle.lt_rings.specs.Report.{waits_text, waits_lines_of}
-use Rattle.lt_rings.proofs.lines.push_waits_of.Given as goal
-
-abbrev pub invariant-loop-other : goal.invariant-loop-other
-invariant-loop-other l = l.out.items ≡ l.fn.out.items ++ waits_text l.script (waits_lines_of l.other (graph_of l.graph) l.client)

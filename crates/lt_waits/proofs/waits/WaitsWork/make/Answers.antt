@@ -1,0 +1,22 @@
+use Rattle.lt_waits.proofs.Judged.{unfit_says, unfit_refusal, reported}
+use Rattle.lt_waits.proofs.Explaining.{explained}
+use Rattle.lt_waits.proofs.waits.WaitsWork.make.Goals as goal
+
+pub returns-in-Err-clause-reading : goal.returns-in-Err-clause-reading
+returns-in-Err-clause-reading g c =
+    unfit_says c.from.result c.in-Err.error (g.S.Source.state c.args.source.now) (g.S.Source.state c.check_input.new.source) c.from.ensures c.in-Err.ensures.err
+
+pub returns-in-Err-clause-refused : goal.returns-in-Err-clause-refused
+returns-in-Err-clause-refused g c =
+    unfit_refusal c.from.result c.in-Err.error (g.S.Source.state c.args.source.now) (g.S.Source.state c.check_input.new.source) c.from.ensures c.in-Err.ensures.err
+
+pub report-requires : goal.report-requires
+report-requires g c = c.in-Ok.ensures.told.script_is
+
+pub returns-in-Ok-report-clause-text : goal.returns-in-Ok-report-clause-text
+returns-in-Ok-report-clause-text g c =
+    let ended = c.in-Ok.ended in
+    let told = c.in-Ok.ensures.told in
+    let why = explained ended.script ended.world.run c.law_waiting.ensures.some c.law_reports.ensures.cycles c.law_reports.ensures.rings
+    c.law_waiting.ensures.ends c.law_waiting.ensures.all c.in-Ok.ensures.kept told.finished in
+    reported (g.S.Source.state c.args.source.now).left ended.script ended.world c.in-Ok-report.text.items told why c.in-Ok-report.ensures
