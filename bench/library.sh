@@ -30,11 +30,11 @@ for sets in own one; do
     for callers in 1 2 4; do
       for nodes in 1 4; do
         "$room/pairs" $callers $nodes $sets $mode "$rounds" | while read -r _ most mean whole; do
-          echo "$callers callers, $nodes nodes, $sets set, $mode: best $most, mean $mean, with open and finish $whole"
+          echo "callers $callers, nodes $nodes, $sets set, $mode: best $most, mean $mean, with open and finish $whole"
         done
       done
       for kind in $kinds; do
-        echo "$callers callers, $kind, $sets set, $mode: best $(best "$kind" $callers $sets $mode 200000)"
+        echo "callers $callers, $kind, $sets set, $mode: best $(best "$kind" $callers $sets $mode 200000)"
       done
     done
   done

@@ -10,7 +10,7 @@ sys.dont_write_bytecode = True
 from definitions import House
 
 MOST_IN_CHAIN = 11
-MOST_TWICE = 103
+MOST_TWICE = 105
 
 
 def chain(crates, name):

@@ -1,5 +1,7 @@
-/* Each answer of the calls of lockrun.h: prints those that are another, with status 1 if there is one. */
-#include "lockrun.h"
+/* Each answer of the calls of lockrun.h, and a wait that runs out of time by lockrun_easy.h: prints those that are another,
+ * with status 1 if there is one. */
+#define _POSIX_C_SOURCE 200809L
+#include "lockrun_easy.h"
 #include <stdio.h>
 #include <string.h>
 
@@ -168,6 +170,27 @@ static void whole_life(void) {
     IS(journal.at != 0, 0);
 }
 
+/* A caller whose time is over is told that it still waits, until the lock is granted. */
+static void patience(void) {
+    static const char script[] = "nodes 2\nset a\nclient c at 0\nclient d at 1\n";
+    lockrun_nodes nodes;
+    IS(lockrun_nodes_open(&nodes, script, sizeof script - 1, 1 << 20), LOCKRUN_OK);
+    lockrun_caller *first = &nodes.caller[0], *second = &nodes.caller[1];
+    IS(lockrun_lock(first, 0, LOCKRUN_READ, LOCKRUN_FOREVER), LOCKRUN_GRANTED);
+    IS(lockrun_try(second, 0, LOCKRUN_WRITE, LOCKRUN_FOREVER), LOCKRUN_FALSE);
+    IS(lockrun_lock(second, 0, LOCKRUN_WRITE, 5), LOCKRUN_WAITS);
+    IS(lockrun_unlock(second, 0, LOCKRUN_WRITE, 5), LOCKRUN_WAITS);
+    IS(lockrun_wait(second, 0), LOCKRUN_WAITS);
+    IS(lockrun_unlock(first, 0, LOCKRUN_READ, LOCKRUN_FOREVER), LOCKRUN_UNLOCKED);
+    IS(lockrun_wait(second, LOCKRUN_FOREVER), LOCKRUN_GRANTED);
+    IS(lockrun_wait(second, LOCKRUN_FOREVER), LOCKRUN_NOTHING);
+    IS(lockrun_change(second, 0, LOCKRUN_WRITE, LOCKRUN_READ, LOCKRUN_FOREVER), LOCKRUN_CHANGED);
+    IS(lockrun_drop(second, 0, 1, LOCKRUN_FOREVER), LOCKRUN_DROPPED);
+    IS(second->dropped, 1);
+    IS(lockrun_nodes_finish(&nodes, &journal), LOCKRUN_OK);
+    lockrun_free(&journal);
+}
+
 int main(void) {
     opening();
     taking();
@@ -177,6 +200,7 @@ int main(void) {
     ends();
     lockrun_free(&service);
     whole_life();
+    patience();
     puts(bad ? "codes: some answers are others" : "codes: each answer is as it should be");
     return bad;
 }

@@ -21,7 +21,7 @@ use Rattle.lt_live_serve.specs.declared.status.Status.{Status}
 use Rattle.lt_live_serve.specs.declared.status.Status.TheVariants.{Done, Stuck, Usage, Refused, TooLong, ReadFault, WriteFault, NoMemory, Share}
 use Rattle.lt_live_serve.specs.Over.{is_over}
 use Rattle.lt_live_serve.specs.Runs.{HasFault, IsOverShare, LiveRun, Journals}
-use Rattle.lt_live_serve.specs.Serves.{Did, NothingFails, IsOrderedInput}
+use Rattle.lt_live_serve.specs.Serves.{Did, GoesWell, DenotesOrdered}
 use Rattle.lt_live_serve.specs.Status.{outcome_of}
 use Rattle.lt_law_told.specs.Runs.{two_writers, two_writers_script}
 use Rattle.lt_law_told.specs.LiveCalls.{LiveCodesAre, LiveTextsAre, Call, IsCall, Answers, Reads, IsUntroubled, ReadsWhole, LiveWordsTold, LiveRefusalsTold, LiveCountsTold, LiveEndsTold, no_nodes, one_lock, one_lock_script}
@@ -201,9 +201,9 @@ not_rose n before now most began few less rose =
     let risen : count_after 0 n ≤ now = subst (λ (k : ℕ). count_after k n ≤ now) began rose in
     omega (arith, risen, few, less)
 
-nothing_fails : (c : Call) (bytes : List ℕ) (script : ScriptData) → Fits bytes script → Reads bytes c → IsUntroubled c
-    → NothingFails c.words c.answer.status c.source c.source_after c.sink.faults c.sink_after.faults
-nothing_fails c bytes script fits reads fine = record {
+goes_well : (c : Call) (bytes : List ℕ) (script : ScriptData) → Fits bytes script → Reads bytes c → IsUntroubled c
+    → GoesWell c.words c.answer.status c.source c.source_after c.sink.faults c.sink_after.faults
+goes_well c bytes script fits reads fine = record {
   no_words = reads.no_words;
   good = record {
     no_read_fault = not_rose 1 c.source.faults c.source_after.faults 0 fine.counts.1 (omega (arith, fine.read)) (omega arith);
@@ -218,10 +218,10 @@ nothing_fails c bytes script fits reads fine = record {
 pub live_ends_told : LiveEndsTold
 live_ends_told = record {
   never_cut = λ c node serves. serves.ends.never_cut node;
-  done_or_stuck = λ c reads fine. reads.serves.ends.done_or_stuck (nothing_fails c two_writers two_writers_script two_writers_fit reads fine);
+  done_or_stuck = λ c reads fine. reads.serves.ends.done_or_stuck (goes_well c two_writers two_writers_script two_writers_fit reads fine);
   ordered = λ c reads fine.
-      reads.serves.ends.ordered (nothing_fails c one_lock one_lock_script one_lock_fits reads fine)
-      (subst IsOrderedInput (sym reads.input) (one_lock_script, one_lock_read, one_lock_ordered));
+      reads.serves.ends.ordered (goes_well c one_lock one_lock_script one_lock_fits reads fine)
+      (subst DenotesOrdered (sym reads.input) (one_lock_script, one_lock_read, one_lock_ordered));
   never_stuck = λ c reads e.
       let did = did_read c one_lock Stuck reads e in
       (live_so ending.Stuck one_lock one_lock_script c.answer.run.entries c.answer.polled.items did.0 one_lock_read did.1).ordered one_lock_ordered refl;

@@ -1,5 +1,5 @@
 -- What it means that numbers are in range.
-use Rattle.std.proofs.Common.{◌≡◌, ◌<◌, ◌≤◌, ◌+◌, ◌^◌, ◌-◌, ◌&&◌, ℕ, List, length, nat_lt, nat_le, true, arith}
+use Rattle.std.proofs.Common.{◌≡◌, ◌<◌, ◌≤◌, ◌^◌, ◌-◌, ◌&&◌, ℕ, List, length, nat_lt, nat_le, true, arith}
 use Rattle.std.proofs.lemmas.Bool.{and_parts, leb-true, ltb-true}
 use Rattle.lt_limits.specs.declared.moves.TheConstants.{MAX_MOVES}
 use Rattle.lt_script.specs.declared.limits.TheConstants.{MAX_COMMANDS}
@@ -25,5 +25,5 @@ module _ (text : List ℕ) (limit places : ℕ) (h : fits text limit places ≡ 
   pub length_fits : length text < 2 ^ 32 - 1
   length_fits =
       let few = leb-true (length text) MAX_BYTES
-          (and_parts (nat_le (length text) MAX_BYTES) ((nat_lt 0 limit && nat_le limit MAX_MOVES) && (nat_lt 0 places && nat_le places MAX_COMMANDS)) h).0 in
+      (and_parts (nat_le (length text) MAX_BYTES) ((nat_lt 0 limit && nat_le limit MAX_MOVES) && (nat_lt 0 places && nat_le places MAX_COMMANDS)) h).0 in
       omega (arith, few)

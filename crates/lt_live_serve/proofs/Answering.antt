@@ -18,12 +18,12 @@ use Rattle.lt_live_serve.specs.declared.served.Served.{Served}
 use Rattle.lt_live_serve.specs.declared.status.Status.{Status}
 use Rattle.lt_live_serve.specs.declared.status.Status.TheVariants.{Done, Stuck, Usage, Refused, TooLong, ReadFault, WriteFault, NoMemory, Cut, Share}
 use Rattle.lt_live_serve.specs.Status.{outcome_of, status_of_end}
-use Rattle.lt_live_serve.specs.Serves.{Serves, Did, Ends, NothingFails, IsUnfit, IsGood, IsOrderedInput}
+use Rattle.lt_live_serve.specs.Serves.{Serves, Did, Ends, GoesWell, IsUnfit, IsGood, DenotesOrdered}
 
 -- what is known where nothing fails
 abbrev pub IsComplete : ℕ → Status → SourceState → SourceState → ℕ → ℕ → Type 0
 IsComplete words status before after writes_before writes_after =
-    NothingFails words status before after writes_before writes_after → IsEnding (outcome_of status)
+    GoesWell words status before after writes_before writes_after → IsEnding (outcome_of status)
 
 -- no journal is that of a run that was cut
 not_cut : (status : Status) (left : Option (List ℕ)) (run : List Logged) (polled : List (ℕ × Reply)) (old new : Option (List ℕ))
@@ -34,7 +34,7 @@ not_cut status left run polled old new did node cut =
 
 -- nor one of an ordered script at whose end somebody waits
 not_stuck : (left : Option (List ℕ)) (run : List Logged) (polled : List (ℕ × Reply)) (old new : Option (List ℕ))
-    → Did Stuck left run polled old new → IsOrderedInput left → ⊥
+    → Did Stuck left run polled old new → DenotesOrdered left → ⊥
 not_stuck None run polled old new did ordered = ordered
 not_stuck (Some bytes) run polled old new did ordered =
     let journals = did.1 in

@@ -59,12 +59,12 @@ pub record IsGood (before after : SourceState) : Type 0 where
   pub none_over : (client : ℕ) → IsOverShare before.left client → ⊥
 
 -- the bytes are known, and denote an ordered script
-abbrev pub IsOrderedInput : Option (List ℕ) → Type 0
-IsOrderedInput None = ⊥
-IsOrderedInput (Some bytes) = (script : ScriptData) × (read_of bytes ≡ Ok script) × IsOrdered script
+abbrev pub DenotesOrdered : Option (List ℕ) → Type 0
+DenotesOrdered None = ⊥
+DenotesOrdered (Some bytes) = (script : ScriptData) × (read_of bytes ≡ Ok script) × IsOrdered script
 
--- there are no words, the input is good, no write failed, and memory wasn't wanting
-pub record NothingFails (words : ℕ) (answer : Status) (before after : SourceState) (writes_before writes_after : ℕ) : Type 0 where
+-- there are no words, and nothing goes wrong: the input is good, no write failed, and memory wasn't wanting
+pub record GoesWell (words : ℕ) (answer : Status) (before after : SourceState) (writes_before writes_after : ℕ) : Type 0 where
   pub no_words : words ≡ 0
   pub good : IsGood before after
   pub no_write_fault : Rose writes_before writes_after → ⊥
@@ -74,10 +74,10 @@ pub record NothingFails (words : ℕ) (answer : Status) (before after : SourceSt
 pub record Ends (words : ℕ) (answer : Status) (before after : SourceState) (writes_before writes_after : ℕ) : Type 0 where
   -- it is never cut
   pub never_cut : (node : ℕ) → answer ≢ Cut node
-  -- where nothing fails it ends at rest
-  pub done_or_stuck : NothingFails words answer before after writes_before writes_after → (answer ≡ Done) ⊎ (answer ≡ Stuck)
+  -- where nothing goes wrong it ends at rest
+  pub done_or_stuck : GoesWell words answer before after writes_before writes_after → (answer ≡ Done) ⊎ (answer ≡ Stuck)
   -- with nobody waiting, if the script is ordered
-  pub ordered : NothingFails words answer before after writes_before writes_after → IsOrderedInput before.left → answer ≡ Done
+  pub ordered : GoesWell words answer before after writes_before writes_after → DenotesOrdered before.left → answer ≡ Done
 
 -- the answer to so many words; and the source and the sink before and after, with what they tell of themselves
 pub record Serves {S K : Type 0} (state : S → SourceState) (held : K → Option (List ℕ)) (write_faults : K → ℕ) (words : ℕ) (answer : Served) (source_before source_after : S) (sink_before sink_after : K) : Type 0 where
@@ -94,5 +94,5 @@ pub record Serves {S K : Type 0} (state : S → SourceState) (held : K → Optio
   pub reading : answer.status ≢ Usage → SaysOfSource MAX_INPUT (outcome_of answer.status) (state source_before) (state source_after)
   pub writing : SaysOfSink (outcome_of answer.status) (write_faults sink_before) (write_faults sink_after)
   pub unwritten : WritesNothing (outcome_of answer.status) → sink_after ≡ sink_before
-  -- how it ends where nothing fails
+  -- no run is cut: each comes to rest, unless something goes wrong
   pub ends : Ends words answer.status (state source_before) (state source_after) (write_faults sink_before) (write_faults sink_after)

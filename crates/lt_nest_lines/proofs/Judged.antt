@@ -1,5 +1,5 @@
 -- What an answer says of the bytes that were read: the text of their lines, or why there is none.
-use Rattle.std.proofs.Common.{◌≡◌, ℕ, List, Option, Some, None, refl, sym, subst}
+use Rattle.std.proofs.Common.{ℕ, List, Option, Some, None, sym, subst}
 use Rattle.lt_io.specs.Source.{SourceState}
 use Rattle.lt_io.specs.Whole.{Left, IsReadWhole}
 use Rattle.lt_call.specs.declared.outcome.Outcome.TheVariants as outcome
@@ -36,22 +36,3 @@ fault_reading bytes Usage before after whole h = absurd h
 fault_reading bytes TooLong before after whole h = absurd h
 fault_reading bytes ReadFault before after whole h = absurd h
 fault_reading bytes WriteFault before after whole h = absurd h
-
--- the answer with an outcome that tells nothing more
-pub no_memory_is : (answer : Answer) → outcome_of answer ≡ outcome.NoMemory → answer ≡ NoMemory
-no_memory_is NoMemory e = refl
-no_memory_is Done e = cc
-no_memory_is Usage e = cc
-no_memory_is (Refused line) e = cc
-no_memory_is TooLong e = cc
-no_memory_is ReadFault e = cc
-no_memory_is WriteFault e = cc
-
-pub usage_is : (answer : Answer) → outcome_of answer ≡ outcome.Usage → answer ≡ Usage
-usage_is Usage e = refl
-usage_is Done e = cc
-usage_is (Refused line) e = cc
-usage_is TooLong e = cc
-usage_is ReadFault e = cc
-usage_is WriteFault e = cc
-usage_is NoMemory e = cc

@@ -1,5 +1,5 @@
 -- Reading line by line.
-use Rattle.std.proofs.Common.{◌≡◌, ℕ, ◌+◌, List, [], ◌∷◌, Option, Some, None, Ok, Err}
+use Rattle.std.proofs.Common.{◌≡◌, ℕ, ◌+◌, List, [], ◌∷◌, Some, None, Ok, Err}
 use Rattle.lt_nest_lines.specs.Input.{InputData, input_after_line, read_lines_from}
 
 pub read_refused : (ls rest : List (List ℕ)) (line : List ℕ) (k : ℕ) (d : InputData) → ls ≡ line ∷ rest → input_after_line d line ≡ None → read_lines_from ls k d ≡ Err k

@@ -1,5 +1,5 @@
 -- What an answer says of an input that was read: the report of its run, or why there is none.
-use Rattle.std.proofs.Common.{◌≡◌, ◌∙◌, ℕ, List, Option, refl, ap, sym, subst}
+use Rattle.std.proofs.Common.{◌≡◌, ◌∙◌, ℕ, List, Option, ap, sym, subst}
 use Rattle.lt_io.specs.Source.{SourceState}
 use Rattle.lt_call.specs.declared.outcome.Outcome.TheVariants as outcome
 use Rattle.lt_call.specs.Outcomes.{IsRefusal, SaysOfSource}
@@ -13,7 +13,6 @@ use Rattle.lt_checker.specs.declared.error.InputError.{InputError}
 use Rattle.lt_checker.specs.declared.error.InputError.TheVariants as error
 use Rattle.lt_checker.specs.Input.{IsEndedRun, FailsInput}
 use Rattle.lt_waits.specs.declared.answer.Answer.{Answer}
-use Rattle.lt_waits.specs.declared.answer.Answer.TheVariants.{Done, Usage, Refused, TooLong, ReadFault, WriteFault, NoMemory, BadJournal}
 use Rattle.lt_waits.specs.Answers.{answer_of_input, outcome_of}
 use Rattle.lt_waits.specs.Explained.{Explains}
 use Rattle.lt_waits.specs.Report.{waits_text}
@@ -44,27 +43,6 @@ pub unfit_refusal : (answer : Answer) (e : InputError) (before after : SourceSta
     → IsRefusal (IsUnfit before.left answer) (outcome_of answer)
 unfit_refusal answer e before after is fails =
     subst (λ (a : Answer). IsRefusal (IsUnfit before.left a) (outcome_of a)) (sym is) (fails_refusal e before after fails)
-
--- the answer with an outcome that tells nothing more
-pub no_memory_is : (answer : Answer) → outcome_of answer ≡ outcome.NoMemory → answer ≡ NoMemory
-no_memory_is NoMemory e = refl
-no_memory_is Done e = cc
-no_memory_is Usage e = cc
-no_memory_is (Refused fault) e = cc
-no_memory_is TooLong e = cc
-no_memory_is ReadFault e = cc
-no_memory_is WriteFault e = cc
-no_memory_is (BadJournal line) e = cc
-
-pub usage_is : (answer : Answer) → outcome_of answer ≡ outcome.Usage → answer ≡ Usage
-usage_is Usage e = refl
-usage_is Done e = cc
-usage_is (Refused fault) e = cc
-usage_is TooLong e = cc
-usage_is ReadFault e = cc
-usage_is WriteFault e = cc
-usage_is NoMemory e = cc
-usage_is (BadJournal line) e = cc
 
 -- the report of the world in which the run ended is that of the run
 pub reported : (left : Option (List ℕ)) (script : ScriptData) (world : WorldData) (text : List ℕ) → IsEndedRun left script world

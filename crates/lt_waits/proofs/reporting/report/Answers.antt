@@ -5,4 +5,4 @@ use Rattle.lt_waits.proofs.reporting.report.Goals as goal
 
 pub returns : goal.returns
 returns c =
-    IfOk-weaker c.report.result _ _ (λ text h. h (waits_for c.args.script.now (world_of c.args.world.now)) c.in_ok-graph.ensures.told) c.report.ensures
+    IfOk-weaker c.report_of.result _ _ (λ text h. h (waits_for c.args.script.now (world_of c.args.world.now)) c.in_ok-graph.ensures.told) c.report_of.ensures

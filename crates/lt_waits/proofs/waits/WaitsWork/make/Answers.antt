@@ -1,5 +1,3 @@
-use Rattle.lt_call.proofs.Answering.{memory_reading}
-use Rattle.lt_checker.specs.declared.limits.TheConstants.{MAX_JOURNAL}
 use Rattle.lt_waits.proofs.Judged.{unfit_says, unfit_refusal, reported}
 use Rattle.lt_waits.proofs.Explaining.{explained}
 use Rattle.lt_waits.proofs.waits.WaitsWork.make.Goals as goal
