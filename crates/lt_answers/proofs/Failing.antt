@@ -43,7 +43,7 @@ unwritten_says = record {
 }
 
 -- a count that stays at 0 didn't rise
-no_rise : Rose 0 0 → ⊥
+pub no_rise : Rose 0 0 → ⊥
 no_rise h = omega (arith, h)
 
 short_script : RoseBy (MAX_INPUT + 1) 0 (length one_lock) → ⊥
@@ -55,13 +55,13 @@ short_journal h = omega (arith, h)
 no_fault : (fault : ScriptFault) → HasFault (Some one_lock) fault → ⊥
 no_fault fault h = script_or_fault one_lock_script fault (read_of one_lock) one_lock_read h
 
-good_first : IsGood SimFirst (untouched (Some one_lock)) (read_whole one_lock)
+pub good_first : IsGood SimFirst (untouched (Some one_lock)) (read_whole one_lock)
 good_first = record { no_read_fault = no_rise; not_too_long = short_script; no_fault = no_fault; no_bad_line = λ e. cc }
 
-good_drawn : (seed : ℕ) → IsGood (Sim seed) (untouched (Some one_lock)) (read_whole one_lock)
+pub good_drawn : (seed : ℕ) → IsGood (Sim seed) (untouched (Some one_lock)) (read_whole one_lock)
 good_drawn seed = record { no_read_fault = no_rise; not_too_long = short_script; no_fault = no_fault; no_bad_line = λ e. cc }
 
-good_threads : IsGood Run (untouched (Some one_lock)) (read_whole one_lock)
+pub good_threads : IsGood Run (untouched (Some one_lock)) (read_whole one_lock)
 good_threads = record { no_read_fault = no_rise; not_too_long = short_script; no_fault = no_fault; no_bad_line = λ e. cc }
 
 good_order : IsGood Order (untouched (Some one_lock)) (read_whole one_lock)

@@ -10,3 +10,4 @@ pub mod Failing
 pub mod Orderings
 pub mod OrderSaid
 pub mod Serving
+pub mod EndSaid

@@ -13,11 +13,11 @@ use Rattle.lt_answers.specs.OrderAnswers.{OrderSays, lock_given_up, given_up_scr
 use Rattle.lt_answers.proofs.Results.{same_script}
 use Rattle.lt_answers.proofs.Runs.{one_lock_read}
 
-given_up_read : read_of lock_given_up ≡ Ok given_up_script
+pub given_up_read : read_of lock_given_up ≡ Ok given_up_script
 unfolding reading.script_body reading.read_from text.lines text.cut_at reading.line_step text.words
 given_up_read = refl
 
-given_up_ordered : IsOrdered given_up_script
+pub given_up_ordered : IsOrdered given_up_script
 given_up_ordered zero inside = refl
 given_up_ordered (suc client) inside = let few : suc client < 1 = inside in absurd (omega (arith, few))
 

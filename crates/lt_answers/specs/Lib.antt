@@ -4,3 +4,4 @@ pub mod Failures
 pub mod TwoOrders
 pub mod OrderAnswers
 pub mod WholeAnswers
+pub mod EndAnswers

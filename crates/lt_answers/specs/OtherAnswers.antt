@@ -64,9 +64,9 @@ pub record MakeSays : Type 0 where
   pub never_read_fault : (left : Option (List ℕ)) → HasStatusCause (Some (Make 1 1 1 7)) left ReadFault → ⊥
   pub never_too_long : (left : Option (List ℕ)) → HasStatusCause (Some (Make 1 1 1 7)) left TooLong → ⊥
 
--- a run of the greatest script that was cut
+-- a run of the greatest script that was cut, where a node makes one move
 pub record SoakSays : Type 0 where
-  pub cut : Writes MAX_MOVES (Soak 7) (Cut 3) [] (codes "cut 3\n")
+  pub cut : Writes 1 (Soak 7) (Cut 3) [] (codes "cut 3\n")
   pub reads_nothing : reads (Some (Soak 7)) ≡ false
 
 -- a source of these bytes, if they are told, whose counts are all 0

@@ -3,6 +3,7 @@ ghost use Rattle.lt_answers.specs.OtherAnswers.{WordsSay, FaultSays, CheckSays, 
 ghost use Rattle.lt_answers.specs.Failures.{FailuresSay, UnwrittenSays, CompleteSays};
 ghost use Rattle.lt_answers.specs.TwoOrders.{OrdersSay};
 ghost use Rattle.lt_answers.specs.OrderAnswers.{OrderSays};
+ghost use Rattle.lt_answers.specs.EndAnswers.{EndsSay};
 ghost use Rattle.lt_answers.specs.WholeAnswers.{ServesSay};
 
 use lt_io::{Sink, Source};
@@ -23,5 +24,6 @@ pub fn law_answers<S: Source, K: Sink>()
     ensures complete { CompleteSays }
     ensures orders { OrdersSay }
     ensures order { OrderSays }
+    ensures ends { EndsSay }
     ensures serves { ServesSay S.state K.held K.faults }
 {}

@@ -1,5 +1,5 @@
 -- How far each node went, in runs that go too far or not far enough.
-use Rattle.std.proofs.Common.{arith, ◌≡◌, ◌≤◌, true, ℕ, List, [], ◌∷◌, Ok, Some, refl, subst}
+use Rattle.std.proofs.Common.{arith, ◌≡◌, ◌≤◌, true, ℕ, List, [], ◌∷◌, Ok, Some, None, refl, subst}
 use Rattle.lt_modes.specs.Script.{ScriptData}
 use Rattle.lt_modes.specs.Modes.{conflicts}
 use Rattle.lt_spec.specs.Log.{Logged}
@@ -9,11 +9,16 @@ use Rattle.lt_script.specs.Reading.{read_of}
 use Rattle.lt_script.specs.Reading as reading
 use Rattle.lt_limits.specs.Cut.{can_move}
 use Rattle.lt_threads.specs.Threads.{StaysWithin, GoesFar}
+use Rattle.lt_law_ends.specs.EndLaws.{NeverCutAtAll}
+use Rattle.lt_words.specs.declared.command.Command.{Command}
+use Rattle.lt_words.specs.declared.command.Command.TheVariants.{Run, SimFirst, Sim, Soak}
 use Rattle.lt_serve.specs.declared.status.Status.{Status}
+use Rattle.lt_serve.specs.declared.status.Status.TheVariants.{Cut}
 use Rattle.lt_serve.specs.Endings.{StopsInTime}
 use Rattle.lt_serve.specs.TopCall.{Journals}
+use Rattle.lt_serve.proofs.NeverCut.{never_cut}
 use Rattle.lt_law_told.specs.Runs.{two_writers, two_writers_script, both_moves}
-use Rattle.lt_law_told.specs.Limits.{two_nodes, two_nodes_script, unlocks, four_moves, one_each, one_and_two, WithinTold, FarTold, EachTimeTold}
+use Rattle.lt_law_told.specs.Limits.{two_nodes, two_nodes_script, unlocks, four_moves, one_each, one_and_two, WithinTold, FarTold, EachTimeTold, IsNeverCut, EndsTold}
 use Rattle.lt_law_told.proofs.RunsOpened.{same_script, writers_read, some_none}
 
 nodes_read : read_of two_nodes ≡ Ok two_nodes_script
@@ -90,4 +95,16 @@ each_time_told = record {
   first_cut = λ t. two_late (of_nodes (λ s. StopsInTime 1 s one_each) _ _ _ _ t.1.journals t.1.in_time);
   drawn_done = λ seed t. four_late (of_nodes (λ s. StopsInTime 1 s four_moves) _ _ _ _ t.1.journals t.1.in_time);
   drawn_cut = λ seed t. two_late (of_nodes (λ s. StopsInTime 1 s one_each) _ _ _ _ t.1.journals t.1.in_time);
+}
+
+-- by the law, no run of a script is cut there
+never : NeverCutAtAll → (command : Command) → IsNeverCut command
+never law command input node run t = never_cut 1073741824 (Some command) (Cut node) input run None None law (omega arith) t (λ e. cc) node refl
+
+pub ends_told : NeverCutAtAll → EndsTold
+ends_told law = record {
+  first = never law SimFirst;
+  drawn = λ seed. never law (Sim seed);
+  threads = never law Run;
+  soak = λ seed. never law (Soak seed);
 }

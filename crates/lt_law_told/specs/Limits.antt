@@ -1,5 +1,5 @@
 -- What an answer says of how far each node went, in runs that go too far or not far enough.
-use Rattle.std.specs.Prelude.{◌≡◌, ◌<◌, true, ℕ, List, [], ◌∷◌, Some, None, codes, count_by}
+use Rattle.std.specs.Prelude.{◌≡◌, ◌<◌, true, ℕ, List, [], ◌∷◌, Option, Some, None, codes, count_by}
 use Rattle.lt_modes.specs.declared.mode.Mode.TheVariants.{Read}
 use Rattle.lt_modes.specs.declared.command.Command.TheVariants.{Unlock}
 use Rattle.lt_modes.specs.declared.event.Event.TheVariants.{NotHeld}
@@ -8,6 +8,7 @@ use Rattle.lt_spec.specs.Log.{Logged}
 use Rattle.lt_spec.specs.World.{world_after, is_of_node}
 use Rattle.lt_law_examples.specs.Worked.{declared_set, declared_client, act}
 use Rattle.lt_limits.specs.Cut.{can_move}
+use Rattle.lt_words.specs.declared.command.Command.{Command}
 use Rattle.lt_words.specs.declared.command.Command.TheVariants.{Run, SimFirst, Sim, Soak}
 use Rattle.lt_serve.specs.declared.status.Status.TheVariants.{Done, Stuck, Cut}
 use Rattle.lt_serve.specs.TopCall.{greatest_script}
@@ -70,3 +71,13 @@ pub record EachTimeTold : Type 0 where
   pub first_cut : IsNeverTold 1 SimFirst (Cut 0) (Some two_nodes) one_each
   pub drawn_done : (seed : ℕ) → IsNeverTold 1 (Sim seed) Done (Some two_nodes) four_moves
   pub drawn_cut : (seed : ℕ) → IsNeverTold 1 (Sim seed) (Cut 0) (Some two_nodes) one_each
+
+-- where a node may make 2^30 moves, no run is told as cut, whether the input is known or not
+abbrev pub IsNeverCut : Command → Type 0
+IsNeverCut command = (input : Option (List ℕ)) (node : ℕ) (run : List Logged) → IsNeverTold 1073741824 command (Cut node) input run
+
+pub record EndsTold : Type 0 where
+  pub first : IsNeverCut SimFirst
+  pub drawn : (seed : ℕ) → IsNeverCut (Sim seed)
+  pub threads : IsNeverCut Run
+  pub soak : (seed : ℕ) → IsNeverCut (Soak seed)

@@ -46,6 +46,7 @@ not_stuck moves ending.Stuck script run is_script is_run e finish ordered stuck 
 pub ran_to : (moves : ℕ) (end : Ending) (script : ScriptData) (run : List Logged) → RunsKeepPromises → OrderedFinish
     → IsScript script → IsRun script run → StaysWithin moves script run → EndsBy moves end script run → RanTo moves (status_of_end end) script run
 ran_to moves end script run promises finish is_script is_run within e = record {
+  is_script = is_script;
   is_run = is_run;
   within = within;
   ends = ends_as moves end script run e;

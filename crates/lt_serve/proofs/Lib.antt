@@ -3,5 +3,6 @@ mod Causing
 mod Checked
 mod Completing
 mod Ended
+pub mod NeverCut
 mod Ordered
 mod Rooms

@@ -1,8 +1,9 @@
 -- How many moves are left to the nodes of a simulation.
 use Rattle.std.proofs.Common.{◌≡◌, ◌≢◌, ◌∙◌, ℕ, zero, suc, Option, ap₂, ◌+◌, ◌-◌, ◌<◌, ◌≤◌, Bool, true, false, List, [], ◌∷◌, ◌++◌, Some, None, length, take, refl, sym, ap, arith, subst, inl, inr}
-use Rattle.std.specs.Prelude.{◌==◌, ◌&&◌, nat_lt, IsTrue, if◌then◌else◌, cond}
+use Rattle.std.specs.Prelude.{◌==◌, ◌&&◌, nat_lt, IsTrue, if◌then◌else◌, cond, count_by}
 use Rattle.std.proofs.lemmas.Bool.{cases_eq, eq-eqb, ne_eqb, eqb-true, ltb-true, and_parts, or_left, or_right, false≢true}
 use Rattle.std.proofs.lemmas.List.{take-append-le, take_all, length_push}
+use Rattle.std.proofs.lemmas.List.Sums.{sum_by-cons, sum_by-append}
 use Rattle.lt_modes.specs.declared.moves.Step.{Step}
 use Rattle.lt_modes.specs.declared.moves.Step.TheVariants.{Act, Take}
 use Rattle.lt_modes.specs.Script.{ScriptData}
@@ -11,8 +12,8 @@ use Rattle.lt_lists.specs.Below.{sum_below, any_below, first_below, earlier}
 use Rattle.lt_lists.proofs.Searches.{any_below_at}
 use Rattle.lt_lists.proofs.Sums.{sum_below-change}
 use Rattle.lt_spec.specs.Log.{Logged}
-use Rattle.lt_spec.specs.World.{World, world_after, logged, is_enabled}
-use Rattle.lt_law_checking.proofs.Places.{stamp_node, count_push}
+use Rattle.lt_spec.specs.World.{World, world_after, logged, is_enabled, is_of_node}
+use Rattle.lt_law_checking.proofs.Places.{stamp_node}
 use Rattle.lt_limits.specs.Cut.{moves_of, can_move, is_full, full_node}
 use Rattle.lt_threads.specs.Threads.{StaysWithin}
 use Rattle.lt_serve.specs.Endings.{StopsInTime}
@@ -69,6 +70,12 @@ may_move script limit run q step kept within none e =
     let other : moves_of q run ≢ limit = λ same.
     false≢true (sym test ∙ (ap₂ ◌&&◌ (eq-eqb (moves_of q run) limit same) (can_make_it script (world_after script run) q step e))) in
     omega (arith, within q (mover_within script (world_after script run) q step kept e), other)
+
+-- one entry more counts for its own node
+count_push : (run : List Logged) (entry : Logged) (node : ℕ)
+    → count_by (is_of_node node) (run ++ entry ∷ []) ≡ count_by (is_of_node node) run + cond (is_of_node node entry) 1 0
+count_push run entry node =
+    omega (arith, sum_by-append (λ (x : Logged). cond (is_of_node node x) 1 0) run (entry ∷ []), sum_by-cons (λ (x : Logged). cond (is_of_node node x) 1 0) entry [])
 
 -- the mover has made one move more, and each other node as many as before
 moved_one : (w : World) (script : ScriptData) (run : List Logged) (q : ℕ) (step : Step)

@@ -1,6 +1,7 @@
 -- How a run ended, and what is known of a run that was made.
 use Rattle.std.specs.Prelude.{◌≡◌, ◌≢◌, ◌<◌, ℕ, List, Option, Some, None, length, take}
 use Rattle.lt_modes.specs.Script.{ScriptData}
+use Rattle.lt_script.specs.Script.{IsScript}
 use Rattle.lt_spec.specs.Log.{Logged}
 use Rattle.lt_spec.specs.World.{IsRun}
 use Rattle.lt_law_promises.specs.Promised.{Promised}
@@ -39,6 +40,7 @@ status_of_end (ending.Cut node) = Cut node
 -- a run of the script by all rules, in which a node makes up to so many moves; it ended so, and keeps all that is
 -- promised
 pub record RanTo (moves : ℕ) (ending : Status) (script : ScriptData) (run : List Logged) : Type 0 where
+  pub is_script : IsScript script
   pub is_run : IsRun script run
   pub within : StaysWithin moves script run
   pub ends : EndsAs moves ending script run

@@ -4,6 +4,7 @@ pub mod Status
 pub mod TopCall
 pub mod Causes
 pub mod Complete
+pub mod Ends
 pub mod Literals
 pub mod Input
 pub mod Serves

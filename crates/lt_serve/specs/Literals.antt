@@ -47,12 +47,12 @@ pub record SoakLimitsAre : Type 0 where
   pub input : MAX_INPUT ≡ 1048576
   pub journal : MAX_JOURNAL ≡ 67108864
   pub capacity : MAX_CAPACITY ≡ 1024
-  pub moves : MAX_MOVES ≡ 1048576
+  pub moves : MAX_MOVES ≡ 1073741824
   -- a piece of an input, in bytes
   pub piece : MAX_PIECE ≡ 4096
   -- locks of one mode that a client holds in a set
   pub locks : most_locks ≡ 65536
-  pub usual : USUAL ≡ record { moves = 1048576; capacity = 64; patience = 256; workers = 8 }
+  pub usual : USUAL ≡ record { moves = 1073741824; capacity = 4; patience = 256; workers = 8 }
 
 pub record SoakIs : Type 0 where
   -- the script that is made from each seed

@@ -7,15 +7,18 @@ use Rattle.lt_modes.specs.Script.{ScriptData, client_name}
 use Rattle.lt_spec.specs.Log.{Logged}
 use Rattle.lt_merge.specs.Merging.{AreRising}
 use Rattle.lt_spec.specs.FixedOrder.{first_run}
+use Rattle.lt_text.specs.Text.{lines}
 use Rattle.lt_journal.specs.Text.{text_of, lines_text}
 use Rattle.lt_journal.specs.declared.line.Line.TheVariants.{Cut as CutLine}
-use Rattle.lt_law_checking.specs.Journals.{IsFinished}
+use Rattle.lt_law_checking.specs.Input.{journal_in}
+use Rattle.lt_law_checking.specs.Journals.{IsFinished, journal_lines}
 use Rattle.lt_law_promises.specs.Promised.{Promised}
 use Rattle.lt_checker.specs.Input.{DenotesBefore, IsJournalOf}
 use Rattle.lt_gen.specs.Generator.{script_of}
 use Rattle.lt_order.specs.Ordered.{first_bad}
 use Rattle.lt_summary.specs.Summary.{summary_of, summary_text}
 use Rattle.lt_script.specs.declared.fault.ScriptFault.{ScriptFault}
+use Rattle.lt_script.specs.Script.{IsScript}
 use Rattle.lt_script.specs.Printing.{print_of}
 use Rattle.lt_script.specs.Reading.{read_of}
 use Rattle.lt_words.specs.declared.command.Command.{Command}
@@ -93,12 +96,19 @@ Prints nodes clients commands seed ending run text =
 abbrev pub ok_text : List Logged → List ℕ
 ok_text run = codes "ok " ++ decimal (length run) ++ codes "\n"
 
+-- if the bytes are known, the lines of the journal in them are those of this run's text
+abbrev pub HasLinesOf : Option (List ℕ) → ScriptData → List Logged → Type 0
+HasLinesOf None script run = Unit {0}
+HasLinesOf (Some bytes) script run = journal_in (lines bytes) ≡ journal_lines script run
+
 -- the input is a script and the journal of a run of it that ended at rest, which is the answer's, and the number of its moves is written
 pub record Checks (ending : Status) (left : Option (List ℕ)) (run : List Logged) (text : List ℕ) : Type 0 where
   pub done : ending ≡ Done
   pub script : ScriptData
+  pub is_script : IsScript script
   pub denoted : DenotesBefore left script
   pub accepted : IsJournalOf left script run
+  pub same_lines : HasLinesOf left script run
   pub finished : IsFinished script run
   pub promised : Promised script run
   pub counted : text ≡ ok_text run

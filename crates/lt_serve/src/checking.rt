@@ -11,6 +11,7 @@ use crate::made::Made;
 use crate::status::Status;
 use lt_checker::check_input;
 use lt_io::Source;
+use lt_law_checking::law_means;
 use lt_law_promises::law_promised;
 use lt_merge::Run;
 use std::alloc::{AllocError, Global};
@@ -24,6 +25,7 @@ pub(crate) fn checked<S: Source>(alloc: Global, source: &mut S) -> Result<Made, 
     ensures reading { IfErr result (λ answer. SaysOfSource MAX_JOURNAL answer (S.state source.old) (S.state source.new)) }
     ensures refused { IfErr result (IsRefusal command.Check (S.state source.old).left) }
 {
+    law_means();
     law_promised();
     let ended = check_input(alloc, source)?;
     match with_count(alloc, ended.world.into_run()) {

@@ -1,4 +1,4 @@
-ghost use Rattle.std.specs.Prelude.{◌≡◌, ◌<◌, ◌≤◌, true, false, map, [], Some, IfOk, IfErr, OnOk};
+ghost use Rattle.std.specs.Prelude.{◌≡◌, ◌<◌, ◌≤◌, ◌^◌, true, false, map, [], Some, IfOk, IfErr, OnOk};
 ghost use Rattle.std.specs.String.{string_bytes};
 ghost use Rattle.lt_io.specs.Whole.{IsReadWhole};
 ghost use Rattle.lt_limits.specs.declared.moves.TheConstants.{MAX_MOVES};
@@ -6,6 +6,7 @@ ghost use Rattle.lt_mail.specs.declared.opening.TheConstants.{MAX_CAPACITY};
 ghost use Rattle.lt_threads.specs.declared.sharing.TheConstants.{MAX_WORKERS};
 ghost use Rattle.lt_words.specs.Words.{command_of};
 ghost use Rattle.lt_serve.specs.Causes.{SaysOfSource, IsEnding, IsRefusal, CanBeMade, reads, limit_of};
+ghost use Rattle.lt_serve.specs.Ends.{Ends};
 ghost use Rattle.lt_serve.specs.Serves.{Serves};
 ghost use Rattle.lt_serve.specs.declared.serving.TheConstants.{USUAL};
 ghost use Rattle.lt_serve.specs.TopCall.{JournalsBy};
@@ -21,6 +22,7 @@ use crate::status::Status;
 use crate::threaded::threaded;
 use lt_gen::Draws;
 use lt_io::{Sink, Source};
+use lt_law_ends::law_never_cut;
 use lt_limits::MAX_MOVES;
 use lt_merge::Run;
 use lt_runner::Gate;
@@ -44,7 +46,7 @@ pub struct Setup {
 /// What `serve` takes.
 pub const USUAL: Setup = Setup {
     moves: MAX_MOVES,
-    capacity: 64,
+    capacity: 4,
     patience: 256,
     workers: 8,
 };
@@ -57,7 +59,7 @@ pub struct Served {
     pub setup: Setup,
 }
 
-/// `serve_with` with the usual setup.
+/// `serve_with` with the usual setup, with which no run is cut.
 pub fn serve<R: Threads + Sync, S: Source, K: Sink, G: Gate>(
     rt: &R,
     alloc: Global,
@@ -67,6 +69,7 @@ pub fn serve<R: Threads + Sync, S: Source, K: Sink, G: Gate>(
     gate: &G,
 ) -> Served
     ensures served { Serves S.state K.held K.faults MAX_MOVES (command_of (map string_bytes words.now)) result source.old source.new sink.old sink.new }
+    ensures ends { Ends (command_of (map string_bytes words.now)) result.status (S.state source.old) (S.state source.new) (K.faults sink.old) (K.faults sink.new) }
     ensures setup { result.setup ≡ USUAL }
 {
     serve_with(rt, alloc, USUAL, words, source, sink, gate)
@@ -77,6 +80,27 @@ pub fn serve<R: Threads + Sync, S: Source, K: Sink, G: Gate>(
 ///
 /// The words `make` and `soak` leave the source as it was, and so do words that are no command.
 pub fn serve_with<R: Threads + Sync, S: Source, K: Sink, G: Gate>(
+    rt: &R,
+    alloc: Global,
+    setup: Setup,
+    words: &[String],
+    source: &mut S,
+    sink: &mut K,
+    gate: &G,
+) -> Served
+    requires moves { (0 < setup.moves) × (setup.moves ≤ MAX_MOVES) }
+    requires capacity { (0 < setup.capacity) × (setup.capacity ≤ MAX_CAPACITY) }
+    requires workers { (0 < setup.workers) × (setup.workers ≤ MAX_WORKERS) }
+    ensures served { Serves S.state K.held K.faults setup.moves (command_of (map string_bytes words.now)) result source.old source.new sink.old sink.new }
+    ensures ends { 2 ^ 30 ≤ setup.moves → Ends (command_of (map string_bytes words.now)) result.status (S.state source.old) (S.state source.new) (K.faults sink.old) (K.faults sink.new) }
+    ensures setup { result.setup ≡ setup }
+{
+    law_never_cut();
+    answered(rt, alloc, setup, words, source, sink, gate)
+}
+
+// Does what the words say, up to so many moves of a node.
+fn answered<R: Threads + Sync, S: Source, K: Sink, G: Gate>(
     rt: &R,
     alloc: Global,
     setup: Setup,

@@ -6,6 +6,7 @@ use Rattle.lt_answers.proofs.Makes.{make_says, soak_says}
 use Rattle.lt_answers.proofs.Failing.{failures_say, unwritten_says, complete_says}
 use Rattle.lt_answers.proofs.Orderings.{orders_say}
 use Rattle.lt_answers.proofs.OrderSaid.{order_says}
+use Rattle.lt_answers.proofs.EndSaid.{ends_say}
 use Rattle.lt_answers.proofs.Serving.{serves_say}
 use Rattle.lt_answers.proofs.answers.law_answers.Goals as goal
 
@@ -50,6 +51,9 @@ returns-clause-orders g c = orders_say
 
 pub returns-clause-order : goal.returns-clause-order
 returns-clause-order g c = order_says
+
+pub returns-clause-ends : goal.returns-clause-ends
+returns-clause-ends g c = ends_say
 
 pub returns-clause-serves : goal.returns-clause-serves
 returns-clause-serves g c = serves_say g.S.Source.state g.K.Sink.held g.K.Sink.faults

@@ -1,6 +1,6 @@
 use Rattle.lt_law_told.proofs.RunsOpened.{words_are, runs_told, times_told}
 use Rattle.lt_law_told.proofs.OthersOpened.{soak_told, check_told, make_told}
-use Rattle.lt_law_told.proofs.LimitsOpened.{within_told, far_told, each_time_told}
+use Rattle.lt_law_told.proofs.LimitsOpened.{within_told, far_told, each_time_told, ends_told}
 use Rattle.lt_law_told.proofs.laws.law_told.Goals as goal
 
 pub returns-clause-words : goal.returns-clause-words
@@ -21,11 +21,14 @@ returns-clause-within c = within_told
 pub returns-clause-far : goal.returns-clause-far
 returns-clause-far c = far_told
 
+pub returns-clause-ends : goal.returns-clause-ends
+returns-clause-ends c = ends_told c.law_never_cut.ensures.at_all
+
 pub returns-clause-soak : goal.returns-clause-soak
 returns-clause-soak c = soak_told
 
 pub returns-clause-check : goal.returns-clause-check
-returns-clause-check c = check_told
+returns-clause-check c = check_told c.law_never_cut.ensures.short
 
 pub returns-clause-make : goal.returns-clause-make
 returns-clause-make c = make_told
