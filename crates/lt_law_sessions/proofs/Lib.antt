@@ -1,0 +1,6 @@
+pub mod LineEffects
+pub mod StaysHeld
+pub mod Requests
+pub mod GivenLocks
+pub mod Granted
+pub mod Excluding

@@ -1,0 +1,7 @@
+-- Each of the laws.
+use Rattle.lt_law_sessions.proofs.Excluding.{still_is_held, sessions_exclude}
+use Rattle.lt_law_sessions.proofs.Granted.{granted_is_had, had_unless_taken}
+use Rattle.lt_law_sessions.proofs.laws.law_sessions_exclude.Goals as goal
+
+pub returns : goal.returns
+returns c = record { held = still_is_held; exclude = sessions_exclude; granted = granted_is_had; kept = had_unless_taken }

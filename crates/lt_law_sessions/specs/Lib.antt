@@ -1,0 +1,2 @@
+pub mod StillHeld
+pub mod SessionLaws
