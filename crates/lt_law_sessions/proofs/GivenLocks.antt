@@ -20,11 +20,11 @@ pub record GivenAt (script : ScriptData) (client : ℕ) (lock : Holding) (comman
 
 module _ (script : ScriptData) (client : ℕ) (lock : Holding) where
   -- none of these commands may take the lock
-  NoneTakes : List Command → Type 0
+  abbrev NoneTakes : List Command → Type 0
   NoneTakes commands = (k : ℕ) (c : Command) → slice_get commands k ≡ Some c → may_take script client lock c ≡ false
 
   -- it was had before, and none takes it, or it was given among these
-  Had : List Command → List Reply → Bool → Type 0
+  abbrev Had : List Command → List Reply → Bool → Type 0
   Had commands replies has = ((has ≡ true) × NoneTakes commands) ⊎ GivenAt script client lock commands replies
 
   both : (x y : Bool) → (x && not y) ≡ true → (x ≡ true) × (y ≡ false)
