@@ -6,8 +6,8 @@
  *   lockrun_open, lockrun_take_station, lockrun_take_session and lockrun_finish. That one is written over where the call
  *   answers LOCKRUN_OK, so it is to be {0}: what it stood for would never be freed.
  * - Two arguments of a call are never the same handle, and no two copies of a handle are in use. It is in one call at a
- *   time. It may go from thread to thread if the calls are ordered: by a mutex, pthread_create or pthread_join, or a sequentially
- *   consistent atomic. Two sessions, or a session and its station, may be in calls at the same time.
+ *   time. It may go from thread to thread if the calls are ordered: by a mutex, pthread_create or pthread_join, or a
+ *   sequentially consistent atomic. Two sessions, or a session and its station, may be in calls at the same time.
  * - lockrun_finish wants a service that has all stations in the order of nodes, and all sessions in the order of clients,
  *   which one lockrun_open made.
  * - No call comes from a signal handler, nor from the forked child of a process with threads.

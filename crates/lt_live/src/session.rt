@@ -1,6 +1,7 @@
 // What a session does on its caller's thread.
-ghost use Rattle.std.specs.Prelude.{◌≡◌, ◌+◌, ◌-◌, ◌≤◌, ◌<◌, ◌++◌, ◌∷◌, [], true, length, IfSome, IfNone, IfErr, OnOk};
+ghost use Rattle.std.specs.Prelude.{◌≡◌, ◌+◌, ◌-◌, ◌≤◌, ◌<◌, ◌++◌, ◌∷◌, [], true, length, IfSome, IfNone, IfErr, IsOk, OnOk};
 ghost use mathlib.Core.List.{IsPrefix};
+ghost use Rattle.rtrb.specs.Ring.{known_free};
 ghost use Rattle.lt_script.specs.Script.{HasTargets, HasModesOf};
 ghost use Rattle.lt_live.specs.Words.{submitted, polled, known_replies, places, SameSession};
 
@@ -52,7 +53,8 @@ impl Session {
         may_ask(&self.script, self.client, command)
     }
 
-    /// Submits the next command of the client. Where the ring has no place for it, it comes back.
+    /// Submits the next command of the client. Where the ring has no place for it, it comes back: the session looks at the
+    /// ring before it says so.
     pub fn submit(&mut self, command: Command) -> Result<(), Command>
         requires left { 0 < self.old.left }
         requires targets { HasTargets self.old.script.sets self.old.script.clients self.old.client command }
@@ -60,6 +62,8 @@ impl Session {
         ensures ok { OnOk result ((submitted self.new ≡ submitted self.old ++ command ∷ []) × (self.new.left + 1 ≡ self.old.left)) }
         ensures back { IfErr result (λ back. (back ≡ command) × (submitted self.new ≡ submitted self.old) × (self.new.left ≡ self.old.left)) }
         ensures full { IfErr result (λ back. places self.old ≤ length (submitted self.old)) }
+        ensures no_place { IfErr result (λ back. known_free self.new.commands ≡ 0) }
+        ensures place { 0 < known_free self.old.commands → IsOk result }
         ensures replies { (polled self.new ≡ polled self.old) × (known_replies self.new ≡ known_replies self.old) }
         ensures same { SameSession self.old self.new }
     {

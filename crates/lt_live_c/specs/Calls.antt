@@ -1,6 +1,7 @@
 -- What calls on stations and sessions do.
-use Rattle.std.specs.Prelude.{◌≡◌, ◌≢◌, ◌++◌, ◌∷◌, [], ◌+◌, ◌≤◌, ◌⊎◌, ℕ, Option, Some, None, IsSomeAnd, length, ⊤}
+use Rattle.std.specs.Prelude.{◌≡◌, ◌≢◌, ◌++◌, ◌∷◌, [], ◌+◌, ◌<◌, ◌≤◌, ◌⊎◌, ℕ, Option, Some, None, IsSomeAnd, length, ⊤}
 use mathlib.Core.List.{IsPrefix}
+use Rattle.rtrb.specs.Ring.{known_free}
 use Rattle.lt_modes.specs.declared.command.Command.{Command}
 use Rattle.lt_spec.specs.Families.{home}
 use Rattle.lt_script.specs.Script.{HasTargets, HasModesOf}
@@ -33,6 +34,10 @@ abbrev pub MayNot : Option Command → Session → Type 0
 MayNot None s = ⊤
 MayNot (Some command) s = MaySubmit s command → ⊥
 
+-- how many places of the ring the session knows to be free
+abbrev pub free_places : Session → ℕ
+free_places s = known_free s.commands
+
 -- the command was submitted, or none was, and the code says why
 pub record Submits (code : ℕ) (command : Option Command) (s t : Session) : Type 0 where
   pub replies : (polled t ≡ polled s) × (known_replies t ≡ known_replies s)
@@ -40,7 +45,8 @@ pub record Submits (code : ℕ) (command : Option Command) (s t : Session) : Typ
   pub none : code ≢ OK → (submitted t ≡ submitted s) × (t.left ≡ s.left)
   pub bad_argument : code ≡ BAD_ARGUMENT → MayNot command s
   pub spent : code ≡ SPENT → s.left ≡ 0
-  pub full : code ≡ FULL → places s ≤ length (submitted s)
+  pub full : code ≡ FULL → (places s ≤ length (submitted s)) × (free_places t ≡ 0)
+  pub place : 0 < free_places s → code ≢ FULL
   pub only : (code ≡ OK) ⊎ ((code ≡ BAD_ARGUMENT) ⊎ ((code ≡ SPENT) ⊎ (code ≡ FULL)))
 
 -- no reply was known here, and none is
