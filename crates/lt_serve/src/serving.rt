@@ -62,6 +62,7 @@ pub struct Served {
 }
 
 /// `serve_with` with the usual setup, with which no run is cut.
+#[tactic(auto, using(crate::proofs::NeverCut::usual_is_far))]
 pub fn serve<R: Threads + Sync, S: Source, K: Sink, G: Gate>(
     rt: &R,
     alloc: Global,
