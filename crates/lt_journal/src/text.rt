@@ -96,7 +96,6 @@ impl Text {
     // Writes a number of three or four digits as a later word of a line.
     #[inline(never)]
     #[tactic(auto, using(crate::proofs::Digits::three_digits, crate::proofs::Digits::four_digits))]
-    #[inline(always)]
     fn middle_number(&mut self, number: u64) -> Result<(), AllocError>
         requires many { 100 ≤ number }
         requires few { number < 10000 }
