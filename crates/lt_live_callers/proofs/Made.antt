@@ -49,7 +49,7 @@ module _ {C : Type 0} where
     live = subst (λ (all : List Session). AreLive script stations all) (sym are.given) (opened_live script limit capacity stations sessions empty opened);
     each = λ client d here.
         let new = (opened.each client d.session
-          (sym (ap (λ (xs : List Session). slice_get xs client) are.given) ∙ slice_get-map session_of desks client ∙ ap (option_map session_of) here)).0 in
+        (sym (ap (λ (xs : List Session). slice_get xs client) are.given) ∙ slice_get-map session_of desks client ∙ ap (option_map session_of) here)).0 in
         subst (λ (o : Option C). CallsAt goes o d.session (Some (called_of d)))
         (sym (slice_get-map caller_of desks client ∙ ap (option_map caller_of) here) ∙ ap (λ (xs : List C). slice_get xs client) are.seated)
         (record {
