@@ -1,6 +1,5 @@
 -- The run that runners made, and how it ended.
-use Rattle.std.proofs.Common.{◌≡◌, ℕ, List, Some, true, false, sym, ap, subst, ◌∙◌}
-use Rattle.std.specs.Prelude.{slice_get}
+use Rattle.std.proofs.Common.{◌≡◌, List, true, false, sym, ap, subst, ◌∙◌}
 use Rattle.lt_modes.specs.Script.{ScriptData}
 use Rattle.lt_spec.specs.Log.{Logged}
 use Rattle.lt_spec.specs.World.{World, world_after, is_at_rest, anyone_waits}
@@ -10,7 +9,7 @@ use Rattle.lt_runner.specs.declared.parts.Parts.{Parts}
 use Rattle.lt_runner.specs.Kept.{AsSeen}
 use Rattle.lt_threads.specs.Finished.{AreCrewLogs}
 use Rattle.lt_threads.specs.Shares.{IsJoined, IsSharedRun}
-use Rattle.lt_threads.specs.Together.{EachIs, crew_run, crew_world}
+use Rattle.lt_threads.specs.Together.{EachIs, crew_world}
 use Rattle.lt_threads.proofs.Each.{each_join, each_weaker}
 use Rattle.lt_threads.proofs.SameRun.{SameLog, same_run}
 use Rattle.lt_live.proofs.AlikeLists.{alike_after}

@@ -1,5 +1,5 @@
 -- Stations and desks that go on stay those of one script.
-use Rattle.std.proofs.Common.{◌≡◌, ℕ, List, map, Option, Some, None, sym, ap, subst, ◌∙◌}
+use Rattle.std.proofs.Common.{◌≡◌, ℕ, List, map, Option, Some, None, sym, subst}
 use Rattle.std.specs.Prelude.{slice_get, slice_set}
 use Rattle.std.specs.Option.{option_map}
 use Rattle.std.proofs.lemmas.Option.{slice_get-map}
@@ -16,8 +16,8 @@ use Rattle.lt_live.proofs.AlikeLists.{alike_before, alike_self, alike_join, alik
 use Rattle.lt_live.proofs.LiveShares.{goes_join}
 use Rattle.lt_live.proofs.Live.{station_itself}
 use Rattle.lt_live_callers.specs.declared.desk.Desk.{Desk}
-use Rattle.lt_live_callers.specs.Desks.{session_of, called_of, DeskGoesOn, DesksGoOn, StationsGoOn}
-use Rattle.lt_live_callers.specs.Served.{CallsAt, AreServing}
+use Rattle.lt_live_callers.specs.Desks.{session_of, DeskGoesOn, DesksGoOn, StationsGoOn}
+use Rattle.lt_live_callers.specs.Served.{AreServing}
 use Rattle.lt_live_callers.proofs.Steps.{desk_itself, desk_join, calls_go_on}
 
 pub station_join : (a b c : StationData) → StationGoesOn a b → StationGoesOn b c → StationGoesOn a c

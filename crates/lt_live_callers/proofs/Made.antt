@@ -3,12 +3,12 @@ use Rattle.std.proofs.Common.{◌≡◌, ℕ, zero, suc, List, [], ◌∷◌, �
 use Rattle.std.specs.Prelude.{slice_get, slice_index_or, remove}
 use Rattle.std.specs.Option.{option_map}
 use Rattle.std.proofs.lemmas.Option.{same_Some, slice_get-get_or, slice_get-map}
-use Rattle.std.proofs.lemmas.List.{append-nil, append_assoc}
+use Rattle.std.proofs.lemmas.List.{append-nil}
 use Rattle.lt_modes.specs.declared.command.Command.{Command}
 use Rattle.lt_modes.specs.Script.{ScriptData}
 use Rattle.lt_live.specs.declared.reply.Reply.{Reply}
 use Rattle.lt_live.specs.declared.ends.Session.{Session}
-use Rattle.lt_live.specs.Words.{submitted, polled, in_hand}
+use Rattle.lt_live.specs.Words.{submitted, in_hand}
 use Rattle.lt_live.specs.Stations.{StationData}
 use Rattle.lt_live.specs.Opened.{Opened}
 use Rattle.lt_live.specs.Live.{AreLive}
@@ -49,7 +49,7 @@ module _ {C : Type 0} where
     live = subst (λ (all : List Session). AreLive script stations all) (sym are.given) (opened_live script limit capacity stations sessions empty opened);
     each = λ client d here.
         let new = (opened.each client d.session
-          (sym (ap (λ (xs : List Session). slice_get xs client) are.given) ∙ slice_get-map session_of desks client ∙ ap (option_map session_of) here)).0 in
+        (sym (ap (λ (xs : List Session). slice_get xs client) are.given) ∙ slice_get-map session_of desks client ∙ ap (option_map session_of) here)).0 in
         subst (λ (o : Option C). CallsAt goes o d.session (Some (called_of d)))
         (sym (slice_get-map caller_of desks client ∙ ap (option_map caller_of) here) ∙ ap (λ (xs : List C). slice_get xs client) are.seated)
         (record {

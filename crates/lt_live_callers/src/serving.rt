@@ -41,7 +41,8 @@ pub fn serve_callers<R: Threads + Sync, C: Caller + Send + Drop>(
     let bare = script.without_commands(alloc)?;
     let (mut stations, mut desks) = begin(alloc, &bare, callers, limit)?;
     work(rt, &mut stations, &mut desks, threads, rounds);
-    Ok(end(alloc, &bare, stations, desks)?)
+    let served = end(alloc, &bare, stations, desks)?;
+    Ok(served)
 }
 
 /// As `serve_callers`, all on the thread of this call: in each round each caller makes a step, and then the nodes make all moves
@@ -61,7 +62,8 @@ pub fn serve_callers_alone<C: Caller + Drop>(
     let bare = script.without_commands(alloc)?;
     let (mut stations, mut desks) = begin(alloc, &bare, callers, limit)?;
     work_alone(&mut stations, &mut desks, rounds);
-    Ok(end(alloc, &bare, stations, desks)?)
+    let served = end(alloc, &bare, stations, desks)?;
+    Ok(served)
 }
 
 // The run of the stations, and the callers at its end.

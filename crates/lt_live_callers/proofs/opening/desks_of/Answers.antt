@@ -1,5 +1,5 @@
 -- One desk more.
-use Rattle.std.proofs.Common.{rules, arith, refl, sym, subst, List, None, length, ◌<◌, ◌≡◌}
+use Rattle.std.proofs.Common.{rules, refl, sym, subst, List, None, length, ◌<◌}
 use Rattle.lt_live_callers.specs.declared.desk.Desk.{Desk}
 use Rattle.lt_live_callers.specs.Desks.{caller_of, session_of}
 use Rattle.lt_live_callers.specs.Served.{NoneRefused}

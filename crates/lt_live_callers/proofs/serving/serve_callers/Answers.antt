@@ -9,7 +9,7 @@ use Rattle.lt_live_callers.proofs.serving.serve_callers.Goals as goal
 pub end-requires : goal.end-requires
 end-requires g c =
     (serving_lasts g.C.Caller.goes c.law_live_lasts.ensures.last c.in_ok-bare.bare c.args.callers.items c.in_ok-stations.stations.items c.work.new.stations.items
-    c.in_ok-stations.desks.items c.work.new.desks.items c.in_ok-stations.ensures c.work.ensures.stations c.work.ensures.desks).live
+    c.in_ok-stations.desks.items c.work.new.desks.items c.in_ok-stations.ensures.serving c.work.ensures.stations c.work.ensures.desks).live
 
 pub returns-clause-served : goal.returns-clause-served
 returns-clause-served g c =
@@ -17,6 +17,6 @@ returns-clause-served g c =
     let bare = c.in_ok-bare.bare in
     let serving : AreServing goes bare c.args.callers.items c.work.new.stations.items c.work.new.desks.items =
     serving_lasts goes c.law_live_lasts.ensures.last bare c.args.callers.items c.in_ok-stations.stations.items c.work.new.stations.items
-    c.in_ok-stations.desks.items c.work.new.desks.items c.in_ok-stations.ensures c.work.ensures.stations c.work.ensures.desks in
-    subst (λ (first : ScriptData). IsServedBy goes first c.args.callers.items c.in_ok-end.value) c.in_ok-bare.ensures
-    (served_by goes bare c.args.callers.items c.work.new.stations.items c.work.new.desks.items c.in_ok-end.value serving c.in_ok-end.ensures)
+    c.in_ok-stations.desks.items c.work.new.desks.items c.in_ok-stations.ensures.serving c.work.ensures.stations c.work.ensures.desks in
+    subst (λ (first : ScriptData). IsServedBy goes first c.args.callers.items c.in_ok-served.served) c.in_ok-bare.ensures
+    (served_by goes bare c.args.callers.items c.work.new.stations.items c.work.new.desks.items c.in_ok-served.served serving c.in_ok-served.ensures)
