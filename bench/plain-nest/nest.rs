@@ -33,6 +33,13 @@ struct Ask {
     mode: Mode,
 }
 
+/// Which of the 256 transactions up to x are x or an ancestor of x, and the ancestor below them.
+struct Marks {
+    first: u16,
+    own: [bool; 256],
+    above: Option<u16>,
+}
+
 #[derive(Default)]
 struct Set {
     entries: Vec<Entry>,
@@ -87,11 +94,15 @@ impl Nest {
         Some((self.transactions.len() - 1) as u16)
     }
 
+    fn parent(&self, x: u16) -> Option<u16> {
+        self.transactions[x as usize].parent
+    }
+
     /// Whether the owner is x or an ancestor of x.
     fn is_own(&self, owner: u16, x: u16) -> bool {
         let mut at = x;
         while at > owner {
-            match self.transactions[at as usize].parent {
+            match self.parent(at) {
                 Some(p) => at = p,
                 None => return false,
             }
@@ -99,15 +110,31 @@ impl Nest {
         at == owner
     }
 
-    fn is_against(&self, x: u16, mode: Mode, owner: u16, other: Mode) -> bool {
-        CONFLICTS[mode][other] && !self.is_own(owner, x)
+    fn marks(&self, x: u16) -> Marks {
+        let first = x.saturating_sub(255);
+        let mut marks = Marks { first, own: [false; 256], above: Some(x) };
+        while let Some(at) = marks.above.filter(|at| *at >= first) {
+            marks.own[usize::from(at - first)] = true;
+            marks.above = self.parent(at);
+        }
+        marks
+    }
+
+    fn is_against(&self, marks: &Marks, x: u16, mode: Mode, owner: u16, other: Mode) -> bool {
+        CONFLICTS[mode][other]
+            && !if owner >= marks.first {
+                owner <= x && marks.own[usize::from(owner - marks.first)]
+            } else {
+                marks.above.is_some_and(|p| self.is_own(owner, p))
+            }
     }
 
     /// Whether the mode is free for x behind the first asks of the queue.
     fn is_free(&self, set: usize, earlier: usize, x: u16, mode: Mode) -> bool {
         let set = &self.sets[set];
-        !set.entries.iter().any(|e| self.is_against(x, mode, e.owner, e.mode))
-            && !set.queue.iter().take(earlier).any(|a| self.is_against(x, mode, a.owner, a.mode))
+        let marks = self.marks(x);
+        !set.entries.iter().any(|e| self.is_against(&marks, x, mode, e.owner, e.mode))
+            && !set.queue.iter().take(earlier).any(|a| self.is_against(&marks, x, mode, a.owner, a.mode))
     }
 
     pub fn ask(&mut self, x: u16, set: usize, mode: Mode, may_wait: bool) -> Asked {

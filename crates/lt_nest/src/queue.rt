@@ -6,9 +6,11 @@ ghost use Rattle.lt_nest.specs.Locks.{is_against, entry_is_against, ask_is_again
 ghost use Rattle.lt_nest.specs.Serving.{first_free};
 ghost use Rattle.lt_nest.specs.Calls.{holder_is_against, asker_is_against, waits_in};
 ghost use Rattle.lt_nest.specs.Kept.{IsForest};
+ghost use Rattle.lt_nest.specs.Marks.{MarksOwn};
 
-use crate::forest::{Transaction, is_open, is_own};
+use crate::forest::{Transaction, is_open};
 use crate::locks::{Ask, Entry};
+use crate::marks::Marks;
 use lt_modes::Mode;
 
 pub(crate) fn is_free(
@@ -21,30 +23,48 @@ pub(crate) fn is_free(
     requires { IsForest transactions.now }
     ensures { result ≡ is_free_for transactions.now entries.now earlier.now x mode }
 {
-    !entries_bar(transactions, entries, x, mode) && !asks_bar(transactions, earlier, x, mode)
+    let marks = Marks::new(transactions, x);
+    !entries_bar(transactions, &marks, entries, x, mode)
+        && !asks_bar(transactions, &marks, earlier, x, mode)
 }
 
 // Whether an entry stands against the mode for x.
-fn entries_bar(transactions: &[Transaction], entries: &[Entry], x: u16, mode: Mode) -> bool
-    requires { IsForest transactions.now }
+fn entries_bar(
+    transactions: &[Transaction],
+    marks: &Marks,
+    entries: &[Entry],
+    x: u16,
+    mode: Mode,
+) -> bool
+    requires forest { IsForest transactions.now }
+    requires marks { MarksOwn transactions.now x marks.now }
     ensures { result ≡ list_any (entry_is_against transactions.now x mode) entries.now }
 {
-    entries.iter().any(|entry| is_against(transactions, x, mode, entry.owner, entry.mode))
+    entries.iter().any(|entry| is_against(transactions, marks, x, mode, entry.owner, entry.mode))
 }
 
 // Whether an ask stands against the mode for x.
-fn asks_bar(transactions: &[Transaction], asks: &[Ask], x: u16, mode: Mode) -> bool
-    requires { IsForest transactions.now }
+fn asks_bar(transactions: &[Transaction], marks: &Marks, asks: &[Ask], x: u16, mode: Mode) -> bool
+    requires forest { IsForest transactions.now }
+    requires marks { MarksOwn transactions.now x marks.now }
     ensures { result ≡ list_any (ask_is_against transactions.now x mode) asks.now }
 {
-    asks.iter().any(|ask| is_against(transactions, x, mode, ask.owner, ask.mode))
+    asks.iter().any(|ask| is_against(transactions, marks, x, mode, ask.owner, ask.mode))
 }
 
-fn is_against(transactions: &[Transaction], x: u16, mode: Mode, owner: u16, other: Mode) -> bool
-    requires { IsForest transactions.now }
+fn is_against(
+    transactions: &[Transaction],
+    marks: &Marks,
+    x: u16,
+    mode: Mode,
+    owner: u16,
+    other: Mode,
+) -> bool
+    requires forest { IsForest transactions.now }
+    requires marks { MarksOwn transactions.now x marks.now }
     ensures { result ≡ is_against transactions.now x mode owner other }
 {
-    mode.conflicts(other) && !is_own(transactions, owner, x)
+    mode.conflicts(other) && !marks.is_own(transactions, owner, x)
 }
 
 #[tactic(auto, using(crate::proofs::FirstFree::free_here, crate::proofs::FirstFree::free_later), unfolding(crate::specs::Serving::first_free))]
@@ -95,27 +115,45 @@ pub(crate) fn waits_for(
     match ask_place(queue, x) {
         Some(k) => {
             let mode = queue[k].mode;
-            holder_bars(transactions, entries, x, mode, y)
-                || asker_bars(transactions, &queue[..k], x, mode, y)
+            let marks = Marks::new(transactions, x);
+            holder_bars(transactions, &marks, entries, x, mode, y)
+                || asker_bars(transactions, &marks, &queue[..k], x, mode, y)
         }
         None => false,
     }
 }
 
 // Whether an entry of y stands against the mode for x.
-fn holder_bars(transactions: &[Transaction], entries: &[Entry], x: u16, mode: Mode, y: u16) -> bool
-    requires { IsForest transactions.now }
+fn holder_bars(
+    transactions: &[Transaction],
+    marks: &Marks,
+    entries: &[Entry],
+    x: u16,
+    mode: Mode,
+    y: u16,
+) -> bool
+    requires forest { IsForest transactions.now }
+    requires marks { MarksOwn transactions.now x marks.now }
     ensures { result ≡ list_any (holder_is_against transactions.now x mode y) entries.now }
 {
     entries.iter().any(|entry| {
-        entry.owner == y && is_against(transactions, x, mode, entry.owner, entry.mode)
+        entry.owner == y && is_against(transactions, marks, x, mode, entry.owner, entry.mode)
     })
 }
 
 // Whether an ask of y stands against the mode for x.
-fn asker_bars(transactions: &[Transaction], asks: &[Ask], x: u16, mode: Mode, y: u16) -> bool
-    requires { IsForest transactions.now }
+fn asker_bars(
+    transactions: &[Transaction],
+    marks: &Marks,
+    asks: &[Ask],
+    x: u16,
+    mode: Mode,
+    y: u16,
+) -> bool
+    requires forest { IsForest transactions.now }
+    requires marks { MarksOwn transactions.now x marks.now }
     ensures { result ≡ list_any (asker_is_against transactions.now x mode y) asks.now }
 {
-    asks.iter().any(|ask| ask.owner == y && is_against(transactions, x, mode, ask.owner, ask.mode))
+    asks.iter().any(|ask| ask.owner == y
+        && is_against(transactions, marks, x, mode, ask.owner, ask.mode))
 }
