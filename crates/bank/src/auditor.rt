@@ -6,8 +6,8 @@ use lt_modes::{Command, Mode};
 
 const AUDITS: u32 = 20;
 
-/// Who locks the whole bank, so that nobody can move money, and adds up the accounts, again and again: how many commands it
-/// has given, how many replies it was told, and how often the sum was wrong.
+/// Who locks the whole bank, so that nobody can move money, and adds up the accounts, again and again: how many
+/// commands it has given, how many replies it was told, and how often the sum was wrong.
 #[derive(Drop)]
 pub struct Auditor<'a> {
     bank: &'a Bank,

@@ -40,8 +40,8 @@ impl Clerk<'_> {
         }
     }
 
-    // The command of this number, from 0. Each transfer locks the bank, by an intention, and then two accounts, the one of
-    // the lesser set first: where all do so, nobody waits forever.
+    // The command of this number, from 0. Each transfer locks the bank, by an intention, and then two accounts, the
+    // one of the lesser set first: where all do so, nobody waits forever.
     fn command_at(&self, number: u32) -> Option<Command> {
         let (from, to) = self.bank.accounts_of(self.client, number / PARTS)?;
         let (first, second) = (from.set.min(to.set), from.set.max(to.set));

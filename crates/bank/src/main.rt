@@ -1,7 +1,7 @@
 //! A bank: an example of callers that prove nothing.
 //!
-//! Clerks move money between accounts, and an auditor adds them up, each under locks, while the nodes are at work. The program
-//! prints what is in the accounts, and whether the journal of all this is one of a run.
+//! Clerks move money between accounts, and an auditor adds them up, each under locks, while the nodes are at work. The
+//! program prints what is in the accounts, and whether the journal of all this is one of a run.
 #![tactic(auto)]
 
 mod accounts;
@@ -22,7 +22,8 @@ use std::io::Print;
 use std::str;
 use std::sync::atomic::Ordering;
 
-// The most bytes of a script, the most moves of a node, the threads of callers, with as many of stations, and the most rounds.
+// The most bytes of a script, the most moves of a node, the threads of callers, with as many of stations, and the most
+// rounds.
 const MOST_BYTES: usize = 1 << 16;
 
 const MOST_MOVES: u32 = 1 << 16;

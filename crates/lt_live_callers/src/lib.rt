@@ -1,4 +1,5 @@
-//! Callers: values that are asked for their next command and told its reply, while the library keeps stations and sessions.
+//! Callers: values that are asked for their next command and told its reply, while the library keeps stations and
+//! sessions.
 #![tactic(auto)]
 
 mod alone;

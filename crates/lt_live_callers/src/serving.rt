@@ -19,11 +19,11 @@ use lt_script::Script;
 use std::alloc::{AllocError, Global};
 use std::thread::Threads;
 
-/// The callers call, each for the client at its place, on so many threads, while the nodes of the script are at work beside them
-/// on as many more. A node makes up to `limit` moves.
+/// The callers call, each for the client at its place, on so many threads, while the nodes of the script are at work
+/// beside them on as many more. A node makes up to `limit` moves.
 ///
-/// They work in rounds, until each caller is done or has a command that it might not submit, or the rounds are over. Then the
-/// nodes make the moves that are left. The script's own commands are left out.
+/// They work in rounds, until each caller is done or has a command that it might not submit, or the rounds are over.
+/// Then the nodes make the moves that are left. The script's own commands are left out.
 pub fn serve_callers<R: Threads + Sync, C: Caller + Send + Drop>(
     rt: &R,
     alloc: Global,
@@ -45,8 +45,8 @@ pub fn serve_callers<R: Threads + Sync, C: Caller + Send + Drop>(
     Ok(served)
 }
 
-/// As `serve_callers`, all on the thread of this call: in each round each caller makes a step, and then the nodes make all moves
-/// that there are.
+/// As `serve_callers`, all on the thread of this call: in each round each caller makes a step, and then the nodes make
+/// all moves that there are.
 pub fn serve_callers_alone<C: Caller + Drop>(
     alloc: Global,
     script: &Script,
