@@ -120,21 +120,31 @@ impl Nest {
         marks
     }
 
-    fn is_against(&self, marks: &Marks, x: u16, mode: Mode, owner: u16, other: Mode) -> bool {
-        CONFLICTS[mode][other]
-            && !if owner >= marks.first {
-                owner <= x && marks.own[usize::from(owner - marks.first)]
-            } else {
-                marks.above.is_some_and(|p| self.is_own(owner, p))
-            }
+    /// Whether one of the locks stands against the mode for x. Behind the first that conflicts, marks tell.
+    fn bar(&self, x: u16, mode: Mode, mut locks: impl Iterator<Item = (u16, Mode)>) -> bool {
+        let Some((first, _)) = locks.find(|(_, other)| CONFLICTS[mode][*other]) else {
+            return false;
+        };
+        if !self.is_own(first, x) {
+            return true;
+        }
+        let marks = self.marks(x);
+        locks.any(|(owner, other)| CONFLICTS[mode][other] && !self.is_marked(&marks, owner, x))
+    }
+
+    fn is_marked(&self, marks: &Marks, owner: u16, x: u16) -> bool {
+        if owner >= marks.first {
+            owner <= x && marks.own[usize::from(owner - marks.first)]
+        } else {
+            marks.above.is_some_and(|p| self.is_own(owner, p))
+        }
     }
 
     /// Whether the mode is free for x behind the first asks of the queue.
     fn is_free(&self, set: usize, earlier: usize, x: u16, mode: Mode) -> bool {
         let set = &self.sets[set];
-        let marks = self.marks(x);
-        !set.entries.iter().any(|e| self.is_against(&marks, x, mode, e.owner, e.mode))
-            && !set.queue.iter().take(earlier).any(|a| self.is_against(&marks, x, mode, a.owner, a.mode))
+        !self.bar(x, mode, set.entries.iter().map(|e| (e.owner, e.mode)))
+            && !self.bar(x, mode, set.queue.iter().take(earlier).map(|a| (a.owner, a.mode)))
     }
 
     pub fn ask(&mut self, x: u16, set: usize, mode: Mode, may_wait: bool) -> Asked {

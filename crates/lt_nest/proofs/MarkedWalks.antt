@@ -1,15 +1,22 @@
 -- The walk that marks a transaction and its ancestors.
 use Rattle.std.proofs.Common.{◌≡◌, ◌≢◌, ℕ, ◌+◌, ◌-◌, ◌<◌, ◌≤◌, inl, inr, List, length, Bool, true, false, refl, sym, ap, arith, ◌∙◌, Option, Some, None, slice_index_or, slice_set}
-use Rattle.std.specs.Prelude.{◌||◌, ◌==◌, replicate}
-use Rattle.std.proofs.lemmas.Bool.{or_left, or_right, eq-eqb, ne_eqb, cases_eq}
+use Rattle.std.specs.Prelude.{◌||◌, replicate}
+use Rattle.std.proofs.lemmas.Bool.{or_left, or_right, cases_eq}
 use Rattle.std.proofs.Math.Bool.{or-false}
 use Rattle.std.proofs.lemmas.List.{get_or-replicate, get_or-set_same, get_or-set_other, length-set}
 use Rattle.lt_nest.specs.declared.forest.Transaction.{Transaction}
 use Rattle.lt_nest.specs.declared.marks.Marks.{Marks}
-use Rattle.lt_nest.specs.Forest.{parent_of, is_own, is_ancestor}
+use Rattle.lt_nest.specs.Forest.{parent_of, is_own}
 use Rattle.lt_nest.specs.Kept.{IsForest}
-use Rattle.lt_nest.specs.Marks.{is_own_of, MarksOwn, MarksOwnTo}
+use Rattle.lt_nest.specs.Marks.{is_own_of, MarksOwn}
 use Rattle.lt_nest.proofs.Ancestors.{own_up, own_top, own_lower, own_itself}
+
+-- what is marked in the midst of the walk, which has come to this transaction
+pub record MarksOwnTo (ts : List Transaction) (x : ℕ) (first : ℕ) (own : List Bool) (at : ℕ) : Type 0 where
+  pub places : length own ≡ 256
+  pub walked : at ≤ x
+  pub marked : (k : ℕ) → k ≤ 255 → (slice_index_or own k false || is_own ts (first + k) at) ≡ is_own ts (first + k) x
+  pub below : (a : ℕ) → a < first → is_own ts a at ≡ is_own ts a x
 
 -- a step of the walk
 own_step : (ts : List Transaction) (a x : ℕ) → IsForest ts → x ≢ a → (up : Option ℕ) → parent_of ts x ≡ up → is_own_of ts a up ≡ is_own ts a x

@@ -1,6 +1,10 @@
 -- Which transactions are marked as x or an ancestor of x.
-use Rattle.std.specs.Prelude.{◌≡◌, ◌<◌, ◌≤◌, Bool, false, ◌||◌, ◌+◌, ℕ, List, Option, Some, None, length, slice_index_or}
+use Rattle.std.specs.Prelude.{◌≡◌, ◌<◌, ◌≤◌, Bool, false, ◌+◌, ℕ, List, Option, Some, None, length, slice_index_or}
+use Rattle.lt_modes.specs.declared.mode.Mode.{Mode}
+use Rattle.lt_modes.specs.Modes.{conflicts}
 use Rattle.lt_nest.specs.declared.forest.Transaction.{Transaction}
+use Rattle.lt_nest.specs.declared.locks.Entry.{Entry}
+use Rattle.lt_nest.specs.declared.locks.Ask.{Ask}
 use Rattle.lt_nest.specs.declared.marks.Marks.{Marks}
 use Rattle.lt_nest.specs.Forest.{is_own}
 
@@ -17,9 +21,10 @@ pub record MarksOwn (ts : List Transaction) (x : ℕ) (marks : Marks) : Type 0 w
   -- of one below the window it is told by the ancestor where the walk ended
   pub below : (a : ℕ) → a < marks.first → is_own_of ts a marks.above ≡ is_own ts a x
 
--- the same in the midst of the walk, which has come to this transaction
-pub record MarksOwnTo (ts : List Transaction) (x : ℕ) (first : ℕ) (own : List Bool) (at : ℕ) : Type 0 where
-  pub places : length own ≡ 256
-  pub walked : at ≤ x
-  pub marked : (k : ℕ) → k ≤ 255 → (slice_index_or own k false || is_own ts (first + k) at) ≡ is_own ts (first + k) x
-  pub below : (a : ℕ) → a < first → is_own ts a at ≡ is_own ts a x
+-- the entry conflicts with the mode
+abbrev pub entry_conflicts : Mode → Entry → Bool
+entry_conflicts mode entry = conflicts mode entry.mode
+
+-- the ask conflicts with the mode
+abbrev pub ask_conflicts : Mode → Ask → Bool
+ask_conflicts mode ask = conflicts mode ask.mode

@@ -6,9 +6,9 @@ ghost use Rattle.lt_nest.specs.Locks.{is_against, entry_is_against, ask_is_again
 ghost use Rattle.lt_nest.specs.Serving.{first_free};
 ghost use Rattle.lt_nest.specs.Calls.{holder_is_against, asker_is_against, waits_in};
 ghost use Rattle.lt_nest.specs.Kept.{IsForest};
-ghost use Rattle.lt_nest.specs.Marks.{MarksOwn};
+ghost use Rattle.lt_nest.specs.Marks.{MarksOwn, entry_conflicts, ask_conflicts};
 
-use crate::forest::{Transaction, is_open};
+use crate::forest::{Transaction, is_open, is_own};
 use crate::locks::{Ask, Entry};
 use crate::marks::Marks;
 use lt_modes::Mode;
@@ -23,33 +23,67 @@ pub(crate) fn is_free(
     requires { IsForest transactions.now }
     ensures { result ≡ is_free_for transactions.now entries.now earlier.now x mode }
 {
-    let marks = Marks::new(transactions, x);
-    !entries_bar(transactions, &marks, entries, x, mode)
-        && !asks_bar(transactions, &marks, earlier, x, mode)
+    !entries_bar(transactions, entries, x, mode) && !asks_bar(transactions, earlier, x, mode)
 }
 
-// Whether an entry stands against the mode for x.
-fn entries_bar(
-    transactions: &[Transaction],
-    marks: &Marks,
-    entries: &[Entry],
-    x: u16,
-    mode: Mode,
-) -> bool
-    requires forest { IsForest transactions.now }
-    requires marks { MarksOwn transactions.now x marks.now }
+// Whether an entry stands against the mode for x. Most often the first one that conflicts tells, without marks.
+fn entries_bar(transactions: &[Transaction], entries: &[Entry], x: u16, mode: Mode) -> bool
+    requires { IsForest transactions.now }
     ensures { result ≡ list_any (entry_is_against transactions.now x mode) entries.now }
 {
-    entries.iter().any(|entry| is_against(transactions, marks, x, mode, entry.owner, entry.mode))
+    match entry_in_conflict(entries, mode) {
+        Some(k) => {
+            !is_own(transactions, entries[k].owner, x)
+                || marked_entries_bar(transactions, entries, x, mode)
+        }
+        None => false,
+    }
+}
+
+// The place of an entry that conflicts with the mode.
+fn entry_in_conflict(entries: &[Entry], mode: Mode) -> Option<usize>
+    ensures place { result ≡ position (entry_conflicts mode) entries.now }
+    ensures within { IfSome result (λ k. k < length entries.now) }
+{
+    entries.iter().position(|entry| mode.conflicts(entry.mode))
+}
+
+// The same by marks: each entry takes a step then.
+fn marked_entries_bar(transactions: &[Transaction], entries: &[Entry], x: u16, mode: Mode) -> bool
+    requires { IsForest transactions.now }
+    ensures { result ≡ list_any (entry_is_against transactions.now x mode) entries.now }
+{
+    let marks = Marks::new(transactions, x);
+    entries.iter().any(|entry| is_against(transactions, &marks, x, mode, entry.owner, entry.mode))
 }
 
 // Whether an ask stands against the mode for x.
-fn asks_bar(transactions: &[Transaction], marks: &Marks, asks: &[Ask], x: u16, mode: Mode) -> bool
-    requires forest { IsForest transactions.now }
-    requires marks { MarksOwn transactions.now x marks.now }
+fn asks_bar(transactions: &[Transaction], asks: &[Ask], x: u16, mode: Mode) -> bool
+    requires { IsForest transactions.now }
     ensures { result ≡ list_any (ask_is_against transactions.now x mode) asks.now }
 {
-    asks.iter().any(|ask| is_against(transactions, marks, x, mode, ask.owner, ask.mode))
+    match ask_in_conflict(asks, mode) {
+        Some(k) => {
+            !is_own(transactions, asks[k].owner, x) || marked_asks_bar(transactions, asks, x, mode)
+        }
+        None => false,
+    }
+}
+
+// The place of an ask that conflicts with the mode.
+fn ask_in_conflict(asks: &[Ask], mode: Mode) -> Option<usize>
+    ensures place { result ≡ position (ask_conflicts mode) asks.now }
+    ensures within { IfSome result (λ k. k < length asks.now) }
+{
+    asks.iter().position(|ask| mode.conflicts(ask.mode))
+}
+
+fn marked_asks_bar(transactions: &[Transaction], asks: &[Ask], x: u16, mode: Mode) -> bool
+    requires { IsForest transactions.now }
+    ensures { result ≡ list_any (ask_is_against transactions.now x mode) asks.now }
+{
+    let marks = Marks::new(transactions, x);
+    asks.iter().any(|ask| is_against(transactions, &marks, x, mode, ask.owner, ask.mode))
 }
 
 fn is_against(
@@ -154,6 +188,7 @@ fn asker_bars(
     requires marks { MarksOwn transactions.now x marks.now }
     ensures { result ≡ list_any (asker_is_against transactions.now x mode y) asks.now }
 {
-    asks.iter().any(|ask| ask.owner == y
-        && is_against(transactions, marks, x, mode, ask.owner, ask.mode))
+    asks.iter().any(|ask| {
+        ask.owner == y && is_against(transactions, marks, x, mode, ask.owner, ask.mode)
+    })
 }
