@@ -1,5 +1,9 @@
+mod Closing
 mod Explaining
+mod FoundPaths
 mod Judged
+mod Layers
+mod Least
 mod Marks
 mod Rounds
 mod Rows

@@ -3,3 +3,4 @@ pub mod Explained
 pub mod Graph
 pub mod Report
 pub mod Serves
+pub mod Shortest

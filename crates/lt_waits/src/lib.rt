@@ -11,6 +11,7 @@ mod lines;
 mod reporting;
 mod rings;
 mod serving;
+mod shortest;
 mod waits;
 
 pub use answer::Answer;

@@ -35,8 +35,8 @@ fn still_waiting(alloc: Global, graph: &WaitGraph, clients: &[u16]) -> Result<Ve
     waiting.collect(alloc)
 }
 
-// Whether the client waits for one of these.
-fn waits_for_one(graph: &WaitGraph, clients: &[u16], client: u16) -> bool
+/// Whether the client waits for one of these.
+pub(crate) fn waits_for_one(graph: &WaitGraph, clients: &[u16], client: u16) -> bool
     requires client { client < graph.now.clients }
     requires clients { All (λ c. c < graph.now.clients) clients.now }
     ensures { result ≡ list_any (graph_of graph.now client) clients.now }
@@ -75,8 +75,8 @@ fn first_of(clients: &[u16]) -> Option<u16>
     clients.first().copied()
 }
 
-// The least of these clients for which the client waits, if it waits for one.
-fn next_among(graph: &WaitGraph, clients: &[u16], client: u16) -> Option<u16>
+/// The least of these clients for which the client waits, if it waits for one.
+pub(crate) fn next_among(graph: &WaitGraph, clients: &[u16], client: u16) -> Option<u16>
     requires client { client < graph.now.clients }
     requires clients { All (λ c. c < graph.now.clients) clients.now }
     ensures next { result ≡ next_among (graph_of graph.now) clients.now client }
