@@ -1,6 +1,6 @@
 use lt_io::{MemorySink, MemorySource};
 use lt_script::{Fault, ScriptFault};
-use lt_waits::{Answer, serve};
+use lt_waits::{Answer, WaitGraph, serve};
 use std::alloc::{AllocError, Global};
 use std::test::Fail;
 
@@ -204,5 +204,35 @@ fn tells_faults(rt: HostRuntime) -> Result<(), Fail> {
     let words = [String::from_str(alloc, "x")?];
     let mut source = source_of(alloc, KEPT, &[])?;
     assert_eq!(rt; serve(alloc, &words, &mut source, &mut sink), Answer::Usage);
+    Ok(())
+}
+
+// How long the shortest ring is, by the marks of each pair of three clients.
+#[test]
+fn the_shortest_ring(rt: HostRuntime) -> Result<(), Fail> {
+    let alloc = rt.alloc();
+    let cases = [
+        (
+            [false, true, false, false, false, true, false, false, false],
+            None,
+        ),
+        (
+            [false, true, false, false, false, true, true, false, false],
+            Some(3),
+        ),
+        (
+            [false, true, false, false, false, true, true, true, false],
+            Some(2),
+        ),
+        (
+            [false, true, false, false, true, true, true, true, false],
+            Some(1),
+        ),
+    ];
+    for (pairs, clients) in &cases {
+        let graph = WaitGraph::new(3, Vec::from_slice(alloc, pairs)?);
+        let ring = graph.shortest_ring(alloc)?;
+        assert!(rt; ring.map(|ring| ring.len()) == *clients);
+    }
     Ok(())
 }
