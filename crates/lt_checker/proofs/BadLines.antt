@@ -6,7 +6,7 @@ use Rattle.lt_modes.specs.Script.{ScriptData}
 use Rattle.lt_world.specs.Fields.{WorldData}
 use Rattle.lt_text.specs.Text.{cut_at, lines, put_front, is_line_end, without_return}
 use Rattle.lt_journal.specs.Split.{is_journal_line, parts_at, input_parts}
-use Rattle.lt_law_checking.specs.Checking.{Place, Reader, checked, first_reader, reader_after, place_after, is_over, led_to, read_at, read_on, verdict_at}
+use Rattle.lt_law_journals.specs.Checking.{Place, Reader, checked, first_reader, reader_after, place_after, is_complete, led_to, read_at, read_on, verdict_at}
 use Rattle.lt_checker.specs.Endings.{IsWorldAnswer}
 use Rattle.lt_checker.specs.declared.error.ReplayError.{ReplayError}
 use Rattle.lt_checker.specs.declared.error.ReplayError.TheVariants.{Memory, Bad}
@@ -50,7 +50,7 @@ few_good script (line ∷ ls) reader = omega (arith, one_more script reader line
 
 next_bad : (script : ScriptData) (good line : ℕ) (place : Option Place) → verdict_at script good place ≡ Err line → line ≡ suc good
 next_bad script good line None e = cc
-next_bad script good line (Some place) e = by_end (is_over script place.run place.due) e
+next_bad script good line (Some place) e = by_end (is_complete script place.run place.due) e
   where
     by_end : (t : Bool) → (if t then Ok place.run else Err (suc good)) ≡ Err line → line ≡ suc good
     by_end true e = absurd (cc)

@@ -3,8 +3,8 @@ use Rattle.std.proofs.Common.{◌≡◌, List, ◌∷◌, ℕ, subst}
 use Rattle.lt_modes.specs.Script.{ScriptData}
 use Rattle.lt_journal.specs.declared.line.Line.{Line}
 use Rattle.lt_world.specs.Fields.{WorldData}
-use Rattle.lt_law_checking.specs.Journals.{HasCome}
-use Rattle.lt_law_checking.proofs.Heard.{come_due}
+use Rattle.lt_law_journals.specs.Journals.{HasCome}
+use Rattle.lt_law_journals.proofs.Heard.{come_due}
 use Rattle.lt_checker.specs.Place.{IsPlace}
 
 pub due_place : (script : ScriptData) (world : WorldData) (all due : List Line) (x : Line) → all ≡ x ∷ due → IsPlace script world all

@@ -13,14 +13,14 @@ use Rattle.lt_spec.specs.Log.{Logged}
 use Rattle.lt_text.specs.Text.{lines}
 use Rattle.lt_journal.specs.Split.{input_parts}
 use Rattle.lt_world.specs.Fields.{WorldData}
-use Rattle.lt_law_checking.specs.Checking.{checked}
-use Rattle.lt_law_checking.specs.Input.{journal_in, lines_before, counted_from, checked_input}
+use Rattle.lt_law_journals.specs.Checking.{checked}
+use Rattle.lt_law_journals.specs.Input.{journal_in, lines_before, counted_from, checked_input}
 use Rattle.lt_script.specs.declared.fault.ScriptFault.{ScriptFault}
 use Rattle.lt_checker.specs.declared.limits.TheConstants.{MAX_JOURNAL}
 use Rattle.lt_checker.specs.declared.error.InputError.{InputError}
 use Rattle.lt_checker.specs.declared.error.InputError.TheVariants.{ReadFault, TooLong, NoMemory, Refused, BadJournal}
 use Rattle.lt_checker.specs.Input.{HasFaultBefore, IsBad, IsEndedRun, FailsInput, error_of}
-use Rattle.lt_checker.specs.Heads.{IsHead, IsRest, FailsRest, FailsBytes}
+use Rattle.lt_checker.specs.Heads.{IsReadTo, IsRest, FailsRest, FailsBytes}
 
 -- what is told of the journal in an input is told of the input
 pub input_told : (script : ScriptData) (bytes : List ℕ) (told : Result (List Logged) ℕ)
@@ -33,18 +33,18 @@ input_told script bytes told journal before h =
     ∙ ap (λ (n : ℕ). counted_from n told) (sym before))
 
 -- the first bytes of an input and those that come after them are all of it
-pub read_all : (first rest : List ℕ) (room : Option ℕ) (x y z : SourceState) → IsHead first room x y → IsRest room rest y z → ReadsOut (first ++ rest) x z
+pub read_all : (first rest : List ℕ) (room : Option ℕ) (x y z : SourceState) → IsReadTo first room x y → IsRest room rest y z → ReadsOut (first ++ rest) x z
 read_all first rest None x y z head (none, kept) =
     let bytes : first ≡ first ++ rest = sym (ap (λ (t : List ℕ). first ++ t) none ∙ append-nil first) in
     subst (λ (s : SourceState). ReadsOut (first ++ rest) x s) (sym kept) (subst (λ (b : List ℕ). ReadsOut b x y) bytes head)
 read_all first rest (Some room) x y z head tail = read_out first rest x y z head.1 tail.1
 
-all_few : (first rest : List ℕ) (room : Option ℕ) (x y z : SourceState) → length first ≤ MAX_JOURNAL → IsHead first room x y → IsRest room rest y z
+all_few : (first rest : List ℕ) (room : Option ℕ) (x y z : SourceState) → length first ≤ MAX_JOURNAL → IsReadTo first room x y → IsRest room rest y z
     → length (first ++ rest) ≤ MAX_JOURNAL
 all_few first rest None x y z few head (none, kept) = omega (arith, few, length-append first rest, ap length none)
 all_few first rest (Some room) x y z few head tail = omega (arith, head.0, tail.0, length-append first rest)
 
-pub read_whole : (first rest : List ℕ) (room : Option ℕ) (x y z : SourceState) → length first ≤ MAX_JOURNAL → IsHead first room x y → IsRest room rest y z
+pub read_whole : (first rest : List ℕ) (room : Option ℕ) (x y z : SourceState) → length first ≤ MAX_JOURNAL → IsReadTo first room x y → IsRest room rest y z
     → IsReadWhole MAX_JOURNAL x z
 read_whole first rest room x y z few head tail =
     let out = read_all first rest room x y z head tail in
@@ -99,7 +99,7 @@ fails_read Long x z fails =
     let not_failed : Long ≢ Failed = λ e. cc in
     (fails.too_long refl, fails.no_other_fault not_failed)
 
-pub fails_rest : (why : ReadFailure) (first : List ℕ) (room : Option ℕ) (x y z : SourceState) → length first ≤ MAX_JOURNAL → IsHead first room x y → FailsRest room why y z
+pub fails_rest : (why : ReadFailure) (first : List ℕ) (room : Option ℕ) (x y z : SourceState) → length first ≤ MAX_JOURNAL → IsReadTo first room x y → FailsRest room why y z
     → FailsInput (error_of why) x z
 fails_rest why first None x y z few head (memory, kept) =
     subst (λ (w : ReadFailure). FailsInput (error_of w) x z) (sym memory)

@@ -10,17 +10,17 @@ use Rattle.lt_modes.specs.declared.moves.Step.TheVariants.{Act, Take}
 use Rattle.lt_modes.specs.Script.{ScriptData}
 use Rattle.lt_spec.specs.Log.{Logged}
 use Rattle.lt_spec.specs.World.{World, world_after, is_enabled, is_of_node, move_stamp, logged}
-use Rattle.lt_script.specs.Script.{IsScript}
-use Rattle.lt_limits.specs.Cut.{moves_of}
+use Rattle.lt_spec.specs.Script.{IsScript}
+use Rattle.lt_spec.specs.Cut.{moves_of}
 use Rattle.lt_merge.specs.Run.{made_at, events_at}
 use Rattle.lt_modes.specs.declared.event.Event.{Event}
 use Rattle.lt_journal.specs.declared.line.Line.{Line}
 use Rattle.lt_journal.specs.declared.line.Line.TheVariants.{Move as MoveLine}
 use Rattle.lt_journal.specs.RunLines.{event_lines}
 use Rattle.lt_world.specs.Fields.{WorldData, world_of}
-use Rattle.lt_law_checking.specs.Checking.{closing_at_rest, moved, by_move}
+use Rattle.lt_law_journals.specs.Checking.{closing_at_rest, moved, by_move}
 use Rattle.lt_law_ends.proofs.Short.{runs_are_short}
-use Rattle.lt_law_checking.proofs.Heard.{come_moved}
+use Rattle.lt_law_journals.proofs.Heard.{come_moved}
 use Rattle.lt_checker.specs.Place.{IsPlace}
 
 -- a move that may be the next one was made

@@ -8,8 +8,8 @@ use Rattle.std.proofs.lemmas.List.Sums.{fold-append}
 use Rattle.memchr.specs.Find.{IsFirstByte, IsLastByte, is_byte}
 use Rattle.lt_modes.specs.Script.{ScriptData}
 use Rattle.lt_text.specs.Text.{is_line_end, without_return, HasNone}
-use Rattle.lt_law_checking.specs.Checking.{Reader, read_on, read_at}
-use Rattle.lt_law_checking.specs.Feeding.{Feed, line_ended, fed, fed_piece}
+use Rattle.lt_law_journals.specs.Checking.{Reader, read_on, read_at}
+use Rattle.lt_law_journals.specs.Feeding.{Feed, line_ended, fed, fed_piece}
 
 kept_all : (n : ℕ) (r more : List ℕ) → take n (take n r ++ more) ≡ take n (r ++ more)
 kept_all n r more = elim (cases_lt n (length r)) [

@@ -5,7 +5,7 @@ use Rattle.lt_spec.specs.Log.{Logged}
 use Rattle.lt_spec.specs.World.{world_after, is_at_rest}
 use Rattle.lt_merge.specs.Run.{RunData}
 use Rattle.lt_world.specs.Fields.{WorldData, world_of}
-use Rattle.lt_law_checking.specs.Checking.{verdict}
+use Rattle.lt_law_journals.specs.Checking.{verdict}
 use Rattle.lt_checker.specs.declared.error.ReplayError.{ReplayError}
 use Rattle.lt_checker.specs.declared.error.ReplayError.TheVariants.{Memory, Bad}
 use Rattle.lt_checker.specs.Place.{IsPlace, place_now}

@@ -5,7 +5,7 @@ use Rattle.lt_modes.specs.Script.{ScriptData}
 use Rattle.lt_text.specs.Text.{is_line_end, HasNone}
 use Rattle.lt_spec.specs.Log.{Logged}
 use Rattle.lt_merge.specs.Run.{RunData}
-use Rattle.lt_law_checking.specs.Feeding.{Feed, new_feed, fed_piece}
+use Rattle.lt_law_journals.specs.Feeding.{Feed, new_feed, fed_piece}
 use Rattle.lt_checker.specs.Place.{ReaderData}
 use Rattle.lt_checker.specs.declared.error.ReplayError.{ReplayError}
 use Rattle.lt_checker.specs.declared.error.ReplayError.TheVariants.{Memory, Bad}

@@ -3,7 +3,7 @@ use Rattle.std.specs.Prelude.{◌≡◌, ℕ, List, Result, Ok, Err}
 use Rattle.lt_modes.specs.Script.{ScriptData}
 use Rattle.lt_spec.specs.Log.{Logged}
 use Rattle.lt_world.specs.Fields.{WorldData}
-use Rattle.lt_law_checking.specs.Journals.{IsFinished}
+use Rattle.lt_law_journals.specs.Journals.{IsFinished}
 use Rattle.lt_checker.specs.declared.error.ReplayError.{ReplayError}
 use Rattle.lt_checker.specs.declared.error.ReplayError.TheVariants.{Memory, Bad}
 

@@ -5,7 +5,7 @@ use Rattle.lt_io.specs.Reading.{ReadsOn, ReadsOut, FailsBy}
 use Rattle.lt_io.specs.declared.whole.ReadFailure.{ReadFailure}
 use Rattle.lt_io.specs.declared.whole.ReadFailure.TheVariants.{Memory}
 use Rattle.lt_world.specs.Fields.{WorldData}
-use Rattle.lt_law_checking.specs.Input.{IsSettled}
+use Rattle.lt_law_journals.specs.Input.{IsSettled}
 use Rattle.lt_checker.specs.Checker.{CheckerData, StandsFor}
 use Rattle.lt_checker.specs.Input.{HasFaultBefore, IsBad, IsEndedRun}
 use Rattle.lt_checker.specs.declared.error.ReplayError.{ReplayError}
@@ -21,9 +21,9 @@ IsHeadCut bytes None = Unit {0}
 IsHeadCut bytes (Some room) = IsSettled bytes
 
 -- an input was read as far as these bytes: to its end, or so that so many more may come
-abbrev pub IsHead : List ℕ → Option ℕ → SourceState → SourceState → Type 0
-IsHead bytes None before after = ReadsOut bytes before after
-IsHead bytes (Some room) before after = (length bytes + room ≡ MAX_JOURNAL) × ReadsOn bytes before after
+abbrev pub IsReadTo : List ℕ → Option ℕ → SourceState → SourceState → Type 0
+IsReadTo bytes None before after = ReadsOut bytes before after
+IsReadTo bytes (Some room) before after = (length bytes + room ≡ MAX_JOURNAL) × ReadsOn bytes before after
 
 -- these bytes are all that came after the first ones: none, where the source was found at its end before
 abbrev pub IsRest : Option ℕ → List ℕ → SourceState → SourceState → Type 0

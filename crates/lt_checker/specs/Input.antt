@@ -12,8 +12,8 @@ use Rattle.lt_script.specs.declared.fault.ScriptFault.{ScriptFault}
 use Rattle.lt_script.specs.Reading.{read_of}
 use Rattle.lt_journal.specs.Split.{input_parts}
 use Rattle.lt_world.specs.Fields.{WorldData}
-use Rattle.lt_law_checking.specs.Input.{checked_input}
-use Rattle.lt_law_checking.specs.Journals.{IsFinished}
+use Rattle.lt_law_journals.specs.Input.{checked_input}
+use Rattle.lt_law_journals.specs.Journals.{IsFinished}
 use Rattle.lt_checker.specs.declared.limits.TheConstants.{MAX_JOURNAL}
 use Rattle.lt_checker.specs.declared.error.InputError.{InputError}
 use Rattle.lt_checker.specs.declared.error.InputError.TheVariants.{ReadFault, TooLong, NoMemory, Refused, BadJournal}

@@ -3,11 +3,11 @@ use Rattle.std.specs.Prelude.{◌≡◌, List, Bool, true, false, Option, Some, 
 use Rattle.lt_modes.specs.Script.{ScriptData}
 use Rattle.lt_spec.specs.Log.{Logged}
 use Rattle.lt_journal.specs.declared.line.Line.{Line}
-use Rattle.lt_script.specs.Script.{IsScript}
-use Rattle.lt_limits.specs.declared.moves.TheConstants.{MAX_MOVES}
+use Rattle.lt_spec.specs.Script.{IsScript}
+use Rattle.lt_spec.specs.declared.moves.TheConstants.{MAX_MOVES}
 use Rattle.lt_world.specs.Fields.{WorldData}
-use Rattle.lt_law_checking.specs.Checking.{Place, Reader}
-use Rattle.lt_law_checking.specs.Journals.{HasCome}
+use Rattle.lt_law_journals.specs.Checking.{Place, Reader}
+use Rattle.lt_law_journals.specs.Journals.{HasCome}
 
 -- the world and the lines that are due are those of a place that a reader has come to
 pub record IsPlace (script : ScriptData) (world : WorldData) (due : List Line) : Type 0 where

@@ -1,7 +1,7 @@
 ghost use Rattle.std.specs.Prelude.{◌≡◌, [], ◌∷◌, ◌++◌, OnOk};
 ghost use Rattle.lt_journal.specs.RunLines.{first_lines, event_lines};
-ghost use Rattle.lt_law_checking.specs.Checking.{closing_at_rest};
-ghost use Rattle.lt_script.specs.Script.{IsScript};
+ghost use Rattle.lt_law_journals.specs.Checking.{closing_at_rest};
+ghost use Rattle.lt_spec.specs.Script.{IsScript};
 
 use lt_journal::{Line, closing_lines, shown_event};
 use lt_modes::Event;

@@ -1,5 +1,5 @@
 ghost use Rattle.std.specs.Prelude.{◌≡◌, [], IfOk, IsTrue};
-ghost use Rattle.lt_law_checking.specs.Checking.{by_move, place_after};
+ghost use Rattle.lt_law_journals.specs.Checking.{by_move, place_after};
 ghost use Rattle.lt_checker.specs.Place.{IsPlace, LedTo};
 
 use crate::due::{push_closing, push_events};

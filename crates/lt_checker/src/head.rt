@@ -1,13 +1,13 @@
 ghost use Rattle.std.specs.Prelude.{◌≤◌, take, length, IfOk, IfErr, IfSome, IfNone, IsTrue};
-ghost use Rattle.lt_law_checking.specs.Input.{EndsInLineFeed, EndsLine, HasJournal, IsSettled};
+ghost use Rattle.lt_law_journals.specs.Input.{EndsInLineFeed, EndsLine, HasJournal, IsSettled};
 ghost use Rattle.lt_io.specs.Reading.{FailsBy};
 ghost use Rattle.lt_checker.specs.declared.limits.TheConstants.{MAX_JOURNAL};
-ghost use Rattle.lt_checker.specs.Heads.{IsHeadCut, IsHead, IsRoom};
+ghost use Rattle.lt_checker.specs.Heads.{IsHeadCut, IsReadTo, IsRoom};
 
 use crate::limits::MAX_JOURNAL;
 use lt_io::{MAX_PIECE, ReadFailure, Source, read_piece};
 use lt_journal::split;
-use lt_law_checking::law_settled;
+use lt_law_journals::law_settled;
 use std::alloc::Global;
 
 /// The first bytes of an input: at least those up to and with the line `journal`, or all of them.
@@ -23,7 +23,7 @@ pub(crate) fn read_head<S: Source>(alloc: Global, source: &mut S) -> Result<Head
     ensures few { IfOk result (λ head. length head.bytes.items ≤ MAX_JOURNAL) }
     ensures cut { IfOk result (λ head. IsHeadCut head.bytes.items head.room) }
     ensures room { IfOk result (λ head. IsRoom head.room) }
-    ensures head { IfOk result (λ head. IsHead head.bytes.items head.room (S.state source.old) (S.state source.new)) }
+    ensures head { IfOk result (λ head. IsReadTo head.bytes.items head.room (S.state source.old) (S.state source.new)) }
     ensures err { IfErr result (λ why. FailsBy why MAX_JOURNAL (S.state source.old) (S.state source.new)) }
 {
     let mut bytes = Vec::new(alloc);

@@ -1,6 +1,6 @@
 ghost use Rattle.std.specs.Prelude.{◌≡◌, ◌≢◌, None, IfOk, OnOk, IsTrue, IsFalse, IsErr};
-ghost use Rattle.lt_script.specs.Script.{IsScript};
-ghost use Rattle.lt_law_checking.specs.Checking.{first_reader, read_on, verdict};
+ghost use Rattle.lt_spec.specs.Script.{IsScript};
+ghost use Rattle.lt_law_journals.specs.Checking.{first_reader, read_on, verdict};
 ghost use Rattle.lt_checker.specs.Checker.{IsAnswer, IsMemory};
 ghost use Rattle.lt_checker.specs.Endings.{IsWorldAnswer};
 
@@ -8,9 +8,9 @@ use crate::due::{push_closing, push_first};
 use crate::error::ReplayError;
 use crate::following::follow;
 use lt_journal::{Line, Text};
-use lt_limits::MAX_MOVES;
 use lt_merge::Run;
 use lt_script::Script;
+use lt_spec::MAX_MOVES;
 use lt_world::World;
 use std::alloc::{AllocError, Global};
 use std::collections::VecDeque;
@@ -33,7 +33,7 @@ pub(crate) struct Reader {
 
 impl Model for Reader {
     ghost use Rattle.std.specs.Prelude.{◌<◌, ◌+◌, ◌^◌};
-    ghost use Rattle.lt_script.specs.Script.{IsScript};
+    ghost use Rattle.lt_spec.specs.Script.{IsScript};
     ghost use Rattle.lt_checker.specs.Place.{ReaderData, KeepsPlace, place_now};
 
     ghost Value = { ReaderData };

@@ -10,11 +10,11 @@ ghost use Rattle.lt_core.specs.CoreData.{HasMemory, KeepsRoom, waiting_here, tel
 ghost use Rattle.lt_core.specs.Steps.{ask_count, is_ask_of};
 
 use crate::fits::{has_later, parks_later};
-use lt_asks::{Pending, Unanswered};
 use lt_desk::{Body, Desk, Letter, Parked, Post};
 use lt_held::Held;
 use lt_link::Links;
 use lt_modes::{Link, ModeSet, Stamp};
+use lt_table::{Pending, Unanswered};
 use std::alloc::{AllocError, Global};
 use std::collections::VecDeque;
 use std::marker::Model;

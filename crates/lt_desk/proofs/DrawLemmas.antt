@@ -16,7 +16,7 @@ use Rattle.lt_desk.proofs.FreezeLemmas.{length-map_from}
 use Rattle.lt_desk.proofs.SeenLemmas.{ReadsSame, next_draw_same}
 use Rattle.lt_desk.specs.declared.pick.Pick.{Pick}
 use Rattle.lt_desk.specs.declared.pick.Pick.TheVariants.{Nothing, Local, Copy, HandOver}
-use Rattle.lt_desk.specs.Picks.{picked, picked_by, service_of, draw_of, IsInQueue}
+use Rattle.lt_desk.specs.Picks.{picked, picked_by, service_of, place_drawn, IsInQueue}
 
 owed_by : (frozen : Modes) (b : Bool) (e : Entry) → (if b then told_frozen frozen e else e).owed ≡ e.owed
 owed_by frozen true e = refl
@@ -85,7 +85,7 @@ service_by me queue (Some k) draw = service_if ((slice_index_or queue k no_ask).
 service_by me queue None (Some k) = refl
 service_by me queue None None = refl
 
-draw_of_by : (me : ℕ) (queue : List Ask) (service draw : Option ℕ) → service ≡ None → draw_of (picked_by me queue service draw) ≡ draw
+draw_of_by : (me : ℕ) (queue : List Ask) (service draw : Option ℕ) → service ≡ None → place_drawn (picked_by me queue service draw) ≡ draw
 draw_of_by me queue (Some k) draw e = absurd (cc)
 draw_of_by me queue None (Some k) e = refl
 draw_of_by me queue None None e = refl
@@ -93,9 +93,9 @@ draw_of_by me queue None None e = refl
 pub service_is : (me : ℕ) (s : SetState) (p : Pick) → p ≡ picked me s → service_of p ≡ next_service me s
 service_is me s p is = ap service_of is ∙ service_by me (queue_of s) (next_service me s) (next_draw me s)
 
-pub draw_is : (me : ℕ) (s : SetState) (p : Pick) → p ≡ picked me s → service_of p ≡ None → draw_of p ≡ next_draw me s
+pub draw_is : (me : ℕ) (s : SetState) (p : Pick) → p ≡ picked me s → service_of p ≡ None → place_drawn p ≡ next_draw me s
 draw_is me s p is none =
-    ap draw_of is ∙ draw_of_by me (queue_of s) (next_service me s) (next_draw me s) (sym (service_is me s p is) ∙ none)
+    ap place_drawn is ∙ draw_of_by me (queue_of s) (next_service me s) (next_draw me s) (sym (service_is me s p is) ∙ none)
 
 pub service_in_queue : (p : Pick) (n k : ℕ) → IsInQueue n p → service_of p ≡ Some k → k < n
 service_in_queue Nothing n k within e = absurd (cc)

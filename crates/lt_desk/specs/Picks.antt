@@ -25,11 +25,11 @@ service_of (Copy k) = Some k
 service_of (HandOver k) = None
 
 -- the place of the ask to whose node the desk is handed over
-abbrev pub draw_of : Pick → Option ℕ
-draw_of Nothing = None
-draw_of (Local k) = None
-draw_of (Copy k) = None
-draw_of (HandOver k) = Some k
+abbrev pub place_drawn : Pick → Option ℕ
+place_drawn Nothing = None
+place_drawn (Local k) = None
+place_drawn (Copy k) = None
+place_drawn (HandOver k) = Some k
 
 -- the first of the two that there is
 abbrev pub first_of : Option ℕ → Option ℕ → Option ℕ

@@ -3,8 +3,8 @@ ghost use Rattle.lt_modes.specs.Routing.{body_of};
 ghost use Rattle.lt_desk.specs.LetterSeen.{parked_seen, body_seen};
 
 use crate::letter::Body;
-use lt_asks::Pending;
 use lt_modes::{Ask, ModeSet, Stamp};
+use lt_table::Pending;
 
 /// What a node tells the desk: its held modes and its unanswered asks at a move.
 #[derive(Drop)]

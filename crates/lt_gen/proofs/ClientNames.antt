@@ -11,8 +11,8 @@ use Rattle.std.proofs.lemmas.Fmt.{length-decimal-le, decimal_injective}
 use Rattle.lt_modes.specs.Script.{ScriptData, ClientData}
 use Rattle.lt_text.specs.Number.{are_digits}
 use Rattle.lt_text.proofs.NumberLemmas.{decimal_are_digits}
-use Rattle.lt_script.specs.Names.{is_name, is_name_byte}
-use Rattle.lt_script.specs.Script.{is_declared}
+use Rattle.lt_spec.specs.Names.{is_name, is_name_byte}
+use Rattle.lt_spec.specs.Script.{is_declared}
 use Rattle.lt_script.proofs.NameLemmas.{found_never}
 use Rattle.lt_gen.specs.Generator.{drawn_client, client_at, clients_of, four_sets}
 

@@ -8,7 +8,7 @@ use Rattle.rand_pcg.specs.Lcg.{Lcg}
 use Rattle.lt_modes.specs.Script.{ScriptData, SetData, ClientData}
 use Rattle.lt_lists.proofs.AllLemmas.{all_append, all_map}
 use Rattle.lt_modes.specs.declared.command.Command.{Command}
-use Rattle.lt_script.specs.Script.{IsScript, IsRequest, HasModesOf}
+use Rattle.lt_spec.specs.Script.{IsScript, IsRequest, HasModesOf}
 use Rattle.lt_script.proofs.ScriptLemmas.{set_added, client_added}
 use Rattle.lt_gen.specs.Draws.{seeded}
 use Rattle.lt_gen.specs.Groups.{group_of, group_commands, requests_of}

@@ -12,7 +12,7 @@ use Rattle.lt_modes.specs.declared.mode.Mode.{Mode}
 use Rattle.lt_modes.specs.declared.mode.Mode.TheVariants as modes
 use Rattle.lt_modes.specs.declared.mode.TheConstants.{MODES}
 use Rattle.lt_modes.specs.FiveModes.{is_of_five, is_of_version}
-use Rattle.lt_script.specs.Script.{IsRequest, HasModesOf}
+use Rattle.lt_spec.specs.Script.{IsRequest, HasModesOf}
 use Rattle.lt_gen.specs.declared.group.Group.{Group}
 use Rattle.lt_gen.specs.declared.group.Group.TheVariants.{Last, Lock, Try, Upgrade, Change}
 use Rattle.lt_gen.specs.Draws.{draw_of}

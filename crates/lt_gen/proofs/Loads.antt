@@ -6,7 +6,7 @@ use Rattle.std.proofs.lemmas.Bool.{cases_eq, eq-eqb, ne_eqb}
 use Rattle.std.proofs.lemmas.List.{length_push}
 use Rattle.std.proofs.lemmas.List.Sums.{sum_by_push}
 use Rattle.lt_modes.specs.Script.{ClientData}
-use Rattle.lt_script.specs.Script.{load_of}
+use Rattle.lt_spec.specs.Script.{load_of}
 use Rattle.lt_gen.specs.Generator.{client_at, clients_of}
 
 pub clients_counted : (nodes n : ℕ) → length (clients_of nodes n) ≡ n

@@ -1,5 +1,5 @@
 ghost use Rattle.std.specs.Prelude.{◌≡◌, ℕ, Ok, IsTrue};
-ghost use Rattle.lt_script.specs.Script.{IsScript};
+ghost use Rattle.lt_spec.specs.Script.{IsScript};
 ghost use Rattle.lt_script.specs.Printing.{print_of};
 ghost use Rattle.lt_script.specs.Reading.{read_of};
 ghost use Rattle.lt_gen.specs.Sizes.{can_make};

@@ -1,6 +1,6 @@
 ghost use Rattle.std.specs.Prelude.{◌≡◌, ◌<◌, ◌≤◌, ◌*◌, ◌+◌, ◌++◌, ◌∷◌, [], map, length, All, IfOk, OnOk, IsTrue};
-ghost use Rattle.lt_script.specs.Script.{IsScript, IsRequest, HasModesOf};
-ghost use Rattle.lt_script.specs.declared.limits.TheConstants.{MAX_CLIENTS_OF_FIRST, MAX_CLIENTS_OF_NODE, MAX_COMMANDS};
+ghost use Rattle.lt_spec.specs.Script.{IsScript, IsRequest, HasModesOf};
+ghost use Rattle.lt_spec.specs.declared.limits.TheConstants.{MAX_CLIENTS_OF_FIRST, MAX_CLIENTS_OF_NODE, MAX_COMMANDS};
 ghost use Rattle.lt_gen.specs.Sizes.{can_make};
 ghost use Rattle.lt_gen.specs.Generator.{four_sets, drawn_client, clients_of, requests_in, script_of, HasSizes};
 

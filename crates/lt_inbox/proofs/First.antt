@@ -8,7 +8,7 @@ use Rattle.std.proofs.lemmas.List.{get_or_default}
 use Rattle.std.proofs.lemmas.List.Elements.{filter_map-append}
 use Rattle.lt_modes.specs.State.{Letter}
 use Rattle.lt_spec.specs.World.{is_some_letter}
-use Rattle.lt_inbox.specs.Mail.{SentData, IsFirst, goes, letter_between, letters_between}
+use Rattle.lt_inbox.specs.Mail.{SentData, IsOldest, goes, letter_between, letters_between}
 
 pub between_append : (a b : ℕ) (xs ys : List SentData) → letters_between a b (xs ++ ys) ≡ letters_between a b xs ++ letters_between a b ys
 between_append a b xs ys = filter_map-append (letter_between a b) xs ys
@@ -46,7 +46,7 @@ none_more p q sent k one below is miss none =
     ∙ (between_cons p q one [] ∙ ap (λ (t : Bool). with_letter t one.letter []) miss)))
 
 pub first_at : (p q : ℕ) (sent : List SentData) (k : ℕ) (one : SentData) → k < length sent → one ≡ slice_index_or sent k one → goes p q one ≡ true
-    → letters_between p q (take k sent) ≡ [] → IsFirst p q sent k
+    → letters_between p q (take k sent) ≡ [] → IsOldest p q sent k
 first_at p q sent k one below is hit none = record {
   below = below;
   first = λ it e.
@@ -80,7 +80,7 @@ first_at p q sent k one below is hit none = record {
         ∙ (between_cons p q one after ∙ ap (λ (t : Bool). with_letter t one.letter (letters_between p q after)) hit)))
 
 -- where a first one is found, there is one
-pub any_between : (p q : ℕ) (sent : List SentData) (place : Option ℕ) → IfSome place (IsFirst p q sent) → IfNone place (letters_between p q sent ≡ [])
+pub any_between : (p q : ℕ) (sent : List SentData) (place : Option ℕ) → IfSome place (IsOldest p q sent) → IfNone place (letters_between p q sent ≡ [])
     → is_some place ≡ is_some_letter (letters_between p q sent)
 any_between p q sent None found none = sym (ap is_some_letter none)
 any_between p q [] (Some k) found none = absurd (omega (arith, found.below))

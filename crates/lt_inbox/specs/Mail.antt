@@ -37,7 +37,7 @@ abbrev pub sent_of : ℕ → ℕ → Letter → SentData
 sent_of p q letter = record { sender = p; receiver = q; letter = letter }
 
 -- the place of the oldest letter from p to q
-pub record IsFirst (p q : ℕ) (sent : List SentData) (k : ℕ) : Type 0 where
+pub record IsOldest (p q : ℕ) (sent : List SentData) (k : ℕ) : Type 0 where
   pub below : k < length sent
   pub first : (one : SentData) → one ≡ slice_index_or sent k one → letters_between p q sent ≡ one.letter ∷ letters_between p q (remove sent k)
   pub others : (a b : ℕ) → (a ≡ p → b ≡ q → ⊥) → letters_between a b (remove sent k) ≡ letters_between a b sent

@@ -3,7 +3,7 @@ ghost use Rattle.lt_modes.specs.Made as rules;
 ghost use Rattle.lt_desk.specs.LetterSeen.{letter_seen};
 ghost use Rattle.lt_spec.specs.World.{is_some_letter};
 ghost use Rattle.lt_inbox.specs.Mail.{SameLetters, AreDelivered, IsTaken, senders_to, has_between, mail_in, sent_of, takes_in};
-ghost use Rattle.lt_inbox.specs.Takes.{turn_of};
+ghost use Rattle.lt_inbox.specs.Takes.{turn_of_take};
 
 use crate::inbox::Inbox;
 use crate::sent::{Sent, is_any_between, take_first};
@@ -127,7 +127,7 @@ impl Inboxes {
     /// The take at place `k`, by receiver and then by sender.
     #[tactic(auto, using(crate::proofs::TakeOrder::takes_marked))]
     pub fn take_at(&self, k: u32) -> Option<Take>
-        ensures { option_map turn_of result ≡ slice_get (takes_in self.now) k }
+        ensures { option_map turn_of_take result ≡ slice_get (takes_in self.now) k }
     {
         takes::at(&self.boxes, k)
     }

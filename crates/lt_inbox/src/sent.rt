@@ -2,7 +2,7 @@ ghost use Rattle.std.specs.Prelude.{◌≡◌, ◌<◌, ◌+◌, ℕ, [], ◌∷
 ghost use Rattle.std.specs.VecDeque.{deque_capacity};
 ghost use Rattle.lt_desk.specs.LetterSeen.{letter_seen};
 ghost use Rattle.lt_spec.specs.World.{is_some_letter};
-ghost use Rattle.lt_inbox.specs.Mail.{IsFirst, goes, letters_between, sent_of};
+ghost use Rattle.lt_inbox.specs.Mail.{IsOldest, goes, letters_between, sent_of};
 
 use lt_desk::Letter;
 use std::collections::VecDeque;
@@ -53,7 +53,7 @@ impl Sent {
 // The place of the oldest letter from the sender to the receiver.
 #[tactic(auto, using(crate::proofs::First::first_at, crate::proofs::First::none_more))]
 fn first_between(sent: &VecDeque<Sent>, sender: u8, receiver: u8) -> Option<usize>
-    ensures first { IfSome result (IsFirst sender receiver sent.now.items) }
+    ensures first { IfSome result (IsOldest sender receiver sent.now.items) }
     ensures none { IfNone result (letters_between sender receiver sent.now.items ≡ []) }
 {
     for place in 0..sent.len() {

@@ -1,6 +1,6 @@
 ghost use Rattle.std.specs.Prelude.{◌≡◌, ◌<◌, ◌^◌, length, slice_get, option_map};
 ghost use Rattle.lt_inbox.specs.Mail.{takes_by, takes_of};
-ghost use Rattle.lt_inbox.specs.Takes.{turn_of};
+ghost use Rattle.lt_inbox.specs.Takes.{turn_of_take};
 
 use crate::inbox::Inbox;
 
@@ -29,7 +29,7 @@ pub(crate) fn count(inboxes: &[Inbox]) -> u32
 #[tactic(auto, using(crate::proofs::TakeOrder::take_here, crate::proofs::TakeOrder::take_later))]
 pub(crate) fn at(inboxes: &[Inbox], k: u32) -> Option<Take>
     requires { length inboxes.now < 2 ^ 8 }
-    ensures { option_map turn_of result ≡ slice_get (takes_by inboxes.now) k }
+    ensures { option_map turn_of_take result ≡ slice_get (takes_by inboxes.now) k }
 {
     let mut left = k;
     for receiver in 0..inboxes.len() {
@@ -45,7 +45,7 @@ pub(crate) fn at(inboxes: &[Inbox], k: u32) -> Option<Take>
 
 // The take at place `k` of this receiver.
 fn take_from(inbox: &Inbox, receiver: u8, k: u32) -> Option<Take>
-    ensures { option_map turn_of result ≡ slice_get (takes_of receiver inbox.now) k }
+    ensures { option_map turn_of_take result ≡ slice_get (takes_of receiver inbox.now) k }
 {
     let sender = inbox.sender(k)?;
     Some(Take { receiver, sender })

@@ -5,7 +5,7 @@ use Rattle.lt_modes.specs.declared.moves.Move.{Move}
 use Rattle.lt_modes.specs.Script.{ScriptData, set_name, client_name}
 use Rattle.lt_spec.specs.Log.{Logged}
 use Rattle.lt_spec.specs.Holdings.{holdings, lines_of}
-use Rattle.lt_script.specs.Script.{set_number, client_number}
+use Rattle.lt_spec.specs.Script.{set_number, client_number}
 use Rattle.lt_journal.specs.LineFits.{IsNumber, HasNode, FitsStep, FitsEvent, FitsCut}
 
 -- no space, line feed or carriage return

@@ -12,11 +12,11 @@ use Rattle.lt_modes.specs.Modes.{Modes, no_modes, with_mode, word_of, mode_of, m
 use Rattle.lt_modes.specs.Script.{ScriptData, set_name, client_name}
 use Rattle.lt_journal.specs.Words.{step_words, words_of_modes}
 use Rattle.lt_text.specs.Number.{exact_number}
-use Rattle.lt_script.specs.Script.{set_number, client_number}
+use Rattle.lt_spec.specs.Script.{set_number, client_number}
 use Rattle.lt_journal.specs.declared.line.Line.{Line}
 use Rattle.lt_journal.specs.declared.line.Line.TheVariants.{Version, Waiting, Bad}
 use Rattle.lt_spec.specs.Holdings.{Holding}
-use Rattle.lt_journal.specs.Grammar.{line_of, read_line, line_of_two, line_of_four, line_of_five, line_of_many, line_of_freeze, lock_line, lock_and_line, node_of, step_of, lock_of, lock_by, bool_of, modes_of, with_words, says_none, end_line, version_line, cut_line, busy_line, token_line, owner_line, move_line, drop_line, copy_line, try_line, change_line, held_line, freeze_line}
+use Rattle.lt_journal.specs.Grammar.{line_of, read_line, line_of_two, line_of_four, line_of_five, line_of_many, line_of_freeze, lock_line, lock_and_line, node_of, step_said, lock_of, lock_by, bool_of, modes_of, with_words, says_none, end_line, version_line, cut_line, busy_line, token_line, owner_line, move_line, drop_line, copy_line, try_line, change_line, held_line, freeze_line}
 use Rattle.lt_journal.specs.Text.{IsAsWritten}
 use Rattle.lt_journal.proofs.Spelled.{has_words, Both, both}
 use Rattle.lt_text.specs.Text.{fields, spaced}
@@ -163,7 +163,7 @@ four_found script word a b c =
     owner (Some x) (Some y) (Some z) e f g h = inr (rw (e, set_found script a x f, node_found script b y g, number_found c z h))
     owner x y z e f g h = inl refl
 
-step_found : (script : ScriptData) (verb word : List ℕ) (step : Step) → step_of script verb word ≡ Some step → step_words script step ≡ verb ∷ word ∷ []
+step_found : (script : ScriptData) (verb word : List ℕ) (step : Step) → step_said script verb word ≡ Some step → step_words script step ≡ verb ∷ word ∷ []
 step_found script verb word step e = elim (cases_Bool (bytes_eq verb (codes "act"))) [
   | inl same ↦ act (client_number script word) (same_word verb (codes "act") same) refl (let h = rw same at e in h)
   | inr other ↦ elim (cases_Bool (bytes_eq verb (codes "take"))) [
@@ -211,7 +211,7 @@ lock_and_found script word a b c d (Some lock) e =
 
 five_found : (script : ScriptData) (word a b c d : List ℕ) → IsSpelled script (word ∷ a ∷ b ∷ c ∷ d ∷ []) (line_of_five script word a b c d)
 five_found script word a b c d =
-    by_word P word (codes "move") _ _ (λ e. move (exact_number a) (node_of script b) (step_of script c d) e refl refl refl)
+    by_word P word (codes "move") _ _ (λ e. move (exact_number a) (node_of script b) (step_said script c d) e refl refl refl)
     (by_word P word (codes "drop") _ _ (λ e. drops (client_number script a) (client_number script b) (set_number script c) (exact_number d) e refl refl refl refl)
     (by_word P word (codes "copy") _ _ (λ e. copy (set_number script a) (node_of script b) (client_number script c) (mode_of d) e refl refl refl refl)
     (lock_and_found script word a b c d (lock_of script a b c) refl)))
@@ -219,7 +219,7 @@ five_found script word a b c d =
     P : Line → Type 0
     P x = IsSpelled script (word ∷ a ∷ b ∷ c ∷ d ∷ []) x
 
-    move : (x y : Option ℕ) (z : Option Step) → word ≡ codes "move" → exact_number a ≡ x → node_of script b ≡ y → step_of script c d ≡ z → P (move_line x y z)
+    move : (x y : Option ℕ) (z : Option Step) → word ≡ codes "move" → exact_number a ≡ x → node_of script b ≡ y → step_said script c d ≡ z → P (move_line x y z)
     move (Some x) (Some y) (Some z) e f g h = inr (rw (e, number_found a x f, node_found script b y g, step_found script c d z h))
     move x y z e f g h = inl refl
 

@@ -14,7 +14,7 @@ use Rattle.lt_modes.specs.Script.{ScriptData, SetData, ClientData, set_name, cli
 use Rattle.lt_journal.specs.Words.{word_of_bool, line_words}
 use Rattle.lt_text.specs.Number.{exact_number, is_numeral, has_leading_zero, are_digits}
 use Rattle.lt_text.proofs.NumberLemmas.{decimal_value}
-use Rattle.lt_script.specs.Script.{set_number, client_number}
+use Rattle.lt_spec.specs.Script.{set_number, client_number}
 use Rattle.lt_journal.specs.declared.line.Line.{Line}
 use Rattle.lt_journal.specs.declared.line.Line.TheVariants.{Bad}
 use Rattle.lt_journal.specs.Grammar.{node_of, below, bool_of}

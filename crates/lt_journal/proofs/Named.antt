@@ -3,8 +3,8 @@ use Rattle.std.proofs.Common.{◌≡◌, ℕ, true, List, [], ◌∷◌, refl, s
 use Rattle.std.specs.List.{list_all}
 use Rattle.std.proofs.lemmas.Bool.{and_parts, ne_eqb}
 use Rattle.lt_modes.specs.Script.{ScriptData, set_name, client_name}
-use Rattle.lt_script.specs.Names.{is_name, is_name_byte}
-use Rattle.lt_script.specs.Script.{IsScript}
+use Rattle.lt_spec.specs.Names.{is_name, is_name_byte}
+use Rattle.lt_spec.specs.Script.{IsScript}
 use Rattle.lt_journal.proofs.Conditions.{is_plain_byte, is_plain, IsNamed, FewNodes}
 
 no_name_byte : {A : Type 0} (byte other : ℕ) → is_name_byte byte ≡ true → byte ≡ other → (is_name_byte other ≡ true → A) → A

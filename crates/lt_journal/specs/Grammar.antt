@@ -8,7 +8,7 @@ use Rattle.lt_modes.specs.declared.moves.Step.TheVariants.{Act, Take}
 use Rattle.lt_modes.specs.declared.event.Event.TheVariants.{Grant, Wait, Try, Unlock, NotHeld, Change, DropAll, Busy, Copy, Freeze, Token}
 use Rattle.lt_modes.specs.Modes.{Modes, no_modes, with_mode, word_of, mode_of, modes_in_order}
 use Rattle.lt_modes.specs.Script.{ScriptData}
-use Rattle.lt_script.specs.Script.{set_number, client_number}
+use Rattle.lt_spec.specs.Script.{set_number, client_number}
 use Rattle.lt_text.specs.Text.{lines, fields}
 use Rattle.lt_text.specs.Number.{exact_number}
 use denote.Ref.{Bor}
@@ -26,8 +26,8 @@ abbrev pub node_of : ScriptData → List ℕ → Option ℕ
 node_of script word = below script.nodes (exact_number word)
 
 -- what a move does: `act CLIENT` or `take FROM`
-abbrev pub step_of : ScriptData → List ℕ → List ℕ → Option Step
-step_of script verb word =
+abbrev pub step_said : ScriptData → List ℕ → List ℕ → Option Step
+step_said script verb word =
     if bytes_eq verb (codes "act") then option_map Act (client_number script word)
     else if bytes_eq verb (codes "take") then option_map Take (node_of script word)
     else None
@@ -171,7 +171,7 @@ lock_and_line word (Some lock) d =
 -- a line of five words, but for a `freeze`: `move`, `drop`, `copy`, or a word, a lock and a last word
 abbrev pub line_of_five : ScriptData → List ℕ → List ℕ → List ℕ → List ℕ → List ℕ → Line
 line_of_five script word a b c d =
-    if bytes_eq word (codes "move") then move_line (exact_number a) (node_of script b) (step_of script c d)
+    if bytes_eq word (codes "move") then move_line (exact_number a) (node_of script b) (step_said script c d)
     else if bytes_eq word (codes "drop") then drop_line (client_number script a) (client_number script b) (set_number script c) (exact_number d)
     else if bytes_eq word (codes "copy") then line_of_copy script a b c d
     else lock_and_line word (lock_of script a b c) d

@@ -2,7 +2,7 @@ ghost use Rattle.std.specs.Prelude.{◌≡◌, List, ◌∷◌};
 ghost use Rattle.lt_modes.specs.declared.mode.Mode.{Mode as AnyMode};
 ghost use Rattle.lt_modes.specs.Modes.{no_modes, modes_in_order};
 ghost use Rattle.lt_text.specs.Text.{fields};
-ghost use Rattle.lt_journal.specs.Grammar.{node_of, step_of, lock_of, bool_of, says_none, modes_of, with_words, words_left};
+ghost use Rattle.lt_journal.specs.Grammar.{node_of, step_said, lock_of, bool_of, says_none, modes_of, with_words, words_left};
 
 use lt_modes::{MODES, Mode, ModeSet, Step};
 use lt_script::Script;
@@ -23,7 +23,7 @@ pub(crate) fn node(script: &Script, word: &[u8]) -> Option<u8>
 
 /// What a move does: `act CLIENT` or `take FROM`.
 pub(crate) fn step(script: &Script, verb: &[u8], word: &[u8]) -> Option<Step>
-    ensures { result ≡ step_of script.now verb.now word.now }
+    ensures { result ≡ step_said script.now verb.now word.now }
 {
     if is(verb, "act") {
         script.client_number(word).map(Step::Act)

@@ -13,7 +13,8 @@ use Rattle.lt_modes.specs.Tells.{is_newer, is_open, left_owed, told}
 use Rattle.lt_law_accounts.specs.Account.{Account, AccountKept, AsksKnown, Covers, IsBelow, IsFreshTell, left_after, now_modes, own_of}
 use Rattle.lt_law_accounts.specs.AccountSteps.{IsLoss, MayApply}
 use Rattle.lt_law_accounts.specs.AccountLaws.{Applies, CountsLess}
-use Rattle.lt_law_accounts.proofs.AccountFacts.{owed_mode-which, owed_mode-at, still_owed-which, still_owed-at, left_owed-which, left_owed-at, newer_in_turn, newer_one_way, open-cases, open_later}
+use Rattle.lt_law_accounts.proofs.AccountFacts.{owed_mode-which, owed_mode-at, still_owed-which, still_owed-at, left_owed-which, left_owed-at, open-cases, open_later}
+use Rattle.lt_modes.proofs.StampOrder.{newer_in_turn, newer_one_way}
 use Rattle.lt_law_accounts.proofs.AccountAsks.{union_members}
 
 -- the entry after a newer tell

@@ -16,7 +16,8 @@ use Rattle.lt_law_accounts.specs.Account.{Account, IsBelow, own_of}
 use Rattle.lt_law_accounts.specs.AccountSteps.{asking}
 use Rattle.lt_law_accounts.specs.AccountLaws.{Ticks, Ages, Asks, Rests, Freezes, Reorders}
 use Rattle.lt_law_accounts.proofs.ModeMembers.{has-union, has-left, has-right}
-use Rattle.lt_law_accounts.proofs.AccountFacts.{still_owed-which, still_owed-at, below_by_members, held_below_charge, no_later_at_all, before_in_move, newer_by_clock, open_later, now_with}
+use Rattle.lt_law_accounts.proofs.AccountFacts.{still_owed-which, still_owed-at, below_by_members, held_below_charge, no_later_at_all, before_in_move, open_later, now_with}
+use Rattle.lt_modes.proofs.StampOrder.{newer_by_clock}
 
 later_still : (moving : Bool) (old new k : ℕ) → old < new → IsNoLater moving old k → k < new
 later_still moving old new k l h = omega (arith, no_later_at_all moving old k h, l)

@@ -17,7 +17,8 @@ use Rattle.lt_law_accounts.specs.AccountFacts.{OwedAreOnWay, OnWayAreOwed, TellK
 use Rattle.lt_modes.proofs.EachMode.{none_in_none}
 use Rattle.lt_law_accounts.proofs.ModeMembers.{has-with_mode}
 use Rattle.lt_law_accounts.proofs.FirstAccount.{empty_is_kept}
-use Rattle.lt_law_accounts.proofs.AccountFacts.{waiting_is_copy, copy_is_waiting, asks_which, asks_at, left_owed-at, held_below_now, newer_in_turn, open-cases, open_later}
+use Rattle.lt_law_accounts.proofs.AccountFacts.{waiting_is_copy, copy_is_waiting, asks_which, asks_at, left_owed-at, held_below_now, open-cases, open_later}
+use Rattle.lt_modes.proofs.StampOrder.{newer_in_turn}
 use Rattle.lt_law_accounts.proofs.AccountAsks.{ticks_kept, asks_kept, rests_kept, freezes_kept, reorders_kept}
 use Rattle.lt_law_accounts.proofs.Rows.{held-at}
 use Rattle.lt_law_accounts.proofs.AccountGrants.{grants_kept, unlocks_kept, drops_kept}

@@ -17,7 +17,8 @@ use Rattle.lt_law_accounts.specs.Account.{Account, AccountKept, IsBelow, now_mod
 use Rattle.lt_law_accounts.specs.AccountLaws.{Settles, Arrives, HoldClear}
 use Rattle.lt_law_accounts.proofs.ModeMembers.{has-union, has-left, has-right}
 use Rattle.lt_lists.proofs.Members.{contains_filter, contains_filtered, contains_map}
-use Rattle.lt_law_accounts.proofs.AccountFacts.{unanswered-which, unanswered-at, still_owed-which, owed_mode-at, waiting_is_copy, copy_is_waiting, below_by_members, held_below_record, no_later_at_all, before_in_move, newer_not_before, open_listed, asks_which, asks_at}
+use Rattle.lt_law_accounts.proofs.AccountFacts.{unanswered-which, unanswered-at, still_owed-which, owed_mode-at, waiting_is_copy, copy_is_waiting, below_by_members, held_below_record, no_later_at_all, before_in_move, open_listed, asks_which, asks_at}
+use Rattle.lt_modes.proofs.StampOrder.{newer_not_before}
 
 pub settles_kept : Settles
 settles_kept a stamp h may = (

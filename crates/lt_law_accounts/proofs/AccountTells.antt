@@ -19,7 +19,8 @@ use Rattle.lt_law_accounts.specs.AccountSteps.{MayApply, tell_by}
 use Rattle.lt_law_accounts.specs.AccountLaws.{AppliesStale, TellsKeep}
 use Rattle.lt_law_accounts.proofs.ModeMembers.{has-union, has-left, has-right}
 use Rattle.lt_lists.proofs.Members.{contains_map, contains_mapped}
-use Rattle.lt_law_accounts.proofs.AccountFacts.{owed_mode-which, owed_mode-at, left_owed-which, left_owed-at, below_by_members, held_below_charge, no_later_at_all, before_in_move, newer_by_clock, newer_not_before, open-cases, open_listed, not_after_itself, asks_which, asks_at}
+use Rattle.lt_law_accounts.proofs.AccountFacts.{owed_mode-which, owed_mode-at, left_owed-which, left_owed-at, below_by_members, held_below_charge, no_later_at_all, before_in_move, open-cases, open_listed, asks_which, asks_at}
+use Rattle.lt_modes.proofs.StampOrder.{newer_by_clock, newer_not_before, not_after_itself}
 
 stale : (a : Account) (tell : Tell) (tells : List Tell) → AccountKept a → MayApply tell tells a → IsFalse (is_newer tell.stamp a.entry.told_at)
     → AccountKept (record a { tells = tells })

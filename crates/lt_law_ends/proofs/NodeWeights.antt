@@ -24,7 +24,7 @@ use Rattle.lt_lists.proofs.Sums.{sum_below-same, sum_below-change}
 use Rattle.lt_spec.specs.Families.{commands_of, home, family, related}
 use Rattle.lt_spec.specs.NodeMove.{NodeState, NodeMade, node_waits, has_command, next_command, touched, each_touched, drop_all, obey, act_stamp, take_stamp, at_clock, one_made, node_act, node_take}
 use Rattle.lt_spec.specs.World.{World, made_by, is_waiting, is_runnable, is_enabled, opened, put_mail, sent, after_made, after}
-use Rattle.lt_model.specs.Homes.{IsWhole, HasTargetsAt}
+use Rattle.lt_spec.specs.WholeScripts.{IsWhole, HasTargetsAt}
 use Rattle.lt_model.specs.Paths.{IsTrueLink, KnowsLater, HasWay, BodyOnPath, Paths}
 use Rattle.lt_model.specs.PathEffects.{posts_weight}
 use Rattle.lt_model.proofs.Letters.{mail_weight, IsCounted, mail_weight-sent, mail_weight-taken}

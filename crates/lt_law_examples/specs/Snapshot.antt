@@ -24,7 +24,7 @@ pub record NodeSnapshot : Type 0 where
   pub sets : List SetState
 
 -- letters on their way from one node to another, the oldest first
-pub record MailData : Type 0 where
+pub record SnapshotMail : Type 0 where
   pub sender : ℕ
   pub receiver : ℕ
   pub letters : List Letter
@@ -36,7 +36,7 @@ pub record Snapshot : Type 0 where
   pub row : Worked
   pub moves : ℕ
   pub nodes : List NodeSnapshot
-  pub mail : List MailData
+  pub mail : List SnapshotMail
   pub went : List (List ℕ)
   pub turns : List Turn
   pub waiting : List ℕ
@@ -124,7 +124,7 @@ node_data script node = record {
 }
 
 -- the letters that are listed from p to q
-abbrev pub listed_mail : List MailData → ℕ → ℕ → List Letter
+abbrev pub listed_mail : List SnapshotMail → ℕ → ℕ → List Letter
 listed_mail [] p q = []
 listed_mail (m ∷ rest) p q = if m.sender == p && m.receiver == q then m.letters else listed_mail rest p q
 

@@ -23,7 +23,7 @@ use Rattle.lt_model.specs.Standing.{IsMadeBy}
 use Rattle.lt_model.proofs.Effects.{Fact, HoldsOf, ActEffects, quiet_made, both}
 use Rattle.lt_model.proofs.StandingEffects.{standing_acts, asks-stands}
 use Rattle.lt_model.proofs.StandingParts.{Stands, stands}
-use Rattle.lt_law_ledgers.proofs.OwnSteps.{route_same}
+use Rattle.lt_law_invariant.proofs.OwnSteps.{route_same}
 use Rattle.lt_law_accounts.proofs.RowTotals.{row_count, total, total_taken, total_dropped}
 use Rattle.lt_law_invariant.proofs.ClientCounts.{each_some, some_taken, some_dropped, locks_added, locks_fewer, locks_dropped, asks_pushed}
 use Rattle.lt_lists.proofs.Sums.{counted_some}

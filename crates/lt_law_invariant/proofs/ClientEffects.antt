@@ -22,7 +22,7 @@ use Rattle.lt_model.proofs.Effects.{Fact, EndEffects, next_service-within, both}
 use Rattle.lt_law_accounts.proofs.Unanswered.{without_only, without_gone}
 use Rattle.lt_model.proofs.StandingEffects.{standing_ends, found_here}
 use Rattle.lt_model.proofs.StandingParts.{Stands, stands}
-use Rattle.lt_law_ledgers.proofs.OwnSteps.{route_same}
+use Rattle.lt_law_invariant.proofs.OwnSteps.{route_same}
 use Rattle.lt_lists.proofs.Sums.{counted_twice}
 use Rattle.lt_law_accounts.proofs.RowTotals.{total, total_added, total_taken}
 use Rattle.lt_law_invariant.proofs.ClientCounts.{SomeEach, each_some, some_added, some_taken, locks_added, locks_taken, asks_without}

@@ -17,7 +17,7 @@ use Rattle.lt_modes.specs.Telling.{finish}
 use Rattle.lt_modes.specs.SetMove.{locked, tried, unlocked, changed, dropped, lock, try, unlock, change, drop}
 use Rattle.lt_lists.specs.Below.{put}
 use Rattle.lt_spec.specs.Families.{related}
-use Rattle.lt_model.specs.Homes.{IsWhole, HasTargetsAt}
+use Rattle.lt_spec.specs.WholeScripts.{IsWhole, HasTargetsAt}
 use Rattle.lt_spec.specs.NodeMove.{NodeState, node_waits, act_stamp, at_clock, one_made, touched, drop_all, obey}
 use Rattle.lt_model.specs.SoundNode.{unanswered_asks, new_asks_of, locks_in_all, ClientsKept}
 use Rattle.lt_spec.specs.World.{World}

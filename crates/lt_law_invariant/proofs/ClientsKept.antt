@@ -24,7 +24,7 @@ use Rattle.lt_modes.specs.Telling.{finish}
 use Rattle.lt_lists.specs.Below.{put}
 use Rattle.lt_spec.specs.Families.{home, related}
 use Rattle.lt_model.specs.Standing.{AsksStand}
-use Rattle.lt_model.specs.Homes.{IsWhole}
+use Rattle.lt_spec.specs.WholeScripts.{IsWhole}
 use Rattle.lt_model.specs.Invariant.{WorldInvariant}
 use Rattle.lt_spec.specs.NodeMove.{NodeState, node_waits, next_command, act_stamp, take_stamp, at_clock, one_made, node_take, touched, each_touched, drop_all, obey}
 use Rattle.lt_modes.specs.Fits.{numbers_of}
@@ -40,7 +40,7 @@ use Rattle.lt_model.proofs.StandingParts.{stands}
 use Rattle.lt_model.proofs.StandingBegins.{stands_arrived, elsewhere, unanswered, only_here}
 use Rattle.lt_model.proofs.TokenComes.{desk_somewhere}
 use Rattle.lt_model.proofs.Gathered.{copies_are_on_way}
-use Rattle.lt_law_ledgers.proofs.OwnSteps.{route_same}
+use Rattle.lt_law_invariant.proofs.OwnSteps.{route_same}
 use Rattle.lt_model.proofs.KeptSets.{kept_stands}
 use Rattle.lt_law_invariant.proofs.ClientEffects.{GivenBy, Clients, clients, clients_ends, answers_kept, same_clients}
 use Rattle.lt_law_invariant.proofs.ClientCommands.{count_within, one_for}

@@ -10,12 +10,13 @@ use Rattle.lt_modes.specs.Script.{ScriptData}
 use Rattle.lt_modes.specs.State.{SetState, Desk, Body, AskBody, TellBody, CopyBody, TokenBody, FreezeBody, Letter}
 use Rattle.lt_modes.specs.Queue.{same_ask, times_in}
 use Rattle.lt_modes.specs.Fits.{is_at_home, parked_asks, asks_here, has_client, is_known, are_apart, queue_fits, body_fits, numbers_of}
-use Rattle.lt_model.specs.Homes.{IsWhole, IsAskAtHome, IsLetterAtHome, IsBodyAtHome}
+use Rattle.lt_model.specs.Homes.{IsAskAtHome, IsLetterAtHome, IsBodyAtHome}
+use Rattle.lt_spec.specs.WholeScripts.{IsWhole}
 use Rattle.lt_spec.specs.World.{World}
 use Rattle.lt_spec.specs.Facts.{state_at, places_in_state, places_in_body, place_count}
 use Rattle.lt_lists.specs.Below.{one_if}
 use Rattle.lt_model.specs.Moments.{Between}
-use Rattle.lt_model.specs.OnWay.{OnWay}
+use Rattle.lt_spec.specs.Desks.{OnWay}
 use Rattle.lt_model.specs.Paths.{LetterOnPath, BodyOnPath}
 use Rattle.lt_model.specs.Invariant.{BodyKept, LetterKept, SetKept, WorldInvariant}
 use Rattle.lt_law_accounts.proofs.Asks.{times_in-some, same_ask-itself}

@@ -16,14 +16,15 @@ use Rattle.lt_modes.specs.Made.{Post}
 use Rattle.lt_modes.specs.Queue.{same_ask}
 use Rattle.lt_modes.specs.Serving.{queue_of}
 use Rattle.lt_modes.specs.Sound.{SoundRow, SoundPending, SoundParked}
-use Rattle.lt_model.specs.Homes.{IsWhole, IsRowAtHome, IsAskAtHome, IsAskOf, IsParkedAtHome, IsBodyAtHome, IsStateAtHome, IsLetterAtHome}
+use Rattle.lt_model.specs.Homes.{IsRowAtHome, IsAskAtHome, IsAskOf, IsParkedAtHome, IsBodyAtHome, IsStateAtHome, IsLetterAtHome}
+use Rattle.lt_spec.specs.WholeScripts.{IsWhole}
 use Rattle.lt_lists.specs.Below.{one_if}
 use Rattle.lt_spec.specs.NodeMove.{NodeState, NodeMade, next_command, node_act, node_take}
 use Rattle.lt_spec.specs.World.{World, is_enabled, is_some_letter, opened, take_front, node_move, after}
 use Rattle.lt_spec.specs.Facts.{state_at, times_parked, places_in_state, places_in_body, place_count}
 use Rattle.lt_modes.specs.Fits.{numbers_of}
 use Rattle.lt_model.specs.Moments.{Between}
-use Rattle.lt_model.specs.OnWay.{OnWay}
+use Rattle.lt_spec.specs.Desks.{OnWay}
 use Rattle.lt_model.specs.Invariant.{BodyKept, SetKept, WorldInvariant}
 use Rattle.lt_law_accounts.proofs.Asks.{times_in-some, same_ask-itself}
 use Rattle.lt_model.proofs.HomesSound.{home_among}

@@ -5,8 +5,8 @@ use Rattle.lt_modes.specs.State.{Letter}
 use Rattle.lt_spec.specs.World.{World, node_move, after}
 use Rattle.lt_lists.specs.Below.{put}
 use Rattle.lt_model.specs.Timed.{Timed}
-use Rattle.lt_law_ledgers.specs.LedgerLaws.{LedgersKept}
-use Rattle.lt_law_ledgers.proofs.EachMove.{moves_keep_ledgers}
+use Rattle.lt_law_invariant.specs.LedgerLaws.{LedgersKept}
+use Rattle.lt_law_invariant.proofs.EachMove.{moves_keep_ledgers}
 use Rattle.lt_model.proofs.KeptSets.{kept_stands, kept_timed}
 use Rattle.lt_lists.proofs.Members.{all_of, nothing_in}
 use Rattle.lt_model.proofs.NodeMoves.{after_node}

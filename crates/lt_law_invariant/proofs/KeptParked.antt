@@ -15,18 +15,18 @@ use Rattle.lt_spec.specs.NodeMove.{NodeState, take_stamp}
 use Rattle.lt_spec.specs.World.{World, is_enabled, put_mail, node_move, opened, take_front, after}
 use Rattle.lt_spec.specs.Facts.{state_at}
 use Rattle.lt_model.specs.Moments.{Between}
-use Rattle.lt_model.specs.OnWay.{Comes, DeskIs}
+use Rattle.lt_spec.specs.Desks.{Comes, DeskIs}
 use Rattle.lt_model.specs.Paths.{Paths, DeskOnPath, BodyOnPath}
-use Rattle.lt_model.specs.Homes.{IsWhole}
+use Rattle.lt_spec.specs.WholeScripts.{IsWhole}
 use Rattle.lt_model.specs.Invariant.{IsParkedFor, SetKept}
 use Rattle.lt_model.proofs.Letters.{still_on_way}
 use Rattle.lt_lists.proofs.Members.{contains_cases}
 use Rattle.lt_lists.proofs.Puts.{put-same}
 use Rattle.lt_model.proofs.TokenComes.{desk_somewhere, token_comes}
-use Rattle.lt_law_ledgers.specs.HeldUp.{IsHeldUp, HeldUp}
-use Rattle.lt_law_ledgers.proofs.HeldUps.{none_held}
-use Rattle.lt_law_ledgers.proofs.HeldUpMoves.{other_state, moves_hold_up, taken_held}
-use Rattle.lt_law_ledgers.proofs.OneDesk.{one_desk}
+use Rattle.lt_law_invariant.specs.HeldUp.{IsHeldUp, HeldUp}
+use Rattle.lt_law_invariant.proofs.HeldUps.{none_held}
+use Rattle.lt_law_invariant.proofs.HeldUpMoves.{other_state, moves_hold_up, taken_held}
+use Rattle.lt_law_invariant.proofs.OneDesk.{one_desk}
 
 -- the token is on its way to x
 abbrev pub TokenTo : ScriptData → World → ℕ → ℕ → Type 0

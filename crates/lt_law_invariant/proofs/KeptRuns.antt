@@ -3,15 +3,15 @@ use Rattle.std.proofs.Common.{ℕ, zero, suc, List, [], ◌∷◌, arith, take}
 use Rattle.lt_modes.specs.Script.{ScriptData}
 use Rattle.lt_spec.specs.Log.{Logged}
 use Rattle.lt_spec.specs.World.{World, start, after, after_run, world_after, IsRunFrom}
-use Rattle.lt_model.specs.Homes.{IsWhole}
+use Rattle.lt_spec.specs.WholeScripts.{IsWhole}
 use Rattle.lt_model.specs.Invariant.{WorldInvariant}
 use Rattle.lt_model.proofs.ClocksGrow.{clocks_in_runs}
 use Rattle.lt_model.proofs.StartKept.{start_kept}
-use Rattle.lt_law_rest.proofs.FirstWaiter.{first_waiter_conflicts}
-use Rattle.lt_law_rest.proofs.LedAtRest.{asks_are_led}
-use Rattle.lt_law_rest.proofs.FrozenAtRest.{holders_are_frozen}
+use Rattle.lt_law_invariant.proofs.FirstWaiter.{first_waiter_conflicts}
+use Rattle.lt_law_invariant.proofs.LedAtRest.{asks_are_led}
+use Rattle.lt_law_invariant.proofs.FrozenAtRest.{holders_are_frozen}
 use Rattle.lt_law_invariant.specs.RunLaws.{KeptInRuns, LocksNeverConflict, LettersFitInRuns, FirstWaiterInRuns, LedInRuns, FrozenInRuns}
-use Rattle.lt_law_ledgers.proofs.EachMove.{locks_agree}
+use Rattle.lt_law_invariant.proofs.EachMove.{locks_agree}
 use Rattle.lt_law_invariant.proofs.KeptMoves.{kept_stays}
 use Rattle.lt_law_invariant.proofs.FittingLetters.{letters_fit}
 

@@ -24,14 +24,14 @@ use Rattle.lt_spec.specs.Families.{related}
 use Rattle.lt_spec.specs.NodeMove.{NodeState, node_waits, next_command, act_stamp, take_stamp, at_clock, one_made, touched, each_touched, drop_all, obey}
 use Rattle.lt_spec.specs.World.{World, is_enabled, take_front, node_move, after}
 use Rattle.lt_spec.specs.Facts.{state_at}
-use Rattle.lt_model.specs.Homes.{IsWhole}
+use Rattle.lt_spec.specs.WholeScripts.{IsWhole}
 use Rattle.lt_model.specs.Invariant.{WorldInvariant}
 use Rattle.lt_model.proofs.PathsMove.{has_mail_parts}
 use Rattle.lt_law_invariant.proofs.ScriptSets.{clipped, act_alike, take_alike}
 use Rattle.std.proofs.lemmas.List.Elements.{All-contains}
 use Rattle.lt_lists.proofs.Puts.{put-same, put-other}
 use Rattle.lt_model.proofs.RuleEffects.{Between, EndRules, ActRules, finish_rule, command_rules, take_rule}
-use Rattle.lt_law_ledgers.proofs.OwnSteps.{route_same}
+use Rattle.lt_law_invariant.proofs.OwnSteps.{route_same}
 use Rattle.lt_model.proofs.NodeMoves.{after_node}
 use Rattle.lt_law_invariant.proofs.RowsApart.{Single, single_added, single_taken, single_dropped, single_answered, single_of, rows_apart}
 

@@ -13,7 +13,7 @@ use Rattle.lt_modes.specs.Serving.{waits}
 use Rattle.lt_modes.specs.Telling.{finish}
 use Rattle.lt_modes.specs.SetMove.{lock, try, unlock, change, drop, take}
 use Rattle.lt_spec.specs.Families.{related}
-use Rattle.lt_model.specs.Homes.{IsWhole, HasTargetsAt}
+use Rattle.lt_spec.specs.WholeScripts.{IsWhole, HasTargetsAt}
 use Rattle.lt_spec.specs.NodeMove.{NodeState, NodeMade, node_waits, next_command, act_stamp, take_stamp, at_clock, one_made, touched, each_touched, drop_all, obey, node_act, node_take}
 use Rattle.lt_lists.proofs.Searches.{any_below_same}
 use Rattle.lt_model.proofs.HomesMove.{related_below, next_targets}

@@ -30,9 +30,9 @@ use Rattle.lt_law_accounts.proofs.ModeMembers.{has-kept, has-added, has-right}
 use Rattle.lt_spec.specs.Families.{related}
 use Rattle.lt_spec.specs.NodeMove.{NodeState, node_waits, next_command, act_stamp, take_stamp, at_clock, one_made, touched, each_touched, drop_all, obey}
 use Rattle.lt_spec.specs.World.{World, front_stamp, move_stamp, opened, take_front, node_move, after, world_after}
-use Rattle.lt_model.specs.Touches.{sets_of_step, sets_of_command, sets_of_front}
+use Rattle.lt_spec.specs.Touches.{sets_of_step, sets_of_command, sets_of_front}
 use Rattle.lt_model.proofs.NodeEffects.{IsOnce, once_or_aside}
-use Rattle.lt_law_invariant.specs.Services.{services_up_to, services_then, lines_of_services, made_by_command, made_by_front, before_end, IsInTurn, ServesInTurn, LinesOfServices, ServedInTurn}
+use Rattle.lt_spec.specs.Services.{services_up_to, services_then, lines_of_services, made_by_command, made_by_front, before_end, IsInTurn, ServesInTurn, LinesOfServices, ServedInTurn}
 
 not_false : (t : Bool) → not t ≡ true → t ≡ false
 not_false true e = cc

@@ -13,17 +13,18 @@ use Rattle.lt_modes.specs.Held.{is_row_of, no_row, row_place, count_at, count_of
 use Rattle.lt_modes.specs.Queue.{times_in}
 use Rattle.lt_modes.specs.Fits.{is_at_home, asks_here, numbers_of}
 use Rattle.lt_modes.specs.Sound.{HoldsGivenUp, SoundPending, SoundHere, SoundDesk, SoundSet}
-use Rattle.lt_model.specs.Homes.{IsWhole, HasSoundHomes, IsSoundOwn}
+use Rattle.lt_model.specs.Homes.{HasSoundHomes, IsSoundOwn}
+use Rattle.lt_spec.specs.WholeScripts.{IsWhole}
 use Rattle.lt_spec.specs.World.{World}
 use Rattle.lt_spec.specs.Facts.{state_at, places_in_state, place_count}
 use Rattle.lt_model.specs.Moments.{is_at}
-use Rattle.lt_model.specs.OnWay.{DeskIs}
+use Rattle.lt_spec.specs.Desks.{DeskIs}
 use Rattle.lt_model.specs.Timed.{Timed}
 use Rattle.lt_lists.proofs.Sums.{sum_below-at, none_found, sum_by-zero}
 use Rattle.lt_law_accounts.proofs.Asks.{times_in-some}
 use Rattle.lt_model.proofs.TokenComes.{desk_somewhere}
-use Rattle.lt_law_ledgers.specs.LedgerLaws.{LedgersKept}
-use Rattle.lt_law_ledgers.proofs.OneDesk.{named_firm, entries_on}
+use Rattle.lt_law_invariant.specs.LedgerLaws.{LedgersKept}
+use Rattle.lt_law_invariant.proofs.OneDesk.{named_firm, entries_on}
 use Rattle.lt_lists.proofs.Members.{all_of}
 use Rattle.lt_law_accounts.proofs.RowTotals.{row_count, total}
 use Rattle.lt_law_invariant.proofs.ClientCounts.{SomeEach}

@@ -4,7 +4,7 @@ use Rattle.lt_modes.specs.declared.moves.Step.{Step}
 use Rattle.lt_modes.specs.Script.{ScriptData}
 use Rattle.lt_modes.specs.State.{Letter}
 use Rattle.lt_modes.specs.Fits.{fits, numbers_of}
-use Rattle.lt_model.specs.Homes.{IsWhole}
+use Rattle.lt_spec.specs.WholeScripts.{IsWhole}
 use Rattle.lt_spec.specs.World.{World, is_enabled, after}
 use Rattle.lt_spec.specs.Facts.{state_at}
 use Rattle.lt_model.specs.Invariant.{WorldInvariant}

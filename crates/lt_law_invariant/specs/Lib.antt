@@ -1,3 +1,7 @@
 pub mod KeptLaws
-pub mod Services
 pub mod RunLaws
+pub mod OneEffect
+pub mod HeldUp
+pub mod LedgerLaws
+pub mod RestLaws
+pub mod BoundLaws

@@ -10,10 +10,10 @@ use Rattle.lt_modes.specs.Fits.{fits, numbers_of}
 use Rattle.lt_spec.specs.Log.{Logged}
 use Rattle.lt_spec.specs.World.{world_after, IsRun, is_at_rest}
 use Rattle.lt_spec.specs.Facts.{state_at, IsFirstWaiter, IsLedToQueue}
-use Rattle.lt_model.specs.Homes.{IsWhole}
-use Rattle.lt_model.specs.OnWay.{DeskIs}
+use Rattle.lt_spec.specs.WholeScripts.{IsWhole}
+use Rattle.lt_spec.specs.Desks.{DeskIs}
 use Rattle.lt_model.specs.Invariant.{WorldInvariant}
-use Rattle.lt_law_rest.specs.RestLaws.{IsBarred}
+use Rattle.lt_law_invariant.specs.RestLaws.{IsBarred}
 
 -- the world has the invariant
 abbrev pub KeptInRuns : Type 0

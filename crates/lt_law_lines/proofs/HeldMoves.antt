@@ -20,7 +20,8 @@ use Rattle.lt_modes.specs.SetMove.{lock, try, unlock, change, drop, dropped, tak
 use Rattle.lt_lists.specs.Below.{put}
 use Rattle.lt_spec.specs.Families.{home, family, is_related, related}
 use Rattle.lt_spec.specs.Holdings.{Holding, holding, is_dropped}
-use Rattle.lt_model.specs.Homes.{IsWhole, Homes, HasTargetsAt, IsStateAtHome, IsRowAtHome, IsBodyAtHome}
+use Rattle.lt_model.specs.Homes.{Homes, IsStateAtHome, IsRowAtHome, IsBodyAtHome}
+use Rattle.lt_spec.specs.WholeScripts.{IsWhole, HasTargetsAt}
 use Rattle.lt_spec.specs.NodeMove.{NodeState, NodeMade, no_move, node_waits, next_command, act_stamp, take_stamp, at_clock, one_made, node_act, node_take, touched, each_touched, drop_all, obey}
 use Rattle.lt_spec.specs.World.{World, is_enabled, is_some_letter, take_front, node_move}
 use Rattle.lt_lists.proofs.Puts.{put-same, put-other}
@@ -28,7 +29,7 @@ use Rattle.lt_model.proofs.PathsMove.{has_mail_parts}
 use Rattle.lt_model.proofs.HomesMove.{maker, next_targets, related_below}
 use Rattle.lt_model.proofs.NodeEffects.{IsOnce, once_or_aside}
 use Rattle.lt_model.proofs.RuleEffects.{command_rules}
-use Rattle.lt_law_ledgers.proofs.TargetPlaces.{places-which, places-at}
+use Rattle.lt_law_invariant.proofs.TargetPlaces.{places-which, places-at}
 use Rattle.lt_law_accounts.proofs.RowTotals.{total, total_dropped}
 use Rattle.lt_law_lines.proofs.LineCounts.{count_after}
 use Rattle.lt_law_lines.proofs.LineRules.{LinesFollow, follows, line_acts, finish_lines, take_lines}

@@ -8,7 +8,8 @@ use Rattle.lt_modes.specs.declared.moves.Step.{Step}
 use Rattle.lt_modes.specs.Script.{ScriptData}
 use Rattle.lt_spec.specs.Families.{home}
 use Rattle.lt_spec.specs.Holdings.{Holding, after_line, holdings, lines_of, times_held}
-use Rattle.lt_model.specs.Homes.{IsWhole, Homes}
+use Rattle.lt_model.specs.Homes.{Homes}
+use Rattle.lt_spec.specs.WholeScripts.{IsWhole}
 use Rattle.lt_spec.specs.Log.{Logged}
 use Rattle.lt_spec.specs.NodeMove.{NodeState, NodeMade}
 use Rattle.lt_spec.specs.World.{World, is_enabled, node_move, after, world_after, IsRun}

@@ -21,7 +21,7 @@ use Rattle.lt_law_lines.proofs.LineCounts.{same_holding-itself}
 use Rattle.std.proofs.lemmas.List.Quantifiers.{position-Some}
 use Rattle.lt_lists.proofs.Sums.{none_found, sum_by-zero}
 use Rattle.lt_spec.specs.Facts.{state_at}
-use Rattle.lt_law_rest.proofs.BarredByLines.{barred_by_lines}
+use Rattle.lt_law_invariant.proofs.BarredByLines.{barred_by_lines}
 use Rattle.lt_law_lines.proofs.HeldRuns.{LinesHold, held_in_runs}
 use Rattle.lt_law_lines.proofs.WaitRuns.{WaitsTold, waits_in_runs}
 use Rattle.lt_law_lines.proofs.OpenWaits.{open_wait}

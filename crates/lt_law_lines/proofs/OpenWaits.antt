@@ -8,7 +8,7 @@ use Rattle.lt_modes.specs.declared.mode.Mode.{Mode}
 use Rattle.lt_modes.specs.declared.event.Event.{Event}
 use Rattle.lt_modes.specs.declared.event.Event.TheVariants.{Grant, Wait, Change}
 use Rattle.lt_spec.specs.Holdings.{Holding, holding, wanted, wanted_after}
-use Rattle.lt_law_lines.specs.LineLaws.{is_about_waiting, HasOpenWait}
+use Rattle.lt_spec.specs.Waits.{is_about_waiting, HasOpenWait}
 
 -- no line is about the client's waiting
 abbrev AreQuiet : ℕ → List Event → Type 0

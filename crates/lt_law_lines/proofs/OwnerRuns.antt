@@ -21,9 +21,10 @@ use Rattle.lt_spec.specs.Families.{related}
 use Rattle.lt_spec.specs.Holdings.{owner_of, owner_after}
 use Rattle.lt_spec.specs.NodeMove.{NodeState, NodeMade, node_waits, next_command, act_stamp, take_stamp, at_clock, one_made, touched, each_touched, drop_all, obey}
 use Rattle.lt_spec.specs.World.{World, is_enabled, take_front, node_move, letter_for, token_to, after}
-use Rattle.lt_model.specs.Homes.{IsWhole, Homes}
+use Rattle.lt_model.specs.Homes.{Homes}
+use Rattle.lt_spec.specs.WholeScripts.{IsWhole}
 use Rattle.lt_model.specs.Invariant.{WorldInvariant}
-use Rattle.lt_model.specs.OnWay.{OnWay}
+use Rattle.lt_spec.specs.Desks.{OnWay}
 use Rattle.lt_model.specs.Paths.{BodyOnPath}
 use Rattle.lt_lists.proofs.Members.{filter_map-at}
 use Rattle.lt_model.proofs.HomesMove.{maker}

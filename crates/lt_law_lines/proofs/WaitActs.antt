@@ -15,7 +15,7 @@ use Rattle.lt_modes.specs.Made.{Made, then_do}
 use Rattle.lt_modes.specs.Granting.{can_grant}
 use Rattle.lt_modes.specs.SetMove.{answers, given, granted, ask_of, asked, locked, tried, unlocked, change_held, changed}
 use Rattle.lt_spec.specs.Holdings.{Holding, holding, wanted_after}
-use Rattle.lt_law_ledgers.proofs.OwnSteps.{route_same}
+use Rattle.lt_law_invariant.proofs.OwnSteps.{route_same}
 use Rattle.lt_law_lines.proofs.LineRules.{route_says}
 use Rattle.lt_law_lines.proofs.WaitRules.{Unsaid, Answered, Answers, then_says}
 

@@ -25,7 +25,7 @@ use Rattle.lt_law_accounts.proofs.Unanswered.{without_only, without_kept, withou
 use Rattle.lt_model.proofs.Effects.{EndEffects, next_service-within, both}
 use Rattle.lt_model.proofs.StandingEffects.{found_here}
 use Rattle.lt_model.proofs.StandingParts.{stands}
-use Rattle.lt_law_ledgers.proofs.OwnSteps.{route_same}
+use Rattle.lt_law_invariant.proofs.OwnSteps.{route_same}
 use Rattle.lt_law_invariant.proofs.ClientEffects.{is_asks, clients, one_of_client, clients_ends}
 use Rattle.lt_law_lines.proofs.LineRules.{route_says}
 

@@ -13,7 +13,8 @@ use Rattle.lt_spec.specs.Log.{Logged}
 use Rattle.lt_spec.specs.NodeMove.{NodeState}
 use Rattle.lt_spec.specs.World.{World, start, is_enabled, node_move, after, world_after, IsRun}
 use Rattle.lt_spec.specs.Facts.{state_at}
-use Rattle.lt_model.specs.Homes.{IsWhole, Homes, IsAskOf}
+use Rattle.lt_model.specs.Homes.{Homes, IsAskOf}
+use Rattle.lt_spec.specs.WholeScripts.{IsWhole}
 use Rattle.lt_model.specs.Invariant.{WorldInvariant}
 use Rattle.lt_lists.proofs.Puts.{put-same, put-other}
 use Rattle.lt_model.proofs.NodeMoves.{after_node}

@@ -21,7 +21,7 @@ use Rattle.lt_spec.specs.Families.{home, related}
 use Rattle.lt_spec.specs.Holdings.{Holding, wanted_after}
 use Rattle.lt_spec.specs.NodeMove.{NodeState, NodeMade, node_waits, next_command, act_stamp, take_stamp, at_clock, one_made, node_act, node_take, touched, drop_all, obey}
 use Rattle.lt_spec.specs.World.{World, is_enabled, is_waiting, is_some_letter, put_mail, take_front, node_move}
-use Rattle.lt_model.specs.Homes.{IsWhole, HasTargetsAt}
+use Rattle.lt_spec.specs.WholeScripts.{IsWhole, HasTargetsAt}
 use Rattle.lt_model.specs.Invariant.{WorldInvariant}
 use Rattle.lt_model.specs.Standing.{AsksStand}
 use Rattle.lt_lists.proofs.AllLemmas.{all_weaker}
@@ -35,7 +35,7 @@ use Rattle.lt_model.proofs.StandingEffects.{stands_later}
 use Rattle.lt_model.proofs.StandingParts.{Stands, stands}
 use Rattle.lt_model.proofs.StandingBegins.{stands_arrived, elsewhere, unanswered, only_here, stands_before, none_in_hand}
 use Rattle.lt_model.proofs.TokenComes.{desk_somewhere}
-use Rattle.lt_law_ledgers.proofs.OwnSteps.{route_same}
+use Rattle.lt_law_invariant.proofs.OwnSteps.{route_same}
 use Rattle.lt_law_invariant.proofs.ClientEffects.{Clients, clients}
 use Rattle.lt_law_invariant.proofs.ClientCommands.{one_for, idle, no_ask_of, clients_acts, drops_kept, locked_of, tried_of, unlocked_of, changed_of}
 use Rattle.lt_law_invariant.proofs.ClientMoves.{SoundClients, at_first, idle_in}

@@ -1,10 +1,7 @@
 -- What the lines of a run tell, as statements.
-use Rattle.std.specs.Prelude.{◌≡◌, ◌↔◌, ◌<◌, ◌+◌, ◌==◌, Bool, false, ℕ, List, ◌∷◌, ◌++◌, length, take, slice_index, IsFalse, IsTrue}
-use Rattle.std.specs.List.{AllByRecursion}
+use Rattle.std.specs.Prelude.{◌≡◌, ◌↔◌, ◌<◌, ◌+◌, ℕ, List, length, take, slice_index, IsTrue}
 use Rattle.lt_modes.specs.declared.mode.Mode.{Mode}
 use Rattle.lt_modes.specs.declared.ask.Ask.{Ask}
-use Rattle.lt_modes.specs.declared.event.Event.{Event}
-use Rattle.lt_modes.specs.declared.event.Event.TheVariants.{Grant, Wait, Change}
 use Rattle.lt_modes.specs.declared.parts.Link.{Link}
 use Rattle.lt_modes.specs.Script.{ScriptData}
 use Rattle.lt_modes.specs.Held.{count_of}
@@ -13,9 +10,9 @@ use Rattle.lt_spec.specs.Holdings.{holding, holdings, owner_of, lines_of, IsLawf
 use Rattle.lt_spec.specs.Log.{Logged}
 use Rattle.lt_spec.specs.World.{world_after, IsRun, is_at_rest}
 use Rattle.lt_spec.specs.Facts.{state_at, IsFirstWaiter}
-use Rattle.lt_model.specs.Homes.{IsWhole}
-use Rattle.lt_model.specs.Invariant.{LinesKept, WaitsFor}
-use Rattle.lt_law_rest.specs.RestLaws.{IsBarredByLines}
+use Rattle.lt_spec.specs.WholeScripts.{IsWhole}
+use Rattle.lt_model.specs.Invariant.{LinesKept}
+use Rattle.lt_spec.specs.Waits.{WaitsFor, IsBarredByLines, HasOpenWait}
 
 -- the lines of each prefix of each run tell what is held and who waits
 abbrev pub LinesKeptInRuns : Type 0
@@ -33,19 +30,6 @@ LinesTellHeld = (script : ScriptData) (run : List Logged) → IsWhole script →
 abbrev pub HoldingsAreLawful : Type 0
 HoldingsAreLawful = (script : ScriptData) (run : List Logged) → IsWhole script → IsRun script run → (k : ℕ)
     → IsLawful (holdings script (lines_of (take k run)))
-
--- the line says that the client waits, or waits no more
-abbrev pub is_about_waiting : ℕ → Event → Bool
-is_about_waiting client (Wait c set mode) = c == client
-is_about_waiting client (Grant c set mode) = c == client
-is_about_waiting client (Change c set gives_up mode) = c == client
-is_about_waiting client other = false
-
--- the last of the client's `wait`, `grant` and `change` lines is a `wait` line, of this set and mode
-abbrev pub HasOpenWait : ℕ → ℕ → Mode → List Event → Type 0
-HasOpenWait client set mode lines =
-    (before : List Event) × (later : List Event) × (lines ≡ before ++ Wait client set mode ∷ later)
-    × AllByRecursion (λ line. IsFalse (is_about_waiting client line)) later
 
 -- a client has such a line exactly where an unanswered ask of it wants the mode
 abbrev pub LinesTellWaits : Type 0

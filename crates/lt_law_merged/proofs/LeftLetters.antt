@@ -13,9 +13,9 @@ use Rattle.lt_spec.specs.Families.{home}
 use Rattle.lt_spec.specs.NodeMove.{NodeState}
 use Rattle.lt_spec.specs.World.{world_after, is_runnable, is_enabled}
 use Rattle.lt_law_invariant.proofs.KeptRuns.{letters_fit_in_runs}
-use Rattle.lt_limits.specs.Limits.{node_within, leaves_asks}
-use Rattle.lt_law_limits.proofs.Within.{whole, nodes_within, asks_placed}
-use Rattle.lt_law_plays.specs.Plays.{can_act}
+use Rattle.lt_spec.specs.Limits.{node_within, leaves_asks}
+use Rattle.lt_law_invariant.proofs.Within.{whole, nodes_within, asks_placed}
+use Rattle.lt_spec.specs.Plays.{can_act}
 use Rattle.lt_law_plays.specs.Merged.{merged}
 use Rattle.lt_law_plays.specs.Parts.{Part, logs_of, Joined}
 use Rattle.lt_law_ends.proofs.Short.{plays_are_short}

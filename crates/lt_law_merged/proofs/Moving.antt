@@ -9,9 +9,9 @@ use Rattle.lt_lists.specs.Below.{any_below}
 use Rattle.lt_lists.proofs.Searches.{any_below_at, any_below_same}
 use Rattle.lt_spec.specs.Families.{home}
 use Rattle.lt_spec.specs.World.{World, is_runnable, has_mail, is_enabled, is_at_rest}
-use Rattle.lt_script.specs.Script.{IsScript}
-use Rattle.lt_limits.specs.Cut.{can_move}
-use Rattle.lt_law_plays.specs.Plays.{can_act}
+use Rattle.lt_spec.specs.Script.{IsScript}
+use Rattle.lt_spec.specs.Cut.{can_move}
+use Rattle.lt_spec.specs.Plays.{can_act}
 use Rattle.lt_law_plays.proofs.LowClocks.{same_runnable}
 use Rattle.lt_law_enabled.specs.OrderLaws.{RestsWithoutMove}
 use Rattle.lt_law_ends.proofs.Reach.{any_below_which}

@@ -4,9 +4,9 @@ use Rattle.lt_modes.specs.declared.moves.Step.{Step}
 use Rattle.lt_modes.specs.Script.{ScriptData}
 use Rattle.lt_lists.specs.Below.{any_below}
 use Rattle.lt_spec.specs.World.{World, has_mail, is_enabled, is_at_rest}
-use Rattle.lt_script.specs.Script.{IsScript}
-use Rattle.lt_limits.specs.Cut.{can_move}
-use Rattle.lt_law_plays.specs.Plays.{can_act}
+use Rattle.lt_spec.specs.Script.{IsScript}
+use Rattle.lt_spec.specs.Cut.{can_move}
+use Rattle.lt_spec.specs.Plays.{can_act}
 
 -- a node can make a move where a letter is on its way to it, or a client can act by what the node alone knows
 abbrev pub CanMoveIsSeen : Type 0

@@ -3,9 +3,9 @@ use Rattle.std.specs.Prelude.{◌≡◌, ◌<◌, ◌+◌, ◌^◌, ℕ, List, �
 use Rattle.lt_modes.specs.Script.{ScriptData}
 use Rattle.lt_modes.specs.State.{Letter}
 use Rattle.lt_modes.specs.Fits.{fits, numbers_of}
-use Rattle.lt_script.specs.Script.{IsScript}
-use Rattle.lt_limits.specs.Limits.{node_within, leaves_asks}
-use Rattle.lt_law_plays.specs.Plays.{can_act}
+use Rattle.lt_spec.specs.Script.{IsScript}
+use Rattle.lt_spec.specs.Limits.{node_within, leaves_asks}
+use Rattle.lt_spec.specs.Plays.{can_act}
 use Rattle.lt_law_plays.specs.Parts.{Part, Joined}
 
 -- each node keeps no more than a script's limits allow

@@ -18,13 +18,13 @@ use Rattle.lt_modes.specs.SetMove.{answers, given, granted, ask_of, asked, locke
 use Rattle.lt_spec.specs.Holdings.{holding, same_holding}
 use Rattle.lt_modes.proofs.EachMode.{same_mode-true}
 use Rattle.lt_law_accounts.proofs.RowTotals.{total, is_key, total_added}
-use Rattle.lt_law_ledgers.proofs.OwnSteps.{route_same}
+use Rattle.lt_law_invariant.proofs.OwnSteps.{route_same}
 use Rattle.lt_lists.proofs.Sums.{counted_in}
 use Rattle.lt_law_invariant.proofs.ClientCounts.{asks_pushed}
 use Rattle.lt_law_invariant.proofs.ClientCommands.{IsIdle, no_ask_of}
 use Rattle.lt_law_lines.proofs.LineCounts.{count_after}
 use Rattle.lt_law_lines.proofs.LineRules.{key_is}
-use Rattle.lt_order.specs.Ordered.{best_answer}
+use Rattle.lt_spec.specs.Ordered.{best_answer}
 use Rattle.lt_law_ordered.proofs.Loans.{is_for, asks_for, Loans, no_more, same_loans}
 
 -- a client that waits for nothing asks for no mode

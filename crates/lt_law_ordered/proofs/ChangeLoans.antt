@@ -24,7 +24,7 @@ use Rattle.lt_law_invariant.proofs.ClientCommands.{IsIdle}
 use Rattle.lt_lists.proofs.Sums.{none_found, sum_by-zero}
 use Rattle.lt_law_lines.proofs.LineCounts.{count_after}
 use Rattle.lt_law_lines.proofs.LineRules.{key_is}
-use Rattle.lt_order.specs.Ordered.{best_answer}
+use Rattle.lt_spec.specs.Ordered.{best_answer}
 use Rattle.lt_law_ordered.proofs.Weaker.{weaker_granted}
 use Rattle.lt_law_ordered.proofs.Loans.{asks_for}
 use Rattle.lt_law_ordered.proofs.ActLoans.{ActLoans, act_stays, idle_asks, not_his}

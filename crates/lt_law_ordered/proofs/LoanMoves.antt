@@ -19,7 +19,7 @@ use Rattle.lt_spec.specs.Holdings.{Holding, holding, times_held}
 use Rattle.lt_spec.specs.Log.{Logged}
 use Rattle.lt_spec.specs.NodeMove.{NodeState, node_waits, has_command, next_command, act_stamp, at_clock, one_made, node_act, node_take, touched, each_touched, drop_all, obey}
 use Rattle.lt_spec.specs.World.{World, start, is_enabled, is_waiting, is_some_letter, take_front, node_move, after, world_after, IsRun}
-use Rattle.lt_model.specs.Homes.{IsWhole}
+use Rattle.lt_spec.specs.WholeScripts.{IsWhole}
 use Rattle.lt_model.specs.Invariant.{WorldInvariant}
 use Rattle.lt_model.proofs.HomesMove.{IsMaker, maker, next_targets}
 use Rattle.lt_model.proofs.KeptSets.{kept_stands}
@@ -28,7 +28,7 @@ use Rattle.lt_model.proofs.PathsMove.{has_mail_parts}
 use Rattle.lt_law_accounts.proofs.RowTotals.{total}
 use Rattle.lt_law_invariant.proofs.ClientsKept.{sound_clients}
 use Rattle.lt_law_lines.proofs.AlongRuns.{along_runs}
-use Rattle.lt_order.specs.Ordered.{may_hold}
+use Rattle.lt_spec.specs.Ordered.{may_hold}
 use Rattle.lt_law_ordered.proofs.Loans.{asks_for}
 use Rattle.lt_law_ordered.specs.Ranked.{is_steady}
 use Rattle.lt_law_ordered.proofs.ActLoans.{ActLoans}

@@ -22,7 +22,7 @@ use Rattle.lt_law_accounts.proofs.RowTotals.{total, is_key, total_added, total_t
 use Rattle.lt_model.proofs.Effects.{Fact, EndEffects, next_service-within, both}
 use Rattle.lt_model.proofs.StandingEffects.{found_here}
 use Rattle.lt_model.proofs.StandingParts.{stands}
-use Rattle.lt_law_ledgers.proofs.OwnSteps.{route_same}
+use Rattle.lt_law_invariant.proofs.OwnSteps.{route_same}
 use Rattle.lt_law_invariant.proofs.ClientCounts.{SomeEach, each_some, asks_without}
 use Rattle.lt_law_invariant.proofs.ClientEffects.{clients, clients_ends}
 

@@ -19,7 +19,7 @@ use Rattle.lt_spec.specs.Families.{related, is_related}
 use Rattle.lt_spec.specs.Holdings.{holding}
 use Rattle.lt_spec.specs.NodeMove.{NodeState, node_waits, act_stamp, take_stamp, at_clock, one_made, drop_all, obey, node_take}
 use Rattle.lt_spec.specs.World.{World, put_mail}
-use Rattle.lt_model.specs.Homes.{HasTargetsAt}
+use Rattle.lt_spec.specs.WholeScripts.{HasTargetsAt}
 use Rattle.lt_model.specs.Invariant.{WorldInvariant}
 use Rattle.lt_model.specs.Standing.{AsksStand}
 use Rattle.lt_lists.proofs.Puts.{put-same, put-other}
@@ -39,7 +39,7 @@ use Rattle.lt_law_invariant.proofs.ClientMoves.{SoundClients, at_first, idle_in}
 use Rattle.lt_law_invariant.proofs.ClientsKept.{sound_clients, clients_arrived}
 use Rattle.lt_law_lines.proofs.LineCounts.{count_after}
 use Rattle.lt_law_lines.proofs.HeldMoves.{some_set, related_aside}
-use Rattle.lt_order.specs.Ordered.{best_answer}
+use Rattle.lt_spec.specs.Ordered.{best_answer}
 use Rattle.lt_law_ordered.specs.Ranked.{is_steady}
 use Rattle.lt_law_ordered.proofs.Loans.{Loans, loans, no_more, loans_ends, loans_arrived}
 use Rattle.lt_law_ordered.proofs.ActLoans.{ActLoans, act_then, grant_more, locked_loans, tried_loans}

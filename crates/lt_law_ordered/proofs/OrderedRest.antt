@@ -19,20 +19,21 @@ use Rattle.lt_spec.specs.Facts.{state_at, IsFirstWaiter, LeadsBy, IsLedToQueue}
 use Rattle.lt_spec.specs.Holdings.{Holding, holding, same_holding, holdings, lines_of, times_held}
 use Rattle.lt_spec.specs.NodeMove.{NodeState}
 use Rattle.lt_spec.specs.World.{World, world_after, made_by, is_waiting, is_runnable, is_at_rest, anyone_waits}
-use Rattle.lt_model.specs.Homes.{IsWhole, Homes, IsRowAtHome}
+use Rattle.lt_model.specs.Homes.{Homes, IsRowAtHome}
+use Rattle.lt_spec.specs.WholeScripts.{IsWhole}
 use Rattle.lt_model.specs.Invariant.{WorldInvariant}
 use Rattle.lt_model.proofs.HomesMove.{homes_in_runs}
 use Rattle.lt_law_accounts.proofs.RowTotals.{total}
-use Rattle.lt_law_rest.specs.RestLaws.{IsBarred}
-use Rattle.lt_law_rest.proofs.FirstWaiter.{first_waiter_conflicts}
-use Rattle.lt_law_rest.proofs.LedAtRest.{asks_are_led}
+use Rattle.lt_law_invariant.specs.RestLaws.{IsBarred}
+use Rattle.lt_law_invariant.proofs.FirstWaiter.{first_waiter_conflicts}
+use Rattle.lt_law_invariant.proofs.LedAtRest.{asks_are_led}
 use Rattle.lt_law_invariant.proofs.KeptRuns.{kept_in_runs}
 use Rattle.lt_law_lines.proofs.KeptLines.{lines_kept_in_runs}
 use Rattle.lt_law_lines.proofs.HeldRuns.{held_in_runs}
 use Rattle.lt_law_lines.proofs.LineCounts.{same_holding-true, same_holding-itself}
 use Rattle.lt_law_waiting.proofs.Finds.{any_below_which}
 use Rattle.lt_law_waiting.proofs.WaitsAtRest.{row_counts}
-use Rattle.lt_order.specs.Ordered.{may_hold}
+use Rattle.lt_spec.specs.Ordered.{may_hold}
 use Rattle.lt_law_ordered.specs.Ranked.{is_ranked_from, IsRanked}
 use Rattle.lt_law_ordered.specs.OrderedLaws.{OrderedFinish, OrderedRelease, RankedFinish, RankedRelease, AloneFinish, RankedHold, RankedWait}
 use Rattle.lt_law_ordered.proofs.Loans.{is_for, asks_for}

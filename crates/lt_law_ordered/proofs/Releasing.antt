@@ -14,7 +14,7 @@ use Rattle.lt_law_accounts.proofs.RowTotals.{total}
 use Rattle.lt_law_lines.proofs.HeldRuns.{held_in_runs}
 use Rattle.lt_law_lines.proofs.KeptLines.{lines_kept_in_runs}
 use Rattle.lt_law_lines.proofs.LineCounts.{same_holding-itself}
-use Rattle.lt_order.specs.Ordered.{may_hold_after, may_hold, holds_none}
+use Rattle.lt_spec.specs.Ordered.{may_hold_after, may_hold, holds_none}
 use Rattle.lt_law_ordered.specs.Ranked.{is_steady, IsReleasing}
 use Rattle.lt_law_ordered.proofs.LoanMoves.{AreSteady, within_in_runs}
 use Rattle.lt_law_ordered.specs.OrderedLaws.{StuckByRing}

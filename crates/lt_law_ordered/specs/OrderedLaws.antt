@@ -5,10 +5,10 @@ use Rattle.lt_modes.specs.Script.{ScriptData}
 use Rattle.lt_spec.specs.Log.{Logged}
 use Rattle.lt_spec.specs.Holdings.{holding, holdings, lines_of, times_held}
 use Rattle.lt_spec.specs.World.{world_after, made_by, IsRun, is_at_rest, anyone_waits}
-use Rattle.lt_model.specs.Homes.{IsWhole}
-use Rattle.lt_model.specs.Invariant.{WaitsFor}
-use Rattle.lt_law_waiting.specs.WaitingLaws.{WaitInRing}
-use Rattle.lt_order.specs.Ordered.{may_hold, IsOrdered}
+use Rattle.lt_spec.specs.WholeScripts.{IsWhole}
+use Rattle.lt_spec.specs.Waits.{WaitsFor}
+use Rattle.lt_spec.specs.Ended.{WaitInRing}
+use Rattle.lt_spec.specs.Ordered.{may_hold, IsOrdered}
 use Rattle.lt_law_ordered.specs.Ranked.{IsRanked, NeverAsksHolding, IsReleasing}
 
 -- a run of an ordered script that is at rest has no waiting client

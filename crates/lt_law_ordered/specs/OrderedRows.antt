@@ -4,11 +4,11 @@ use Rattle.lt_modes.specs.declared.mode.Mode.TheVariants.{Read, Upgrade, Write}
 use Rattle.lt_modes.specs.declared.command.Command.TheVariants.{Lock, Try, Unlock, Change, DropAll}
 use Rattle.lt_modes.specs.Script.{ScriptData}
 use Rattle.lt_law_examples.specs.Worked.{declared_set, declared_client}
-use Rattle.lt_order.specs.Ordered.{first_bad}
+use Rattle.lt_spec.specs.Ordered.{first_bad}
 
 -- One lock, and its unlock.
-abbrev pub lock_then_unlock : ScriptData
-lock_then_unlock = record {
+abbrev pub locked_once : ScriptData
+locked_once = record {
   version = 1;
   nodes = 1;
   sets = declared_set (codes "s") 0 ∷ [];
@@ -20,11 +20,11 @@ lock_then_unlock = record {
 }
 
 abbrev pub LockThenUnlockRow : Type 0
-LockThenUnlockRow = first_bad lock_then_unlock ≡ None
+LockThenUnlockRow = first_bad locked_once ≡ None
 
 -- Two clients in turn.
-abbrev pub write_in_turn : ScriptData
-write_in_turn = record {
+abbrev pub two_in_turn : ScriptData
+two_in_turn = record {
   version = 1;
   nodes = 1;
   sets = declared_set (codes "s") 0 ∷ [];
@@ -38,11 +38,11 @@ write_in_turn = record {
 }
 
 abbrev pub WriteInTurnRow : Type 0
-WriteInTurnRow = first_bad write_in_turn ≡ None
+WriteInTurnRow = first_bad two_in_turn ≡ None
 
 -- A lock that is held at the end.
-abbrev pub write_kept : ScriptData
-write_kept = record {
+abbrev pub one_kept : ScriptData
+one_kept = record {
   version = 1;
   nodes = 1;
   sets = declared_set (codes "s") 0 ∷ [];
@@ -54,7 +54,7 @@ write_kept = record {
 }
 
 abbrev pub WriteKeptRow : Type 0
-WriteKeptRow = first_bad write_kept ≡ Some 0
+WriteKeptRow = first_bad one_kept ≡ Some 0
 
 -- A change of mode.
 abbrev pub change_of_mode : ScriptData

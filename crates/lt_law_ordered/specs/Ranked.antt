@@ -7,7 +7,7 @@ use Rattle.lt_modes.specs.Modes.{one, covers}
 use Rattle.lt_modes.specs.Script.{ScriptData}
 use Rattle.lt_spec.specs.Families.{commands_of}
 use Rattle.lt_spec.specs.Holdings.{Holding}
-use Rattle.lt_order.specs.Ordered.{may_hold_after, may_hold, holds_none}
+use Rattle.lt_spec.specs.Ordered.{may_hold_after, may_hold, holds_none}
 
 -- the command is no change, or one to a mode that the old one covers
 abbrev pub is_steady : Command → Bool

@@ -14,7 +14,7 @@ use Rattle.lt_modes.specs.Queue.{no_ask, has_stamp, without, without_at, entered
 use Rattle.lt_modes.specs.Serving.{queue_of, answer_event, answer_by}
 use Rattle.lt_modes.specs.Routing.{dealt}
 use Rattle.lt_law_accounts.proofs.Asks.{has_stamp-true}
-use Rattle.lt_law_own_lines.specs.OwnLines.{line_client}
+use Rattle.lt_spec.specs.OwnLines.{line_client}
 
 -- which client made the ask that has the stamp
 abbrev pub Maker : Type 0

@@ -28,7 +28,7 @@ use Rattle.lt_model.specs.Homes.{IsRowAtHome, IsAskAtHome, IsBodyAtHome, IsState
 use Rattle.lt_model.proofs.Effects.{route_ways}
 use Rattle.lt_model.proofs.RuleEffects.{Between, EndRules, ActRules, finish_rule, take_rule}
 use Rattle.lt_model.proofs.HomesEffects.{home_ends, home_acts, arrives_home}
-use Rattle.lt_law_own_lines.specs.OwnLines.{IsOwnLine}
+use Rattle.lt_spec.specs.OwnLines.{IsOwnLine}
 
 abbrev pub AreOwnLines : ScriptData → ℕ → List Event → Type 0
 AreOwnLines script q lines = AllByRecursion (IsOwnLine script q) lines

@@ -18,11 +18,12 @@ use Rattle.lt_lists.proofs.Puts.{put-same, put-other}
 use Rattle.lt_spec.specs.Families.{home, related}
 use Rattle.lt_spec.specs.NodeMove.{NodeState, node_waits, next_command, touched, each_touched, drop_all, act_stamp, take_stamp, at_clock, one_made, obey, node_act}
 use Rattle.lt_spec.specs.World.{is_some_letter, take_front}
-use Rattle.lt_model.specs.Homes.{HasTargetsAt, IsWhole, IsStateAtHome, IsLetterAtHome}
+use Rattle.lt_model.specs.Homes.{IsStateAtHome, IsLetterAtHome}
+use Rattle.lt_spec.specs.WholeScripts.{HasTargetsAt, IsWhole}
 use Rattle.lt_model.proofs.PathsMove.{has_mail_parts}
 use Rattle.lt_model.proofs.RuleEffects.{command_rules}
 use Rattle.lt_model.proofs.HomesMove.{IsNodeAtHome, related_below, next_targets, maker}
-use Rattle.lt_law_own_lines.specs.OwnLines.{IsOwnLine}
+use Rattle.lt_spec.specs.OwnLines.{IsOwnLine}
 use Rattle.lt_law_own_lines.specs.OwnLaws.{OwnLinesOfMoves}
 use Rattle.lt_law_own_lines.proofs.OwnEffects.{AreOwnLines, own_lines, own_acts, finish_own, take_own, drop_own}
 

@@ -11,9 +11,10 @@ use Rattle.lt_spec.specs.Families.{home}
 use Rattle.lt_spec.specs.Holdings.{lines_of}
 use Rattle.lt_spec.specs.Log.{Logged}
 use Rattle.lt_spec.specs.World.{World, start, is_of_node, after, IsRunFrom}
-use Rattle.lt_model.specs.Homes.{IsWhole, Homes}
+use Rattle.lt_model.specs.Homes.{Homes}
+use Rattle.lt_spec.specs.WholeScripts.{IsWhole}
 use Rattle.lt_model.proofs.HomesMove.{homes_kept, homes_start}
-use Rattle.lt_law_own_lines.specs.OwnLines.{IsOwnLine, HasOwnLines, is_reply_to, replies_of}
+use Rattle.lt_spec.specs.OwnLines.{IsOwnLine, HasOwnLines, is_reply_to, replies_of}
 use Rattle.lt_law_own_lines.specs.OwnLaws.{OwnLinesInRuns, RepliesAtHome, RepliesOfLog, RepliesSoFar, RepliesGrow}
 use Rattle.lt_law_own_lines.proofs.OwnMoves.{own_lines_of_moves}
 

@@ -1,3 +1,4 @@
-pub mod OwnLines
 pub mod OwnLaws
 pub mod WaitingLaws
+pub mod Peers
+pub mod PeerLaws

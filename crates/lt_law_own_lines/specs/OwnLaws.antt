@@ -8,8 +8,9 @@ use Rattle.lt_spec.specs.Families.{home}
 use Rattle.lt_spec.specs.Holdings.{lines_of}
 use Rattle.lt_spec.specs.Log.{Logged}
 use Rattle.lt_spec.specs.World.{World, is_enabled, is_of_node, node_move, IsRun}
-use Rattle.lt_model.specs.Homes.{IsWhole, Homes}
-use Rattle.lt_law_own_lines.specs.OwnLines.{IsOwnLine, HasOwnLines, replies_of}
+use Rattle.lt_model.specs.Homes.{Homes}
+use Rattle.lt_spec.specs.WholeScripts.{IsWhole}
+use Rattle.lt_spec.specs.OwnLines.{IsOwnLine, HasOwnLines, replies_of}
 
 -- an enabled move of a node shows lines of its own clients alone
 abbrev pub OwnLinesOfMoves : Type 0

@@ -13,7 +13,7 @@ use Rattle.lt_modes.specs.Sound.{SoundSet}
 use Rattle.lt_modes.specs.Telling.{finish}
 use Rattle.lt_modes.specs.SetMove.{lock, try, unlock, change, drop, take}
 use Rattle.lt_spec.specs.NodeMove.{NodeState, node_waits, act_stamp, take_stamp, node_act, node_take}
-use Rattle.lt_law_own_lines.specs.OwnLines.{line_client}
+use Rattle.lt_spec.specs.OwnLines.{line_client}
 
 -- no line names the client as the one that acts or is answered
 abbrev pub AreOfOthers : ℕ → List Event → Type 0

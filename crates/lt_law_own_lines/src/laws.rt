@@ -1,5 +1,6 @@
 ghost use Rattle.lt_law_own_lines.specs.OwnLaws.{OwnLinesOfMoves, OwnLinesInRuns, RepliesAtHome, RepliesOfLog, RepliesSoFar, RepliesGrow};
 ghost use Rattle.lt_law_own_lines.specs.WaitingLaws.{WaitingInCommands, WaitingInTakes, WaitingInActs, WaitingInNodeTakes, KnownWhereSound};
+ghost use Rattle.lt_law_own_lines.specs.PeerLaws.{NamesAtStart, ActsReachPeers, TakesReachPeers};
 
 /// The lines that name a client as the one that acts or is answered stand in moves of that client's own node: in each
 /// enabled move of a world that is at home, and so in each run; and so the replies to a client in a run are those in the
@@ -22,4 +23,12 @@ pub fn law_waiting_lines()
     ensures act { WaitingInActs }
     ensures take { WaitingInNodeTakes }
     ensures known { KnownWhereSound }
+{}
+
+/// What a node keeps names nodes of the script from the start on, through each act and each take of a letter that fits,
+/// and each letter that it sends is for another node of the script.
+pub fn law_peers()
+    ensures start { NamesAtStart }
+    ensures acts { ActsReachPeers }
+    ensures takes { TakesReachPeers }
 {}

@@ -2,7 +2,7 @@
 use Rattle.std.proofs.Common.{◌+◌, ◌<◌, length, refl, subst, arith, take as take_first}
 use Rattle.std.specs.Prelude.{nat_lt, nat_le}
 use Rattle.std.proofs.lemmas.Bool.{and_from, lt-ltb, le-leb}
-use Rattle.lt_model.specs.OnWay.{OnWay}
+use Rattle.lt_spec.specs.Desks.{OnWay}
 use Rattle.lt_spec.specs.World.{world_after}
 use Rattle.lt_model.proofs.HomesMove.{homes_in_runs}
 use Rattle.lt_model.proofs.PathsInRuns.{paths_in_runs}

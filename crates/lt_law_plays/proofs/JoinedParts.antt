@@ -8,12 +8,12 @@ use Rattle.lt_modes.specs.Script.{ScriptData}
 use Rattle.lt_modes.specs.State.{Letter}
 use Rattle.lt_spec.specs.NodeMove.{NodeState}
 use Rattle.lt_spec.specs.World.{start}
-use Rattle.lt_law_plays.specs.Plays.{Cause, OfClient, OfLetter, can_make, made_of, used_by, Plays}
+use Rattle.lt_spec.specs.Plays.{Cause, OfClient, OfLetter, can_make_move, made_of, used_by, Plays}
 use Rattle.lt_law_plays.specs.PlayLaws.{TakesNothingFromBeyond}
 use Rattle.lt_law_plays.specs.Parts.{Part, part_or, part_at, JoinedArePlays}
 use Rattle.lt_law_plays.proofs.PlayLemmas.{from_other, takes_nothing_of_itself}
 
-none_from_beyond : (script : ScriptData) (x a : ℕ) (n : NodeState) (cause : Cause) → IsTrue (can_make script x n cause) → script.nodes ≤ a → used_by cause a ≡ []
+none_from_beyond : (script : ScriptData) (x a : ℕ) (n : NodeState) (cause : Cause) → IsTrue (can_make_move script x n cause) → script.nodes ≤ a → used_by cause a ≡ []
 none_from_beyond script x a n (OfClient client) can beyond = refl
 none_from_beyond script x a n (OfLetter p letter) can beyond =
     let below = ltb-true p script.nodes (from_other script p x n letter can).sender in

@@ -7,3 +7,6 @@ pub mod RunParts
 pub mod Heads
 pub mod JoinedParts
 pub mod TokenHistory
+pub mod NextCommands
+pub mod Appending
+pub mod Sharing

@@ -8,7 +8,7 @@ use Rattle.lt_lists.specs.Below.{sum_below}
 use Rattle.lt_lists.proofs.AllLemmas.{all_weaker}
 use Rattle.lt_spec.specs.Log.{Logged}
 use Rattle.lt_spec.specs.World.{start, is_of_node}
-use Rattle.lt_law_accounts.proofs.AccountFacts.{newer_one_way}
+use Rattle.lt_modes.proofs.StampOrder.{newer_one_way}
 use Rattle.lt_merge.specs.Merging.{IsBefore, AreRising, AreNodesApart, both_merged}
 use Rattle.lt_merge.proofs.Filters.{filter_yes, filter_no, all_filter, all_pass, none_left}
 use Rattle.lt_merge.proofs.MergedLists.{merged_rising, beside_by_node, merged-first, merged-second, length_merged}

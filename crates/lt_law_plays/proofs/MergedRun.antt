@@ -14,11 +14,11 @@ use Rattle.lt_spec.specs.Log.{Logged}
 use Rattle.lt_lists.specs.Below.{put}
 use Rattle.lt_spec.specs.NodeMove.{NodeState, NodeMade}
 use Rattle.lt_spec.specs.World.{World, start, token_to, take_front, after, after_run, world_after, IsRunFrom, is_of_node}
-use Rattle.lt_law_accounts.proofs.AccountFacts.{newer_not_before}
+use Rattle.lt_modes.proofs.StampOrder.{newer_not_before}
 use Rattle.lt_lists.proofs.Puts.{put-same, put-other}
 use Rattle.lt_lists.proofs.AllLemmas.{all_weaker, all_append}
 use Rattle.lt_lists.proofs.Members.{none_in}
-use Rattle.lt_law_plays.specs.Plays.{Cause, OfClient, OfLetter, can_make, made_of, stamp_of, cause_step, logged_of, used_by, letters_for, Begins, Plays}
+use Rattle.lt_spec.specs.Plays.{Cause, OfClient, OfLetter, can_make_move, made_of, stamp_of, cause_step, logged_of, used_by, letters_for, BeginsPlay, Plays}
 use Rattle.lt_merge.specs.Merging.{IsBefore, AreRising, IsMerged}
 use Rattle.lt_law_plays.specs.Merged.{Logs, ArePlays, step_made, step_left, token_goes}
 use Rattle.lt_law_plays.specs.MergeLaws.{MergedIsRun, MergedEnds, HandIsFront, SentWereOnWay, OnWayWereSent}
@@ -67,7 +67,7 @@ in_front p q letter c (first ∷ others) sent left rest early late h = (others, 
 
 -- the other nodes' plays stay, and the node's own goes on
 plays_later : (script : ScriptData) (w later : World) (entry : Logged) (run : List Logged) (used sent rest : ℕ → ℕ → List Letter) (last : ℕ → NodeState)
-    → Stands script w (entry ∷ run) used sent rest last → (own : Begins script entry.made.stamp.node (w.node entry.made.stamp.node) entry (used entry.made.stamp.node) (sent entry.made.stamp.node)
+    → Stands script w (entry ∷ run) used sent rest last → (own : BeginsPlay script entry.made.stamp.node (w.node entry.made.stamp.node) entry (used entry.made.stamp.node) (sent entry.made.stamp.node)
     (λ state left next. Plays script entry.made.stamp.node state (filter (is_of_node entry.made.stamp.node) run) left next (last entry.made.stamp.node)))
     → ((x : ℕ) → later.node x ≡ put w.node entry.made.stamp.node (made_of script entry.made.stamp.node (w.node entry.made.stamp.node) own.cause).node x)
     → (x : ℕ) → Plays script x (later.node x) (filter (is_of_node x) run) (put used entry.made.stamp.node own.left x) (put sent entry.made.stamp.node own.later x) (last x)
@@ -112,7 +112,7 @@ letters_later script w later q cause left next used sent rest h uses sends mail 
 
 -- a letter that a play uses now is in front in the world
 is_front : (script : ScriptData) (w : World) (q : ℕ) (cause : Cause) (left : ℕ → List Letter) (used sent rest : ℕ → ℕ → List Letter)
-    → IsTrue (can_make script q (w.node q) cause) → ((a : ℕ) → used q a ≡ used_by cause a ++ left a)
+    → IsTrue (can_make_move script q (w.node q) cause) → ((a : ℕ) → used q a ≡ used_by cause a ++ left a)
     → ((p r : ℕ) → w.mail p r ++ sent p r ≡ used r p ++ rest p r)
     → ((p : ℕ) → (p ≡ q → ⊥) → AllByRecursion (λ (l : Letter). (stamp_of q (w.node q) cause).clock ≤ l.stamp.clock) (sent p q))
     → IsFront w q cause

@@ -11,12 +11,12 @@ use Rattle.lt_modes.specs.Made.{Post}
 use Rattle.lt_modes.specs.SetMove.{take}
 use Rattle.lt_spec.specs.Log.{Logged}
 use Rattle.lt_spec.specs.NodeMove.{NodeState, next_command, act_stamp, take_stamp, at_clock, one_made}
-use Rattle.lt_law_accounts.proofs.AccountFacts.{newer_by_clock}
+use Rattle.lt_modes.proofs.StampOrder.{newer_by_clock}
 use Rattle.lt_model.proofs.Letters.{letters_to-same, letters_to-other}
 use Rattle.lt_model.proofs.NodeMoves.{obey-stamped}
 use Rattle.lt_lists.proofs.AllLemmas.{all_append, all_weaker}
 use Rattle.lt_model.proofs.SentInMove.{take-sent}
-use Rattle.lt_law_plays.specs.Plays.{Cause, OfClient, OfLetter, can_make, made_of, stamp_of, logged_of, used_by, letters_for, Plays}
+use Rattle.lt_spec.specs.Plays.{Cause, OfClient, OfLetter, can_make_move, made_of, stamp_of, logged_of, used_by, letters_for, Plays}
 use Rattle.lt_merge.specs.Merging.{IsBefore}
 use Rattle.lt_law_plays.specs.PlayLaws.{OneMovePlays, PlaysJoin, PlaysGrow, PlaysRise, PlaysSendStamped, TakesNothingOfItself}
 
@@ -158,7 +158,7 @@ pub record IsFromOther (script : ScriptData) (p x : ℕ) : Type 0 where
   pub other : IsTrue (not (p == x))
   pub differ : p ≡ x → ⊥
 
-pub from_other : (script : ScriptData) (p x : ℕ) (n : NodeState) (letter : Letter) → IsTrue (can_make script x n (OfLetter p letter)) → IsFromOther script p x
+pub from_other : (script : ScriptData) (p x : ℕ) (n : NodeState) (letter : Letter) → IsTrue (can_make_move script x n (OfLetter p letter)) → IsFromOther script p x
 from_other script p x n letter can =
     let first = and_parts (nat_lt p script.nodes) (nat_lt x script.nodes && not (p == x)) can in
     let second = and_parts (nat_lt x script.nodes) (not (p == x)) first.1 in
@@ -169,7 +169,7 @@ from_other script p x n letter can =
       differ = λ e. (subst (λ (t : Bool). not t ≡ true → ⊥) (sym (eq-eqb p x e)) (λ wrong. cc)) second.1;
     }
 
-none_of_itself : (script : ScriptData) (x : ℕ) (n : NodeState) (cause : Cause) → IsTrue (can_make script x n cause) → used_by cause x ≡ []
+none_of_itself : (script : ScriptData) (x : ℕ) (n : NodeState) (cause : Cause) → IsTrue (can_make_move script x n cause) → used_by cause x ≡ []
 none_of_itself script x n (OfClient client) can = refl
 none_of_itself script x n (OfLetter p letter) can = rw (ne_eqb x p (λ e. (from_other script p x n letter can).differ (sym e))) refl
 

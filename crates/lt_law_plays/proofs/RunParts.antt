@@ -13,7 +13,7 @@ use Rattle.lt_spec.specs.Families.{home}
 use Rattle.lt_spec.specs.NodeMove.{NodeState, has_command, node_waits}
 use Rattle.lt_spec.specs.World.{World, start, is_some_letter, is_enabled, logged, after, after_run, IsRunFrom, is_of_node}
 use Rattle.lt_lists.proofs.Puts.{put-same, put-other}
-use Rattle.lt_law_plays.specs.Plays.{Cause, OfClient, OfLetter, can_make, made_of, cause_step, logged_of, used_by, letters_for, Plays}
+use Rattle.lt_spec.specs.Plays.{Cause, OfClient, OfLetter, can_make_move, made_of, cause_step, logged_of, used_by, letters_for, Plays}
 use Rattle.lt_law_plays.specs.MergeLaws.{RunsArePlays}
 use Rattle.lt_law_plays.proofs.PlayLemmas.{plays_same}
 use Rattle.lt_merge.proofs.Filters.{filter_yes, filter_no}
@@ -23,7 +23,7 @@ use Rattle.lt_law_plays.proofs.Steps.{IsFront, gone, added, IsStep, is_step}
 record HasCause (script : ScriptData) (w : World) (q : ℕ) (step : Step) : Type 0 where
   cause : Cause
   is_step : cause_step cause ≡ step
-  can : IsTrue (can_make script q (w.node q) cause)
+  can : IsTrue (can_make_move script q (w.node q) cause)
   front : IsFront w q cause
 
 has_cause : (script : ScriptData) (w : World) (q : ℕ) (step : Step) → IsTrue (is_enabled script w q step) → HasCause script w q step
@@ -76,7 +76,7 @@ rejoin u v mid sent used final h =
     append_assoc u mid (v ++ sent) ∙ (ap (λ letters. u ++ letters) (sym (append_assoc mid v sent) ∙ h) ∙ sym (append_assoc u used final))
 
 -- first the move with this cause, and then the others
-parts_first : (script : ScriptData) (w : World) (q : ℕ) (cause : Cause) (run : List Logged) (final : World) → IsTrue (can_make script q (w.node q) cause)
+parts_first : (script : ScriptData) (w : World) (q : ℕ) (cause : Cause) (run : List Logged) (final : World) → IsTrue (can_make_move script q (w.node q) cause)
     → IsStep script w q cause (after script w q (cause_step cause)) → HasParts script (after script w q (cause_step cause)) run final
     → HasParts script w (logged_of script q (w.node q) cause ∷ run) final
 parts_first script w q cause run final can step more = record {

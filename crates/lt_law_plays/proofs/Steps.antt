@@ -11,7 +11,7 @@ use Rattle.lt_lists.specs.Below.{put}
 use Rattle.lt_spec.specs.Families.{home}
 use Rattle.lt_spec.specs.NodeMove.{has_command, node_waits}
 use Rattle.lt_spec.specs.World.{World, token_to, is_some_letter, is_enabled, take_front, front_stamp, put_mail, logged, after_made, after}
-use Rattle.lt_law_plays.specs.Plays.{Cause, OfClient, OfLetter, can_make, made_of, cause_step, logged_of, used_by, letters_for}
+use Rattle.lt_spec.specs.Plays.{Cause, OfClient, OfLetter, can_make_move, made_of, cause_step, logged_of, used_by, letters_for}
 use Rattle.lt_law_plays.proofs.PlayLemmas.{IsFromOther, from_other}
 
 -- what a move needs of the world: the letter that it takes is in front
@@ -35,7 +35,7 @@ pub record IsStep (script : ScriptData) (w : World) (q : ℕ) (cause : Cause) (l
       × (later.mail a b ≡ mid ++ added q (made_of script q (w.node q) cause).posts a b)
   pub went : (s : ℕ) → later.went s ≡ w.went s ++ filter_map (token_to s) (made_of script q (w.node q) cause).posts
 
-client_enabled : (script : ScriptData) (w : World) (q client : ℕ) → IsTrue (can_make script q (w.node q) (OfClient client)) → IsTrue (is_enabled script w q (Act client))
+client_enabled : (script : ScriptData) (w : World) (q client : ℕ) → IsTrue (can_make_move script q (w.node q) (OfClient client)) → IsTrue (is_enabled script w q (Act client))
 client_enabled script w q client can =
     let runs : ℕ → Bool = λ x. not (node_waits script (w.node x) client) && has_command script (w.node x) client in
     let first = and_parts (nat_lt client (length script.clients)) (home script client == q && runs q) can in
@@ -61,10 +61,10 @@ entry_with w q p letters = record {
 abbrev world_with : World → ℕ → ℕ → List Letter → World
 world_with w q p letters = after_made q (take_front q (w.node q) letters) (record w { mail = put_mail w.mail p q (drop 1 letters) })
 
-other : (script : ScriptData) (w : World) (q p : ℕ) (letter : Letter) → IsTrue (can_make script q (w.node q) (OfLetter p letter)) → IsFromOther script p q
+other : (script : ScriptData) (w : World) (q p : ℕ) (letter : Letter) → IsTrue (can_make_move script q (w.node q) (OfLetter p letter)) → IsFromOther script p q
 other script w q p letter can = from_other script p q (w.node q) letter can
 
-pub is_step : (script : ScriptData) (w : World) (q : ℕ) (cause : Cause) → IsTrue (can_make script q (w.node q) cause) → IsFront w q cause
+pub is_step : (script : ScriptData) (w : World) (q : ℕ) (cause : Cause) → IsTrue (can_make_move script q (w.node q) cause) → IsFront w q cause
     → IsStep script w q cause (after script w q (cause_step cause))
 is_step script w q (OfClient client) can front = record {
   enabled = client_enabled script w q client can;

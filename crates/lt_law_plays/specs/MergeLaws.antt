@@ -4,11 +4,11 @@ use Rattle.lt_modes.specs.declared.moves.Step.TheVariants.{Act, Take}
 use Rattle.lt_modes.specs.Script.{ScriptData}
 use Rattle.lt_modes.specs.State.{Letter, Desk, TokenBody}
 use Rattle.lt_modes.specs.Fits.{head_fits, numbers_of}
-use Rattle.lt_model.specs.Homes.{IsWhole}
+use Rattle.lt_spec.specs.WholeScripts.{IsWhole}
 use Rattle.lt_spec.specs.Log.{Logged}
 use Rattle.lt_lists.specs.Below.{sum_below}
 use Rattle.lt_spec.specs.World.{World, start, is_enabled, is_of_node, world_after, IsRun}
-use Rattle.lt_law_plays.specs.Plays.{OfLetter, can_act, can_make}
+use Rattle.lt_spec.specs.Plays.{OfLetter, can_act, can_make_move}
 use Rattle.lt_law_plays.specs.Merged.{Logs, ArePlays, merged, token_goes}
 use Rattle.lt_merge.specs.Merging.{IsMerged}
 
@@ -79,7 +79,7 @@ abbrev pub EnabledIsSeen : Type 0
 EnabledIsSeen = (script : ScriptData) (l : Logs) (run : List Logged) → ArePlays script l → IsMerged l.log run
     → ((q client : ℕ) → is_enabled script (world_after script run) q (Act client) ≡ can_act script q (l.last q) client)
     × ((p q : ℕ) (letter : Letter) (others : List Letter) → l.rest p q ≡ letter ∷ others
-    → is_enabled script (world_after script run) q (Take p) ≡ can_make script q (l.last q) (OfLetter p letter))
+    → is_enabled script (world_after script run) q (Take p) ≡ can_make_move script q (l.last q) (OfLetter p letter))
 
 -- no clock is above the number of entries in all logs
 abbrev pub ClocksAreCounted : Type 0

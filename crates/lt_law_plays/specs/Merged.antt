@@ -10,7 +10,7 @@ use Rattle.lt_spec.specs.Log.{Logged}
 use Rattle.lt_lists.specs.Below.{put}
 use Rattle.lt_spec.specs.NodeMove.{NodeState, NodeMade, node_act}
 use Rattle.lt_spec.specs.World.{start, take_front, token_to}
-use Rattle.lt_law_plays.specs.Plays.{Plays}
+use Rattle.lt_spec.specs.Plays.{Plays}
 
 -- of each node its log and its last state; of each two nodes the letters of p that q used, those that p sent to q,
 -- and those that are left of them

@@ -5,7 +5,7 @@ use Rattle.lt_modes.specs.State.{Letter}
 use Rattle.lt_spec.specs.Log.{Logged}
 use Rattle.lt_spec.specs.NodeMove.{NodeState}
 use Rattle.lt_spec.specs.World.{start}
-use Rattle.lt_law_plays.specs.Plays.{Plays}
+use Rattle.lt_spec.specs.Plays.{Plays}
 use Rattle.lt_law_plays.specs.Merged.{Logs, ArePlays}
 
 -- what one node made: its log, its last state, and the letters that it used of each node and sent to each node

@@ -5,12 +5,12 @@ use Rattle.lt_modes.specs.Script.{ScriptData}
 use Rattle.lt_modes.specs.State.{Letter}
 use Rattle.lt_spec.specs.Log.{Logged}
 use Rattle.lt_spec.specs.NodeMove.{NodeState}
-use Rattle.lt_law_plays.specs.Plays.{Cause, can_make, made_of, logged_of, used_by, letters_for, Plays}
+use Rattle.lt_spec.specs.Plays.{Cause, can_make_move, made_of, logged_of, used_by, letters_for, Plays}
 use Rattle.lt_merge.specs.Merging.{AreRising}
 
 -- a move that the node can make is a play of one entry
 abbrev pub OneMovePlays : Type 0
-OneMovePlays = (script : ScriptData) (x : ℕ) (n : NodeState) (cause : Cause) → IsTrue (can_make script x n cause)
+OneMovePlays = (script : ScriptData) (x : ℕ) (n : NodeState) (cause : Cause) → IsTrue (can_make_move script x n cause)
     → Plays script x n (logged_of script x n cause ∷ []) (used_by cause) (λ b. letters_for b (made_of script x n cause).posts) (made_of script x n cause).node
 
 -- a play, and one that begins where it ended, are a play of both logs
@@ -23,7 +23,7 @@ PlaysJoin = (script : ScriptData) (x : ℕ) (first second : List Logged) (n mid 
 -- a play with one move more is a play: so a node's log grows
 abbrev pub PlaysGrow : Type 0
 PlaysGrow = (script : ScriptData) (x : ℕ) (log : List Logged) (n mid : NodeState) (cause : Cause) (used sent used_all sent_all : ℕ → List Letter)
-    → Plays script x n log used sent mid → IsTrue (can_make script x mid cause)
+    → Plays script x n log used sent mid → IsTrue (can_make_move script x mid cause)
     → ((a : ℕ) → used_all a ≡ used a ++ used_by cause a) → ((b : ℕ) → sent_all b ≡ sent b ++ letters_for b (made_of script x mid cause).posts)
     → Plays script x n (log ++ logged_of script x mid cause ∷ []) used_all sent_all (made_of script x mid cause).node
 

@@ -1,6 +1,8 @@
 ghost use Rattle.lt_law_plays.specs.PlayLaws.{OneMovePlays, PlaysJoin, PlaysGrow, PlaysRise, PlaysSendStamped, TakesNothingOfItself, TakesNothingFromBeyond};
 ghost use Rattle.lt_law_plays.specs.Parts.{JoinedArePlays};
 ghost use Rattle.lt_law_plays.specs.MergeLaws.{MergedIsRun, MergedEnds, MergedExists, MergedHasAll, MergedIsOne, HandIsFront, SentWereOnWay, OnWayWereSent, TokenStands, TokenCame, EnabledIsSeen, ClocksAreCounted, LettersAreCounted, HeadsFit, RunsArePlays};
+ghost use Rattle.lt_law_plays.specs.AppendLaws.{PlaysGoOn, RunsGoOn, AppendedCommands, PlaysOfAppended, RunsOfAppended};
+ghost use Rattle.lt_law_plays.specs.ShareLaws.{PlaysSameAt, ShareIsSame, SharedPlays, SharedCommands};
 
 /// One move is a play; a play and one that begins where it ended are a play; in a play the node's stamps rise.
 pub fn law_plays()
@@ -50,4 +52,23 @@ pub fn law_low_clocks()
 pub fn law_parts()
     ensures joined { JoinedArePlays }
     ensures run { RunsArePlays }
+{}
+
+/// A play is a play, and a run a run to the same world, of each script in which the commands of clients go on; so of the
+/// script with a command appended to a client's list.
+pub fn law_append()
+    ensures plays { PlaysGoOn }
+    ensures runs { RunsGoOn }
+    ensures commands { AppendedCommands }
+    ensures play_of_appended { PlaysOfAppended }
+    ensures run_of_appended { RunsOfAppended }
+{}
+
+/// Where each node appended commands of its own clients, its script and the one with the commands of all nodes are the same
+/// to it: its plays are plays of both.
+pub fn law_shares()
+    ensures plays { PlaysSameAt }
+    ensures share { ShareIsSame }
+    ensures shared { SharedPlays }
+    ensures commands { SharedCommands }
 {}

@@ -13,9 +13,7 @@ use Rattle.lt_lists.proofs.Searches.{any_below_at}
 use Rattle.lt_spec.specs.Families.{home}
 use Rattle.lt_spec.specs.Facts.{state_at}
 use Rattle.lt_spec.specs.World.{World, is_waiting, anyone_waits}
-use Rattle.lt_model.specs.Invariant.{WaitsFor}
-use Rattle.lt_law_lines.specs.LineLaws.{HasOpenWait}
-use Rattle.lt_law_promises.specs.Promises.{HasWaiter}
+use Rattle.lt_spec.specs.Waits.{WaitsFor, HasOpenWait, HasWaiter}
 
 -- a search that finds something finds it at some number
 any_below_which : (n : ℕ) (test : ℕ → Bool) → any_below n test ≡ true → (k : ℕ) × (k < n) × (test k ≡ true)

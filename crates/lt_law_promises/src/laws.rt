@@ -1,9 +1,8 @@
 ghost use Rattle.lt_model.specs.Laws.{OneToken, OnePlace, TriesInRuns};
 ghost use Rattle.lt_law_invariant.specs.RunLaws.{KeptInRuns, LettersFitInRuns, LedInRuns, FrozenInRuns};
-ghost use Rattle.lt_law_invariant.specs.Services.{ServedInTurn};
+ghost use Rattle.lt_spec.specs.Services.{ServedInTurn};
 ghost use Rattle.lt_law_lines.specs.LineLaws.{LinesTellHeld, HoldingsAreLawful, LinesTellWaits, LinesTellOwners, FirstWaiterByLines};
-ghost use Rattle.lt_law_promises.specs.Promises.{SomebodyWaits};
-ghost use Rattle.lt_law_promises.specs.Promised.{RunsKeepPromises};
+ghost use Rattle.lt_law_promises.specs.Promises.{SomebodyWaits, RunsKeepPromises};
 
 use lt_law_invariant::{law_in_turn, law_kept_in_runs};
 use lt_law_lines::law_lines_tell;

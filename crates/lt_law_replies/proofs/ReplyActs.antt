@@ -16,12 +16,12 @@ use Rattle.lt_modes.specs.Made.{Made, then_do}
 use Rattle.lt_modes.specs.Granting.{can_grant}
 use Rattle.lt_modes.specs.Serving.{answer_event}
 use Rattle.lt_modes.specs.SetMove.{answers, given, granted, ask_of, asked, locked, tried, unlocked, change_held, changed}
-use Rattle.lt_law_ledgers.proofs.OwnSteps.{route_same}
+use Rattle.lt_law_invariant.proofs.OwnSteps.{route_same}
 use Rattle.lt_law_lines.proofs.LineRules.{route_says}
 use Rattle.lt_law_lines.proofs.WaitActs.{NoneOf}
-use Rattle.lt_law_own_lines.specs.OwnLines.{replies_of}
+use Rattle.lt_spec.specs.OwnLines.{replies_of}
 use Rattle.lt_law_own_lines.proofs.OwnRuns.{replies_append}
-use Rattle.lt_law_replies.specs.Answers.{AnswersCommand}
+use Rattle.lt_spec.specs.Answers.{AnswersCommand}
 use Rattle.lt_law_replies.proofs.ReplyRules.{Replies, AllReplies, then_replies, no_reply}
 
 -- the command has its reply, and no ask of the client is left

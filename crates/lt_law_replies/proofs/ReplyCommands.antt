@@ -18,7 +18,7 @@ use Rattle.lt_lists.proofs.AllLemmas.{all_weaker}
 use Rattle.lt_spec.specs.Families.{related}
 use Rattle.lt_spec.specs.NodeMove.{NodeState, NodeMade, node_waits, act_stamp, at_clock, one_made, touched, each_touched, locks_in_sets, answered_first, drop_all, obey}
 use Rattle.lt_spec.specs.World.{World}
-use Rattle.lt_model.specs.Homes.{HasTargetsAt}
+use Rattle.lt_spec.specs.WholeScripts.{HasTargetsAt}
 use Rattle.lt_model.specs.Standing.{AsksStand}
 use Rattle.lt_model.proofs.Effects.{HoldsOf}
 use Rattle.lt_model.proofs.HomesMove.{related_below}
@@ -30,8 +30,8 @@ use Rattle.lt_law_invariant.proofs.ClientEffects.{Clients}
 use Rattle.lt_law_invariant.proofs.ClientCommands.{one_for, idle, no_ask_of, clients_acts, drops_kept, locked_of, tried_of, unlocked_of, changed_of}
 use Rattle.lt_law_invariant.proofs.ClientMoves.{SoundClients, at_first, idle_in}
 use Rattle.lt_law_lines.proofs.WaitMoves.{IsFree}
-use Rattle.lt_law_own_lines.specs.OwnLines.{replies_of}
-use Rattle.lt_law_replies.specs.Answers.{AnswersCommand}
+use Rattle.lt_spec.specs.OwnLines.{replies_of}
+use Rattle.lt_spec.specs.Answers.{AnswersCommand}
 use Rattle.lt_law_replies.proofs.ReplyRules.{AllReplies, stands_so, then_all, no_lines, finish_replies}
 use Rattle.lt_law_replies.proofs.ReplyActs.{ActReplies, act_ends, locked_replies, tried_replies, unlocked_replies, changed_replies}
 use Rattle.lt_law_replies.proofs.ReplyMoves.{InTurn, Follows, put_follows, act_follows, all_answered, one_more, each_follows}

@@ -16,9 +16,9 @@ use Rattle.lt_lists.proofs.Puts.{put-same, put-other}
 use Rattle.lt_spec.specs.NodeMove.{NodeState, touched, each_touched}
 use Rattle.lt_model.proofs.NodeEffects.{IsOnce}
 use Rattle.lt_law_lines.proofs.WaitMoves.{IsFree}
-use Rattle.lt_law_own_lines.specs.OwnLines.{replies_of}
+use Rattle.lt_spec.specs.OwnLines.{replies_of}
 use Rattle.lt_law_own_lines.proofs.OwnRuns.{replies_append}
-use Rattle.lt_law_replies.specs.Answers.{AnswersCommand, AnswersAt, AnswersInTurn}
+use Rattle.lt_spec.specs.Answers.{AnswersCommand, AnswersAt, AnswersInTurn}
 use Rattle.lt_law_replies.proofs.ReplyRules.{NoReply, OneReply, Replies, AllReplies}
 use Rattle.lt_law_replies.proofs.ReplyActs.{Answered, Asks, ActReplies}
 

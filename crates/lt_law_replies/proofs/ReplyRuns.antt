@@ -19,15 +19,16 @@ use Rattle.lt_spec.specs.Holdings.{lines_of}
 use Rattle.lt_spec.specs.Log.{Logged}
 use Rattle.lt_spec.specs.NodeMove.{NodeState, NodeMade, node_waits}
 use Rattle.lt_spec.specs.World.{World, start, is_enabled, node_move, after, world_after, IsRun}
-use Rattle.lt_model.specs.Homes.{IsWhole, Homes}
+use Rattle.lt_model.specs.Homes.{Homes}
+use Rattle.lt_spec.specs.WholeScripts.{IsWhole}
 use Rattle.lt_model.specs.Invariant.{WorldInvariant}
 use Rattle.lt_model.proofs.NodeMoves.{after_node}
 use Rattle.lt_law_lines.proofs.AlongRuns.{along_runs}
 use Rattle.lt_law_lines.proofs.WaitMoves.{IsFree}
-use Rattle.lt_law_own_lines.specs.OwnLines.{replies_of}
+use Rattle.lt_spec.specs.OwnLines.{replies_of}
 use Rattle.lt_law_own_lines.proofs.OwnMoves.{own_lines_of_moves}
 use Rattle.lt_law_own_lines.proofs.OwnRuns.{replies_append, no_replies, replies_of_log}
-use Rattle.lt_law_replies.specs.Answers.{AnswersAt, AnswersInTurn}
+use Rattle.lt_spec.specs.Answers.{AnswersAt, AnswersInTurn}
 use Rattle.lt_law_replies.specs.ReplyLaws.{RepliesInTurn, LogInTurn, OneReplyEach, UnansweredWait, AsksAnswerNext}
 use Rattle.lt_law_replies.proofs.ReplyMoves.{IsDone, IsOpen, InTurn}
 use Rattle.lt_law_replies.proofs.ReplySteps.{move_stays}

@@ -22,7 +22,7 @@ use Rattle.lt_lists.proofs.Puts.{put-same, put-other}
 use Rattle.lt_spec.specs.Families.{home, related, commands_of}
 use Rattle.lt_spec.specs.NodeMove.{NodeState, NodeMade, node_waits, has_command, next_command, act_stamp, take_stamp, at_clock, one_made, node_act, node_take, touched, each_touched, drop_all, obey}
 use Rattle.lt_spec.specs.World.{World, is_enabled, is_waiting, is_some_letter, put_mail, take_front, node_move}
-use Rattle.lt_model.specs.Homes.{IsWhole}
+use Rattle.lt_spec.specs.WholeScripts.{IsWhole}
 use Rattle.lt_model.specs.Invariant.{WorldInvariant}
 use Rattle.lt_model.specs.Standing.{AsksStand}
 use Rattle.lt_model.proofs.Gathered.{copies_are_on_way}
@@ -31,12 +31,12 @@ use Rattle.lt_model.proofs.KeptSets.{kept_stands}
 use Rattle.lt_model.proofs.PathsMove.{has_mail_parts}
 use Rattle.lt_model.proofs.StandingBegins.{stands_arrived, elsewhere, unanswered, only_here}
 use Rattle.lt_model.proofs.TokenComes.{desk_somewhere}
-use Rattle.lt_law_ledgers.proofs.OwnSteps.{route_same}
+use Rattle.lt_law_invariant.proofs.OwnSteps.{route_same}
 use Rattle.lt_law_invariant.proofs.ClientEffects.{Clients}
 use Rattle.lt_law_invariant.proofs.ClientMoves.{at_first}
 use Rattle.lt_law_invariant.proofs.ClientsKept.{sound_clients, clients_arrived}
 use Rattle.lt_law_lines.proofs.LineRules.{route_says}
-use Rattle.lt_law_own_lines.specs.OwnLines.{replies_of}
+use Rattle.lt_spec.specs.OwnLines.{replies_of}
 use Rattle.lt_law_replies.proofs.ReplyRules.{AllReplies, then_all, no_lines, answer_replies, finish_replies}
 use Rattle.lt_law_replies.proofs.ReplyCommands.{ActTurns, act_turns}
 use Rattle.lt_law_replies.proofs.ReplyMoves.{InTurn, put_follows}

@@ -9,9 +9,9 @@ use Rattle.lt_spec.specs.Holdings.{lines_of}
 use Rattle.lt_spec.specs.Log.{Logged}
 use Rattle.lt_spec.specs.World.{made_by, is_waiting, is_of_node, world_after, IsRun}
 use Rattle.lt_spec.specs.Facts.{state_at}
-use Rattle.lt_model.specs.Homes.{IsWhole}
-use Rattle.lt_law_own_lines.specs.OwnLines.{replies_of}
-use Rattle.lt_law_replies.specs.Answers.{AnswersAt, AnswersInTurn, unanswered_commands}
+use Rattle.lt_spec.specs.WholeScripts.{IsWhole}
+use Rattle.lt_spec.specs.OwnLines.{replies_of}
+use Rattle.lt_spec.specs.Answers.{AnswersAt, AnswersInTurn, unanswered_commands}
 
 -- after each prefix of each run each reply to a client answers the command at its place
 abbrev pub RepliesInTurn : Type 0

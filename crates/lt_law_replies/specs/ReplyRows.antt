@@ -9,8 +9,8 @@ use Rattle.lt_law_examples.specs.Worked.{Worked}
 use Rattle.lt_law_examples.specs.WorkedOneNode.{never_held, drop_in_family}
 use Rattle.lt_law_examples.specs.WorkedNodes.{try_at_home, change_after_reader}
 use Rattle.lt_law_examples.specs.WorldBusy.{busy_in_another_set}
-use Rattle.lt_law_own_lines.specs.OwnLines.{replies_of}
-use Rattle.lt_law_replies.specs.Answers.{AnswersCommand, unanswered_commands}
+use Rattle.lt_spec.specs.OwnLines.{replies_of}
+use Rattle.lt_spec.specs.Answers.{AnswersCommand, unanswered_commands}
 
 -- a `change` is answered by its own line or by `not_held` of the mode that it gives up; a `wait` answers nothing
 abbrev pub AnswersToOne : Type 0

@@ -18,13 +18,13 @@ use Rattle.lt_script.proofs.RoundTripSets.{get_in_front}
 use Rattle.lt_spec.specs.Families.{commands_of}
 use Rattle.lt_spec.specs.Holdings.{Holding, holding, same_holding, holdings, lines_of, times_held, agree, IsLawful}
 use Rattle.lt_spec.specs.Log.{Logged}
-use Rattle.lt_law_own_lines.specs.OwnLines.{replies_of}
-use Rattle.lt_law_replies.specs.Answers.{AnswersInTurn}
+use Rattle.lt_spec.specs.OwnLines.{replies_of}
+use Rattle.lt_spec.specs.Answers.{AnswersInTurn}
 use Rattle.lt_law_replies.proofs.ReplyRuns.{replies_in_turn}
 use Rattle.lt_law_lines.proofs.LineCounts.{lines_count, count_after, same_holding-true}
 use Rattle.lt_law_lines.proofs.KeptLines.{holdings_are_lawful}
-use Rattle.lt_law_limits.proofs.Within.{whole}
-use Rattle.lt_law_appended.specs.Commands.{with_commands}
+use Rattle.lt_law_invariant.proofs.Within.{whole}
+use Rattle.lt_spec.specs.Commands.{with_commands}
 use Rattle.lt_live.specs.declared.ends.Session.{Session}
 use Rattle.lt_live.specs.Replies.{reply_to, replies_in}
 use Rattle.lt_live.specs.Words.{submitted, polled}

@@ -9,7 +9,7 @@ use Rattle.lt_modes.specs.declared.event.Event.TheVariants.{Grant, Wait, Try, Un
 use Rattle.lt_modes.specs.Script.{ScriptData}
 use Rattle.lt_spec.specs.Holdings.{Holding, holding, same_holding, is_dropped}
 use Rattle.lt_law_lines.proofs.LineCounts.{count_after}
-use Rattle.lt_law_replies.specs.Answers.{AnswersCommand}
+use Rattle.lt_spec.specs.Answers.{AnswersCommand}
 use Rattle.lt_live.specs.declared.reply.Reply.{Reply}
 use Rattle.lt_live.specs.declared.reply.Reply.TheVariants as r
 use Rattle.lt_live.specs.Replies.{told_if, reply_to}

@@ -21,12 +21,12 @@ use Rattle.lt_spec.specs.Holdings.{holding}
 use Rattle.lt_modes.proofs.EachMode.{same_mode-true}
 use Rattle.lt_lists.proofs.Sums.{counted_in, none_found, sum_by-zero}
 use Rattle.lt_law_accounts.proofs.RowTotals.{row_count, total, is_key, total_added, total_taken}
-use Rattle.lt_law_ledgers.proofs.OwnSteps.{route_same}
+use Rattle.lt_law_invariant.proofs.OwnSteps.{route_same}
 use Rattle.lt_law_invariant.proofs.ClientCounts.{SomeEach, each_some, asks_pushed}
 use Rattle.lt_law_invariant.proofs.ClientCommands.{IsIdle, no_ask_of, count_within}
 use Rattle.lt_law_lines.proofs.LineCounts.{count_after}
 use Rattle.lt_law_lines.proofs.LineRules.{key_is}
-use Rattle.lt_order.specs.Ordered.{best_answer}
+use Rattle.lt_spec.specs.Ordered.{best_answer}
 use Rattle.lt_law_ordered.proofs.Loans.{is_for, asks_for}
 use Rattle.lt_law_ordered.proofs.ActLoans.{ActLoans, idle_asks, not_his, locked_loans, tried_loans}
 use Rattle.lt_law_ordered.proofs.ChangeLoans.{unlocked_loans, dropped_loans, aside_loans}

@@ -25,7 +25,7 @@ use Rattle.lt_law_accounts.proofs.Unanswered.{without_only}
 use Rattle.lt_model.proofs.Effects.{Fact, EndEffects, next_service-within, both}
 use Rattle.lt_model.proofs.StandingEffects.{found_here}
 use Rattle.lt_model.proofs.StandingParts.{stands}
-use Rattle.lt_law_ledgers.proofs.OwnSteps.{route_same}
+use Rattle.lt_law_invariant.proofs.OwnSteps.{route_same}
 use Rattle.lt_law_invariant.proofs.ClientCounts.{SomeEach, each_some, asks_without}
 use Rattle.lt_law_invariant.proofs.ClientEffects.{GivenBy, Clients, clients, clients_ends}
 use Rattle.lt_law_ordered.proofs.Loans.{is_for, asks_for}

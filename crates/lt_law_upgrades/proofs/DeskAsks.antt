@@ -16,9 +16,9 @@ use Rattle.lt_modes.specs.Serving.{queue_of, queue_of_desk}
 use Rattle.lt_modes.specs.SetMove.{ask_of, asked}
 use Rattle.lt_lists.proofs.Members.{contains_first, list_any-at, list_any-which}
 use Rattle.lt_law_accounts.proofs.RowTotals.{total}
-use Rattle.lt_law_ledgers.proofs.Seen.{SameOwn}
-use Rattle.lt_law_ledgers.proofs.Ledgers.{with_item, routed_desk}
-use Rattle.lt_law_ledgers.proofs.OwnSteps.{route_same}
+use Rattle.lt_law_invariant.proofs.Seen.{SameOwn}
+use Rattle.lt_law_invariant.proofs.Ledgers.{with_item, routed_desk}
+use Rattle.lt_law_invariant.proofs.OwnSteps.{route_same}
 use Rattle.lt_law_lines.proofs.KeptLines.{row_of}
 use Rattle.lt_law_waiting.proofs.WaitsAtRest.{row_counts}
 use Rattle.lt_law_upgrades.proofs.DeskStays.{HasEntries, KeepsDesk}

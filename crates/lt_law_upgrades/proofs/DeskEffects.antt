@@ -29,7 +29,7 @@ use Rattle.lt_model.proofs.StandingEffects.{found_here}
 use Rattle.lt_law_accounts.proofs.Asks.{times_in-some}
 use Rattle.lt_law_accounts.proofs.Rows.{held-at}
 use Rattle.lt_law_accounts.proofs.Unanswered.{without_only, without_gone}
-use Rattle.lt_law_ledgers.proofs.OwnSteps.{route_same}
+use Rattle.lt_law_invariant.proofs.OwnSteps.{route_same}
 use Rattle.lt_law_invariant.proofs.ClientEffects.{GivenBy}
 use Rattle.lt_law_lines.proofs.KeptLines.{row_of}
 use Rattle.lt_law_upgrades.proofs.Balance.{with_balance, balance_ends}

@@ -20,9 +20,9 @@ use Rattle.lt_modes.specs.Serving.{queue_of_desk}
 use Rattle.lt_lists.proofs.Members.{contains_first}
 use Rattle.lt_law_accounts.specs.RuleLaws.{IsAfterHolders}
 use Rattle.lt_law_accounts.proofs.Entering.{holder_enters, other_enters}
-use Rattle.lt_law_ledgers.proofs.Seen.{SameOwn}
-use Rattle.lt_law_ledgers.proofs.Ledgers.{with_item, routed_desk}
-use Rattle.lt_law_ledgers.proofs.OwnSteps.{route_same}
+use Rattle.lt_law_invariant.proofs.Seen.{SameOwn}
+use Rattle.lt_law_invariant.proofs.Ledgers.{with_item, routed_desk}
+use Rattle.lt_law_invariant.proofs.OwnSteps.{route_same}
 use Rattle.lt_law_upgrades.proofs.DeskStays.{HasEntries, KeepsDesk}
 
 -- a holder's ask that is first stays first as another one enters

@@ -13,7 +13,7 @@ use Rattle.lt_lists.proofs.Sums.{counted_in}
 use Rattle.lt_spec.specs.Families.{commands_of}
 use Rattle.lt_spec.specs.Holdings.{Holding, holding, same_holding, without_holding, without_one, is_dropped, times_held}
 use Rattle.lt_law_lines.proofs.LineCounts.{same_holding-true}
-use Rattle.lt_order.specs.Ordered.{may_hold_after, may_hold, keeps_order, is_orderly_from}
+use Rattle.lt_spec.specs.Ordered.{may_hold_after, may_hold, keeps_order, is_orderly_from}
 use Rattle.lt_law_ordered.specs.Ranked.{are_ranked_below}
 use Rattle.lt_law_upgrades.specs.Upgrading.{has_of_set, upgrades_in_order, is_upgrading_from}
 use Rattle.lt_law_upgrades.specs.UpgradeLaws.{OrderedIsUpgrading}

@@ -24,7 +24,7 @@ use Rattle.lt_spec.specs.Families.{related, is_related}
 use Rattle.lt_spec.specs.Holdings.{holding}
 use Rattle.lt_spec.specs.NodeMove.{NodeState, node_waits, act_stamp, at_clock, one_made, drop_all, obey}
 use Rattle.lt_spec.specs.World.{World}
-use Rattle.lt_model.specs.Homes.{HasTargetsAt}
+use Rattle.lt_spec.specs.WholeScripts.{HasTargetsAt}
 use Rattle.lt_model.specs.Standing.{AsksStand}
 use Rattle.lt_model.proofs.Effects.{Fact, HoldsOf, ends_by_effects, finish_by_effects, both}
 use Rattle.lt_model.proofs.NodeEffects.{IsOfSet, IsOnce, once_or_aside, each_by_effects, both_of_set}
@@ -40,7 +40,7 @@ use Rattle.lt_law_invariant.proofs.ClientCommands.{one_for, IsIdle, idle, client
 use Rattle.lt_law_invariant.proofs.ClientMoves.{SoundClients, at_first, idle_in}
 use Rattle.lt_law_lines.proofs.LineCounts.{count_after}
 use Rattle.lt_law_lines.proofs.HeldMoves.{some_set, related_aside}
-use Rattle.lt_order.specs.Ordered.{best_answer}
+use Rattle.lt_spec.specs.Ordered.{best_answer}
 use Rattle.lt_law_ordered.proofs.ActLoans.{grant_more}
 use Rattle.lt_law_ordered.proofs.ChangeLoans.{change_aside, unlock_aside, drop_aside, drop_other}
 use Rattle.lt_law_upgrades.proofs.Balance.{Balance, even, with_balance}

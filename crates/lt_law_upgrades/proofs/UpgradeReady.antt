@@ -23,19 +23,20 @@ use Rattle.lt_spec.specs.Families.{home}
 use Rattle.lt_spec.specs.Holdings.{Holding, holding, times_held}
 use Rattle.lt_spec.specs.NodeMove.{NodeState, node_waits, next_command}
 use Rattle.lt_spec.specs.World.{World}
-use Rattle.lt_model.specs.Homes.{IsWhole, Homes, IsRowAtHome, IsAskAtHome}
+use Rattle.lt_model.specs.Homes.{Homes, IsRowAtHome, IsAskAtHome}
+use Rattle.lt_spec.specs.WholeScripts.{IsWhole}
 use Rattle.lt_model.specs.Invariant.{WorldInvariant}
 use Rattle.lt_model.proofs.TokenComes.{desk_somewhere}
 use Rattle.lt_law_accounts.proofs.Rows.{held-which, held-at}
 use Rattle.lt_law_accounts.proofs.RowTotals.{total}
-use Rattle.lt_law_ledgers.proofs.EachMove.{locks_agree}
+use Rattle.lt_law_invariant.proofs.EachMove.{locks_agree}
 use Rattle.lt_law_invariant.proofs.ClientEffects.{GivenBy}
 use Rattle.lt_law_invariant.proofs.ClientCommands.{no_ask_of}
 use Rattle.lt_law_invariant.proofs.ClientMoves.{idle_in}
 use Rattle.lt_law_invariant.proofs.ClientsKept.{sound_clients}
 use Rattle.lt_law_lines.proofs.KeptLines.{row_of}
 use Rattle.lt_law_waiting.proofs.WaitsAtRest.{row_counts, queue_waits}
-use Rattle.lt_order.specs.Ordered.{may_hold}
+use Rattle.lt_spec.specs.Ordered.{may_hold}
 use Rattle.lt_law_ordered.proofs.MayHold.{ranked_lock}
 use Rattle.lt_law_upgrades.specs.Upgrading.{upgrades_in_order, IsUpgrading}
 use Rattle.lt_law_upgrades.proofs.TakingModes.{taking_clash, read_is_gentle, write_is_gentle, read_write}

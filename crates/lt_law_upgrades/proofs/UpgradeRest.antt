@@ -16,16 +16,17 @@ use Rattle.lt_spec.specs.Families.{home}
 use Rattle.lt_spec.specs.Facts.{state_at, IsFirstWaiter, LeadsBy, IsLedToQueue}
 use Rattle.lt_spec.specs.Holdings.{Holding, holding, same_holding, holdings, lines_of, times_held}
 use Rattle.lt_spec.specs.World.{World, world_after, made_by, is_waiting, is_at_rest, anyone_waits}
-use Rattle.lt_model.specs.Homes.{IsWhole, Homes, IsRowAtHome}
+use Rattle.lt_model.specs.Homes.{Homes, IsRowAtHome}
+use Rattle.lt_spec.specs.WholeScripts.{IsWhole}
 use Rattle.lt_model.specs.Invariant.{WorldInvariant}
 use Rattle.lt_model.specs.Paths.{Paths}
 use Rattle.lt_model.proofs.HomesMove.{homes_in_runs}
 use Rattle.lt_law_accounts.proofs.Rows.{held-at}
 use Rattle.lt_law_accounts.proofs.RowTotals.{total}
-use Rattle.lt_law_ledgers.proofs.OneDesk.{one_desk}
-use Rattle.lt_law_rest.specs.RestLaws.{IsBarred}
-use Rattle.lt_law_rest.proofs.FirstWaiter.{first_waiter_conflicts}
-use Rattle.lt_law_rest.proofs.LedAtRest.{asks_are_led}
+use Rattle.lt_law_invariant.proofs.OneDesk.{one_desk}
+use Rattle.lt_law_invariant.specs.RestLaws.{IsBarred}
+use Rattle.lt_law_invariant.proofs.FirstWaiter.{first_waiter_conflicts}
+use Rattle.lt_law_invariant.proofs.LedAtRest.{asks_are_led}
 use Rattle.lt_law_invariant.proofs.ClientMoves.{idle_in}
 use Rattle.lt_law_invariant.proofs.KeptRuns.{kept_in_runs}
 use Rattle.lt_law_lines.proofs.KeptLines.{lines_kept_in_runs}

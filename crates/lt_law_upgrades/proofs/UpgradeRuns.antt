@@ -24,14 +24,15 @@ use Rattle.lt_spec.specs.Families.{home, commands_of, related}
 use Rattle.lt_spec.specs.Log.{Logged}
 use Rattle.lt_spec.specs.NodeMove.{NodeState, NodeMade, node_waits, has_command, next_command, act_stamp, at_clock, one_made, node_act, node_take, touched, each_touched, drop_all, obey}
 use Rattle.lt_spec.specs.World.{World, start, is_enabled, is_waiting, is_some_letter, opened, letter_for, take_front, node_move, after, world_after, IsRun}
-use Rattle.lt_model.specs.Homes.{IsWhole, Homes}
+use Rattle.lt_model.specs.Homes.{Homes}
+use Rattle.lt_spec.specs.WholeScripts.{IsWhole}
 use Rattle.lt_model.specs.Invariant.{WorldInvariant}
-use Rattle.lt_model.specs.OnWay.{OnWay, DeskIs}
+use Rattle.lt_spec.specs.Desks.{OnWay, DeskIs}
 use Rattle.lt_model.proofs.HomesMove.{IsMaker, maker, next_targets}
 use Rattle.lt_model.proofs.KeptSets.{kept_stands}
 use Rattle.lt_model.proofs.NodeMoves.{after_node}
 use Rattle.lt_model.proofs.PathsMove.{has_mail_parts}
-use Rattle.lt_law_ledgers.proofs.HeldUpMoves.{other_state}
+use Rattle.lt_law_invariant.proofs.HeldUpMoves.{other_state}
 use Rattle.lt_law_invariant.proofs.ClientCommands.{no_ask_of}
 use Rattle.lt_law_invariant.proofs.ClientMoves.{idle_in}
 use Rattle.lt_law_invariant.proofs.ClientsKept.{sound_clients}

@@ -16,7 +16,7 @@ use Rattle.lt_spec.specs.Holdings.{Holding, holding, same_holding, without_one, 
 use Rattle.lt_spec.specs.NodeMove.{NodeState}
 use Rattle.lt_law_accounts.proofs.RowTotals.{total}
 use Rattle.lt_law_lines.proofs.LineCounts.{count_after, line_counts, same_holding-true}
-use Rattle.lt_order.specs.Ordered.{best_answer, may_hold}
+use Rattle.lt_spec.specs.Ordered.{best_answer, may_hold}
 use Rattle.lt_law_ordered.specs.Ranked.{are_ranked_below}
 use Rattle.lt_law_ordered.proofs.Loans.{is_for, asks_for}
 use Rattle.lt_law_ordered.proofs.MayHold.{may_hold_more, may_count, ranked_lock}

@@ -10,8 +10,8 @@ use Rattle.lt_spec.specs.Facts.{state_at}
 use Rattle.lt_spec.specs.Log.{Logged}
 use Rattle.lt_spec.specs.Holdings.{holdings, lines_of}
 use Rattle.lt_spec.specs.World.{world_after, IsRun, is_at_rest, anyone_waits}
-use Rattle.lt_model.specs.Homes.{IsWhole}
-use Rattle.lt_order.specs.Ordered.{IsOrdered}
+use Rattle.lt_spec.specs.WholeScripts.{IsWhole}
+use Rattle.lt_spec.specs.Ordered.{IsOrdered}
 use Rattle.lt_law_upgrades.specs.Upgrading.{IsUpgrading}
 
 -- a run that is at rest has no waiting client

@@ -8,7 +8,7 @@ use Rattle.lt_modes.specs.Modes.{one, covers, excludes_itself}
 use Rattle.lt_modes.specs.Script.{ScriptData}
 use Rattle.lt_spec.specs.Families.{commands_of}
 use Rattle.lt_spec.specs.Holdings.{Holding, holding, without_one}
-use Rattle.lt_order.specs.Ordered.{may_hold_after, holds_none}
+use Rattle.lt_spec.specs.Ordered.{may_hold_after, holds_none}
 use Rattle.lt_law_ordered.specs.Ranked.{are_ranked_below}
 
 -- one of the locks is of the set

@@ -21,14 +21,16 @@ use Rattle.lt_spec.specs.Facts.{state_at}
 use Rattle.lt_spec.specs.Holdings.{Holding, holding, same_holding, holdings, lines_of}
 use Rattle.lt_spec.specs.World.{World, world_after, is_waiting, is_runnable, is_at_rest}
 use Rattle.lt_model.specs.Homes.{Homes, IsAskAtHome, IsAskOf}
-use Rattle.lt_model.specs.Invariant.{WorldInvariant, WaitsFor}
+use Rattle.lt_model.specs.Invariant.{WorldInvariant}
+use Rattle.lt_spec.specs.Waits.{WaitsFor}
 use Rattle.lt_model.proofs.HomesMove.{homes_in_runs}
 use Rattle.lt_law_invariant.proofs.KeptRuns.{kept_in_runs}
 use Rattle.lt_law_lines.proofs.KeptLines.{lines_tell_held}
 use Rattle.lt_law_lines.proofs.LineCounts.{same_holding-true}
 use Rattle.lt_modes.specs.Waiting.{is_before, stands_before, has_older, parked_behind}
 use Rattle.lt_spec.specs.Waiting.{holds_against, is_kept_by}
-use Rattle.lt_law_waiting.specs.WaitingLaws.{HasEnded, EndedHold}
+use Rattle.lt_law_waiting.specs.WaitingLaws.{EndedHold}
+use Rattle.lt_spec.specs.Ended.{HasEnded}
 use Rattle.lt_law_waiting.proofs.Finds.{any_below_which}
 use Rattle.lt_law_waiting.proofs.KeptAsks.{KeptAsk, waits_kept, ask_waits}
 use Rattle.lt_law_waiting.proofs.WaitsAtRest.{queue_waits}

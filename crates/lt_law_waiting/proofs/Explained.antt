@@ -9,12 +9,13 @@ use Rattle.lt_lists.proofs.Searches.{any_below_at}
 use Rattle.lt_spec.specs.Holdings.{Holding, holdings, lines_of}
 use Rattle.lt_spec.specs.Log.{Logged}
 use Rattle.lt_spec.specs.World.{World, world_after, IsRun, is_waiting, is_at_rest, anyone_waits}
-use Rattle.lt_model.specs.Homes.{IsWhole}
+use Rattle.lt_spec.specs.WholeScripts.{IsWhole}
 use Rattle.lt_law_lines.proofs.KeptLines.{lines_kept_in_runs}
 use Rattle.lt_spec.specs.Rings.{Graph, ring_set, walk_end}
 use Rattle.lt_spec.specs.Waiting.{waits_for}
-use Rattle.lt_law_waiting.specs.WaitingLaws.{WaitInRing, EndedHoldsUp, WaitersAreExplained, PairsAreReported, EndsAreReported, WaitersAreReported}
-use Rattle.lt_law_waiting.specs.Reports.{EndsLine, waits_report}
+use Rattle.lt_law_waiting.specs.WaitingLaws.{EndedHoldsUp, WaitersAreExplained, PairsAreReported, EndsAreReported, WaitersAreReported}
+use Rattle.lt_spec.specs.Ended.{WaitInRing}
+use Rattle.lt_spec.specs.Reports.{EndsLine, waits_report}
 use Rattle.lt_law_waiting.proofs.RingWalks.{cons_some, ring_in_set, ring_some, ring_waits}
 use Rattle.lt_law_waiting.proofs.WalkEnds.{walks_end}
 use Rattle.lt_law_waiting.proofs.Finds.{any_below_which}

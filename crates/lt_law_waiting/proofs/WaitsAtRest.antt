@@ -22,16 +22,17 @@ use Rattle.lt_lists.proofs.Sums.{sum_below-at}
 use Rattle.lt_spec.specs.Families.{home}
 use Rattle.lt_spec.specs.Facts.{state_at, places_in_state, LeadsBy, IsLedToQueue}
 use Rattle.lt_spec.specs.World.{World, world_after, is_waiting, is_at_rest}
-use Rattle.lt_model.specs.Homes.{IsWhole, Homes, IsRowAtHome, IsAskAtHome, IsAskOf}
+use Rattle.lt_model.specs.Homes.{Homes, IsRowAtHome, IsAskAtHome, IsAskOf}
+use Rattle.lt_spec.specs.WholeScripts.{IsWhole}
 use Rattle.lt_model.specs.Invariant.{WorldInvariant}
 use Rattle.lt_model.proofs.HomesMove.{homes_in_runs}
 use Rattle.lt_model.proofs.KeptSets.{kept_stands}
 use Rattle.lt_model.proofs.StandingInRuns.{stands_once}
 use Rattle.lt_law_accounts.proofs.Asks.{times_in-some}
 use Rattle.lt_law_accounts.proofs.RowTotals.{row_count, total}
-use Rattle.lt_law_rest.specs.RestLaws.{IsBarred}
-use Rattle.lt_law_rest.proofs.FirstWaiter.{first_waiter_conflicts}
-use Rattle.lt_law_rest.proofs.LedAtRest.{asks_are_led}
+use Rattle.lt_law_invariant.specs.RestLaws.{IsBarred}
+use Rattle.lt_law_invariant.proofs.FirstWaiter.{first_waiter_conflicts}
+use Rattle.lt_law_invariant.proofs.LedAtRest.{asks_are_led}
 use Rattle.lt_law_invariant.proofs.ClientEffects.{one_of_client}
 use Rattle.lt_law_invariant.proofs.ClientMoves.{at_first}
 use Rattle.lt_law_invariant.proofs.ClientsKept.{sound_clients}

@@ -1,4 +1,3 @@
-pub mod Reports
 pub mod RingLaws
 pub mod ReportLaws
 pub mod WaitingLaws

@@ -2,7 +2,7 @@
 use Rattle.std.specs.Prelude.{◌≡◌, ◌<◌, ◌==◌, ℕ, List, [], ◌∷◌, ◌++◌, ◌↔◌, IsTrue, Contains}
 use Rattle.std.specs.List.{IsDistinct}
 use Rattle.lt_spec.specs.Rings.{Graph, AreBelow, IsRing, ring_set, walk_end}
-use Rattle.lt_law_waiting.specs.Reports.{WaitsLine, CycleLine, NoCycleLine, EndsLine, waits_lines, report}
+use Rattle.lt_spec.specs.Reports.{WaitsLine, CycleLine, NoCycleLine, EndsLine, waits_lines, report}
 
 -- the report has a line `waits` for exactly each client and each client for which it waits
 abbrev pub WaitsAreTold : Type 0

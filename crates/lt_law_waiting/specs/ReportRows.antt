@@ -8,7 +8,7 @@ use Rattle.lt_spec.specs.FixedOrder.{first_run}
 use Rattle.lt_law_examples.specs.Worked.{Worked, declared_set, declared_client}
 use Rattle.lt_law_examples.specs.WorkedOneNode.{write_kept}
 use Rattle.lt_law_examples.specs.WorkedNodes.{changes_from_two_nodes, asks_park_behind}
-use Rattle.lt_law_waiting.specs.Reports.{ReportLine, WaitsLine, CycleLine, NoCycleLine, EndsLine, waits_report}
+use Rattle.lt_spec.specs.Reports.{ReportLine, WaitsLine, CycleLine, NoCycleLine, EndsLine, waits_report}
 
 -- this is the report after the run of a worked example
 abbrev pub ReportsAfter : Worked → List ReportLine → Type 0

@@ -1,19 +1,14 @@
 -- Who waits for whom at rest, as statements.
-use Rattle.std.specs.Prelude.{◌≡◌, ◌⊎◌, ◌↔◌, ◌<◌, ℕ, List, length, take, Contains, IsTrue, IsFalse}
-use Rattle.lt_modes.specs.declared.mode.Mode.{Mode}
+use Rattle.std.specs.Prelude.{◌⊎◌, ◌↔◌, ◌<◌, ℕ, List, length, take, Contains, IsTrue, IsFalse}
 use Rattle.lt_modes.specs.declared.event.Event.{Event}
-use Rattle.lt_modes.specs.Modes.{conflicts}
 use Rattle.lt_modes.specs.Script.{ScriptData}
-use Rattle.lt_spec.specs.Families.{home}
-use Rattle.lt_spec.specs.Holdings.{Holding, holdings, lines_of}
+use Rattle.lt_spec.specs.Holdings.{lines_of}
 use Rattle.lt_spec.specs.Log.{Logged}
-use Rattle.lt_spec.specs.NodeMove.{has_command}
-use Rattle.lt_spec.specs.Rings.{AreBelow, IsRing}
 use Rattle.lt_spec.specs.Waiting.{waits_for}
 use Rattle.lt_spec.specs.World.{World, world_after, IsRun, is_waiting, is_at_rest, anyone_waits}
-use Rattle.lt_model.specs.Homes.{IsWhole}
-use Rattle.lt_model.specs.Invariant.{WaitsFor}
-use Rattle.lt_law_waiting.specs.Reports.{WaitsLine, EndsLine, waits_report}
+use Rattle.lt_spec.specs.WholeScripts.{IsWhole}
+use Rattle.lt_spec.specs.Reports.{WaitsLine, EndsLine, waits_report}
+use Rattle.lt_spec.specs.Ended.{HasEnded, HoldsUp, WaitInRing}
 
 -- in any world a client that waits for another one has an unanswered ask
 abbrev pub OnlyWaitersWait : Type 0
@@ -27,20 +22,6 @@ EachWaitsForSome = (script : ScriptData) (run : List Logged) → IsWhole script 
     → IsTrue (is_waiting script (world_after script (take k run)) client)
     → (other : ℕ) × (other < length script.clients) × IsTrue (waits_for script (world_after script (take k run)) client other)
 
--- the client has made all its commands, and waits for nothing
-pub record HasEnded (script : ScriptData) (w : World) (client : ℕ) : Type 0 where
-  pub waits : IsFalse (is_waiting script w client)
-  pub commands : IsFalse (has_command script (w.node (home script client)) client)
-
--- by the lines the client holds a lock with which a mode conflicts that the waiter waits for
-pub record HoldsUp (script : ScriptData) (lines : List Event) (w : World) (waiter client : ℕ) : Type 0 where
-  pub lock : Holding
-  pub mode : Mode
-  pub held : Contains (holdings script lines) lock
-  pub holder : lock.client ≡ client
-  pub wanted : WaitsFor script w waiter lock.set mode
-  pub conflict : IsTrue (conflicts mode lock.mode)
-
 -- at rest a client that some client waits for, and that doesn't wait itself, has ended and holds a lock against it
 abbrev pub EndedHold : Type 0
 EndedHold = (script : ScriptData) (run : List Logged) → IsWhole script → IsRun script run → (k waiter client : ℕ)
@@ -50,10 +31,6 @@ EndedHold = (script : ScriptData) (run : List Logged) → IsWhole script → IsR
     → IsFalse (is_waiting script (world_after script (take k run)) client)
     → HasEnded script (world_after script (take k run)) client
     × HoldsUp script (lines_of (take k run)) (world_after script (take k run)) waiter client
-
--- clients of the script wait in a ring
-abbrev pub WaitInRing : ScriptData → World → Type 0
-WaitInRing script w = (ring : List ℕ) × AreBelow (length script.clients) ring × IsRing (waits_for script w) ring
 
 -- a client has ended and holds a lock against one that waits
 abbrev pub EndedHoldsUp : ScriptData → List Event → World → Type 0

@@ -11,14 +11,14 @@ use Rattle.lt_script.proofs.RoundTripSets.{get_in_front}
 use Rattle.lt_spec.specs.Families.{commands_of}
 use Rattle.lt_spec.specs.Holdings.{lines_of}
 use Rattle.lt_spec.specs.Log.{Logged}
-use Rattle.lt_law_own_lines.specs.OwnLines.{replies_of}
-use Rattle.lt_law_replies.specs.Answers.{AnswersInTurn}
+use Rattle.lt_spec.specs.OwnLines.{replies_of}
+use Rattle.lt_spec.specs.Answers.{AnswersInTurn}
 use Rattle.lt_law_replies.proofs.ReplyRuns.{replies_in_turn}
 use Rattle.lt_live.specs.declared.reply.Reply.{Reply}
 use Rattle.lt_live.specs.Replies.{reply_to, replies_in}
 use Rattle.lt_live.specs.Words.{submitted, polled}
 use Rattle.lt_live.specs.Answered.{IsReplyTo, PolledInTurn, NoMoreThanSubmitted}
-use Rattle.lt_law_limits.proofs.Within.{whole}
+use Rattle.lt_law_invariant.proofs.Within.{whole}
 use Rattle.lt_live.proofs.ReplyLemmas.{replies_of_lines}
 
 in_prefix : {X : Type 0} (xs ys : List X) → IsPrefix xs ys → (k : ℕ) (x : X) → slice_get xs k ≡ Some x → slice_get ys k ≡ Some x

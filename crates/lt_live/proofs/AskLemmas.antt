@@ -6,8 +6,8 @@ use Rattle.lt_modes.specs.FiveModes.{is_of_version}
 use Rattle.lt_modes.specs.declared.command.Command.{Command}
 use Rattle.lt_modes.specs.declared.command.Command.TheVariants.{Lock, Try, Unlock, Change, DropAll}
 use Rattle.lt_modes.specs.Script.{ScriptData, home_at}
-use Rattle.lt_script.specs.Script.{HasTargets, HasModesOf}
-use Rattle.lt_script.specs.declared.limits.TheConstants.{MAX_COMMANDS}
+use Rattle.lt_spec.specs.Script.{HasTargets, HasModesOf}
+use Rattle.lt_spec.specs.declared.limits.TheConstants.{MAX_COMMANDS}
 use Rattle.lt_live.specs.Asking.{may_ask, may_append, has_set, is_neighbour}
 
 -- all that the runner wants of a command that it appends

@@ -8,14 +8,14 @@ use Rattle.std.proofs.lemmas.Option.{same_Some, slice_get-map, slice_get_within}
 use mathlib.Core.List.{IsPrefix}
 use Rattle.lt_modes.specs.declared.command.Command.{Command}
 use Rattle.lt_modes.specs.Script.{ScriptData}
-use Rattle.lt_script.specs.declared.limits.TheConstants.{MAX_COMMANDS}
+use Rattle.lt_spec.specs.declared.limits.TheConstants.{MAX_COMMANDS}
 use Rattle.lt_script.proofs.NameLemmas.{element_at}
 use Rattle.lt_lists.specs.Below.{sum_below}
 use Rattle.lt_spec.specs.Families.{commands_of, home}
 use Rattle.lt_spec.specs.Holdings.{lines_of}
 use Rattle.lt_spec.specs.Log.{Logged}
 use Rattle.lt_spec.specs.World.{is_of_node}
-use Rattle.lt_law_appended.specs.Commands.{with_commands}
+use Rattle.lt_spec.specs.Commands.{with_commands}
 use Rattle.lt_runner.specs.declared.parts.Parts.{Parts}
 use Rattle.lt_threads.specs.Shares.{AreShares, ShareScript, AreTooMany, IsSharedRun, commands_in}
 use Rattle.lt_threads.proofs.Shares.{same_in_joined}
@@ -23,12 +23,12 @@ use Rattle.lt_live.specs.declared.reply.Reply.{Reply}
 use Rattle.lt_live.specs.declared.ends.Session.{Session}
 use Rattle.lt_live.specs.Replies.{replies_in}
 use Rattle.lt_live.specs.Words.{submitted, polled}
-use Rattle.lt_live.specs.Seats.{IsServed}
+use Rattle.lt_live.specs.Seats.{IsServedSession}
 use Rattle.lt_live.specs.Stations.{StationData}
 use Rattle.lt_live.specs.Opened.{equal_share, runner_of}
 use Rattle.lt_live.specs.Live.{AreLive, LiveScript}
 use Rattle.lt_live.specs.Finished.{IsServedRun, ServedBy, SaysSame, Settled}
-use Rattle.lt_law_limits.proofs.Within.{whole}
+use Rattle.lt_law_invariant.proofs.Within.{whole}
 use Rattle.lt_live.proofs.AlikeLists.{alike_after, alike_len}
 use Rattle.lt_live.proofs.ReplyLemmas.{replies_in_log}
 
@@ -114,7 +114,7 @@ module _ (script : ScriptData) (stations later : List StationData) (sessions aft
           let (p, here) = element_at rs 0 (omega (arith, shares.some, shares.count)) in
           (shared.joined.crew.each 0 p here).script_is.rest ∙ ap (λ (x : ScriptData). with_commands x made.commands) (shares.each 0 p here).script_is
 
-      each : (client : ℕ) (s : Session) → slice_get sessions client ≡ Some s → IsServed (commands_of made client) (lines_of run) client s
+      each : (client : ℕ) (s : Session) → slice_get sessions client ≡ Some s → IsServedSession (commands_of made client) (lines_of run) client s
       each client s e =
           let at = at_end client s e in
           let p = at.runner in
@@ -127,7 +127,7 @@ module _ (script : ScriptData) (stations later : List StationData) (sessions aft
           let told : replies_in client (lines_of run) ≡ replies_in client (lines_of p.log.entries) =
           replies_in_log made run p.log.entries (whole made shared.joined.crew.is_script) shared.is_run client logged in
           let is : at.before ≡ s = same_Some at.before s (sym at.was ∙ e) in
-          subst (λ (u : Session). IsServed (commands_of made client) (lines_of run) client u) is
+          subst (λ (u : Session). IsServedSession (commands_of made client) (lines_of run) client u) is
           (record {
             commands = subst (λ (list : List Command). IsPrefix list (submitted at.before)) (sym listed)
                 (subst (λ (list : List Command). IsPrefix (commands_of p.node.script client) list) at.says.submitted at.served.commands);

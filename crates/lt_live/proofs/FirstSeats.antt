@@ -1,7 +1,7 @@
 -- A station gets its seats.
 use Rattle.std.proofs.Common.{◌≡◌, ℕ, List, [], ◌∷◌, ◌++◌, length, Some, sym, ap, subst, ◌∙◌, inl, inr}
 use Rattle.std.specs.Prelude.{◌⊎◌, slice_get}
-use Rattle.lt_law_appended.specs.Commands.{AreAt}
+use Rattle.lt_spec.specs.Commands.{AreAt}
 use Rattle.lt_runner.specs.declared.parts.Parts.{Parts}
 use Rattle.lt_live.specs.declared.ends.Seat.{Seat}
 use Rattle.lt_live.specs.Stations.{IsSeatOf, IsStation, AreOthers}

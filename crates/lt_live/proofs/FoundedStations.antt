@@ -4,7 +4,7 @@ use Rattle.std.specs.Prelude.{◌⊎◌, slice_get}
 use Rattle.std.proofs.lemmas.List.{map-append}
 use Rattle.std.proofs.lemmas.Option.{slice_get-get_or}
 use Rattle.lt_modes.specs.declared.command.Command.{Command}
-use Rattle.lt_law_appended.specs.Commands.{AreAt}
+use Rattle.lt_spec.specs.Commands.{AreAt}
 use Rattle.lt_runner.specs.declared.parts.Parts.{Parts}
 use Rattle.lt_live.specs.Stations.{StationData}
 use Rattle.lt_live.specs.Opened.{runner_of, AreSeatless, HaveNoCommands}

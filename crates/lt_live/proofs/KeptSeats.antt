@@ -11,14 +11,14 @@ use Rattle.lt_spec.specs.Log.{Logged}
 use Rattle.lt_runner.specs.declared.parts.Parts.{Parts}
 use Rattle.lt_live.specs.declared.ends.Seat.{Seat}
 use Rattle.lt_live.specs.Replies.{replies_in}
-use Rattle.lt_live.specs.Words.{in_hand}
-use Rattle.lt_live.specs.Cursor.{lines_at, lines_before, IsCursor}
-use Rattle.lt_live.specs.Seats.{TakesIn, Tells, IsSeat}
+use Rattle.lt_live.specs.Words.{command_held}
+use Rattle.lt_live.specs.Cursor.{lines_at, lines_up_to, IsCursor}
+use Rattle.lt_live.specs.Seats.{TakesIn, TellsSeat, IsSeat}
 use Rattle.lt_live.specs.Stations.{IsSeatOf}
 
 -- what a client was told of a log is what it was told of a longer one
 pub more_lines : (log more : List Logged) (moves lines : ℕ) → IsCursor log moves lines
-    → (lines_before (log ++ more) moves lines ≡ lines_before log moves lines) × IsCursor (log ++ more) moves lines
+    → (lines_up_to (log ++ more) moves lines ≡ lines_up_to log moves lines) × IsCursor (log ++ more) moves lines
 more_lines [] more zero zero h = (refl, record { inside = omega arith; within = omega arith })
 more_lines [] more zero (suc lines) h = let within = h.within in absurd (omega (arith, within))
 more_lines [] more (suc moves) lines h = let inside = h.inside in absurd (omega (arith, inside))
@@ -66,19 +66,19 @@ seat_of_taken p s t h takes =
       client_is = takes.same.client;
       taken = takes.taken (commands_of p.node.script s.client) h.kept.taken;
       told = takes.told ∙ h.kept.told
-          ∙ sym (ap (λ (k : ℕ). replies_in s.client (lines_before p.log.entries k t.lines)) takes.cursor.0
-          ∙ ap (λ (k : ℕ). replies_in s.client (lines_before p.log.entries s.moves k)) takes.cursor.1);
+          ∙ sym (ap (λ (k : ℕ). replies_in s.client (lines_up_to p.log.entries k t.lines)) takes.cursor.0
+          ∙ ap (λ (k : ℕ). replies_in s.client (lines_up_to p.log.entries s.moves k)) takes.cursor.1);
       cursor = subst (λ (k : ℕ). IsCursor p.log.entries k t.lines) (sym takes.cursor.0)
           (subst (λ (k : ℕ). IsCursor p.log.entries s.moves k) (sym takes.cursor.1) h.kept.cursor);
     })
 
-pub seat_of_told : (p : Parts) (s t : Seat) → IsSeatOf p s → Tells p.log.entries s t → IsSeatOf p t
+pub seat_of_told : (p : Parts) (s t : Seat) → IsSeatOf p s → TellsSeat p.log.entries s t → IsSeatOf p t
 seat_of_told p s t h tells =
     let rest = tells.on.rest in
     seat_of p s t h rest.same.client rest.same.replies.1
     (record {
       client_is = rest.same.client;
-      taken = rest.taken ∙ (h.kept.taken ∙ ap (λ hand. commands_of p.node.script s.client ++ in_hand hand) (sym rest.hand));
+      taken = rest.taken ∙ (h.kept.taken ∙ ap (λ hand. commands_of p.node.script s.client ++ command_held hand) (sym rest.hand));
       told = tells.on.told h.kept.told;
       cursor = tells.on.cursor;
     })

@@ -8,14 +8,14 @@ use Rattle.lt_lists.proofs.AllLemmas.{all_append}
 use Rattle.lt_modes.specs.declared.command.Command.{Command}
 use Rattle.lt_modes.specs.Script.{ScriptData}
 use Rattle.lt_spec.specs.Families.{commands_of, home}
-use Rattle.lt_law_appended.specs.Commands.{AreAt, appended}
-use Rattle.lt_law_appended.proofs.Appending.{appended_commands}
+use Rattle.lt_spec.specs.Commands.{AreAt, appended}
+use Rattle.lt_law_plays.proofs.Appending.{appended_commands}
 use Rattle.lt_runner.specs.declared.parts.Parts.{Parts}
 use Rattle.lt_runner.specs.Kept.{Grew}
-use Rattle.lt_runner.specs.Appended.{with_request}
+use Rattle.lt_runner.specs.Appended.{with_appended}
 use Rattle.lt_live.specs.declared.ends.Seat.{Seat}
-use Rattle.lt_live.specs.Words.{in_hand}
-use Rattle.lt_live.specs.Seats.{TakesIn, Tells}
+use Rattle.lt_live.specs.Words.{command_held}
+use Rattle.lt_live.specs.Seats.{TakesIn, TellsSeat}
 use Rattle.lt_live.specs.Stations.{IsSeatOf, IsStation, EachSeat, MayHandOver, HandMayGo}
 use Rattle.lt_live.proofs.Places.{set_here, set_other}
 use Rattle.lt_live.proofs.SeatLists.{each_before}
@@ -44,9 +44,9 @@ station_taken p old new h each = station_from p p old new h h.own (λ k seat e.
     let (was, here, takes) = each_before TakesIn old new each k seat e in
     record { was = was; here = here; client = takes.same.client; now = seat_of_taken p was seat (h.each k was here) takes })
 
-pub station_told : (p : Parts) (old new : List Seat) → IsStation p old → EachSeat (Tells p.log.entries) old new → IsStation p new
+pub station_told : (p : Parts) (old new : List Seat) → IsStation p old → EachSeat (TellsSeat p.log.entries) old new → IsStation p new
 station_told p old new h each = station_from p p old new h h.own (λ k seat e.
-    let (was, here, tells) = each_before (Tells p.log.entries) old new each k seat e in
+    let (was, here, tells) = each_before (TellsSeat p.log.entries) old new each k seat e in
     record { was = was; here = here; client = tells.on.rest.same.client; now = seat_of_told p was seat (h.each k was here) tells })
 
 pub station_grew : (a b : Parts) (seats : List Seat) → IsStation a seats → Grew a b → IsStation b seats
@@ -73,14 +73,14 @@ other_list script client other command apart =
 
 -- the seat whose command was appended
 own_handed : (a : Parts) (x : Seat) (command : Command) → IsSeatOf a x → x.hand ≡ Some command
-    → IsSeatOf (with_request a x.client command) (record x { hand = None })
+    → IsSeatOf (with_appended a x.client command) (record x { hand = None })
 own_handed a x command h hand = record {
   client = h.client;
   home = h.home;
   kept = record {
     client_is = h.kept.client_is;
     taken = h.kept.taken
-        ∙ ap (λ held. commands_of a.node.script x.client ++ in_hand held) hand
+        ∙ ap (λ held. commands_of a.node.script x.client ++ command_held held) hand
         ∙ sym (own_list a.node.script x.client command)
         ∙ sym (append-nil (commands_of (appended a.node.script x.client command) x.client));
     told = h.kept.told;
@@ -90,13 +90,13 @@ own_handed a x command h hand = record {
 }
 
 -- and any other one
-other_handed : (a : Parts) (client : ℕ) (z : Seat) (command : Command) → client ≢ z.client → IsSeatOf a z → IsSeatOf (with_request a client command) z
+other_handed : (a : Parts) (client : ℕ) (z : Seat) (command : Command) → client ≢ z.client → IsSeatOf a z → IsSeatOf (with_appended a client command) z
 other_handed a client z command apart h = record {
   client = h.client;
   home = h.home;
   kept = record {
     client_is = h.kept.client_is;
-    taken = h.kept.taken ∙ ap (λ (list : List Command). list ++ in_hand z.hand) (sym (other_list a.node.script client z.client command apart));
+    taken = h.kept.taken ∙ ap (λ (list : List Command). list ++ command_held z.hand) (sym (other_list a.node.script client z.client command apart));
     told = h.kept.told;
     cursor = h.kept.cursor;
   };
@@ -104,9 +104,9 @@ other_handed a client z command apart h = record {
 }
 
 handed : (a : Parts) (seats : List Seat) (place : ℕ) (x : Seat) (command : Command) → IsStation a seats → slice_get seats place ≡ Some x → x.hand ≡ Some command
-    → IsStation (with_request a x.client command) (slice_set seats place (record x { hand = None }))
+    → IsStation (with_appended a x.client command) (slice_set seats place (record x { hand = None }))
 handed a seats place x command h here hand =
-    station_from a (with_request a x.client command) seats (slice_set seats place (record x { hand = None })) h own (λ k seat e. by_place k seat e)
+    station_from a (with_appended a x.client command) seats (slice_set seats place (record x { hand = None })) h own (λ k seat e. by_place k seat e)
   where
     inside : place < length seats
     inside = slice_get_within seats place x here
@@ -117,7 +117,7 @@ handed a seats place x command h here hand =
         ((h.each place x here).home, tt)
 
     by_place : (k : ℕ) (seat : Seat) → slice_get (slice_set seats place (record x { hand = None })) k ≡ Some seat
-        → Stays a (with_request a x.client command) seats k seat
+        → Stays a (with_appended a x.client command) seats k seat
     by_place k seat e = elim (cases_eq k place) [
       | inl at ↦
           let is : record x { hand = None } ≡ seat =
@@ -127,7 +127,7 @@ handed a seats place x command h here hand =
             was = x;
             here = ap (slice_get seats) at ∙ here;
             client = ap (λ (s : Seat). s.client) (sym is);
-            now = subst (λ (s : Seat). IsSeatOf (with_request a x.client command) s) is (own_handed a x command (h.each place x here) hand);
+            now = subst (λ (s : Seat). IsSeatOf (with_appended a x.client command) s) is (own_handed a x command (h.each place x here) hand);
           }
       | inr other ↦
           let was : slice_get seats k ≡ Some seat = sym (set_other seats place (record x { hand = None }) k other) ∙ e in
@@ -159,7 +159,7 @@ pub station_handed : (a b : Parts) (seats : List Seat) (place : ℕ) (x y : Seat
     → IsStation b (slice_set seats place y)
 station_handed a b seats place x y h here (inl over) =
     subst (λ (p : Parts). IsStation p (slice_set seats place y)) (sym over.runner)
-    (subst (λ (s : Seat). IsStation (with_request a x.client over.command) (slice_set seats place s)) (sym over.seat)
+    (subst (λ (s : Seat). IsStation (with_appended a x.client over.command) (slice_set seats place s)) (sym over.seat)
     (handed a seats place x over.command h here over.hand))
 station_handed a b seats place x y h here (inr still) =
     subst (λ (p : Parts). IsStation p (slice_set seats place y)) (sym still.1)

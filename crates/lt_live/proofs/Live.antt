@@ -5,7 +5,7 @@ use Rattle.std.specs.Option.{option_map}
 use Rattle.std.proofs.lemmas.Option.{slice_get-map}
 use Rattle.lt_modes.specs.Script.{ScriptData}
 use Rattle.lt_spec.specs.Families.{home}
-use Rattle.lt_law_appended.specs.Commands.{with_commands, AreAt}
+use Rattle.lt_spec.specs.Commands.{with_commands, AreAt}
 use Rattle.lt_mail.specs.Words.{Alike, SameEnds}
 use Rattle.lt_pool.specs.Items.{ContinuesAt}
 use Rattle.lt_runner.specs.declared.parts.Parts.{Parts}

@@ -8,8 +8,8 @@ use Rattle.lt_spec.specs.Log.{Logged}
 use Rattle.lt_runner.specs.declared.parts.Parts.{Parts}
 use Rattle.lt_live.specs.declared.ends.Session.{Session}
 use Rattle.lt_live.specs.declared.ends.Seat.{Seat}
-use Rattle.lt_live.specs.Words.{in_hand, known_replies, IsLink}
-use Rattle.lt_live.specs.Seats.{AreBeside, LooksBeside}
+use Rattle.lt_live.specs.Words.{command_held, known_replies, IsLink}
+use Rattle.lt_live.specs.Seats.{KnowAll, LooksBeside}
 use Rattle.lt_live.specs.Stations.{IsSeatOf, IsStation, IsSeated, SeatLooks}
 use Rattle.lt_live.proofs.Places.{set_here, set_other}
 use Rattle.lt_live.proofs.KeptSeats.{seat_of}
@@ -20,7 +20,7 @@ seat_of_looked p s t a b h looks =
     seat_of p a b h looks.seat.client looks.seat.replies.1
     (record {
       client_is = looks.seat.client;
-      taken = looks.taken.0 ∙ (h.kept.taken ∙ ap (λ hand. commands_of p.node.script a.client ++ in_hand hand) (sym looks.taken.1));
+      taken = looks.taken.0 ∙ (h.kept.taken ∙ ap (λ hand. commands_of p.node.script a.client ++ command_held hand) (sym looks.taken.1));
       told = looks.told h.kept.told;
       cursor = looks.cursor;
     })
@@ -64,7 +64,7 @@ station_looked p seats place s t d y h at here looks =
     station_set p seats place d y h there looks.seat.client (seat_of_looked p s t d y (h.each place d there) looks)
 
 pub seat_looked : (log : List Logged) (seats : List Seat) (place : ℕ) (s t : Session) (d y : Seat) → place ≡ s.place → slice_get seats s.place ≡ Some d
-    → IsLink t y → AreBeside t y → LooksBeside log s t d y → (y.moves ≡ length log) ⊎ (0 < length (known_replies t))
+    → IsLink t y → KnowAll t y → LooksBeside log s t d y → (y.moves ≡ length log) ⊎ (0 < length (known_replies t))
     → SeatLooks log s t seats (slice_set seats place y)
 seat_looked log seats place s t d y at here link beside looks moves = record {
   x = d;

@@ -2,9 +2,9 @@
 use Rattle.std.proofs.Common.{◌≡◌, ℕ, List, map, Some, None, Option, length, filter, refl, sym, ap, subst, ◌∙◌}
 use Rattle.std.specs.Prelude.{slice_get}
 use Rattle.lt_modes.specs.Script.{ScriptData}
-use Rattle.lt_script.specs.Script.{IsScript}
+use Rattle.lt_spec.specs.Script.{IsScript}
 use Rattle.lt_spec.specs.Log.{Logged}
-use Rattle.lt_law_appended.specs.Commands.{with_commands}
+use Rattle.lt_spec.specs.Commands.{with_commands}
 use Rattle.lt_law_plays.specs.Parts.{Part, logs_of, part_at}
 use Rattle.lt_law_plays.specs.Merged.{merged}
 use Rattle.lt_law_merged.specs.JoinedRun.{IsJoinedRun}

@@ -17,7 +17,7 @@ use Rattle.lt_live.specs.declared.limits.TheConstants.{LETTER_PLACES}
 use Rattle.lt_live.specs.Words.{known_commands, IsLink}
 use Rattle.lt_live.specs.Seats.{IsSeat}
 use Rattle.lt_live.specs.Stations.{StationData, IsSeatOf, AreOthers}
-use Rattle.lt_live.specs.Opened.{IsNewSession, HasSeat, runner_of, SeatsBefore, Opening}
+use Rattle.lt_live.specs.Opened.{IsNewSession, HasSeat, runner_of, SeatsBefore, Opens}
 use Rattle.lt_live.proofs.Places.{set_here, set_other, pushed, last_here, stays_here}
 use Rattle.lt_live.proofs.FirstRunners.{first_seat}
 
@@ -33,7 +33,7 @@ pub record Adds (script : ScriptData) (capacity n place : ℕ) (x y : StationDat
   pub commands : known_commands seat ≡ []
 
 module _ (script : ScriptData) (limit capacity n place : ℕ) (stations : List StationData) (sessions : List Session) (d y : StationData) (s : Session) (seat : Seat)
-    (h : Opening script limit capacity n stations sessions) (inside : place < length stations)
+    (h : Opens script limit capacity n stations sessions) (inside : place < length stations)
     (adds : Adds script capacity n place (slice_index_or stations place d) y s seat) where
   abbrev x : StationData
   x = slice_index_or stations place d
@@ -106,7 +106,7 @@ module _ (script : ScriptData) (limit capacity n place : ℕ) (stations : List S
           let client : z.client ≡ n = ap (λ (u : Seat). u.client) (sym new.1) ∙ (adds.link.0 ∙ adds.new.client_is) in
           omega (arith, client)
 
-  pub opening_more : Opening script limit capacity (n + 1) (slice_set stations place y) (sessions ++ s ∷ [])
+  pub opening_more : Opens script limit capacity (n + 1) (slice_set stations place y) (sessions ++ s ∷ [])
   opening_more = record {
     runners = subst (λ (rs : List Parts). IsFirstCrew script LETTER_PLACES limit rs) (sym (map-set_same runner_of stations place y d adds.runner)) h.runners;
     count = omega (arith, length-append sessions (s ∷ []), h.count);
@@ -125,14 +125,14 @@ found_once stations place d e inside one two = same_Some d e (sym (found_here st
 
 -- no seat there is of the next client
 pub others_there : (script : ScriptData) (limit capacity n place client : ℕ) (stations : List StationData) (sessions : List Session) (d : StationData)
-    → Opening script limit capacity n stations sessions → place < length stations → d ≡ slice_index_or stations place d → client ≡ n → AreOthers client d.seats
+    → Opens script limit capacity n stations sessions → place < length stations → d ≡ slice_index_or stations place d → client ≡ n → AreOthers client d.seats
 others_there script limit capacity n place client stations sessions d h inside is at k seat here same =
     let earlier = h.before place d (found_here stations place d inside is) k seat here in
     absurd (omega (arith, earlier, same, at))
 
 -- the new seat is one of the runner there
 pub seat_there : (script : ScriptData) (limit capacity n place : ℕ) (stations : List StationData) (sessions : List Session) (d : StationData) (seat : Seat)
-    → Opening script limit capacity n stations sessions → place < length stations → d ≡ slice_index_or stations place d → script.commands ≡ []
+    → Opens script limit capacity n stations sessions → place < length stations → d ≡ slice_index_or stations place d → script.commands ≡ []
     → place ≡ home script n → n < length script.clients → IsSeat [] [] n seat → producer_capacity seat.replies ≡ capacity → 0 < capacity → IsSeatOf d.runner seat
 seat_there script limit capacity n place stations sessions d seat h inside is empty at known kept places some =
     first_seat script LETTER_PLACES limit capacity place n (map runner_of stations) d.runner seat h.runners empty
@@ -140,7 +140,7 @@ seat_there script limit capacity n place stations sessions d seat h inside is em
 
 -- the station of each node is there
 pub station_there : (script : ScriptData) (limit capacity n place : ℕ) (stations : List StationData) (sessions : List Session)
-    → Opening script limit capacity n stations sessions → n < length script.clients → place ≡ home script n → place < length stations
+    → Opens script limit capacity n stations sessions → n < length script.clients → place ≡ home script n → place < length stations
 station_there script limit capacity n place stations sessions h known at =
     let below = h.runners.crew.is_script.homes n known in
     omega (arith, at, below, h.runners.crew.count, length-map stations runner_of)

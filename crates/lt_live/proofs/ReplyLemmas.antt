@@ -5,7 +5,7 @@ use Rattle.std.specs.Option.{option_and_then}
 use Rattle.lt_modes.specs.declared.event.Event.{Event}
 use Rattle.lt_modes.specs.declared.event.Event.TheVariants.{Grant, Wait, Try, Unlock, NotHeld as NoLock, Change, DropAll, Busy as Waiting, Copy, Freeze, Token}
 use Rattle.lt_spec.specs.Holdings.{lines_of}
-use Rattle.lt_law_own_lines.specs.OwnLines.{is_reply_to, replies_of}
+use Rattle.lt_spec.specs.OwnLines.{is_reply_to, replies_of}
 use Rattle.lt_law_own_lines.proofs.OwnRuns.{replies_of_log}
 use Rattle.lt_live.specs.declared.reply.Reply.{Reply}
 use Rattle.lt_live.specs.declared.reply.Reply.TheVariants.{Granted, True, False, Unlocked, NotHeld, Changed, Dropped, Busy}

@@ -13,7 +13,7 @@ use Rattle.lt_runner.specs.declared.parts.Parts.{Parts}
 use Rattle.lt_live.specs.declared.ends.Session.{Session}
 use Rattle.lt_live.specs.declared.ends.Seat.{Seat}
 use Rattle.lt_live.specs.Words.{SameSession, IsLink}
-use Rattle.lt_live.specs.Seats.{IsServed}
+use Rattle.lt_live.specs.Seats.{IsServedSession}
 use Rattle.lt_live.specs.Stations.{StationData, IsStation, IsSeated, StaySeated, SeatLooks}
 use Rattle.lt_live.specs.Opened.{runner_of}
 use Rattle.lt_live.specs.Live.{AreLive}
@@ -41,7 +41,7 @@ look_stays log s t old new h u seated = elim (cases_eq u.place s.place) [
 pub look_serves : (p : Parts) (s t : Session) (old new : List Seat) → IsStation p old → IsSeated s old → SeatLooks p.log.entries s t old new → ServedBy p s.client t
 look_serves p s t old new station seated h =
     let client : h.x.client ≡ s.client = ap (λ (z : Seat). z.client) (same_Some h.x seated.seat (sym h.before ∙ seated.here)) ∙ seated.link.0 in
-    subst (λ (c : ℕ). IsServed (commands_of p.node.script c) (lines_of p.log.entries) c t) client
+    subst (λ (c : ℕ). IsServedSession (commands_of p.node.script c) (lines_of p.log.entries) c t) client
     (is_settled (commands_of p.node.script h.x.client) p.log.entries s t h.x h.y (station.each s.place h.x h.before).kept h.looks h.beside).served
 
 says_itself : (s : Session) → SaysSame s s

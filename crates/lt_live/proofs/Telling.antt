@@ -11,7 +11,7 @@ use Rattle.lt_live.specs.declared.reply.Reply.{Reply}
 use Rattle.lt_live.specs.declared.ends.Seat.{Seat}
 use Rattle.lt_live.specs.Replies.{reply_to, replies_in}
 use Rattle.lt_live.specs.Words.{SameSeat}
-use Rattle.lt_live.specs.Cursor.{lines_if, lines_at, lines_before}
+use Rattle.lt_live.specs.Cursor.{lines_if, lines_at, lines_up_to}
 use Rattle.lt_live.specs.Seats.{OnlyTells, TellsMove, TellsOn}
 
 pub same_seats : (a b d : Seat) → SameSeat a b → SameSeat b d → SameSeat a d
@@ -62,7 +62,7 @@ lines_more (entry ∷ rest) (suc k) lines e =
 
 -- what the lines so far say is what the first moves say, and then what so many lines of the next one say
 split : (client : ℕ) (log : List Logged) (k : ℕ) (lines : List Event) (n : ℕ) → events_at log k ≡ Some lines
-    → replies_in client (lines_before log k n) ≡ replies_in client (lines_of (take k log)) ++ replies_in client (take n lines)
+    → replies_in client (lines_up_to log k n) ≡ replies_in client (lines_of (take k log)) ++ replies_in client (take n lines)
 split client log k lines n e =
     filter_map-append (reply_to client) (lines_of (take k log)) (take n (lines_at log k))
     ∙ ap (λ (list : List Event). replies_in client (lines_of (take k log)) ++ replies_in client (take n list)) (lines_are log k lines e)
@@ -74,9 +74,9 @@ tells_move log lines all a b d on inside e moved = record {
   rest = only_tells_join a b d on.rest moved.rest;
   told = λ before. rw moved.moves
       (moved.told (replies_in b.client (lines_of (take b.moves log)))
-      (on.told before ∙ ap (λ (c : ℕ). replies_in c (lines_before log b.moves b.lines)) (sym on.rest.same.client) ∙ split b.client log b.moves lines b.lines e)
+      (on.told before ∙ ap (λ (c : ℕ). replies_in c (lines_up_to log b.moves b.lines)) (sym on.rest.same.client) ∙ split b.client log b.moves lines b.lines e)
       ∙ sym (split b.client log b.moves lines d.lines e)
-      ∙ ap (λ (c : ℕ). replies_in c (lines_before log b.moves d.lines)) on.rest.same.client);
+      ∙ ap (λ (c : ℕ). replies_in c (lines_up_to log b.moves d.lines)) on.rest.same.client);
   cursor = record {
     inside = omega (arith, moved.moves, inside);
     within = omega (arith, moved.within, ap (λ (list : List Event). length list) (ap (λ (k : ℕ). lines_at log k) moved.moves ∙ lines_are log b.moves lines e));
@@ -92,7 +92,7 @@ tells_next log lines a d on inside e done = record {
   cursor = record { inside = omega (arith, inside); within = omega arith };
 }
   where
-    whole : lines_before log d.moves d.lines ≡ lines_before log (d.moves + 1) 0
+    whole : lines_up_to log d.moves d.lines ≡ lines_up_to log (d.moves + 1) 0
     whole =
         let next : suc d.moves ≡ d.moves + 1 = omega arith in
         ap (λ (list : List Event). lines_of (take d.moves log) ++ take d.lines list) (lines_are log d.moves lines e)

@@ -8,8 +8,8 @@ use Rattle.lt_modes.specs.declared.command.Command.{Command}
 use Rattle.lt_modes.specs.declared.command.Command.TheVariants.{Lock, Try, Unlock, Change, DropAll}
 use Rattle.lt_modes.specs.Script.{ScriptData}
 use Rattle.lt_spec.specs.Log.{Logged}
-use Rattle.lt_law_appended.specs.Commands.{with_commands}
-use Rattle.lt_script.specs.declared.limits.TheConstants.{MAX_COMMANDS}
+use Rattle.lt_spec.specs.Commands.{with_commands}
+use Rattle.lt_spec.specs.declared.limits.TheConstants.{MAX_COMMANDS}
 use Rattle.lt_runner.specs.declared.choice.Choice.TheVariants as choices
 use Rattle.lt_runner.specs.declared.parts.Parts.{Parts}
 use Rattle.lt_runner.specs.declared.turning.Turned.{Turned}
@@ -19,14 +19,14 @@ use Rattle.lt_runner.specs.declared.parts.Hand.{Hand}
 use Rattle.lt_runner.specs.Hands.{HandStays}
 use Rattle.lt_runner.specs.Kept.{AsSeen, Grew, TurnEnds}
 use Rattle.lt_runner.proofs.TurnLemmas.{same_self}
-use Rattle.lt_runner.specs.Appended.{with_request}
+use Rattle.lt_runner.specs.Appended.{with_appended}
 use Rattle.lt_live.specs.declared.ends.Seat.{Seat}
 use Rattle.lt_live.specs.Asking.{may_ask, may_append}
-use Rattle.lt_live.specs.Seats.{TakesIn, Tells}
+use Rattle.lt_live.specs.Seats.{TakesIn, TellsSeat}
 use Rattle.lt_live.specs.Stations.{IsStation, EachSeat, SeatAt, OnlyAppends, with_all, CanNotAppend, NoneCanAppend, SomeCanAppend, MayHandOver, HandMayGo, MoveEnds, SeatTurns, StationTurns, HaveCursors}
 use Rattle.lt_live.proofs.SeatLists.{each_before, each_after, each_join}
 
-only_request : (a : Parts) (client : ℕ) (command : Command) → OnlyAppends a (with_request a client command)
+only_request : (a : Parts) (client : ℕ) (command : Command) → OnlyAppends a (with_appended a client command)
 only_request a client command = record { runner = refl; commands = ((client, command) ∷ [], refl) }
 
 pub only_self : (a : Parts) → OnlyAppends a a
@@ -121,28 +121,28 @@ record TookAndGave (s t : Seat) : Type 0 where
 took_and_gave : (a b c : Seat) → TakesIn a b → HandMayGo b c → TookAndGave a c
 took_and_gave a b c takes hand = record { held = b; takes = takes; hand = hand }
 
-seat_turned : (log : List Logged) (a b c : Seat) → TookAndGave a b → Tells log b c → SeatTurns log a c
+seat_turned : (log : List Logged) (a b c : Seat) → TookAndGave a b → TellsSeat log b c → SeatTurns log a c
 seat_turned log a b c h tells = record { held = h.held; left = b; takes = h.takes; hand = h.hand; tells = tells }
 
 -- what a seat that told can't append, it couldn't before
-told_can_not : (a b : Parts) (log : List Logged) (x seat : Seat) → b.node.script ≡ a.node.script → Tells log x seat → CanNotAppend a x → CanNotAppend b seat
+told_can_not : (a b : Parts) (log : List Logged) (x seat : Seat) → b.node.script ≡ a.node.script → TellsSeat log x seat → CanNotAppend a x → CanNotAppend b seat
 told_can_not a b log x seat same tells h command hand =
     ap (λ (s : ScriptData). may_append s seat.client command) same
     ∙ ap (λ (c : ℕ). may_append a.node.script c command) tells.on.rest.same.client
     ∙ h command (sym tells.on.rest.hand ∙ hand)
 
-none_told : (a b : Parts) (log : List Logged) (two later : List Seat) → b.node.script ≡ a.node.script → EachSeat (Tells log) two later
+none_told : (a b : Parts) (log : List Logged) (two later : List Seat) → b.node.script ≡ a.node.script → EachSeat (TellsSeat log) two later
     → NoneCanAppend a two → NoneCanAppend b later
 none_told a b log two later same tells none k seat e =
-    let (x, here, told) = each_before (Tells log) two later tells k seat e in
+    let (x, here, told) = each_before (TellsSeat log) two later tells k seat e in
     told_can_not a b log x seat same told (none k x here)
 
 -- a command in hand that can be appended can be once replies were told
-some_told : (p : Parts) (log : List Logged) (two later : List Seat) → EachSeat (Tells log) two later → SomeCanAppend p two → SomeCanAppend p later
+some_told : (p : Parts) (log : List Logged) (two later : List Seat) → EachSeat (TellsSeat log) two later → SomeCanAppend p two → SomeCanAppend p later
 some_told p log two later same some =
     let (k, x, here, can) = some in
     let (command, hand, may) = can in
-    let (seat, there, told) = each_after (Tells log) two later same k x here in
+    let (seat, there, told) = each_after (TellsSeat log) two later same k x here in
     (k, seat, there, (command, told.on.rest.hand ∙ hand, ap (λ (c : ℕ). may_append p.node.script c command) told.on.rest.same.client ∙ may))
 
 -- what is known of a turn of the runner, or that there was none for want of memory
@@ -159,7 +159,7 @@ turn_ends Full a b seats h = h
 turn_ends NoMemory a b seats h = (h.0, inl h.1)
 
 move_ends : (fits : Bool) (turned : Turned) (a b : Parts) (log : List Logged) (two later : List Seat) → Moving fits turned a b → (fits ≡ false → SomeCanAppend a two)
-    → EachSeat (Tells log) two later → MoveEnds turned a b later
+    → EachSeat (TellsSeat log) two later → MoveEnds turned a b later
 move_ends true turned a b log two later h some tells = turn_ends turned a b later (h.ends refl)
 move_ends false turned a b log two later h some tells =
     let (short, same) = h.memory refl in
@@ -172,7 +172,7 @@ fits_then true turned a b h some = refl
 fits_then false turned a b h some = absurd (some (h.memory refl).0)
 
 pub turns : (turned : Turned) (fits : Bool) (a mid b : Parts) (seats one two later : List Seat) → EachSeat TakesIn seats one → OnlyAppends a mid → EachSeat HandMayGo one two
-    → (fits ≡ true → NoneCanAppend mid two) → (fits ≡ false → SomeCanAppend mid two) → Moving fits turned mid b → EachSeat (Tells b.log.entries) two later
+    → (fits ≡ true → NoneCanAppend mid two) → (fits ≡ false → SomeCanAppend mid two) → Moving fits turned mid b → EachSeat (TellsSeat b.log.entries) two later
     → StationTurns turned a seats b later
 turns turned fits a mid b seats one two later takes only gives none some h tells = record {
   between = mid;
@@ -181,6 +181,6 @@ turns turned fits a mid b seats one two later takes only gives none some h tells
   ends = move_ends fits turned mid b b.log.entries two later h some tells;
   shown = λ moves. h.shown (fits_then fits turned mid b h moves);
   hands = λ moves. none_told mid b b.log.entries two later h.grew.same.script tells (none (fits_then fits turned mid b h moves));
-  each = each_join TookAndGave (Tells b.log.entries) (SeatTurns b.log.entries) (seat_turned b.log.entries) seats two later
+  each = each_join TookAndGave (TellsSeat b.log.entries) (SeatTurns b.log.entries) (seat_turned b.log.entries) seats two later
       (each_join TakesIn HandMayGo TookAndGave took_and_gave seats one two takes gives) tells;
 }

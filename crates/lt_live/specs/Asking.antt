@@ -4,7 +4,7 @@ use Rattle.lt_modes.specs.FiveModes.{is_of_version}
 use Rattle.lt_modes.specs.declared.command.Command.{Command}
 use Rattle.lt_modes.specs.declared.command.Command.TheVariants.{Lock, Try, Unlock, Change, DropAll}
 use Rattle.lt_modes.specs.Script.{ScriptData, home_at}
-use Rattle.lt_script.specs.declared.limits.TheConstants.{MAX_COMMANDS}
+use Rattle.lt_spec.specs.declared.limits.TheConstants.{MAX_COMMANDS}
 
 abbrev pub has_set : ScriptData → ℕ → Bool
 has_set script set = nat_lt set (length script.sets)

@@ -13,8 +13,8 @@ abbrev pub lines_at : List Logged → ℕ → List Event
 lines_at log k = lines_if (slice_get log k)
 
 -- the lines of the first moves, and so many of the next one
-abbrev pub lines_before : List Logged → ℕ → ℕ → List Event
-lines_before log moves lines = lines_of (take moves log) ++ take lines (lines_at log moves)
+abbrev pub lines_up_to : List Logged → ℕ → ℕ → List Event
+lines_up_to log moves lines = lines_of (take moves log) ++ take lines (lines_at log moves)
 
 -- the log has so many moves, and the next one so many lines
 pub record IsCursor (log : List Logged) (moves lines : ℕ) : Type 0 where

@@ -1,17 +1,17 @@
 -- What the sessions were told, in the run that their stations made.
 use Rattle.std.specs.Prelude.{◌≡◌, ◌≢◌, ◌<◌, ℕ, List, Some, length, map, slice_get}
 use Rattle.lt_modes.specs.Script.{ScriptData}
-use Rattle.lt_script.specs.Script.{IsScript}
+use Rattle.lt_spec.specs.Script.{IsScript}
 use Rattle.lt_spec.specs.Families.{commands_of, home}
 use Rattle.lt_spec.specs.Holdings.{lines_of}
 use Rattle.lt_spec.specs.Log.{Logged}
 use Rattle.lt_spec.specs.World.{IsRun}
 use Rattle.lt_merge.specs.Merging.{AreRising}
-use Rattle.lt_law_appended.specs.Commands.{with_commands}
+use Rattle.lt_spec.specs.Commands.{with_commands}
 use Rattle.lt_runner.specs.declared.parts.Parts.{Parts}
 use Rattle.lt_live.specs.declared.ends.Session.{Session}
 use Rattle.lt_live.specs.Words.{submitted, polled, SameSession}
-use Rattle.lt_live.specs.Seats.{IsServed}
+use Rattle.lt_live.specs.Seats.{IsServedSession}
 use Rattle.lt_live.specs.Stations.{StationData}
 use Rattle.lt_live.specs.Opened.{runner_of}
 use Rattle.lt_live.specs.Live.{AreLive, EachSession}
@@ -23,11 +23,11 @@ pub record IsServedRun (first : ScriptData) (sessions : List Session) (script : 
   pub same : script ≡ with_commands first script.commands
   pub is_run : IsRun script run
   pub rising : AreRising run
-  pub each : (client : ℕ) (s : Session) → slice_get sessions client ≡ Some s → IsServed (commands_of script client) (lines_of run) client s
+  pub each : (client : ℕ) (s : Session) → slice_get sessions client ≡ Some s → IsServedSession (commands_of script client) (lines_of run) client s
 
 -- the list is what the runner's script has for the client, and the lines are those of the runner's log
 abbrev pub ServedBy : Parts → ℕ → Session → Type 0
-ServedBy p client s = IsServed (commands_of p.node.script client) (lines_of p.log.entries) client s
+ServedBy p client s = IsServedSession (commands_of p.node.script client) (lines_of p.log.entries) client s
 
 -- the same was submitted and polled
 pub record SaysSame (s t : Session) : Type 0 where

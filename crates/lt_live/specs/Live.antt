@@ -2,7 +2,7 @@
 use Rattle.std.specs.Prelude.{◌≡◌, ℕ, List, Some, length, map, slice_get}
 use Rattle.lt_modes.specs.Script.{ScriptData}
 use Rattle.lt_spec.specs.Families.{home}
-use Rattle.lt_law_appended.specs.Commands.{with_commands, AreAt}
+use Rattle.lt_spec.specs.Commands.{with_commands, AreAt}
 use Rattle.lt_mail.specs.Words.{Alike, SameEnds}
 use Rattle.lt_runner.specs.declared.parts.Parts.{Parts}
 use Rattle.lt_threads.specs.Shares.{AreShares}

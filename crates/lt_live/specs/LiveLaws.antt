@@ -4,13 +4,13 @@ use Rattle.lt_modes.specs.Script.{ScriptData}
 use Rattle.lt_live.specs.declared.ends.Session.{Session}
 use Rattle.lt_live.specs.Words.{SameSession}
 use Rattle.lt_live.specs.Stations.{StationData}
-use Rattle.lt_live.specs.Opened.{Opened}
+use Rattle.lt_live.specs.Opened.{IsOpen}
 use Rattle.lt_live.specs.Live.{AreLive, StationGoesOn, EachStation, EachSession}
 
 -- those that are opened are
 abbrev pub OpenedAreLive : Type 0
 OpenedAreLive = (script : ScriptData) (limit capacity : ℕ) (stations : List StationData) (sessions : List Session) → script.commands ≡ []
-    → Opened script limit capacity stations sessions → AreLive script stations sessions
+    → IsOpen script limit capacity stations sessions → AreLive script stations sessions
 
 -- they stay so, whatever the stations and the callers do
 abbrev pub LiveLasts : Type 0

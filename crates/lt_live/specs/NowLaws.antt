@@ -1,9 +1,9 @@
 -- That at any time there is a run in which all sessions were served so far, as laws.
 use Rattle.std.specs.Prelude.{◌≡◌, ℕ, List, map}
 use Rattle.lt_modes.specs.Script.{ScriptData}
-use Rattle.lt_script.specs.Script.{IsScript}
+use Rattle.lt_spec.specs.Script.{IsScript}
 use Rattle.lt_spec.specs.Log.{Logged}
-use Rattle.lt_law_appended.specs.Commands.{with_commands}
+use Rattle.lt_spec.specs.Commands.{with_commands}
 use Rattle.lt_runner.specs.declared.parts.Parts.{Parts}
 use Rattle.lt_runner.specs.Kept.{AsSeen}
 use Rattle.lt_threads.specs.Together.{AreKept, EachIs, crew_run}

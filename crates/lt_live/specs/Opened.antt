@@ -2,7 +2,7 @@
 use Rattle.std.specs.Prelude.{◌≡◌, ◌<◌, ◌/◌, ℕ, List, [], Some, length, map, slice_get}
 use Rattle.rtrb.specs.Ring.{producer_capacity}
 use Rattle.lt_modes.specs.Script.{ScriptData}
-use Rattle.lt_script.specs.declared.limits.TheConstants.{MAX_COMMANDS}
+use Rattle.lt_spec.specs.declared.limits.TheConstants.{MAX_COMMANDS}
 use Rattle.lt_spec.specs.Families.{home}
 use Rattle.lt_runner.specs.declared.parts.Parts.{Parts}
 use Rattle.lt_threads.specs.Starting.{IsFirstCrew}
@@ -42,15 +42,15 @@ SeatsBefore client stations = (q : ℕ) (station : StationData) → slice_get st
     → (k : ℕ) (seat : Seat) → slice_get station.seats k ≡ Some seat → seat.client < client
 
 -- a station for each node, whose runner made no move, and a session for each of the first n clients, which alone have seats
-pub record Opening (script : ScriptData) (limit capacity n : ℕ) (stations : List StationData) (sessions : List Session) : Type 0 where
+pub record Opens (script : ScriptData) (limit capacity n : ℕ) (stations : List StationData) (sessions : List Session) : Type 0 where
   pub runners : IsFirstCrew script LETTER_PLACES limit (map runner_of stations)
   pub count : length sessions ≡ n
   pub each : (client : ℕ) (s : Session) → slice_get sessions client ≡ Some s → IsNewSession script capacity client s × HasSeat script capacity stations s
   pub before : SeatsBefore n stations
 
 -- and for each client
-abbrev pub Opened : ScriptData → ℕ → ℕ → List StationData → List Session → Type 0
-Opened script limit capacity stations sessions = Opening script limit capacity (length script.clients) stations sessions
+abbrev pub IsOpen : ScriptData → ℕ → ℕ → List StationData → List Session → Type 0
+IsOpen script limit capacity stations sessions = Opens script limit capacity (length script.clients) stations sessions
 
 -- these stations have these runners, and no seats
 pub record AreSeatless (runners : List Parts) (stations : List StationData) : Type 0 where

@@ -7,8 +7,8 @@ use Rattle.lt_spec.specs.Families.{home}
 use Rattle.lt_spec.specs.Holdings.{lines_of}
 use Rattle.lt_spec.specs.Log.{Logged}
 use Rattle.lt_spec.specs.World.{is_of_node, IsRun}
-use Rattle.lt_model.specs.Homes.{IsWhole}
-use Rattle.lt_law_own_lines.specs.OwnLines.{replies_of}
+use Rattle.lt_spec.specs.WholeScripts.{IsWhole}
+use Rattle.lt_spec.specs.OwnLines.{replies_of}
 use Rattle.lt_live.specs.Replies.{reply_to, replies_in}
 
 -- the reply at each place is what the line of a reply at that place says

@@ -9,8 +9,8 @@ use Rattle.lt_live.specs.declared.reply.Reply.{Reply}
 use Rattle.lt_live.specs.declared.ends.Session.{Session}
 use Rattle.lt_live.specs.declared.ends.Seat.{Seat}
 use Rattle.lt_live.specs.Replies.{replies_in}
-use Rattle.lt_live.specs.Words.{submitted, polled, known_replies, taken, known_commands, told_to, in_hand, SameSession, SameSeat}
-use Rattle.lt_live.specs.Cursor.{lines_before, IsCursor}
+use Rattle.lt_live.specs.Words.{submitted, polled, known_replies, taken, known_commands, told_to, command_held, SameSession, SameSeat}
+use Rattle.lt_live.specs.Cursor.{lines_up_to, IsCursor}
 
 -- nothing happened but that replies may have gone into the ring
 pub record OnlyTells (a b : Seat) : Type 0 where
@@ -25,7 +25,7 @@ pub record TakesIn (a b : Seat) : Type 0 where
   pub same : SameSeat a b
   pub told : told_to b ≡ told_to a
   pub cursor : (b.moves ≡ a.moves) × (b.lines ≡ a.lines)
-  pub taken : (list : List Command) → taken a ≡ list ++ in_hand a.hand → taken b ≡ list ++ in_hand b.hand
+  pub taken : (list : List Command) → taken a ≡ list ++ command_held a.hand → taken b ≡ list ++ command_held b.hand
   pub none : a.hand ≡ None → b.hand ≡ None → known_commands a ≡ []
   pub stays : (command : Command) → a.hand ≡ Some command → b ≡ a
 
@@ -64,24 +64,24 @@ pub record TellsMove (all : Bool) (lines : List Event) (a b : Seat) : Type 0 whe
 -- replies of further lines of the log went into the ring, in order
 pub record TellsOn (log : List Logged) (a b : Seat) : Type 0 where
   pub rest : OnlyTells a b
-  pub told : told_to a ≡ replies_in a.client (lines_before log a.moves a.lines)
-      → told_to b ≡ replies_in a.client (lines_before log b.moves b.lines)
+  pub told : told_to a ≡ replies_in a.client (lines_up_to log a.moves a.lines)
+      → told_to b ≡ replies_in a.client (lines_up_to log b.moves b.lines)
   pub cursor : IsCursor log b.moves b.lines
 
 -- of all lines, or until the ring had no place
-pub record Tells (log : List Logged) (a b : Seat) : Type 0 where
+pub record TellsSeat (log : List Logged) (a b : Seat) : Type 0 where
   pub on : TellsOn log a b
   pub stops : (b.moves ≡ length log) ⊎ (known_free b.replies ≡ 0)
 
 -- what was taken is the client's list, and then the command in hand; what was told are its replies in the log so far
 pub record IsSeat (list : List Command) (log : List Logged) (client : ℕ) (seat : Seat) : Type 0 where
   pub client_is : seat.client ≡ client
-  pub taken : taken seat ≡ list ++ in_hand seat.hand
-  pub told : told_to seat ≡ replies_in client (lines_before log seat.moves seat.lines)
+  pub taken : taken seat ≡ list ++ command_held seat.hand
+  pub told : told_to seat ≡ replies_in client (lines_up_to log seat.moves seat.lines)
   pub cursor : IsCursor log seat.moves seat.lines
 
 -- all that is in the rings is known to both ends
-pub record AreBeside (s : Session) (seat : Seat) : Type 0 where
+pub record KnowAll (s : Session) (seat : Seat) : Type 0 where
   pub commands : taken seat ++ known_commands seat ≡ submitted s
   pub replies : polled s ++ known_replies s ≡ told_to seat
 
@@ -94,17 +94,17 @@ pub record LooksBeside (log : List Logged) (s t : Session) (a b : Seat) : Type 0
   pub seat : SameSeat a b
   pub taken : (taken b ≡ taken a) × (b.hand ≡ a.hand)
   pub known_more : IsPrefix (known_commands a) (known_commands b)
-  pub told : told_to a ≡ replies_in a.client (lines_before log a.moves a.lines)
-      → told_to b ≡ replies_in a.client (lines_before log b.moves b.lines)
+  pub told : told_to a ≡ replies_in a.client (lines_up_to log a.moves a.lines)
+      → told_to b ≡ replies_in a.client (lines_up_to log b.moves b.lines)
   pub cursor : IsCursor log b.moves b.lines
 
 -- the client's list is a first part of what was submitted, and what was polled a first part of its replies
-pub record IsServed (list : List Command) (lines : List Event) (client : ℕ) (s : Session) : Type 0 where
+pub record IsServedSession (list : List Command) (lines : List Event) (client : ℕ) (s : Session) : Type 0 where
   pub commands : IsPrefix list (submitted s)
   pub replies : IsPrefix (polled s) (replies_in client lines)
 
 -- so it is at the end; the next command is the one in hand, and all others are still in the ring
-pub record IsSettled (list : List Command) (lines : List Event) (client : ℕ) (s t : Session) (seat : Seat) : Type 0 where
-  pub served : IsServed list lines client t
-  pub all : submitted t ≡ (list ++ in_hand seat.hand) ++ known_commands seat
+pub record IsSettledSeat (list : List Command) (lines : List Event) (client : ℕ) (s t : Session) (seat : Seat) : Type 0 where
+  pub served : IsServedSession list lines client t
+  pub all : submitted t ≡ (list ++ command_held seat.hand) ++ known_commands seat
   pub same : submitted t ≡ submitted s

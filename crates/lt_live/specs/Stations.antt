@@ -5,7 +5,7 @@ use Rattle.rtrb.specs.Ring.{producer_capacity}
 use Rattle.lt_modes.specs.declared.command.Command.{Command}
 use Rattle.lt_spec.specs.Families.{commands_of, home}
 use Rattle.lt_spec.specs.Log.{Logged}
-use Rattle.lt_law_appended.specs.Commands.{with_commands, AreAt}
+use Rattle.lt_spec.specs.Commands.{with_commands, AreAt}
 use Rattle.lt_mail.specs.Words.{Alike}
 use Rattle.lt_runner.specs.declared.choice.Choice.TheVariants as choices
 use Rattle.lt_runner.specs.declared.parts.Parts.{Parts}
@@ -13,13 +13,13 @@ use Rattle.lt_runner.specs.declared.turning.Turned.{Turned}
 use Rattle.lt_runner.specs.declared.turning.Turned.TheVariants.{Moved, Quiet, Full, NoMemory}
 use Rattle.lt_runner.specs.Choices.{next_choice}
 use Rattle.lt_runner.specs.Kept.{AsSeen, CouldMove, Grew, TurnEnds}
-use Rattle.lt_runner.specs.Appended.{with_request}
+use Rattle.lt_runner.specs.Appended.{with_appended}
 use Rattle.lt_live.specs.declared.ends.Session.{Session}
 use Rattle.lt_live.specs.declared.ends.Seat.{Seat}
 use Rattle.lt_live.specs.Asking.{may_append}
 use Rattle.lt_live.specs.Cursor.{IsCursor}
 use Rattle.lt_live.specs.Words.{known_replies, IsLink}
-use Rattle.lt_live.specs.Seats.{TakesIn, Tells, IsSeat, AreBeside, LooksBeside}
+use Rattle.lt_live.specs.Seats.{TakesIn, TellsSeat, IsSeat, KnowAll, LooksBeside}
 
 -- what runs a node, and its ends of the sessions of the node's clients
 pub record StationData : Type 0 where
@@ -89,15 +89,15 @@ abbrev pub SomeCanAppend : Parts → List Seat → Type 0
 SomeCanAppend p seats = (k : ℕ) × (seat : Seat) × (slice_get seats k ≡ Some seat) × CanAppend p seat
 
 -- the command in hand became the last one of the client's list
-pub record HandsOver (s : Seat) (a : Parts) (t : Seat) (b : Parts) : Type 0 where
+pub record HandsCommandOver (s : Seat) (a : Parts) (t : Seat) (b : Parts) : Type 0 where
   pub command : Command
   pub hand : s.hand ≡ Some command
   pub seat : t ≡ record s { hand = None }
-  pub runner : b ≡ with_request a s.client command
+  pub runner : b ≡ with_appended a s.client command
 
 -- it did, or nothing happened
 abbrev pub MayHandOver : Seat → Parts → Seat → Parts → Type 0
-MayHandOver s a t b = HandsOver s a t b ⊎ ((t ≡ s) × (b ≡ a))
+MayHandOver s a t b = HandsCommandOver s a t b ⊎ ((t ≡ s) × (b ≡ a))
 
 -- the command in hand may be gone
 abbrev pub HandMayGo : Seat → Seat → Type 0
@@ -118,7 +118,7 @@ pub record SeatTurns (log : List Logged) (s t : Seat) : Type 0 where
   pub left : Seat
   pub takes : TakesIn s held
   pub hand : HandMayGo held left
-  pub tells : Tells log left t
+  pub tells : TellsSeat log left t
 
 -- commands were appended, one move was made or none was found, and replies were told; where memory ran out no move was made, and
 -- otherwise no command is in hand that can be appended
@@ -149,7 +149,7 @@ pub record SeatLooks (log : List Logged) (s t : Session) (old new : List Seat) :
   pub before : slice_get old s.place ≡ Some x
   pub now : slice_get new s.place ≡ Some y
   pub link : IsLink t y
-  pub beside : AreBeside t y
+  pub beside : KnowAll t y
   pub looks : LooksBeside log s t x y
   pub moves : (y.moves ≡ length log) ⊎ (0 < length (known_replies t))
   pub others : (k : ℕ) → k ≢ s.place → slice_get new k ≡ slice_get old k

@@ -1,4 +1,4 @@
--- What a worker's visit of a station does, and what its post keeps of it.
+-- What a worker's visit of a station does, and what its badge keeps of it.
 use Rattle.std.specs.Prelude.{◌≡◌, ◌≢◌, ◌++◌, ◌∷◌, [], ℕ, List}
 use Rattle.lt_pool.specs.Items.{ContinuesAt}
 use Rattle.lt_runner.specs.declared.turning.Turned.{Turned}
@@ -13,8 +13,8 @@ pub record IsVisit (firsts : List StationData) (node : ℕ) (turned : Turned) : 
   pub turns : StationTurns turned before.runner before.seats after.runner after.seats
   pub given : ContinuesAt StationGoesOn firsts node after
 
--- one more claim was refused, of the station of this node, since another post has it
-pub record IsRefused (node : ℕ) (old new : List (ℕ × ℕ)) : Type 0 where
+-- one more claim was refused, of the station of this node, since another badge has it
+pub record IsRefusedVisit (node : ℕ) (old new : List (ℕ × ℕ)) : Type 0 where
   pub word : ℕ
   pub taken : word ≢ 0
   pub added : new ≡ old ++ (node, word) ∷ []

@@ -33,9 +33,9 @@ abbrev pub told_to : Seat → List Reply
 told_to seat = sent seat.replies
 
 -- the command in hand
-abbrev pub in_hand : Option Command → List Command
-in_hand None = []
-in_hand (Some command) = command ∷ []
+abbrev pub command_held : Option Command → List Command
+command_held None = []
+command_held (Some command) = command ∷ []
 
 -- the two ends of one session
 abbrev pub IsLink : Session → Seat → Type 0

@@ -5,7 +5,7 @@ ghost use Rattle.lt_spec.specs.Holdings.{lines_of};
 ghost use Rattle.rtrb.specs.Ring.{producer_capacity};
 ghost use Rattle.lt_live.specs.Words.{known_replies, IsLink};
 ghost use Rattle.lt_live.specs.Cursor.{IsCursor};
-ghost use Rattle.lt_live.specs.Seats.{AreBeside, LooksBeside, IsSeat, IsSettled};
+ghost use Rattle.lt_live.specs.Seats.{KnowAll, LooksBeside, IsSeat, IsSettledSeat};
 
 use crate::ends::{Seat, Session};
 use lt_merge::Log;
@@ -17,7 +17,7 @@ pub(crate) fn beside(session: &mut Session, seat: &mut Seat, log: &Log)
     requires cursor { IsCursor log.now.entries seat.old.moves seat.old.lines }
     requires places { 0 < producer_capacity seat.old.replies }
     ensures link { IsLink session.new seat.new }
-    ensures beside { AreBeside session.new seat.new }
+    ensures beside { KnowAll session.new seat.new }
     ensures looks { LooksBeside log.now.entries session.old session.new seat.old seat.new }
     ensures moves { (seat.new.moves ≡ length log.now.entries) ⊎ (0 < length (known_replies session.new)) }
 {
@@ -32,7 +32,7 @@ pub(crate) fn settle(session: &mut Session, seat: &mut Seat, log: &Log)
     requires link { IsLink session.old seat.old }
     requires cursor { IsCursor log.now.entries seat.old.moves seat.old.lines }
     requires places { 0 < producer_capacity seat.old.replies }
-    ensures { (list : List Command) → IsSeat list log.now.entries seat.old.client seat.old → IsSettled list (lines_of log.now.entries) seat.old.client session.old session.new seat.new }
+    ensures { (list : List Command) → IsSeat list log.now.entries seat.old.client seat.old → IsSettledSeat list (lines_of log.now.entries) seat.old.client session.old session.new seat.new }
 {
     beside(session, seat, log);
 }

@@ -1,7 +1,7 @@
 // What a station does with the end of one session.
 ghost use Rattle.std.specs.Prelude.{◌≡◌, ◌≤◌, ◌<◌, ◌+◌, ◌^◌, length, None, slice_get};
 ghost use Rattle.lt_live.specs.Cursor.{IsCursor};
-ghost use Rattle.lt_live.specs.Seats.{TakesIn, Tells, TellsMove, ToldNext};
+ghost use Rattle.lt_live.specs.Seats.{TakesIn, TellsSeat, TellsMove, ToldNext};
 
 use crate::ends::Seat;
 use crate::reply::reply_to;
@@ -28,7 +28,7 @@ impl Seat {
     /// Gives the ring the client's replies of the log, in order, while it has places.
     pub(crate) fn tell(&mut self, log: &Log)
         requires { IsCursor log.now.entries self.old.moves self.old.lines }
-        ensures { Tells log.now.entries self.old self.new }
+        ensures { TellsSeat log.now.entries self.old self.new }
     {
         while self.moves < log.len() {
             if !self.tell_move(log.events(self.moves)) {

@@ -2,7 +2,7 @@
 ghost use Rattle.std.specs.Prelude.{◌≡◌, ◌+◌, ◌-◌, ◌≤◌, ◌<◌, ◌++◌, ◌∷◌, [], true, length, IfSome, IfNone, IfErr, IsOk, OnOk};
 ghost use mathlib.Core.List.{IsPrefix};
 ghost use Rattle.rtrb.specs.Ring.{known_free};
-ghost use Rattle.lt_script.specs.Script.{HasTargets, HasModesOf};
+ghost use Rattle.lt_spec.specs.Script.{HasTargets, HasModesOf};
 ghost use Rattle.lt_live.specs.Words.{submitted, polled, known_replies, places, SameSession};
 
 use crate::asking::may_ask;

@@ -1,8 +1,8 @@
 // All stations and sessions of a script.
 ghost use Rattle.std.specs.Prelude.{◌≡◌, ◌<◌, ◌≤◌, ◌+◌, [], length, IfOk, OnOk};
-ghost use Rattle.lt_limits.specs.declared.moves.TheConstants.{MAX_MOVES};
-ghost use Rattle.lt_script.specs.declared.limits.TheConstants.{MAX_COMMANDS};
-ghost use Rattle.lt_live.specs.Opened.{Opening, Opened, AreSeatless, HaveNoCommands};
+ghost use Rattle.lt_spec.specs.declared.moves.TheConstants.{MAX_MOVES};
+ghost use Rattle.lt_spec.specs.declared.limits.TheConstants.{MAX_COMMANDS};
+ghost use Rattle.lt_live.specs.Opened.{Opens, IsOpen, AreSeatless, HaveNoCommands};
 
 use crate::ends::Session;
 use crate::limits::LETTER_PLACES;
@@ -26,7 +26,7 @@ pub fn open(
     requires commands { script.now.commands ≡ [] }
     requires limit { (0 < limit) × (limit ≤ MAX_MOVES) }
     requires capacity { (0 < capacity) × (capacity ≤ MAX_COMMANDS) }
-    ensures { IfOk result (λ opened. Opened script.now limit capacity opened.0.items opened.1.items) }
+    ensures { IfOk result (λ opened. IsOpen script.now limit capacity opened.0.items opened.1.items) }
 {
     let runners = start_crew(alloc, script, LETTER_PLACES, limit)?;
     let mut stations = stations_of(alloc, runners)?;
@@ -70,8 +70,8 @@ fn add_session(
     requires client { client < length script.now.clients }
     requires commands { script.now.commands ≡ [] }
     requires capacity { 0 < capacity }
-    requires opening { Opening script.now _limit capacity client stations.old.items sessions.old.items }
-    ensures { OnOk result (Opening script.now _limit capacity (client + 1) stations.new.items sessions.new.items) }
+    requires opening { Opens script.now _limit capacity client stations.old.items sessions.old.items }
+    ensures { OnOk result (Opens script.now _limit capacity (client + 1) stations.new.items sessions.new.items) }
 {
     let home = usize::from(script.home(client));
     let share = MAX_COMMANDS / u32::from(script.clients());

@@ -1,5 +1,5 @@
 ghost use Rattle.std.specs.Prelude.{◌≡◌, [], ◌∷◌, ◌++◌, length, OnOk};
-ghost use Rattle.lt_law_appended.specs.Commands.{AreAt};
+ghost use Rattle.lt_spec.specs.Commands.{AreAt};
 ghost use Rattle.lt_spec.specs.NodeMove.{node_waits};
 ghost use Rattle.lt_node.specs.NodeData.{state_of};
 ghost use Rattle.lt_live.specs.Stations.{AreOthers, IsSeatOf, IsSeated, StaySeated, SeatLooks, StationTurns};

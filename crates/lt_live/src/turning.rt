@@ -6,7 +6,7 @@ ghost use Rattle.lt_runner.specs.declared.turning.Turned.TheVariants as turns;
 ghost use Rattle.lt_runner.specs.Choices.{next_choice};
 ghost use Rattle.lt_runner.specs.Kept.{Grew, TurnEnds};
 ghost use Rattle.lt_live.specs.declared.ends.Seat.{Seat as SeatEnds};
-ghost use Rattle.lt_live.specs.Seats.{TakesIn, Tells};
+ghost use Rattle.lt_live.specs.Seats.{TakesIn, TellsSeat};
 ghost use Rattle.lt_live.specs.Stations.{IsStation, EachSeat, SeatAt, OnlyAppends, HandMayGo, MayHandOver, CanNotAppend, CanAppend, NoneCanAppend, SomeCanAppend, StationTurns, HasCursorAt, HaveCursors};
 
 use crate::asking::may_append;
@@ -112,7 +112,7 @@ fn append(seat: &mut Seat, runner: &mut Runner) -> bool
 // Tells each client its replies, in order, while its ring has places.
 fn tell_all(seats: &mut Vec<Seat>, log: &Log)
     requires { HaveCursors log.now.entries seats.old.items }
-    ensures { EachSeat (Tells log.now.entries) seats.old.items seats.new.items }
+    ensures { EachSeat (TellsSeat log.now.entries) seats.old.items seats.new.items }
 {
     for place in 0..seats.len() {
         tell_at(seats, log, place);
@@ -122,7 +122,7 @@ fn tell_all(seats: &mut Vec<Seat>, log: &Log)
 fn tell_at(seats: &mut Vec<Seat>, log: &Log, place: usize)
     requires inside { place < length seats.old.items }
     requires cursor { HasCursorAt log.now.entries seats.old.items place }
-    ensures { SeatAt (Tells log.now.entries) place seats.old.items seats.new.items }
+    ensures { SeatAt (TellsSeat log.now.entries) place seats.old.items seats.new.items }
 {
     seats[place].tell(log);
 }

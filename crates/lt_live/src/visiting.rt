@@ -1,9 +1,9 @@
 // Stations in a pool, which workers share.
 ghost use Rattle.std.specs.Prelude.{◌≡◌, ◌<◌, [], length, None, IfSome, OnSome};
-ghost use Rattle.lt_live.specs.Visits.{IsVisit, IsRefused};
+ghost use Rattle.lt_live.specs.Visits.{IsVisit, IsRefusedVisit};
 
 use crate::station::Station;
-use lt_pool::{Pool, Post};
+use lt_pool::{Badge, Pool};
 use lt_runner::{Gate, Turned};
 
 /// A worker's visit of a station that lies in a pool: it claims the station, lets it make a turn and gives it back.
@@ -11,22 +11,22 @@ use lt_runner::{Gate, Turned};
 /// None, if another worker has the station.
 pub fn visit<G: Gate>(
     pool: &Pool<Station>,
-    post: &mut Post<Station>,
+    badge: &mut Badge<Station>,
     node: u8,
     gate: &G,
 ) -> Option<Turned>
-    requires of { post.old.pool ≡ pool.now }
+    requires of { badge.old.pool ≡ pool.now }
     requires inside { node < length pool.now.firsts }
-    requires free { post.old.claimed ≡ [] }
-    ensures post { post.new ≡ record post.old { refused = post.new.refused } }
-    ensures visited { OnSome result (post.new.refused ≡ post.old.refused) }
+    requires free { badge.old.claimed ≡ [] }
+    ensures badge { badge.new ≡ record badge.old { refused = badge.new.refused } }
+    ensures visited { OnSome result (badge.new.refused ≡ badge.old.refused) }
     ensures turned { IfSome result (IsVisit pool.now.firsts node) }
-    ensures refused { result ≡ None → IsRefused node post.old.refused post.new.refused }
+    ensures refused { result ≡ None → IsRefusedVisit node badge.old.refused badge.new.refused }
 {
-    let Ok(mut station) = pool.claim(post, node) else {
+    let Ok(mut station) = pool.claim(badge, node) else {
         return None;
     };
     let turned = station.turn(gate);
-    pool.give(post, node, station);
+    pool.give(badge, node, station);
     Some(turned)
 }

@@ -2,7 +2,7 @@
 use Rattle.std.proofs.Common.{◌≡◌, Bool, true, false, sym, ◌∙◌}
 use Rattle.std.proofs.lemmas.Bool.{false≢true}
 use Rattle.lt_modes.specs.declared.command.Command.{Command}
-use Rattle.lt_script.specs.Script.{HasTargets, HasModesOf}
+use Rattle.lt_spec.specs.Script.{HasTargets, HasModesOf}
 use Rattle.lt_live.specs.declared.ends.Session.{Session}
 use Rattle.lt_live_c.specs.Calls.{MaySubmit}
 

@@ -4,7 +4,7 @@ use mathlib.Core.List.{IsPrefix}
 use Rattle.rtrb.specs.Ring.{known_free}
 use Rattle.lt_modes.specs.declared.command.Command.{Command}
 use Rattle.lt_spec.specs.Families.{home}
-use Rattle.lt_script.specs.Script.{HasTargets, HasModesOf}
+use Rattle.lt_spec.specs.Script.{HasTargets, HasModesOf}
 use Rattle.lt_runner.specs.declared.turning.Turned.{Turned}
 use Rattle.lt_live.specs.declared.ends.Session.{Session}
 use Rattle.lt_live.specs.declared.reply.Reply.{Reply}
@@ -13,11 +13,11 @@ use Rattle.lt_live.specs.Stations.{StationData, StationTurns}
 use Rattle.lt_live_c.specs.declared.code.TheConstants.{OK, NOTHING, BAD_ARGUMENT, SPENT, FULL}
 use Rattle.lt_live_c.specs.declared.content.Content.{Content}
 use Rattle.lt_live_c.specs.declared.content.Content.TheVariants as contents
-use Rattle.lt_live_c.specs.Numbers.{number_of_reply, count_after, number_of_turn}
+use Rattle.lt_live_c.specs.Numbers.{number_of_reply, count_for_c, number_of_turn}
 
 -- a turn of the station, which ended as the code says
-abbrev pub Turns : ℕ → StationData → StationData → Type 0
-Turns code a b = (turned : Turned) × (code ≡ number_of_turn turned) × StationTurns turned a.runner a.seats b.runner b.seats
+abbrev pub TurnsStation : ℕ → StationData → StationData → Type 0
+TurnsStation code a b = (turned : Turned) × (code ≡ number_of_turn turned) × StationTurns turned a.runner a.seats b.runner b.seats
 
 -- all that the command names is of the session's script
 abbrev pub MaySubmit : Session → Command → Type 0
@@ -61,7 +61,7 @@ pub record TellsReply (reply : Reply) (code was count : ℕ) (s t : Session) : T
   pub code_is : code ≡ number_of_reply reply
   pub known : IsPrefix (known_replies s) (reply ∷ known_replies t)
   pub polled : polled t ≡ polled s ++ reply ∷ []
-  pub tells : count ≡ count_after reply was
+  pub tells : count ≡ count_for_c reply was
 
 abbrev pub PollEnds : ℕ → ℕ → ℕ → Session → Session → Type 0
 PollEnds code was count s t = HasNoReply code was count s t ⊎ ((reply : Reply) × TellsReply reply code was count s t)
@@ -71,27 +71,27 @@ pub record Polls (code was count : ℕ) (s t : Session) : Type 0 where
   pub commands : (submitted t ≡ submitted s) × (t.left ≡ s.left)
 
 -- how many commands may still be submitted; 0 where it is no session
-abbrev pub left_of : Content → ℕ
-left_of (contents.Session s) = s.left
-left_of other = 0
+abbrev pub left_in : Content → ℕ
+left_in (contents.Session s) = s.left
+left_in other = 0
 
 abbrev pub left_at : Option Content → ℕ
 left_at None = 0
-left_at (Some content) = left_of content
+left_at (Some content) = left_in content
 
 -- the number of the session's client, and its node; 0 where it is no session
 abbrev pub client_of : Content → ℕ
 client_of (contents.Session s) = s.client
 client_of other = 0
 
-abbrev pub client_at : Option Content → ℕ
-client_at None = 0
-client_at (Some content) = client_of content
+abbrev pub client_in : Option Content → ℕ
+client_in None = 0
+client_in (Some content) = client_of content
 
-abbrev pub home_of : Content → ℕ
-home_of (contents.Session s) = home s.script s.client
-home_of other = 0
+abbrev pub home_of_content : Content → ℕ
+home_of_content (contents.Session s) = home s.script s.client
+home_of_content other = 0
 
-abbrev pub home_at : Option Content → ℕ
-home_at None = 0
-home_at (Some content) = home_of content
+abbrev pub home_in : Option Content → ℕ
+home_in None = 0
+home_in (Some content) = home_of_content content

@@ -18,32 +18,32 @@ IsOfOther None = ⊥
 IsOfOther (Some content) = is_service content ≡ false
 
 -- a service has all the stations and all the sessions of one `open`, in order
-abbrev pub IsWhole : Content → Type 0
-IsWhole (contents.Service s) = LiveScript s.stations.items s.sessions.items
-IsWhole other = ⊤
+abbrev pub IsWholeService : Content → Type 0
+IsWholeService (contents.Service s) = LiveScript s.stations.items s.sessions.items
+IsWholeService other = ⊤
 
 abbrev pub IsWholeHandle : Option Content → Type 0
 IsWholeHandle None = ⊥
-IsWholeHandle (Some content) = IsWhole content
+IsWholeHandle (Some content) = IsWholeService content
 
 -- a station stays one of the same node, where sessions keep their other ends, a session stays that of the same client, and
 -- anything else stays as it is
-abbrev pub GoesOn : Content → Content → Type 0
-GoesOn (contents.Service s) b = b ≡ contents.Service s
-GoesOn (contents.Station s) (contents.Station t) = StationGoesOn s t
-GoesOn (contents.Station s) other = ⊥
-GoesOn (contents.Session s) (contents.Session t) = SameSession s t
-GoesOn (contents.Session s) other = ⊥
-GoesOn (contents.Journal j) b = b ≡ contents.Journal j
+abbrev pub ContentGoesOn : Content → Content → Type 0
+ContentGoesOn (contents.Service s) b = b ≡ contents.Service s
+ContentGoesOn (contents.Station s) (contents.Station t) = StationGoesOn s t
+ContentGoesOn (contents.Station s) other = ⊥
+ContentGoesOn (contents.Session s) (contents.Session t) = SameSession s t
+ContentGoesOn (contents.Session s) other = ⊥
+ContentGoesOn (contents.Journal j) b = b ≡ contents.Journal j
 
 -- both handles stand for something, and so does the one from the other
-abbrev pub Both : (Content → Content → Type 0) → Option Content → Option Content → Type 0
-Both R (Some a) (Some b) = R a b
-Both R (Some a) None = ⊥
-Both R None o = ⊤
+abbrev pub BothStand : (Content → Content → Type 0) → Option Content → Option Content → Type 0
+BothStand R (Some a) (Some b) = R a b
+BothStand R (Some a) None = ⊥
+BothStand R None o = ⊤
 
 abbrev pub HandleGoesOn : Option Content → Option Content → Type 0
-HandleGoesOn a b = Both GoesOn a b
+HandleGoesOn a b = BothStand ContentGoesOn a b
 
 -- what a call on a station does: with anything else it does nothing, and the code says so
 abbrev pub OnStation : ℕ → (StationData → StationData → Type 0) → Content → Content → Type 0
@@ -52,7 +52,7 @@ OnStation code R (contents.Station s) other = ⊥
 OnStation code R other b = (code ≡ WRONG_HANDLE) × (b ≡ other)
 
 abbrev pub AtStation : ℕ → (StationData → StationData → Type 0) → Option Content → Option Content → Type 0
-AtStation code R a b = Both (OnStation code R) a b
+AtStation code R a b = BothStand (OnStation code R) a b
 
 -- the same of a session
 abbrev pub OnSession : ℕ → (Session → Session → Type 0) → Content → Content → Type 0
@@ -61,4 +61,4 @@ OnSession code R (contents.Session s) other = ⊥
 OnSession code R other b = (code ≡ WRONG_HANDLE) × (b ≡ other)
 
 abbrev pub AtSession : ℕ → (Session → Session → Type 0) → Option Content → Option Content → Type 0
-AtSession code R a b = Both (OnSession code R) a b
+AtSession code R a b = BothStand (OnSession code R) a b

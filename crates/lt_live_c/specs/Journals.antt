@@ -14,59 +14,59 @@ use Rattle.lt_live_c.specs.declared.journal.Journal.{Journal}
 use Rattle.lt_live_c.specs.declared.service.Service.{Service}
 use Rattle.lt_live_c.specs.declared.content.Content.{Content}
 use Rattle.lt_live_c.specs.declared.content.Content.TheVariants as contents
-use Rattle.lt_live_c.specs.Contents.{Both}
+use Rattle.lt_live_c.specs.Contents.{BothStand}
 
 -- the line says what is held at the end
-abbrev pub is_held : Line → Bool
-is_held (Held client set mode count) = true
-is_held other = false
+abbrev pub says_held : Line → Bool
+says_held (Held client set mode count) = true
+says_held other = false
 
 -- the line says who waits at the end
-abbrev pub is_waiting : Line → Bool
-is_waiting (Waiting client set mode) = true
-is_waiting other = false
+abbrev pub says_waiting : Line → Bool
+says_waiting (Waiting client set mode) = true
+says_waiting other = false
 
 -- the texts of the script and of the run, and how many lines of it say what is held and who waits at the end
 pub record TellsOf (script : ScriptData) (run : List Logged) (journal : Journal) : Type 0 where
   pub script_is : journal.script.items ≡ print_of script
   pub text_is : journal.text.items ≡ text_of script run None
-  pub held : journal.held ≡ count_by is_held (closing_lines script run None)
-  pub waiting : journal.waiting ≡ count_by is_waiting (closing_lines script run None)
+  pub held : journal.held ≡ count_by says_held (closing_lines script run None)
+  pub waiting : journal.waiting ≡ count_by says_waiting (closing_lines script run None)
 
 -- it tells of a run by the rules, in which each client's commands are a first part of those that its session submitted, and what
 -- the session polled is a first part of its replies
-abbrev pub IsJournalOf : Service → Journal → Type 0
-IsJournalOf s journal = (first : ScriptData) → AreLive first s.stations.items s.sessions.items
+abbrev pub IsJournalOfService : Service → Journal → Type 0
+IsJournalOfService s journal = (first : ScriptData) → AreLive first s.stations.items s.sessions.items
     → (script : ScriptData) × (run : List Logged) × IsServedRun first s.sessions.items script run × TellsOf script run journal
 
 abbrev pub JournalIsOf : Content → Content → Type 0
-JournalIsOf (contents.Service s) (contents.Journal journal) = IsJournalOf s journal
+JournalIsOf (contents.Service s) (contents.Journal journal) = IsJournalOfService s journal
 JournalIsOf a b = ⊥
 
 abbrev pub HandleFinishes : Option Content → Option Content → Type 0
-HandleFinishes a b = Both JournalIsOf a b
+HandleFinishes a b = BothStand JournalIsOf a b
 
 -- why there is no journal
 abbrev pub FinishRefused : ℕ → Type 0
 FinishRefused code = (code ≡ WRONG_HANDLE) ⊎ (code ≡ NO_MEMORY)
 
 -- the text of the script with its commands; empty where it is no journal
-abbrev pub script_in : Content → List ℕ
-script_in (contents.Journal journal) = journal.script.items
-script_in other = []
+abbrev pub script_of_content : Content → List ℕ
+script_of_content (contents.Journal journal) = journal.script.items
+script_of_content other = []
 
 abbrev pub script_at : Option Content → List ℕ
 script_at None = []
-script_at (Some content) = script_in content
+script_at (Some content) = script_of_content content
 
 -- the text of the run
 abbrev pub text_in : Content → List ℕ
 text_in (contents.Journal journal) = journal.text.items
 text_in other = []
 
-abbrev pub text_at : Option Content → List ℕ
-text_at None = []
-text_at (Some content) = text_in content
+abbrev pub text_of_content : Option Content → List ℕ
+text_of_content None = []
+text_of_content (Some content) = text_in content
 
 -- so many bytes of the text from this one on, as many as there are or as have room, stand first now
 pub record CopiesFrom (text : List ℕ) (from count : ℕ) (old new : List ℕ) : Type 0 where

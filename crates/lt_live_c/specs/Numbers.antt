@@ -22,9 +22,9 @@ number_of_reply (replies.Dropped count) = 22
 number_of_reply replies.Busy = 23
 
 -- what stands in C's count after the reply: how many locks were dropped, or what stood there
-abbrev pub count_after : Reply → ℕ → ℕ
-count_after (replies.Dropped dropped) count = dropped
-count_after other count = count
+abbrev pub count_for_c : Reply → ℕ → ℕ
+count_for_c (replies.Dropped dropped) count = dropped
+count_for_c other count = count
 
 -- the number by which C is told how a turn ended
 abbrev pub number_of_turn : Turned → ℕ
@@ -44,9 +44,9 @@ mode_numbered n =
     else if n == 5 then Some modes.Write
     else None
 
-abbrev pub with_mode : (Mode → Command) → Option Mode → Option Command
-with_mode f None = None
-with_mode f (Some mode) = Some (f mode)
+abbrev pub command_with_mode : (Mode → Command) → Option Mode → Option Command
+command_with_mode f None = None
+command_with_mode f (Some mode) = Some (f mode)
 
 abbrev pub with_modes : (Mode → Mode → Command) → Option Mode → Option Mode → Option Command
 with_modes f None other = None
@@ -60,9 +60,9 @@ drop_of set client = if nat_lt client 65536 then Some (commands.DropAll client s
 -- the command that C means by these numbers
 abbrev pub command_numbered : ℕ → ℕ → ℕ → ℕ → Option Command
 command_numbered kind set first second =
-    if kind == 0 then with_mode (λ mode. commands.Lock set mode) (mode_numbered first)
-    else if kind == 1 then with_mode (λ mode. commands.Try set mode) (mode_numbered first)
-    else if kind == 2 then with_mode (λ mode. commands.Unlock set mode) (mode_numbered first)
+    if kind == 0 then command_with_mode (λ mode. commands.Lock set mode) (mode_numbered first)
+    else if kind == 1 then command_with_mode (λ mode. commands.Try set mode) (mode_numbered first)
+    else if kind == 2 then command_with_mode (λ mode. commands.Unlock set mode) (mode_numbered first)
     else if kind == 3 then with_modes (λ gives_up mode. commands.Change set gives_up mode) (mode_numbered first) (mode_numbered second)
     else if kind == 4 then drop_of set first
     else None

@@ -6,7 +6,7 @@ use Rattle.lt_live_c.specs.declared.code.TheConstants.{NOTHING, WRONG_HANDLE, NO
 use Rattle.lt_live_c.specs.declared.service.Service.{Service}
 use Rattle.lt_live_c.specs.declared.content.Content.{Content}
 use Rattle.lt_live_c.specs.declared.content.Content.TheVariants as contents
-use Rattle.lt_live_c.specs.Contents.{is_service, Both}
+use Rattle.lt_live_c.specs.Contents.{is_service, BothStand}
 
 -- it is the first station of the service, which has the others left
 abbrev pub TakesFirstStation : StationData → Service → Service → Type 0
@@ -17,7 +17,7 @@ TakesStation x (contents.Service s) (contents.Service t) = TakesFirstStation x s
 TakesStation x a b = ⊥
 
 abbrev pub HandleTakesStation : Option Content → Option Content → Option Content → Type 0
-HandleTakesStation (Some (contents.Station x)) a b = Both (TakesStation x) a b
+HandleTakesStation (Some (contents.Station x)) a b = BothStand (TakesStation x) a b
 HandleTakesStation other a b = ⊥
 
 -- the same of the first session
@@ -29,7 +29,7 @@ TakesSession x (contents.Service s) (contents.Service t) = TakesFirstSession x s
 TakesSession x a b = ⊥
 
 abbrev pub HandleTakesSession : Option Content → Option Content → Option Content → Type 0
-HandleTakesSession (Some (contents.Session x)) a b = Both (TakesSession x) a b
+HandleTakesSession (Some (contents.Session x)) a b = BothStand (TakesSession x) a b
 HandleTakesSession other a b = ⊥
 
 -- a service that has no station, or no session, left
@@ -72,12 +72,12 @@ GivesTo (contents.Station x) s t = (t.stations.items ≡ s.stations.items ++ x �
 GivesTo (contents.Session x) s t = (t.sessions.items ≡ s.sessions.items ++ x ∷ []) × (t.stations ≡ s.stations)
 GivesTo other s t = ⊥
 
-abbrev pub Gives : Content → Content → Content → Type 0
-Gives x (contents.Service s) (contents.Service t) = GivesTo x s t
-Gives x a b = ⊥
+abbrev pub GivesTheOther : Content → Content → Content → Type 0
+GivesTheOther x (contents.Service s) (contents.Service t) = GivesTo x s t
+GivesTheOther x a b = ⊥
 
 abbrev pub HandleGives : Option Content → Option Content → Option Content → Type 0
-HandleGives (Some x) a b = Both (Gives x) a b
+HandleGives (Some x) a b = BothStand (GivesTheOther x) a b
 HandleGives None a b = ⊤
 
 -- a station or a session
@@ -87,16 +87,16 @@ is_end (contents.Session x) = true
 is_end other = false
 
 -- the service has the stations and sessions that it had
-abbrev pub SameEnds : Service → Service → Type 0
-SameEnds s t = (t.stations.items ≡ s.stations.items) × (t.sessions.items ≡ s.sessions.items)
+abbrev pub SameService : Service → Service → Type 0
+SameService s t = (t.stations.items ≡ s.stations.items) × (t.sessions.items ≡ s.sessions.items)
 
-abbrev pub Keeps : Content → Content → Type 0
-Keeps (contents.Service s) (contents.Service t) = SameEnds s t
-Keeps (contents.Service s) other = ⊥
-Keeps other b = b ≡ other
+abbrev pub KeepsAll : Content → Content → Type 0
+KeepsAll (contents.Service s) (contents.Service t) = SameService s t
+KeepsAll (contents.Service s) other = ⊥
+KeepsAll other b = b ≡ other
 
 abbrev pub HandleKeeps : Option Content → Option Content → Type 0
-HandleKeeps a b = Both Keeps a b
+HandleKeeps a b = BothStand KeepsAll a b
 
 -- it is no station and no session, or goes to what is no service
 abbrev pub IsNoGift : Content → Content → Type 0
@@ -108,10 +108,10 @@ pub record NotGiven (code : ℕ) (x a : Content) : Type 0 where
   pub only : (code ≡ WRONG_HANDLE) ⊎ (code ≡ NO_MEMORY)
 
 abbrev pub GiveRefused : ℕ → Content → Content → Content → Type 0
-GiveRefused code x a b = NotGiven code x a × Keeps a b
+GiveRefused code x a b = NotGiven code x a × KeepsAll a b
 
 abbrev pub GiveRefusedBy : ℕ → Content → Service → Service → Type 0
-GiveRefusedBy code x s t = NotGiven code x (contents.Service s) × SameEnds s t
+GiveRefusedBy code x s t = NotGiven code x (contents.Service s) × SameService s t
 
 abbrev pub HandleGiveRefused : ℕ → Option Content → Option Content → Type 0
 HandleGiveRefused code (Some x) (Some a) = NotGiven code x a

@@ -2,8 +2,8 @@
 ghost use Rattle.std.specs.Prelude.{◌≡◌};
 ghost use Rattle.lt_live.specs.Words.{SameSession};
 ghost use Rattle.lt_live.specs.Live.{StationGoesOn};
-ghost use Rattle.lt_live_c.specs.Contents.{GoesOn, OnStation, OnSession};
-ghost use Rattle.lt_live_c.specs.Calls.{Turns, Submits, Polls, left_of, client_of, home_of};
+ghost use Rattle.lt_live_c.specs.Contents.{ContentGoesOn, OnStation, OnSession};
+ghost use Rattle.lt_live_c.specs.Calls.{TurnsStation, Submits, Polls, left_in, client_of, home_of_content};
 
 use crate::code::{
     BAD_ARGUMENT, FULL, NOTHING, OK, SPENT, WRONG_HANDLE, number_of_reply, number_of_turn,
@@ -15,8 +15,8 @@ use lt_runner::Open;
 
 #[tactic(auto, using(lt_live::proofs::Settling::same_sessions))]
 pub fn turn(content: &mut Content) -> u32
-    ensures goes_on { GoesOn content.old content.new }
-    ensures turns { OnStation result (Turns result) content.old content.new }
+    ensures goes_on { ContentGoesOn content.old content.new }
+    ensures turns { OnStation result (TurnsStation result) content.old content.new }
 {
     match content {
         Content::Station(station) => turn_of(station),
@@ -26,14 +26,14 @@ pub fn turn(content: &mut Content) -> u32
 
 fn turn_of(station: &mut Station) -> u32
     ensures goes_on { StationGoesOn station.old station.new }
-    ensures turns { Turns result station.old station.new }
+    ensures turns { TurnsStation result station.old station.new }
 {
     number_of_turn(station.turn(&Open))
 }
 
 #[tactic(auto, using(lt_live::specs::Same::station_goes_on_itself))]
 pub fn submit(content: &mut Content, command: Option<Command>) -> u32
-    ensures goes_on { GoesOn content.old content.new }
+    ensures goes_on { ContentGoesOn content.old content.new }
     ensures submits { OnSession result (Submits result command) content.old content.new }
 {
     match content {
@@ -64,7 +64,7 @@ fn submit_to(session: &mut Session, command: Option<Command>) -> u32
 
 #[tactic(auto, using(lt_live::specs::Same::station_goes_on_itself))]
 pub fn poll(content: &mut Content, count: &mut u32) -> u32
-    ensures goes_on { GoesOn content.old content.new }
+    ensures goes_on { ContentGoesOn content.old content.new }
     ensures polls { OnSession result (Polls result count.old count.new) content.old content.new }
 {
     match content {
@@ -85,7 +85,7 @@ fn poll_from(session: &mut Session, count: &mut u32) -> u32
 
 /// How many commands may still be submitted; 0 where it is no session.
 pub fn left(content: &Content) -> u32
-    ensures { result ≡ left_of content.now }
+    ensures { result ≡ left_in content.now }
 {
     match content {
         Content::Session(session) => session.left(),
@@ -105,7 +105,7 @@ pub fn client(content: &Content) -> u32
 
 /// The node of the session's client; 0 where it is no session.
 pub fn home(content: &Content) -> u32
-    ensures { result ≡ home_of content.now }
+    ensures { result ≡ home_of_content content.now }
 {
     match content {
         Content::Session(session) => u32::from(session.script().home(session.client())),

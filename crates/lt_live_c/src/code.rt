@@ -1,6 +1,6 @@
 // Numbers for C: how a call ended, replies, modes and commands.
 ghost use Rattle.std.specs.Prelude.{◌≡◌};
-ghost use Rattle.lt_live_c.specs.Numbers.{number_of_reply, count_after, number_of_turn, mode_numbered, command_numbered, with_mode, with_modes, drop_of};
+ghost use Rattle.lt_live_c.specs.Numbers.{number_of_reply, count_for_c, number_of_turn, mode_numbered, command_numbered, command_with_mode, with_modes, drop_of};
 ghost use Rattle.lt_modes.specs.declared.command.Command.TheVariants as commands;
 
 use lt_live::Reply;
@@ -45,7 +45,7 @@ pub fn number_of_turn(turned: Turned) -> u32
 /// The reply's number. Of dropped locks `count` tells how many they were.
 pub fn number_of_reply(reply: Reply, count: &mut u32) -> u32
     ensures number { result ≡ number_of_reply reply }
-    ensures count { count.new ≡ count_after reply count.old }
+    ensures count { count.new ≡ count_for_c reply count.old }
 {
     match reply {
         Reply::Granted => 16,
@@ -91,7 +91,7 @@ fn mode_numbered(number: u32) -> Option<Mode>
 }
 
 fn lock(set: u8, mode: Option<Mode>) -> Option<Command>
-    ensures { result ≡ with_mode (λ mode. commands.Lock set mode) mode }
+    ensures { result ≡ command_with_mode (λ mode. commands.Lock set mode) mode }
 {
     match mode {
         Some(mode) => Some(Command::Lock { set, mode }),
@@ -100,7 +100,7 @@ fn lock(set: u8, mode: Option<Mode>) -> Option<Command>
 }
 
 fn try_lock(set: u8, mode: Option<Mode>) -> Option<Command>
-    ensures { result ≡ with_mode (λ mode. commands.Try set mode) mode }
+    ensures { result ≡ command_with_mode (λ mode. commands.Try set mode) mode }
 {
     match mode {
         Some(mode) => Some(Command::Try { set, mode }),
@@ -109,7 +109,7 @@ fn try_lock(set: u8, mode: Option<Mode>) -> Option<Command>
 }
 
 fn unlock(set: u8, mode: Option<Mode>) -> Option<Command>
-    ensures { result ≡ with_mode (λ mode. commands.Unlock set mode) mode }
+    ensures { result ≡ command_with_mode (λ mode. commands.Unlock set mode) mode }
 {
     match mode {
         Some(mode) => Some(Command::Unlock { set, mode }),

@@ -1,6 +1,6 @@
 // What a service ends in: the texts of its script and of its run.
 ghost use Rattle.std.specs.Prelude.{◌≡◌, IfOk, count_by};
-ghost use Rattle.lt_live_c.specs.Journals.{is_held, is_waiting, TellsOf};
+ghost use Rattle.lt_live_c.specs.Journals.{says_held, says_waiting, TellsOf};
 
 use lt_journal::{Line, closing_lines};
 use lt_merge::Run;
@@ -42,25 +42,25 @@ impl Journal {
 }
 
 fn held_lines(lines: &[Line]) -> usize
-    ensures { result ≡ count_by is_held lines.now }
+    ensures { result ≡ count_by says_held lines.now }
 {
     lines.iter().filter(|line| is_held(line)).count()
 }
 
 fn waiting_lines(lines: &[Line]) -> usize
-    ensures { result ≡ count_by is_waiting lines.now }
+    ensures { result ≡ count_by says_waiting lines.now }
 {
     lines.iter().filter(|line| is_waiting(line)).count()
 }
 
 fn is_held(line: &Line) -> bool
-    ensures { result ≡ is_held line.now }
+    ensures { result ≡ says_held line.now }
 {
     matches!(line, Line::Held { .. })
 }
 
 fn is_waiting(line: &Line) -> bool
-    ensures { result ≡ is_waiting line.now }
+    ensures { result ≡ says_waiting line.now }
 {
     matches!(line, Line::Waiting { .. })
 }

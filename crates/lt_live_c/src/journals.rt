@@ -1,6 +1,6 @@
 // The calls on journals.
 ghost use Rattle.std.specs.Prelude.{◌≡◌, IsSome};
-ghost use Rattle.lt_live_c.specs.Journals.{CopiesFrom, text_at, script_at, HandleTellsEnd};
+ghost use Rattle.lt_live_c.specs.Journals.{CopiesFrom, text_of_content, script_at, HandleTellsEnd};
 
 use crate::boxes::take;
 use crate::handle::Handle;
@@ -17,7 +17,7 @@ pub extern "C" fn lockrun_copy(
 ) -> usize
     requires { IsSome journal.old.value }
     ensures keeps { journal.new.value ≡ journal.old.value }
-    ensures copies { CopiesFrom (text_at journal.old.value) from result out.old out.new }
+    ensures copies { CopiesFrom (text_of_content journal.old.value) from result out.old out.new }
 {
     let inside = take(alloc, journal);
     let count = copy(text_in(&inside), from, out);

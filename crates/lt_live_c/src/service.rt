@@ -1,19 +1,19 @@
 // The stations and sessions of a script, until they are taken, and after they are given back.
 ghost use Rattle.std.specs.Prelude.{◌≡◌, ◌≢◌, ◌<◌, ◌≤◌, ◌∷◌, ◌++◌, [], drop, slice_get, IfOk, IfErr, IfSome, IfNone, OnOk};
-ghost use Rattle.lt_limits.specs.declared.moves.TheConstants.{MAX_MOVES};
-ghost use Rattle.lt_script.specs.declared.limits.TheConstants.{MAX_COMMANDS};
-ghost use Rattle.lt_live.specs.Opened.{Opened};
+ghost use Rattle.lt_spec.specs.declared.moves.TheConstants.{MAX_MOVES};
+ghost use Rattle.lt_spec.specs.declared.limits.TheConstants.{MAX_COMMANDS};
+ghost use Rattle.lt_live.specs.Opened.{IsOpen};
 ghost use Rattle.lt_live.specs.Live.{LiveScript};
-ghost use Rattle.lt_live_c.specs.Opening.{IsOpenedFrom, OpenRefused, fits};
-ghost use Rattle.lt_live_c.specs.Journals.{IsJournalOf};
+ghost use Rattle.lt_live_c.specs.Opening.{IsOpenedFrom, OpenRefused, fits_for_c};
+ghost use Rattle.lt_live_c.specs.Journals.{IsJournalOfService};
 ghost use Rattle.lt_live_c.specs.Taking.{TakesFirstStation, TakesFirstSession};
 
 use crate::code::{BAD_ARGUMENT, BAD_SCRIPT, NO_MEMORY};
 use crate::journal::Journal;
 use crate::limits::MAX_BYTES;
-use lt_limits::MAX_MOVES;
 use lt_live::{Session, Station, finish, law_live_lasts, open};
 use lt_script::{MAX_COMMANDS, ReadError, Script};
+use lt_spec::MAX_MOVES;
 use std::alloc::{AllocError, Global};
 
 #[derive(Drop)]
@@ -51,7 +51,7 @@ impl Service {
         requires commands { script.now.commands ≡ [] }
         requires limit { (0 < limit) × (limit ≤ MAX_MOVES) }
         requires places { (0 < places) × (places ≤ MAX_COMMANDS) }
-        ensures opened { IfOk result (λ s. Opened script.now limit places s.stations.items s.sessions.items) }
+        ensures opened { IfOk result (λ s. IsOpen script.now limit places s.stations.items s.sessions.items) }
         ensures whole { IfOk result (λ s. LiveScript s.stations.items s.sessions.items) }
     {
         law_live_lasts();
@@ -62,7 +62,7 @@ impl Service {
     /// The journal of the run that the stations made. Without memory all is dropped.
     pub fn finish(self, alloc: Global) -> Result<Journal, AllocError>
         requires { LiveScript self.stations.items self.sessions.items }
-        ensures { IfOk result (λ journal. IsJournalOf self journal) }
+        ensures { IfOk result (λ journal. IsJournalOfService self journal) }
     {
         let (script, run) = finish(alloc, self.stations, self.sessions)?;
         let journal = Journal::of(alloc, &script, &run)?;
@@ -94,7 +94,7 @@ impl Service {
 
 // Whether the numbers are in range, and the text isn't too long.
 fn fits(text: &[u8], limit: u32, places: u32) -> bool
-    ensures { result ≡ fits text.now limit places }
+    ensures { result ≡ fits_for_c text.now limit places }
 {
     text.len() <= MAX_BYTES
         && (0 < limit && limit <= MAX_MOVES)

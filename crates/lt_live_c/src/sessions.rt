@@ -1,7 +1,7 @@
 // The calls on stations and on sessions.
 ghost use Rattle.std.specs.Prelude.{◌≡◌, IsSome};
 ghost use Rattle.lt_live_c.specs.Contents.{HandleGoesOn, AtStation, AtSession};
-ghost use Rattle.lt_live_c.specs.Calls.{Turns, Submits, Polls, left_at, client_at, home_at};
+ghost use Rattle.lt_live_c.specs.Calls.{TurnsStation, Submits, Polls, left_at, client_in, home_in};
 ghost use Rattle.lt_live_c.specs.Numbers.{command_numbered as the_command};
 
 use crate::boxes::take;
@@ -16,7 +16,7 @@ pub extern "C" fn lockrun_turn(alloc: Global, station: &mut Handle) -> u32
     requires { IsSome station.old.value }
     ensures some { IsSome station.new.value }
     ensures goes_on { HandleGoesOn station.old.value station.new.value }
-    ensures turns { AtStation result (Turns result) station.old.value station.new.value }
+    ensures turns { AtStation result (TurnsStation result) station.old.value station.new.value }
 {
     let mut inside = take(alloc, station);
     let code = calls::turn(&mut inside);
@@ -78,7 +78,7 @@ pub extern "C" fn lockrun_left(alloc: Global, session: &mut Handle) -> u32
 pub extern "C" fn lockrun_client(alloc: Global, session: &mut Handle) -> u32
     requires { IsSome session.old.value }
     ensures keeps { session.new.value ≡ session.old.value }
-    ensures client { result ≡ client_at session.old.value }
+    ensures client { result ≡ client_in session.old.value }
 {
     let inside = take(alloc, session);
     let client = calls::client(&inside);
@@ -91,7 +91,7 @@ pub extern "C" fn lockrun_client(alloc: Global, session: &mut Handle) -> u32
 pub extern "C" fn lockrun_home(alloc: Global, session: &mut Handle) -> u32
     requires { IsSome session.old.value }
     ensures keeps { session.new.value ≡ session.old.value }
-    ensures home { result ≡ home_at session.old.value }
+    ensures home { result ≡ home_in session.old.value }
 {
     let inside = take(alloc, session);
     let home = calls::home(&inside);

@@ -1,7 +1,7 @@
 // What the calls on services do with what a handle stands for.
 ghost use Rattle.std.specs.Prelude.{◌≡◌, true, IfOk, IfErr, OnOk};
-ghost use Rattle.lt_live_c.specs.Contents.{IsWhole, is_service};
-ghost use Rattle.lt_live_c.specs.Taking.{TakesStation, TakesSession, StationRefused, SessionRefused, Gives, GiveRefused, GivesTo, GiveRefusedBy};
+ghost use Rattle.lt_live_c.specs.Contents.{IsWholeService, is_service};
+ghost use Rattle.lt_live_c.specs.Taking.{TakesStation, TakesSession, StationRefused, SessionRefused, GivesTheOther, GiveRefused, GivesTo, GiveRefusedBy};
 ghost use Rattle.lt_live_c.specs.Journals.{JournalIsOf};
 
 use crate::code::{NO_MEMORY, NOTHING, WRONG_HANDLE};
@@ -40,7 +40,7 @@ pub fn next_session(content: &mut Content) -> Result<Session, u32>
 
 /// Puts a station or a session behind those that the service has; else it comes back, with the code of why.
 pub fn give_back(content: &mut Content, given: Content) -> Result<(), (u32, Content)>
-    ensures gives { OnOk result (Gives given content.old content.new) }
+    ensures gives { OnOk result (GivesTheOther given content.old content.new) }
     ensures refused { IfErr result (λ back. (back.1 ≡ given) × GiveRefused back.0 given content.old content.new) }
 {
     match content {
@@ -75,7 +75,7 @@ pub fn is_service(content: &Content) -> bool
 /// The journal of the service's run.
 pub fn journal_of(alloc: Global, content: Content) -> Result<Content, AllocError>
     requires service { is_service content ≡ true }
-    requires whole { IsWhole content }
+    requires whole { IsWholeService content }
     ensures { IfOk result (λ journal. JournalIsOf content journal) }
 {
     match content {

@@ -1,13 +1,13 @@
 // What the calls on journals do.
 ghost use Rattle.std.specs.Prelude.{◌≡◌, ◌++◌, ◌-◌, min, length, take, drop};
-ghost use Rattle.lt_live_c.specs.Journals.{CopiesFrom, TellsEnd, script_in, text_in};
+ghost use Rattle.lt_live_c.specs.Journals.{CopiesFrom, TellsEnd, script_of_content, text_in};
 
 use crate::code::{OK, WRONG_HANDLE};
 use crate::content::Content;
 
 /// The text of the script with its commands; empty where it is no journal.
 pub fn script_in(content: &Content) -> &[u8]
-    ensures { result.now ≡ script_in content.now }
+    ensures { result.now ≡ script_of_content content.now }
 {
     match content {
         Content::Journal(journal) => &journal.script,

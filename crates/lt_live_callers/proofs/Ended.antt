@@ -15,7 +15,7 @@ use Rattle.lt_threads.proofs.SameRun.{SameLog, same_run}
 use Rattle.lt_live.proofs.AlikeLists.{alike_after}
 use Rattle.lt_live_callers.specs.declared.ending.LiveEnding.{LiveEnding}
 use Rattle.lt_live_callers.specs.declared.ending.LiveEnding.TheVariants.{Done, Stuck}
-use Rattle.lt_live_callers.specs.Ends.{StopsSo, EndsSo, SameLogs}
+use Rattle.lt_live_callers.specs.Ends.{StopsSo, CallersEndSo, SameLogs}
 
 pub same_logs : (old new : List Parts) → EachIs AsSeen old new → SameLogs old new
 same_logs old new seen = each_weaker AsSeen SameLog (λ a b s. s.log) old new seen
@@ -50,6 +50,6 @@ module _ (script : ScriptData) (rs later : List Parts) (logs : List RunData) (ma
         finished.moves made merges k q there ∙ log;
   }
 
-  pub ends_so : (ending : LiveEnding) → StopsSo ending script (crew_world script later) → EndsSo ending script made
+  pub ends_so : (ending : LiveEnding) → StopsSo ending script (crew_world script later) → CallersEndSo ending script made
   ends_so ending h =
       subst (λ (w : World). StopsSo ending script w) (ap (world_after script) (sym (finished.is_crew_run made merges))) h

@@ -8,9 +8,9 @@ use Rattle.lt_modes.specs.declared.command.Command.{Command}
 use Rattle.lt_modes.specs.Script.{ScriptData}
 use Rattle.lt_live.specs.declared.reply.Reply.{Reply}
 use Rattle.lt_live.specs.declared.ends.Session.{Session}
-use Rattle.lt_live.specs.Words.{submitted, in_hand}
+use Rattle.lt_live.specs.Words.{submitted, command_held}
 use Rattle.lt_live.specs.Stations.{StationData}
-use Rattle.lt_live.specs.Opened.{Opened}
+use Rattle.lt_live.specs.Opened.{IsOpen}
 use Rattle.lt_live.specs.Live.{AreLive}
 use Rattle.lt_live.specs.LiveLaws.{OpenedAreLive}
 use Rattle.lt_live_callers.specs.declared.desk.Desk.{Desk}
@@ -43,7 +43,7 @@ module _ {C : Type 0} where
 
   -- nobody has called yet
   pub begun : (goes : C → Option Reply → Option Command → C → Type 0) → OpenedAreLive → (script : ScriptData) (limit capacity : ℕ) (stations : List StationData)
-      (sessions : List Session) (callers : List C) (desks : List (Desk C)) → script.commands ≡ [] → Opened script limit capacity stations sessions
+      (sessions : List Session) (callers : List C) (desks : List (Desk C)) → script.commands ≡ [] → IsOpen script limit capacity stations sessions
       → AreDesks callers sessions desks → AreServing goes script callers stations desks
   begun goes opened_live script limit capacity stations sessions callers desks empty opened are = record {
     live = subst (λ (all : List Session). AreLive script stations all) (sym are.given) (opened_live script limit capacity stations sessions empty opened);
@@ -56,7 +56,7 @@ module _ {C : Type 0} where
           steps = [];
           went = refl;
           told = new.replies.0;
-          asked = ap (λ (o : Option Command). submitted d.session ++ in_hand o) (free_at desks client d here are.free) ∙ append-nil (submitted d.session) ∙ new.commands;
+          asked = ap (λ (o : Option Command). submitted d.session ++ command_held o) (free_at desks client d here are.free) ∙ append-nil (submitted d.session) ∙ new.commands;
         });
   }
 

@@ -5,18 +5,18 @@ use Rattle.std.proofs.lemmas.List.{append-nil, append_assoc}
 use Rattle.lt_modes.specs.declared.command.Command.{Command}
 use Rattle.lt_live.specs.declared.reply.Reply.{Reply}
 use Rattle.lt_live.specs.declared.ends.Session.{Session}
-use Rattle.lt_live.specs.Words.{submitted, polled, in_hand, SameSession}
+use Rattle.lt_live.specs.Words.{submitted, polled, command_held, SameSession}
 use Rattle.lt_live.proofs.Live.{session_itself}
 use Rattle.lt_live.proofs.Settling.{same_sessions}
 use Rattle.lt_live_callers.specs.declared.desk.Desk.{Desk}
-use Rattle.lt_live_callers.specs.Desks.{told, Hears, Submits, StepOf, Went, replies_of, commands_of, called_of, DeskGoesOn}
+use Rattle.lt_live_callers.specs.Desks.{told, HearsAtDesk, SubmitsAtDesk, StepOf, Went, replies_of, commands_of, called_of, DeskGoesOn}
 use Rattle.lt_live_callers.specs.Served.{CallsAt}
 
 pub nothing : (o : Option Command) → false ≡ is_some o → o ≡ None
 nothing None is = refl
 nothing (Some command) is = search rules
 
-pub heard_none : (old new : Session) → SameSession old new → polled new ≡ polled old → submitted new ≡ submitted old → Hears None old new
+pub heard_none : (old new : Session) → SameSession old new → polled new ≡ polled old → submitted new ≡ submitted old → HearsAtDesk None old new
 heard_none old new same p s = record { same = same; polled = p ∙ sym (append-nil (polled old)); submitted = s }
 
 module _ {C : Type 0} (goes : C → Option Reply → Option Command → C → Type 0) where
@@ -26,20 +26,20 @@ module _ {C : Type 0} (goes : C → Option Reply → Option Command → C → Ty
     steps = [];
     went = refl;
     told = sym (append-nil (polled a.session));
-    asked = sym (append-nil (submitted a.session ++ in_hand a.refused));
+    asked = sym (append-nil (submitted a.session ++ command_held a.refused));
   }
 
   pub one_step : (a b : Desk C) (reply : Option Reply) (command : Option Command) (mid : Session) → a.refused ≡ None
-      → Hears reply a.session mid → goes a.caller reply command b.caller → Submits command b.refused mid b.session → DeskGoesOn goes a b
+      → HearsAtDesk reply a.session mid → goes a.caller reply command b.caller → SubmitsAtDesk command b.refused mid b.session → DeskGoesOn goes a b
   one_step a b reply command mid free hears did submits = record {
     same = same_sessions a.session mid b.session hears.same submits.same;
     steps = record { reply = reply; command = command; after = b.caller } ∷ [];
     went = (did, refl);
     told = submits.polled ∙ hears.polled ∙ sym (ap (λ (rest : List Reply). polled a.session ++ rest) (append-nil (told reply)));
-    asked = submits.submitted ∙ ap (λ (xs : List Command). xs ++ in_hand command) hears.submitted
-        ∙ sym (ap (λ (xs : List Command). xs ++ in_hand command)
-        (ap (λ (o : Option Command). submitted a.session ++ in_hand o) free ∙ append-nil (submitted a.session)))
-        ∙ sym (ap (λ (rest : List Command). (submitted a.session ++ in_hand a.refused) ++ rest) (append-nil (in_hand command)));
+    asked = submits.submitted ∙ ap (λ (xs : List Command). xs ++ command_held command) hears.submitted
+        ∙ sym (ap (λ (xs : List Command). xs ++ command_held command)
+        (ap (λ (o : Option Command). submitted a.session ++ command_held o) free ∙ append-nil (submitted a.session)))
+        ∙ sym (ap (λ (rest : List Command). (submitted a.session ++ command_held a.refused) ++ rest) (append-nil (command_held command)));
   }
 
   went_on : (a b c : C) (xs ys : List (StepOf C)) → Went goes a xs b → Went goes b ys c → Went goes a (xs ++ ys) c
@@ -52,7 +52,7 @@ module _ {C : Type 0} (goes : C → Option Reply → Option Command → C → Ty
 
   commands_append : (xs ys : List (StepOf C)) → commands_of (xs ++ ys) ≡ commands_of xs ++ commands_of ys
   commands_append [] ys = refl
-  commands_append (x ∷ xs) ys = ap (λ (rest : List Command). in_hand x.command ++ rest) (commands_append xs ys) ∙ sym (append_assoc (in_hand x.command) (commands_of xs) (commands_of ys))
+  commands_append (x ∷ xs) ys = ap (λ (rest : List Command). command_held x.command ++ rest) (commands_append xs ys) ∙ sym (append_assoc (command_held x.command) (commands_of xs) (commands_of ys))
 
   pub desk_join : (a b c : Desk C) → DeskGoesOn goes a b → DeskGoesOn goes b c → DeskGoesOn goes a c
   desk_join a b c first second = record {
@@ -63,8 +63,8 @@ module _ {C : Type 0} (goes : C → Option Reply → Option Command → C → Ty
         ∙ append_assoc (polled a.session) (replies_of first.steps) (replies_of second.steps)
         ∙ sym (ap (λ (rest : List Reply). polled a.session ++ rest) (replies_append first.steps second.steps));
     asked = second.asked ∙ ap (λ (xs : List Command). xs ++ commands_of second.steps) first.asked
-        ∙ append_assoc (submitted a.session ++ in_hand a.refused) (commands_of first.steps) (commands_of second.steps)
-        ∙ sym (ap (λ (rest : List Command). (submitted a.session ++ in_hand a.refused) ++ rest) (commands_append first.steps second.steps));
+        ∙ append_assoc (submitted a.session ++ command_held a.refused) (commands_of first.steps) (commands_of second.steps)
+        ∙ sym (ap (λ (rest : List Command). (submitted a.session ++ command_held a.refused) ++ rest) (commands_append first.steps second.steps));
   }
 
   -- who called went on calling

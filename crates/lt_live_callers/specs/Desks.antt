@@ -4,7 +4,7 @@ use Rattle.lt_modes.specs.declared.command.Command.{Command}
 use Rattle.lt_mail.specs.Words.{Alike}
 use Rattle.lt_live.specs.declared.reply.Reply.{Reply}
 use Rattle.lt_live.specs.declared.ends.Session.{Session}
-use Rattle.lt_live.specs.Words.{submitted, polled, in_hand, SameSession}
+use Rattle.lt_live.specs.Words.{submitted, polled, command_held, SameSession}
 use Rattle.lt_live.specs.Stations.{StationData}
 use Rattle.lt_live.specs.Live.{StationGoesOn, EachStation}
 use Rattle.lt_live_callers.specs.declared.desk.Desk.{Desk}
@@ -15,16 +15,16 @@ told None = []
 told (Some reply) = reply ∷ []
 
 -- the next reply was polled, if one is there
-pub record Hears (result : Option Reply) (old new : Session) : Type 0 where
+pub record HearsAtDesk (result : Option Reply) (old new : Session) : Type 0 where
   pub same : SameSession old new
   pub polled : polled new ≡ polled old ++ told result
   pub submitted : submitted new ≡ submitted old
 
 -- the command, if there is one, was submitted or comes back
-pub record Submits (command result : Option Command) (old new : Session) : Type 0 where
+pub record SubmitsAtDesk (command result : Option Command) (old new : Session) : Type 0 where
   pub same : SameSession old new
   pub polled : polled new ≡ polled old
-  pub submitted : submitted new ++ in_hand result ≡ submitted old ++ in_hand command
+  pub submitted : submitted new ++ command_held result ≡ submitted old ++ command_held command
 
 -- one step of a caller: what it was told, what it answered, and the caller after it
 pub record StepOf (C : Type 0) : Type 0 where
@@ -44,7 +44,7 @@ module _ {C : Type 0} where
 
   abbrev pub commands_of : List (StepOf C) → List Command
   commands_of [] = []
-  commands_of (s ∷ rest) = in_hand s.command ++ commands_of rest
+  commands_of (s ∷ rest) = command_held s.command ++ commands_of rest
 
   abbrev pub session_of : Desk C → Session
   session_of desk = desk.session
@@ -62,7 +62,7 @@ module _ {C : Type 0} where
     pub steps : List (StepOf C)
     pub went : Went goes a.caller steps b.caller
     pub told : polled b.session ≡ polled a.session ++ replies_of steps
-    pub asked : submitted b.session ++ in_hand b.refused ≡ (submitted a.session ++ in_hand a.refused) ++ commands_of steps
+    pub asked : submitted b.session ++ command_held b.refused ≡ (submitted a.session ++ command_held a.refused) ++ commands_of steps
 
   abbrev pub DesksGoOn : (C → Option Reply → Option Command → C → Type 0) → List (Desk C) → List (Desk C) → Type 0
   DesksGoOn goes old new = (k : ℕ) → Alike (DeskGoesOn goes) (slice_get old k) (slice_get new k)

@@ -16,8 +16,8 @@ StopsSo Stuck script w = (is_at_rest script w ≡ true) × (anyone_waits script 
 StopsSo (Unfinished node) script w = IsLeastEnabled script w (Some node)
 
 -- so is the world after this run
-abbrev pub EndsSo : LiveEnding → ScriptData → List Logged → Type 0
-EndsSo ending script run = StopsSo ending script (world_after script run)
+abbrev pub CallersEndSo : LiveEnding → ScriptData → List Logged → Type 0
+CallersEndSo ending script run = StopsSo ending script (world_after script run)
 
 -- the runners at the same places have the same logs
 abbrev pub SameLogs : List Parts → List Parts → Type 0

@@ -4,7 +4,7 @@ use Rattle.lt_modes.specs.declared.command.Command.{Command}
 use Rattle.lt_modes.specs.Script.{ScriptData}
 use Rattle.lt_live.specs.declared.reply.Reply.{Reply}
 use Rattle.lt_live.specs.declared.ends.Session.{Session}
-use Rattle.lt_live.specs.Words.{submitted, polled, in_hand}
+use Rattle.lt_live.specs.Words.{submitted, polled, command_held}
 use Rattle.lt_live.specs.Finished.{IsServedRun}
 use Rattle.lt_live.specs.Live.{AreLive}
 use Rattle.lt_live.specs.Stations.{StationData}
@@ -12,7 +12,7 @@ use Rattle.lt_live_callers.specs.declared.desk.Desk.{Desk}
 use Rattle.lt_live_callers.specs.declared.served.Called.{Called}
 use Rattle.lt_live_callers.specs.declared.served.Served.{Served}
 use Rattle.lt_live_callers.specs.Desks.{StepOf, Went, replies_of, commands_of, caller_of, called_of, session_of}
-use Rattle.lt_live_callers.specs.Ends.{EndsSo}
+use Rattle.lt_live_callers.specs.Ends.{CallersEndSo}
 
 module _ {C : Type 0} where
   -- the second caller is what its steps made of the first; in them it was told what the session polled, in order, and what it
@@ -21,7 +21,7 @@ module _ {C : Type 0} where
     pub steps : List (StepOf C)
     pub went : Went goes a steps b.caller
     pub told : polled s ≡ replies_of steps
-    pub asked : submitted s ++ in_hand b.refused ≡ commands_of steps
+    pub asked : submitted s ++ command_held b.refused ≡ commands_of steps
 
   abbrev pub CallsAt : (C → Option Reply → Option Command → C → Type 0) → Option C → Session → Option (Called C) → Type 0
   CallsAt goes None s b = ⊥
@@ -34,7 +34,7 @@ module _ {C : Type 0} where
     pub sessions : List Session
     pub count : length sessions ≡ length first.clients
     pub serves : IsServedRun first sessions served.script served.run.entries
-    pub ends : EndsSo served.ending served.script served.run.entries
+    pub ends : CallersEndSo served.ending served.script served.run.entries
     pub each : (client : ℕ) (s : Session) → slice_get sessions client ≡ Some s
         → CallsAt goes (slice_get callers client) s (slice_get served.callers.items client)
 
@@ -57,5 +57,5 @@ module _ {C : Type 0} where
   -- the run that serves the sessions of these desks, how it ended, and their callers
   pub record AreEnded (script : ScriptData) (desks : List (Desk C)) (served : Served C) : Type 0 where
     pub serves : IsServedRun script (map session_of desks) served.script served.run.entries
-    pub ends : EndsSo served.ending served.script served.run.entries
+    pub ends : CallersEndSo served.ending served.script served.run.entries
     pub callers : map called_of desks ≡ served.callers.items

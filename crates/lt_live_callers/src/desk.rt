@@ -1,7 +1,7 @@
 // A caller with its session.
 ghost use Rattle.std.specs.Prelude.{◌≡◌, Some};
 ghost use Rattle.lt_live.specs.Words.{SameSession};
-ghost use Rattle.lt_live_callers.specs.Desks.{DeskGoesOn, Hears, Submits};
+ghost use Rattle.lt_live_callers.specs.Desks.{DeskGoesOn, HearsAtDesk, SubmitsAtDesk};
 
 use crate::caller::Caller;
 use lt_live::{Reply, Session};
@@ -18,7 +18,7 @@ pub(crate) struct Desk<C> {
 // The next reply, if one is there.
 #[tactic(auto, using(crate::proofs::Steps::heard_none))]
 fn hear(session: &mut Session) -> Option<Reply>
-    ensures { Hears result session.old session.new }
+    ensures { HearsAtDesk result session.old session.new }
 {
     match session.poll() {
         Some(reply) => Some(reply),
@@ -29,7 +29,7 @@ fn hear(session: &mut Session) -> Option<Reply>
 // Submits the command; where it may not be submitted, it comes back.
 #[tactic(auto, using(lt_live::proofs::Live::session_itself))]
 fn submit_one(session: &mut Session, command: Command) -> Option<Command>
-    ensures { Submits (Some command) result session.old session.new }
+    ensures { SubmitsAtDesk (Some command) result session.old session.new }
 {
     if session.left() > 0 && session.may_submit(command) {
         match session.submit(command) {
@@ -43,7 +43,7 @@ fn submit_one(session: &mut Session, command: Command) -> Option<Command>
 
 #[tactic(auto, using(lt_live::proofs::Live::session_itself))]
 fn submit(session: &mut Session, command: Option<Command>) -> Option<Command>
-    ensures { Submits command result session.old session.new }
+    ensures { SubmitsAtDesk command result session.old session.new }
 {
     match command {
         Some(command) => submit_one(session, command),

@@ -5,7 +5,7 @@ ghost use Rattle.lt_threads.specs.Together.{IsCrew, crew_world};
 ghost use Rattle.lt_threads.specs.Shares.{ShareScript, AreTooMany, IsJoined};
 ghost use Rattle.lt_live.specs.Live.{AreLive, LiveScript};
 ghost use Rattle.lt_live.specs.Finished.{IsServedRun};
-ghost use Rattle.lt_live_callers.specs.Ends.{StopsSo, EndsSo, SameLogs};
+ghost use Rattle.lt_live_callers.specs.Ends.{StopsSo, CallersEndSo, SameLogs};
 
 use lt_live::{Session, Station, settle_all, take_runners};
 use lt_merge::{Run, merge};
@@ -34,7 +34,7 @@ pub(crate) fn end_run(
 ) -> Result<(Script, Run, LiveEnding), AllocError>
     requires { LiveScript stations.items sessions.items }
     ensures served { IfOk result (λ made. (script : ScriptData) → AreLive script stations.items sessions.items → IsServedRun script sessions.items made.0 made.1.entries) }
-    ensures ends { IfOk result (λ made. EndsSo made.2 made.0 made.1.entries) }
+    ensures ends { IfOk result (λ made. CallersEndSo made.2 made.0 made.1.entries) }
 {
     let runners = Vec::with_capacity(alloc, stations.len())?;
     settle_all(&mut stations, &mut sessions);

@@ -1,16 +1,16 @@
 // Stations, and a desk for each caller.
 ghost use Rattle.std.specs.Prelude.{◌≡◌, ◌≢◌, ◌⊎◌, ◌≤◌, ◌<◌, [], length, IfOk, IfErr, OnOk};
-ghost use Rattle.lt_limits.specs.declared.moves.TheConstants.{MAX_MOVES};
-ghost use Rattle.lt_script.specs.declared.limits.TheConstants.{MAX_COMMANDS};
+ghost use Rattle.lt_spec.specs.declared.moves.TheConstants.{MAX_MOVES};
+ghost use Rattle.lt_spec.specs.declared.limits.TheConstants.{MAX_COMMANDS};
 ghost use Rattle.lt_live_callers.specs.declared.error.CallersError.TheVariants as errors;
 ghost use Rattle.lt_live_callers.specs.Served.{AreDesks, AreServing};
 
 use crate::caller::Caller;
 use crate::desk::Desk;
 use crate::error::CallersError;
-use lt_limits::MAX_MOVES;
 use lt_live::{Session, Station, law_live_lasts, open};
 use lt_script::{MAX_COMMANDS, Script};
+use lt_spec::MAX_MOVES;
 use std::alloc::{AllocError, Global};
 
 /// The stations of the script, whose nodes make up to `limit` moves each, and a desk for each client, with its caller.

@@ -1,6 +1,6 @@
 // Callers serve a script.
 ghost use Rattle.std.specs.Prelude.{◌≡◌, ◌≢◌, ◌⊎◌, ◌<◌, [], length, map, IfOk, IfErr};
-ghost use Rattle.lt_limits.specs.declared.moves.TheConstants.{MAX_MOVES};
+ghost use Rattle.lt_spec.specs.declared.moves.TheConstants.{MAX_MOVES};
 ghost use Rattle.lt_live.specs.Live.{AreLive};
 ghost use Rattle.lt_live_callers.specs.declared.error.CallersError.TheVariants as errors;
 ghost use Rattle.lt_live_callers.specs.Desks.{called_of, session_of};

@@ -7,20 +7,20 @@ use Rattle.std.proofs.lemmas.List.{length-append, length-map}
 use Rattle.std.proofs.lemmas.Option.{same_Some, slice_get-map, slice_get_within}
 use Rattle.lt_modes.specs.declared.command.Command.{Command}
 use Rattle.lt_modes.specs.Script.{ScriptData}
-use Rattle.lt_script.specs.Script.{IsScript}
+use Rattle.lt_spec.specs.Script.{IsScript}
 use Rattle.lt_script.proofs.NameLemmas.{element_at}
 use Rattle.lt_spec.specs.Families.{commands_of, home}
-use Rattle.lt_law_appended.specs.Commands.{with_commands}
+use Rattle.lt_spec.specs.Commands.{with_commands}
 use Rattle.lt_threads.specs.Shares.{InShares}
 use Rattle.lt_live.specs.declared.ends.Seat.{Seat}
 use Rattle.lt_live.specs.Asking.{may_ask}
 use Rattle.lt_live.specs.Live.{IsSessionOf}
 use Rattle.lt_live.specs.Opened.{runner_of}
 use Rattle.lt_live.specs.Stations.{StationData, IsSeatOf}
-use Rattle.lt_live.specs.Words.{submitted, taken, known_commands, in_hand}
+use Rattle.lt_live.specs.Words.{submitted, taken, known_commands, command_held}
 use Rattle.lt_live_serve.specs.declared.callers.Caller.{Caller}
 use Rattle.lt_live_serve.specs.Calls.{AllSubmitted, session_of, left_of}
-use Rattle.lt_live_serve.specs.Completing.{appended_at, AreKept, IsBeside, BesideTo}
+use Rattle.lt_live_serve.specs.Completing.{appended_at, AreStationsKept, IsBeside, BesideTo}
 use Rattle.lt_live_serve.specs.Serving.{AreServing}
 use Rattle.lt_live_serve.proofs.Completed.{Within, no_more, none_apart, same_ask, middle}
 use Rattle.lt_live_serve.proofs.Told.{session_there}
@@ -32,8 +32,8 @@ pub record Seen (script : ScriptData) (stations : List StationData) (client plac
   pub seat : Seat
   pub at : slice_get station.seats place ≡ Some seat
   pub client_is : seat.client ≡ client
-  pub took : taken seat ≡ commands_of station.runner.node.script client ++ in_hand seat.hand
-  pub rest : (commands_of station.runner.node.script client ++ in_hand seat.hand) ++ known_commands seat ≡ commands_of script client
+  pub took : taken seat ≡ commands_of station.runner.node.script client ++ command_held seat.hand
+  pub rest : (commands_of station.runner.node.script client ++ command_held seat.hand) ++ known_commands seat ≡ commands_of script client
   pub asks : (command : Command) → seat.hand ≡ Some command → may_ask station.runner.node.script client command ≡ true
 
 share_at : (script : ScriptData) (stations : List StationData) (callers : List Caller) → AreServing script stations callers
@@ -42,7 +42,7 @@ share_at script stations callers serving q x here =
     serving.live.runners.each q x.runner (slice_get-map runner_of stations q ∙ ap (option_map runner_of) here)
 
 module _ (script : ScriptData) (stations : List StationData) (callers : List Caller) (client : ℕ) (c : Caller) (serving : AreServing script stations callers)
-    (kept : AreKept stations) (found : slice_get callers client ≡ Some c) (left : left_of c ≡ 0) (b : IsBeside script stations client c) where
+    (kept : AreStationsKept stations) (found : slice_get callers client ≡ Some c) (left : left_of c ≡ 0) (b : IsBeside script stations client c) where
   session_is : IsSessionOf (with_commands script []) stations client c.session
   session_is = serving.live.each client c.session (session_there callers client c found)
 
@@ -55,13 +55,13 @@ module _ (script : ScriptData) (stations : List StationData) (callers : List Cal
   client_same : b.seat.client ≡ client
   client_same = b.link.0 ∙ session_is.client_is
 
-  took_is : taken b.seat ≡ commands_of b.station.runner.node.script client ++ in_hand b.seat.hand
-  took_is = seat_of.kept.taken ∙ ap (λ (k : ℕ). commands_of b.station.runner.node.script k ++ in_hand b.seat.hand) client_same
+  took_is : taken b.seat ≡ commands_of b.station.runner.node.script client ++ command_held b.seat.hand
+  took_is = seat_of.kept.taken ∙ ap (λ (k : ℕ). commands_of b.station.runner.node.script k ++ command_held b.seat.hand) client_same
 
   all : submitted c.session ≡ commands_of script client
   all = c.submits ∙ take_all c.next c.commands.items (omega (arith, left)) ∙ serving.lists client c found
 
-  rest_is : (commands_of b.station.runner.node.script client ++ in_hand b.seat.hand) ++ known_commands b.seat ≡ commands_of script client
+  rest_is : (commands_of b.station.runner.node.script client ++ command_held b.seat.hand) ++ known_commands b.seat ≡ commands_of script client
   rest_is = ap (λ (list : List Command). list ++ known_commands b.seat) (sym took_is) ∙ b.beside.commands ∙ all
 
   there : (command : Command) → b.seat.hand ≡ Some command
@@ -70,7 +70,7 @@ module _ (script : ScriptData) (stations : List StationData) (callers : List Cal
       ap (λ (list : List Command). slice_get list (length (commands_of b.station.runner.node.script client)))
       (serving.lists client c found
       ∙ sym rest_is
-      ∙ ap (λ (hand : Option Command). (commands_of b.station.runner.node.script client ++ in_hand hand) ++ known_commands b.seat) e)
+      ∙ ap (λ (hand : Option Command). (commands_of b.station.runner.node.script client ++ command_held hand) ++ known_commands b.seat) e)
       ∙ middle (commands_of b.station.runner.node.script client) command (known_commands b.seat)
 
   asks_is : (command : Command) → b.seat.hand ≡ Some command → may_ask b.station.runner.node.script client command ≡ true
@@ -97,7 +97,7 @@ module _ (script : ScriptData) (stations : List StationData) (callers : List Cal
 -- all callers and their seats looked, and each station keeps what it keeps
 pub record AllBeside (script : ScriptData) (stations : List StationData) (callers : List Caller) : Type 0 where
   pub serving : AreServing script stations callers
-  pub kept : AreKept stations
+  pub kept : AreStationsKept stations
   pub none_left : AllSubmitted callers
   pub beside : BesideTo script (length callers) stations callers
 
@@ -116,7 +116,7 @@ module _ (script : ScriptData) (stations : List StationData) (callers : List Cal
         let s = seen_at k c found in
         let is : s.station ≡ x = same_Some s.station x (sym s.here ∙ ap (slice_get stations) at ∙ here) in
         subst (λ (v : StationData). length (commands_of v.runner.node.script k) ≤ length (commands_of script k)) is
-        (first_of (commands_of s.station.runner.node.script k) (in_hand s.seat.hand) (known_commands s.seat) (commands_of script k) s.rest)
+        (first_of (commands_of s.station.runner.node.script k) (command_held s.seat.hand) (known_commands s.seat) (commands_of script k) s.rest)
     | inr apart ↦
         let none = none_apart (with_commands script []) q k x.runner.node.script.commands (share_at script stations callers h.serving q x here).own apart in
         let few = ap (λ (list : List Command). length list) none in

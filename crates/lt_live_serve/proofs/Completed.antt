@@ -11,16 +11,16 @@ use Rattle.lt_lists.proofs.Sums.{sum_below-most}
 use Rattle.lt_modes.specs.declared.command.Command.{Command}
 use Rattle.lt_modes.specs.declared.command.Command.TheVariants as command
 use Rattle.lt_modes.specs.Script.{ScriptData}
-use Rattle.lt_script.specs.Script.{IsScript, IsRequest}
-use Rattle.lt_script.specs.declared.limits.TheConstants.{MAX_COMMANDS}
+use Rattle.lt_spec.specs.Script.{IsScript, IsRequest}
+use Rattle.lt_spec.specs.declared.limits.TheConstants.{MAX_COMMANDS}
 use Rattle.lt_spec.specs.Families.{command_if, commands_of, home}
 use Rattle.lt_spec.specs.Log.{Logged}
-use Rattle.lt_law_appended.specs.Commands.{with_commands, AreAt}
+use Rattle.lt_spec.specs.Commands.{with_commands, AreAt}
 use Rattle.lt_threads.proofs.Shares.{counted}
 use Rattle.lt_live.specs.declared.ends.Seat.{Seat}
 use Rattle.lt_live.specs.Asking.{may_ask, may_append}
 use Rattle.lt_live.specs.Stations.{SeatTurns, HandMayGo}
-use Rattle.lt_live.specs.Words.{taken, known_commands, in_hand}
+use Rattle.lt_live.specs.Words.{taken, known_commands, command_held}
 use Rattle.lt_live_serve.specs.Completing.{SameHand}
 
 -- the taken commands stay where the one in hand goes
@@ -33,12 +33,12 @@ some_none x f = cc
 
 -- between two looks a turn took a command in, where there was one
 module _ (log : List Logged) (old new all : List Command) (x y z : Seat) (turn : SeatTurns log x y) (look : SameHand y z)
-    (before : taken x ≡ old ++ in_hand x.hand) (after : taken z ≡ new ++ in_hand z.hand)
-    (rest : (old ++ in_hand x.hand) ++ known_commands x ≡ all) (none : z.hand ≡ None) where
-  grown : new ≡ old ++ in_hand turn.held.hand
+    (before : taken x ≡ old ++ command_held x.hand) (after : taken z ≡ new ++ command_held z.hand)
+    (rest : (old ++ command_held x.hand) ++ known_commands x ≡ all) (none : z.hand ≡ None) where
+  grown : new ≡ old ++ command_held turn.held.hand
   grown =
       sym (append-nil new)
-      ∙ ap (λ (hand : Option Command). new ++ in_hand hand) (sym none)
+      ∙ ap (λ (hand : Option Command). new ++ command_held hand) (sym none)
       ∙ sym after
       ∙ look.taken
       ∙ turn.tells.on.rest.taken
@@ -48,9 +48,9 @@ module _ (log : List Logged) (old new all : List Command) (x y z : Seat) (turn :
   none_left : x.hand ≡ None → known_commands x ≡ [] → all ≡ old
   none_left no_hand no_known =
       sym rest
-      ∙ ap (λ (more : List Command). (old ++ in_hand x.hand) ++ more) no_known
-      ∙ append-nil (old ++ in_hand x.hand)
-      ∙ ap (λ (hand : Option Command). old ++ in_hand hand) no_hand
+      ∙ ap (λ (more : List Command). (old ++ command_held x.hand) ++ more) no_known
+      ∙ append-nil (old ++ command_held x.hand)
+      ∙ ap (λ (hand : Option Command). old ++ command_held hand) no_hand
       ∙ append-nil old
 
   by_first : (first : Option Command) → x.hand ≡ first → turn.held.hand ≡ None → all ≡ old
@@ -59,7 +59,7 @@ module _ (log : List Logged) (old new all : List Command) (x y z : Seat) (turn :
 
   by_hand : (hand : Option Command) → turn.held.hand ≡ hand → (length old < length new) ⊎ (all ≡ old)
   by_hand (Some command) e =
-      let count = ap (λ (xs : List Command). length xs) (grown ∙ ap (λ (hand : Option Command). old ++ in_hand hand) e) in
+      let count = ap (λ (xs : List Command). length xs) (grown ∙ ap (λ (hand : Option Command). old ++ command_held hand) e) in
       inl (omega (arith, count, length-append old (command ∷ [])))
   by_hand None e = inr (by_first x.hand refl e)
 
@@ -135,7 +135,7 @@ module _ (script own : ScriptData) (is_script : IsScript script) (is_own : IsScr
 
   -- so a command that may be asked doesn't stay in hand
   pub no_hand : (client : ℕ) (hand : Option Command) (known : List Command) → client < length script.clients
-      → (commands_of own client ++ in_hand hand) ++ known ≡ commands_of script client
+      → (commands_of own client ++ command_held hand) ++ known ≡ commands_of script client
       → ((command : Command) → hand ≡ Some command → may_ask own client command ≡ true)
       → ((command : Command) → hand ≡ Some command → may_append own client command ≡ false) → hand ≡ None
   no_hand client None known below all asks can_not = refl

@@ -4,17 +4,17 @@ use Rattle.std.specs.Prelude.{IsTrue, IsFalse}
 use Rattle.std.proofs.lemmas.Bool.{false≢true}
 use Rattle.std.proofs.lemmas.List.{take_all}
 use Rattle.lt_modes.specs.Script.{ScriptData}
-use Rattle.lt_script.specs.Script.{IsScript}
+use Rattle.lt_spec.specs.Script.{IsScript}
 use Rattle.lt_spec.specs.Log.{Logged}
 use Rattle.lt_spec.specs.World.{world_after, is_at_rest, anyone_waits, IsRun}
 use Rattle.lt_law_ends.specs.EndLaws.{NeverCutAtAll}
-use Rattle.lt_order.specs.Ordered.{IsOrdered}
+use Rattle.lt_spec.specs.Ordered.{IsOrdered}
 use Rattle.lt_law_ordered.specs.OrderedLaws.{OrderedFinish}
-use Rattle.lt_law_limits.proofs.Within.{whole}
-use Rattle.lt_limits.specs.declared.ending.Ending.{Ending}
-use Rattle.lt_limits.specs.declared.ending.Ending.TheVariants.{Done, Stuck, Cut}
-use Rattle.lt_limits.specs.declared.moves.TheConstants.{MAX_MOVES}
-use Rattle.lt_limits.specs.Endings.{EndsBy}
+use Rattle.lt_law_invariant.proofs.Within.{whole}
+use Rattle.lt_spec.specs.declared.ending.Ending.{Ending}
+use Rattle.lt_spec.specs.declared.ending.Ending.TheVariants.{Done, Stuck, Cut}
+use Rattle.lt_spec.specs.declared.moves.TheConstants.{MAX_MOVES}
+use Rattle.lt_spec.specs.Endings.{EndsBy}
 
 -- a run has fewer moves than a node may make, so none is cut
 pub not_cut : NeverCutAtAll → (end : Ending) (script : ScriptData) (run : List Logged) → IsScript script → IsRun script run → EndsBy MAX_MOVES end script run

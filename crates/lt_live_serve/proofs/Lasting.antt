@@ -6,8 +6,8 @@ use Rattle.std.proofs.lemmas.Bool.{cases_eq}
 use Rattle.std.proofs.lemmas.List.Sums.{sum_by-cons}
 use Rattle.std.proofs.lemmas.Option.{same_Some, slice_get-get_or, slice_get-map, slice_get_within}
 use Rattle.lt_modes.specs.Script.{ScriptData}
-use Rattle.lt_limits.specs.declared.moves.TheConstants.{MAX_MOVES}
-use Rattle.lt_law_appended.specs.Commands.{with_commands}
+use Rattle.lt_spec.specs.declared.moves.TheConstants.{MAX_MOVES}
+use Rattle.lt_spec.specs.Commands.{with_commands}
 use Rattle.lt_mail.specs.Words.{Alike}
 use Rattle.lt_runner.specs.declared.parts.Parts.{Parts}
 use Rattle.lt_threads.specs.Crews.{HasLimit}

@@ -16,7 +16,7 @@ use Rattle.lt_live.proofs.Live.{station_itself, station_same}
 use Rattle.lt_live.proofs.Places.{set_here, set_other}
 use Rattle.lt_live_serve.specs.declared.callers.Caller.{Caller}
 use Rattle.lt_live_serve.specs.Calls.{Calls}
-use Rattle.lt_live_serve.specs.Completing.{IsBeside, SameHand, OnlyLooks, LooksTo, LooksAt}
+use Rattle.lt_live_serve.specs.Completing.{IsBeside, SameHand, OnlyLooks, CallersLook, CallerLooks}
 use Rattle.lt_live_serve.specs.Serving.{AreServing}
 use Rattle.lt_live_serve.proofs.Lasting.{serving_lasts, calls_itself, calls_join}
 use Rattle.lt_live_serve.proofs.Told.{session_there}
@@ -104,7 +104,7 @@ module _ (script : ScriptData) (client place : ℕ) (stations : List StationData
         }
   ]
 
-  pub looks_at : LooksAt script client stations callers (slice_set stations place y) (slice_set callers client d)
+  pub looks_at : CallerLooks script client stations callers (slice_set stations place y) (slice_set callers client d)
   looks_at = record {
     serving = serving_lasts script stations (slice_set stations place y) callers (slice_set callers client d) h
         (alike_set StationGoesOn station_itself stations place x y station (station_same x y runner stay))
@@ -120,7 +120,7 @@ module _ (script : ScriptData) (client place : ℕ) (stations : List StationData
 -- one caller after the other
 
 pub none_look : (script : ScriptData) (stations : List StationData) (callers : List Caller) → AreServing script stations callers
-    → LooksTo script 0 stations callers stations callers
+    → CallersLook script 0 stations callers stations callers
 none_look script stations callers h = record {
   serving = h;
   looks = alike_self OnlyLooks only_itself stations;
@@ -129,7 +129,7 @@ none_look script stations callers h = record {
 }
 
 pub next_look : (script : ScriptData) (n : ℕ) (stations mid later : List StationData) (callers between after : List Caller)
-    → LooksTo script n stations callers mid between → LooksAt script n mid between later after → LooksTo script (n + 1) stations callers later after
+    → CallersLook script n stations callers mid between → CallerLooks script n mid between later after → CallersLook script (n + 1) stations callers later after
 next_look script n stations mid later callers between after h at = record {
   serving = at.serving;
   looks = alike_join OnlyLooks only_join stations mid later h.looks at.looks;
@@ -144,7 +144,7 @@ next_look script n stations mid later callers between after h at = record {
 }
 
 pub all_look : (script : ScriptData) (n : ℕ) (stations later : List StationData) (callers after : List Caller) → length after ≤ n
-    → LooksTo script n stations callers later after → LooksTo script (length after) stations callers later after
+    → CallersLook script n stations callers later after → CallersLook script (length after) stations callers later after
 all_look script n stations later callers after long h = record {
   serving = h.serving;
   looks = h.looks;

@@ -6,10 +6,10 @@ use Rattle.std.specs.Option.{option_map}
 use Rattle.std.proofs.lemmas.List.{append_assoc, length-map, map-append}
 use Rattle.std.proofs.lemmas.Option.{same_Some, slice_get-get_or, slice_get-map}
 use Rattle.lt_modes.specs.Script.{ScriptData}
-use Rattle.lt_script.specs.Script.{IsScript}
+use Rattle.lt_spec.specs.Script.{IsScript}
 use Rattle.lt_spec.specs.Families.{commands_of, home}
-use Rattle.lt_limits.specs.declared.ending.Ending.{Ending}
-use Rattle.lt_law_appended.specs.Commands.{with_commands, AreAt, SameAt}
+use Rattle.lt_spec.specs.declared.ending.Ending.{Ending}
+use Rattle.lt_spec.specs.Commands.{with_commands, AreAt, SameAt}
 use Rattle.lt_mail.specs.Words.{Alike}
 use Rattle.lt_runner.specs.declared.parts.Parts.{Parts}
 use Rattle.lt_runner.specs.Kept.{Grew}
@@ -25,7 +25,7 @@ use Rattle.lt_live.proofs.KeptStations.{station_grew}
 use Rattle.lt_live_serve.specs.declared.benches.Bench.{Bench}
 use Rattle.lt_live_serve.specs.declared.callers.Caller.{Caller}
 use Rattle.lt_live_serve.specs.Apart.{seats_of, seats_on, AreParts, GoTogether}
-use Rattle.lt_live_serve.specs.Completing.{AreKept}
+use Rattle.lt_live_serve.specs.Completing.{AreStationsKept}
 use Rattle.lt_live_serve.specs.Serving.{AreServing, AreComplete}
 use Rattle.lt_live_serve.proofs.Lasting.{mapped_at, serving_lasts, same_callers}
 
@@ -133,7 +133,7 @@ seats_there stations benches k station b same here there =
     ∙ ap (λ (xs : List (List Seat)). slice_get xs k) (sym same)
     ∙ (slice_get-map seats_of stations k ∙ ap (option_map seats_of) here))
 
-pub go_together : (stations : List StationData) (runners later : List Parts) (benches : List Bench) → AreKept stations → AreParts stations runners benches
+pub go_together : (stations : List StationData) (runners later : List Parts) (benches : List Bench) → AreStationsKept stations → AreParts stations runners benches
     → EachIs Grew runners later → GoTogether later benches
 go_together stations runners later benches kept parts grew = record {
   count =

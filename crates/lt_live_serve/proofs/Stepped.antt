@@ -7,7 +7,7 @@ use Rattle.std.proofs.lemmas.Option.{same_Some}
 use mathlib.Core.List.{IsPrefix}
 use Rattle.lt_modes.specs.declared.command.Command.{Command}
 use Rattle.lt_modes.specs.Script.{ScriptData}
-use Rattle.lt_script.specs.Script.{IsScript}
+use Rattle.lt_spec.specs.Script.{IsScript}
 use Rattle.lt_script.proofs.NameLemmas.{element_at}
 use Rattle.lt_spec.specs.Families.{command_if, commands_of, home}
 use Rattle.lt_runner.specs.declared.parts.Parts.{Parts}
@@ -20,7 +20,7 @@ use Rattle.lt_live.proofs.AlikeLists.{alike_before, alike_after, alike_join, ali
 use Rattle.lt_live.proofs.SeatLists.{each_after}
 use Rattle.lt_live_serve.specs.declared.callers.Caller.{Caller}
 use Rattle.lt_live_serve.specs.Calls.{Calls, EachCaller, AllSubmitted}
-use Rattle.lt_live_serve.specs.Completing.{appended_at, lack_at, all_lack, AreKept, SameHand, OnlyLooks, LooksTo, Turns, AnyTurns, SameCount, AllTurn}
+use Rattle.lt_live_serve.specs.Completing.{appended_at, lack_at, all_lack, AreStationsKept, SameHand, OnlyLooks, CallersLook, Turns, AnyTurns, SameCount, AllTurn}
 use Rattle.lt_live_serve.specs.Serving.{AreServing, AreComplete}
 use Rattle.lt_live_serve.proofs.Completed.{Within, advances, no_hand, none_outside}
 use Rattle.lt_live_serve.proofs.Lasting.{serving_lasts, same_callers}
@@ -95,8 +95,8 @@ commands_same some x y w v z turned same_y count_is same_z runner_is =
     ∙ whole x.runner.node.script.commands y.runner.node.script.commands (more_commands some x y turned) (sym (ap appended_at same_y) ∙ count_is)
 
 module _ (script : ScriptData) (more : Bool) (stations a b c : List StationData) (callers mid after : List Caller) (is_script : IsScript script)
-    (submits : AllSubmitted callers) (first : LooksTo script (length mid) stations callers a mid) (kept_a : AreKept a) (turn : AllTurn more a b)
-    (second : LooksTo script (length after) b mid c after) (kept_c : AreKept c) where
+    (submits : AllSubmitted callers) (first : CallersLook script (length mid) stations callers a mid) (kept_a : AreStationsKept a) (turn : AllTurn more a b)
+    (second : CallersLook script (length after) b mid c after) (kept_c : AreStationsKept c) where
   pub all_after : AllSubmitted after
   all_after = submitted_on mid after second.calls (submitted_on callers mid first.calls submits)
 

@@ -6,7 +6,7 @@ use Rattle.std.proofs.lemmas.Option.{slice_get-get_or}
 use Rattle.lt_modes.specs.declared.command.Command.{Command}
 use Rattle.lt_live.specs.Words.{submitted}
 use Rattle.lt_live_serve.specs.declared.callers.Caller.{Caller}
-use Rattle.lt_script.specs.Script.{HasTargets, HasModesOf}
+use Rattle.lt_spec.specs.Script.{HasTargets, HasModesOf}
 use Rattle.lt_live.specs.Asking.{may_ask}
 use Rattle.lt_live.proofs.AskLemmas.{has_targets, has_modes}
 

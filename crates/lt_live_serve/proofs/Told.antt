@@ -12,12 +12,12 @@ use Rattle.lt_lists.specs.Below.{gather_below}
 use Rattle.lt_spec.specs.Families.{home}
 use Rattle.lt_spec.specs.Holdings.{lines_of}
 use Rattle.lt_spec.specs.Log.{Logged}
-use Rattle.lt_law_appended.specs.Commands.{with_commands}
+use Rattle.lt_spec.specs.Commands.{with_commands}
 use Rattle.lt_runner.specs.declared.parts.Parts.{Parts}
 use Rattle.lt_live.specs.declared.ends.Seat.{Seat}
 use Rattle.lt_live.specs.declared.ends.Session.{Session}
 use Rattle.lt_live.specs.declared.reply.Reply.{Reply}
-use Rattle.lt_live.specs.Cursor.{lines_before, lines_at}
+use Rattle.lt_live.specs.Cursor.{lines_up_to, lines_at}
 use Rattle.lt_live.specs.Finished.{ServedBy}
 use Rattle.lt_live.specs.Live.{StationGoesOn}
 use Rattle.lt_live.specs.Opened.{runner_of}
@@ -44,7 +44,7 @@ none_taken zero = refl
 none_taken (suc n) = refl
 
 -- all lines of the log
-all_before : (log : List Logged) (lines : ℕ) → lines_before log (length log) lines ≡ lines_of log
+all_before : (log : List Logged) (lines : ℕ) → lines_up_to log (length log) lines ≡ lines_of log
 all_before log lines =
     ap (λ (entries : List Logged). lines_of entries ++ take lines (lines_at log (length log))) (take_all (length log) log (omega arith))
     ∙ ap (λ (rest : List Event). lines_of log ++ take lines rest) (past_end log)
@@ -59,14 +59,14 @@ heard_all p s t old new station seated h none =
     ∙ ap (λ (replies : List Reply). polled t ++ replies) (sym none)
     ∙ h.beside.replies
     ∙ told
-    ∙ ap (λ (k : ℕ). replies_in h.x.client (lines_before p.log.entries k h.y.lines)) moves
+    ∙ ap (λ (k : ℕ). replies_in h.x.client (lines_up_to p.log.entries k h.y.lines)) moves
     ∙ ap (replies_in h.x.client) (all_before p.log.entries h.y.lines)
     ∙ ap (λ (k : ℕ). replies_in k (lines_of p.log.entries)) client
   where
     client : h.x.client ≡ s.client
     client = ap (λ (z : Seat). z.client) (same_Some h.x seated.seat (sym h.before ∙ seated.here)) ∙ seated.link.0
 
-    told : told_to h.y ≡ replies_in h.x.client (lines_before p.log.entries h.y.moves h.y.lines)
+    told : told_to h.y ≡ replies_in h.x.client (lines_up_to p.log.entries h.y.moves h.y.lines)
     told = h.looks.told (station.each s.place h.x h.before).kept.told
 
     moves : h.y.moves ≡ length p.log.entries

@@ -13,7 +13,7 @@ use Rattle.lt_live.specs.Stations.{StationData}
 use Rattle.lt_live.proofs.AlikeLists.{alike_self}
 use Rattle.lt_live.proofs.Finished.{first_few}
 use Rattle.lt_live.proofs.Places.{set_here, set_other}
-use Rattle.lt_live_serve.specs.Completing.{appended_at, IsKept, AreKept, Turns, TurnsAt, AnyTurns, SameCount, SomeGrew, AllTurn}
+use Rattle.lt_live_serve.specs.Completing.{appended_at, IsKept, AreStationsKept, Turns, TurnsAt, AnyTurns, SameCount, SomeGrew, AllTurn}
 
 -- what each station keeps, one after the other
 
@@ -28,7 +28,7 @@ next_kept n stations d inside before here k station below e = elim (cases_eq k n
   | inr apart ↦ before k station (omega (arith, below, apart)) e
 ]
 
-pub all_kept : (n : ℕ) (stations : List StationData) → length stations ≤ n → KeptTo n stations → AreKept stations
+pub all_kept : (n : ℕ) (stations : List StationData) → length stations ≤ n → KeptTo n stations → AreStationsKept stations
 all_kept n stations long h k station e = h k station (omega (arith, slice_get_within stations k station e, long)) e
 
 -- a turn appends commands alone

@@ -1,13 +1,13 @@
 -- Commands that come to their stations.
 use Rattle.std.specs.Prelude.{◌≡◌, ◌≢◌, ◌<◌, ◌-◌, Bool, true, false, ℕ, List, Some, nat_lt, length, sum_by, slice_get}
 use Rattle.lt_modes.specs.Script.{ScriptData}
-use Rattle.lt_script.specs.Script.{IsScript}
+use Rattle.lt_spec.specs.Script.{IsScript}
 use Rattle.lt_spec.specs.Families.{home}
 use Rattle.lt_runner.specs.declared.turning.Turned.{Turned}
 use Rattle.lt_runner.specs.declared.turning.Turned.TheVariants.{NoMemory}
 use Rattle.lt_live.specs.declared.ends.Seat.{Seat}
 use Rattle.lt_live.specs.Live.{StationGoesOn, EachStation}
-use Rattle.lt_live.specs.Seats.{AreBeside}
+use Rattle.lt_live.specs.Seats.{KnowAll}
 use Rattle.lt_live.specs.Stations.{StationData, IsStation, StationTurns, EachSeat, StaySeated}
 use Rattle.lt_live.specs.Words.{taken, IsLink}
 use Rattle.lt_live_serve.specs.declared.callers.Caller.{Caller}
@@ -30,8 +30,8 @@ pub record IsKept (station : StationData) : Type 0 where
   pub is_station : IsStation station.runner station.seats
   pub is_script : IsScript station.runner.node.script
 
-abbrev pub AreKept : List StationData → Type 0
-AreKept stations = (k : ℕ) (station : StationData) → slice_get stations k ≡ Some station → IsKept station
+abbrev pub AreStationsKept : List StationData → Type 0
+AreStationsKept stations = (k : ℕ) (station : StationData) → slice_get stations k ≡ Some station → IsKept station
 
 -- the caller's session and its seat know all that is in their rings
 pub record IsBeside (script : ScriptData) (stations : List StationData) (client : ℕ) (c : Caller) : Type 0 where
@@ -40,7 +40,7 @@ pub record IsBeside (script : ScriptData) (stations : List StationData) (client 
   pub seat : Seat
   pub at : slice_get station.seats c.session.place ≡ Some seat
   pub link : IsLink c.session seat
-  pub beside : AreBeside c.session seat
+  pub beside : KnowAll c.session seat
 
 -- so it is of the first n callers
 abbrev pub BesideTo : ScriptData → ℕ → List StationData → List Caller → Type 0
@@ -59,14 +59,14 @@ pub record OnlyLooks (a b : StationData) : Type 0 where
   pub hands : EachSeat SameHand a.seats b.seats
 
 -- the first n callers and their seats looked at their rings
-pub record LooksTo (script : ScriptData) (n : ℕ) (stations : List StationData) (callers : List Caller) (later : List StationData) (after : List Caller) : Type 0 where
+pub record CallersLook (script : ScriptData) (n : ℕ) (stations : List StationData) (callers : List Caller) (later : List StationData) (after : List Caller) : Type 0 where
   pub serving : AreServing script later after
   pub looks : EachStation OnlyLooks stations later
   pub calls : EachCaller Calls callers after
   pub beside : BesideTo script n later after
 
 -- the caller of this client and its seat did
-pub record LooksAt (script : ScriptData) (client : ℕ) (stations : List StationData) (callers : List Caller) (later : List StationData) (after : List Caller) : Type 0 where
+pub record CallerLooks (script : ScriptData) (client : ℕ) (stations : List StationData) (callers : List Caller) (later : List StationData) (after : List Caller) : Type 0 where
   pub serving : AreServing script later after
   pub looks : EachStation OnlyLooks stations later
   pub calls : EachCaller Calls callers after

@@ -2,15 +2,15 @@
 use Rattle.std.specs.Prelude.{◌≡◌, ◌≢◌, ℕ, List, Option, Some, None, Ok, Err, length, map}
 use Rattle.lt_modes.specs.Script.{ScriptData}
 use Rattle.lt_lists.specs.Below.{gather_below}
-use Rattle.lt_limits.specs.declared.ending.Ending.{Ending}
-use Rattle.lt_limits.specs.declared.ending.Ending.TheVariants as ending
-use Rattle.lt_limits.specs.declared.moves.TheConstants.{MAX_MOVES}
+use Rattle.lt_spec.specs.declared.ending.Ending.{Ending}
+use Rattle.lt_spec.specs.declared.ending.Ending.TheVariants as ending
+use Rattle.lt_spec.specs.declared.moves.TheConstants.{MAX_MOVES}
 use Rattle.lt_script.specs.declared.fault.ScriptFault.{ScriptFault}
 use Rattle.lt_script.specs.Reading.{read_of}
 use Rattle.lt_spec.specs.Holdings.{lines_of}
 use Rattle.lt_spec.specs.Log.{Logged}
-use Rattle.lt_order.specs.Ordered.{IsOrdered}
-use Rattle.lt_law_promises.specs.Promised.{Promised}
+use Rattle.lt_spec.specs.Ordered.{IsOrdered}
+use Rattle.lt_spec.specs.Promised.{Promised}
 use Rattle.lt_journal.specs.Text.{text_of}
 use Rattle.lt_threads.specs.Threads.{IsThreadRun}
 use Rattle.lt_live.specs.declared.reply.Reply.{Reply}

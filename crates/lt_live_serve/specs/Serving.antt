@@ -1,10 +1,10 @@
 -- Stations and callers of a script that was read.
 use Rattle.std.specs.Prelude.{◌≡◌, ◌<◌, ℕ, List, [], Some, map, slice_get}
-use Rattle.lt_limits.specs.declared.moves.TheConstants.{MAX_MOVES}
+use Rattle.lt_spec.specs.declared.moves.TheConstants.{MAX_MOVES}
 use Rattle.lt_modes.specs.Script.{ScriptData}
 use Rattle.lt_spec.specs.Families.{commands_of, home}
 use Rattle.lt_spec.specs.Holdings.{lines_of}
-use Rattle.lt_law_appended.specs.Commands.{with_commands}
+use Rattle.lt_spec.specs.Commands.{with_commands}
 use Rattle.lt_runner.specs.declared.parts.Parts.{Parts}
 use Rattle.lt_threads.specs.Crews.{HasLimit}
 use Rattle.lt_live.specs.Live.{AreLive}

@@ -4,8 +4,8 @@ use Rattle.std.specs.Fmt.{decimal}
 use Rattle.lt_call.specs.declared.outcome.Outcome.{Outcome}
 use Rattle.lt_call.specs.declared.outcome.Outcome.TheVariants as outcome
 use Rattle.lt_call.specs.Outcomes.{fixed_text}
-use Rattle.lt_limits.specs.declared.ending.Ending.{Ending}
-use Rattle.lt_limits.specs.declared.ending.Ending.TheVariants as ending
+use Rattle.lt_spec.specs.declared.ending.Ending.{Ending}
+use Rattle.lt_spec.specs.declared.ending.Ending.TheVariants as ending
 use Rattle.lt_script.specs.Fault.{text_of_fault}
 use Rattle.lt_live_serve.specs.declared.status.Status.{Status}
 use Rattle.lt_live_serve.specs.declared.status.Status.TheVariants.{Done, Stuck, Usage, Refused, TooLong, ReadFault, WriteFault, NoMemory, Cut, Share}

@@ -1,9 +1,9 @@
 // Brings all commands to their stations.
 ghost use Rattle.std.specs.Prelude.{◌≡◌, ◌<◌, true, false, nat_lt, length, IfOk, OnOk};
-ghost use Rattle.lt_script.specs.Script.{IsScript};
+ghost use Rattle.lt_spec.specs.Script.{IsScript};
 ghost use Rattle.lt_live.specs.Stations.{IsSeated, StaySeated, SeatLooks};
 ghost use Rattle.lt_live_serve.specs.Calls.{Calls, AllSubmitted};
-ghost use Rattle.lt_live_serve.specs.Completing.{LooksTo, LooksAt, IsKept, AreKept, Turns, TurnsAt, AllTurn, all_lack};
+ghost use Rattle.lt_live_serve.specs.Completing.{CallersLook, CallerLooks, IsKept, AreStationsKept, Turns, TurnsAt, AllTurn, all_lack};
 ghost use Rattle.lt_live_serve.specs.Serving.{AreServing, AreComplete};
 
 use crate::callers::Caller;
@@ -58,7 +58,7 @@ fn take_more<G: Gate>(
 // All sessions and their seats look at their rings.
 fn look_all(_script: &Script, stations: &mut Vec<Station>, callers: &mut Vec<Caller>)
     requires { AreServing _script.now stations.old.items callers.old.items }
-    ensures { LooksTo _script.now (length callers.new.items) stations.old.items callers.old.items stations.new.items callers.new.items }
+    ensures { CallersLook _script.now (length callers.new.items) stations.old.items callers.old.items stations.new.items callers.new.items }
 {
     for client in 0..callers.len() {
         look_at(_script, stations, callers, client);
@@ -68,7 +68,7 @@ fn look_all(_script: &Script, stations: &mut Vec<Station>, callers: &mut Vec<Cal
 fn look_at(_script: &Script, stations: &mut Vec<Station>, callers: &mut Vec<Caller>, client: usize)
     requires inside { client < length callers.old.items }
     requires serving { AreServing _script.now stations.old.items callers.old.items }
-    ensures { LooksAt _script.now client stations.old.items callers.old.items stations.new.items callers.new.items }
+    ensures { CallerLooks _script.now client stations.old.items callers.old.items stations.new.items callers.new.items }
 {
     let home = usize::from(callers[client].home());
     look(&mut stations[home], &mut callers[client]);
@@ -86,7 +86,7 @@ fn look(station: &mut Station, caller: &mut Caller)
 
 /// What each station keeps.
 pub(crate) fn are_kept(stations: &[Station])
-    ensures { AreKept stations.now }
+    ensures { AreStationsKept stations.now }
 {
     for place in 0..stations.len() {
         is_kept(&stations[place]);

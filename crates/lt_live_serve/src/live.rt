@@ -1,6 +1,6 @@
 // The run of a script whose commands are submitted by callers.
 ghost use Rattle.std.specs.Prelude.{None, map, IfOk};
-ghost use Rattle.lt_script.specs.Script.{IsScript};
+ghost use Rattle.lt_spec.specs.Script.{IsScript};
 ghost use Rattle.lt_live.specs.Opened.{runner_of};
 ghost use Rattle.lt_threads.specs.Together.{IsCrew};
 ghost use Rattle.lt_live_serve.specs.Apart.{IsRunOf};
@@ -17,11 +17,11 @@ use lt_law_ends::law_never_cut;
 use lt_law_merged::law_can_move;
 use lt_law_ordered::law_ordered;
 use lt_law_promises::law_promised;
-use lt_limits::Ending;
 use lt_live::{Reply, Station, take_runners};
 use lt_merge::{Run, merge};
 use lt_runner::Gate;
 use lt_script::Script;
+use lt_spec::Ending;
 use lt_threads::finish;
 use std::alloc::{AllocError, Global};
 use std::thread::Threads;

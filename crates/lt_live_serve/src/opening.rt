@@ -1,7 +1,7 @@
 // Stations and callers of a script.
 ghost use Rattle.std.specs.Prelude.{◌≡◌, ◌≤◌, ◌<◌, ◌+◌, None, length, IfOk, OnOk};
-ghost use Rattle.lt_script.specs.Script.{IsScript};
-ghost use Rattle.lt_script.specs.declared.limits.TheConstants.{MAX_COMMANDS};
+ghost use Rattle.lt_spec.specs.Script.{IsScript};
+ghost use Rattle.lt_spec.specs.declared.limits.TheConstants.{MAX_COMMANDS};
 ghost use Rattle.lt_spec.specs.Families.{commands_of};
 ghost use Rattle.lt_live_serve.specs.Clients.{among};
 ghost use Rattle.lt_live_serve.specs.Opening.{share_or_one, IsNewCaller, CanCall, AreNew, AreNewCallers};
@@ -9,10 +9,10 @@ ghost use Rattle.lt_live_serve.specs.Over.{IsFirstOver};
 ghost use Rattle.lt_live_serve.specs.Serving.{AreServing};
 
 use crate::callers::Caller;
-use lt_limits::MAX_MOVES;
 use lt_live::{Session, Station, open};
 use lt_modes::Command;
 use lt_script::{MAX_COMMANDS, Script};
+use lt_spec::MAX_MOVES;
 use std::alloc::{AllocError, Global};
 
 /// The stations of all nodes of the script, and the callers of all clients, of whom none has submitted a command.

@@ -1,7 +1,7 @@
 ghost use Rattle.std.specs.Prelude.{◌≡◌, ◌≤◌, Ok, None, length, IfOk, OnOk, IfErr};
 ghost use Rattle.lt_io.specs.Whole.{IsReadWhole};
 ghost use Rattle.lt_call.specs.Outcomes.{IsRefusal, SaysOfSource};
-ghost use Rattle.lt_script.specs.Script.{IsScript};
+ghost use Rattle.lt_spec.specs.Script.{IsScript};
 ghost use Rattle.lt_script.specs.Reading.{read_of};
 ghost use Rattle.lt_live_serve.specs.declared.limits.TheConstants.{MAX_INPUT};
 ghost use Rattle.lt_live_serve.specs.Over.{IsFirstOver};

@@ -1,6 +1,6 @@
 // Lets the nodes make all moves that are left.
 ghost use Rattle.std.specs.Prelude.{◌≡◌, ◌≤◌, [], length, map, vec_capacity, IfOk};
-ghost use Rattle.lt_script.specs.Script.{IsScript};
+ghost use Rattle.lt_spec.specs.Script.{IsScript};
 ghost use Rattle.lt_threads.specs.Crews.{MovedOn};
 ghost use Rattle.lt_live.specs.Opened.{runner_of};
 ghost use Rattle.lt_live_serve.specs.Apart.{AreParts, GoTogether};
@@ -10,10 +10,10 @@ use crate::benches::Bench;
 use crate::callers::Caller;
 use crate::completing::are_kept;
 use crate::limits::{PATIENCE, WORKERS};
-use lt_limits::Ending;
 use lt_live::Station;
 use lt_runner::{Gate, Runner};
 use lt_script::Script;
+use lt_spec::Ending;
 use lt_threads::run_crew;
 use std::alloc::{AllocError, Global};
 use std::thread::Threads;

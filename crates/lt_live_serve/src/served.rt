@@ -1,7 +1,7 @@
 use crate::status::Status;
-use lt_limits::Ending;
 use lt_live::Reply;
 use lt_merge::Run;
+use lt_spec::Ending;
 
 /// What came of it: the status, the run that was made, and the replies that the sessions polled, in order of clients, each with
 /// its client.

@@ -2,8 +2,8 @@ ghost use Rattle.std.specs.Prelude.{◌≡◌, ◌≢◌, ◌↔◌, [], IsTrue}
 ghost use Rattle.lt_live_serve.specs.Status.{status_text, cut_of};
 
 use lt_call::{Outcome, Status as CallStatus};
-use lt_limits::Ending;
 use lt_script::ScriptFault;
+use lt_spec::Ending;
 use std::fmt;
 
 /// How it ended.

@@ -7,7 +7,7 @@ use Rattle.std.proofs.lemmas.Option.{slice_get_within}
 use Rattle.lt_mail.specs.declared.lane.OutEnd.{OutEnd}
 use Rattle.lt_mail.specs.declared.lane.InLane.{InLane}
 use Rattle.lt_mail.specs.declared.mail.Mail.{Mail}
-use Rattle.lt_mail.specs.Lanes.{IsLink}
+use Rattle.lt_mail.specs.Lanes.{AreRingEnds}
 use Rattle.lt_mail.specs.Words.{end_at, in_at, outs_count, ins_count, Both}
 use Rattle.lt_mail.specs.Opening.{IsNewOut, IsNewIn, AtOne, GainsOut, GainsIn, GainsLink, Opening, AreEmpty}
 
@@ -136,7 +136,7 @@ in_cases a b k out into ms n w j lane e = elim (cases_eq k b) [
 -- the new ring is between a and b, and each other one as it was
 links_more : (nodes capacity a b : ℕ) (ms ns : List Mail) → Opening nodes capacity a b ms → GainsLink capacity a b ms ns
     → (k j : ℕ) (x y : Mail) (out : OutEnd) (into : InLane) → slice_get ns k ≡ Some x → slice_get ns j ≡ Some y
-    → end_at x j ≡ Some out → in_at y k ≡ Some into → IsLink out into
+    → end_at x j ≡ Some out → in_at y k ≡ Some into → AreRingEnds out into
 links_more nodes capacity a b ms ns h g k j x y out into x_at y_at out_there into_there =
     by_cases (out_cases a b k g.out g.into ms x sender j out out_there) (in_cases a b j g.out g.into ms y taker k into into_there)
   where
@@ -153,7 +153,7 @@ links_more nodes capacity a b ms ns h g k j x y out into x_at y_at out_there int
     taken_rows same = h.ins_after j taker.m taker.there (omega (arith, same))
 
     by_cases : (end_at sender.m j ≡ Some out) ⊎ ((k ≡ a) × (j ≡ outs_count sender.m) × (out ≡ g.out))
-        → (in_at taker.m k ≡ Some into) ⊎ ((j ≡ b) × (k ≡ ins_count taker.m) × (into ≡ g.into)) → IsLink out into
+        → (in_at taker.m k ≡ Some into) ⊎ ((j ≡ b) × (k ≡ ins_count taker.m) × (into ≡ g.into)) → AreRingEnds out into
     by_cases (inl o) (inl i) = h.links k j sender.m taker.m out into sender.there taker.there o i
     by_cases (inl o) (inr i) =
         let row = sent_rows (i.1 ∙ taken_rows i.0) in
@@ -163,7 +163,7 @@ links_more nodes capacity a b ms ns h g k j x y out into x_at y_at out_there int
         let row = taken_rows (o.1 ∙ sent_rows o.0) in
         let below = slice_get_within taker.m.ins.items k into i in
         absurd (omega (arith, row, below, o.0))
-    by_cases (inr o) (inr i) = subst (λ (l : OutEnd). IsLink l into) (sym o.2) (subst (λ (l : InLane). IsLink g.out l) (sym i.2) g.new.link)
+    by_cases (inr o) (inr i) = subst (λ (l : OutEnd). AreRingEnds l into) (sym o.2) (subst (λ (l : InLane). AreRingEnds g.out l) (sym i.2) g.new.link)
 
 one_more : (nodes capacity a b : ℕ) (ms ns : List Mail) → Opening nodes capacity a b ms → GainsLink capacity a b ms ns → Opening nodes capacity a (b + 1) ns
 one_more nodes capacity a b ms ns h g = record {

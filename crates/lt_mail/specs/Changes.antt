@@ -59,7 +59,7 @@ pub record TakesNone (x y : InLane) : Type 0 where
   pub now : known y ≡ []
 
 -- no letter was known, and nothing happened
-pub record KnowsNone (x y : InLane) : Type 0 where
+pub record FindsNoLetter (x y : InLane) : Type 0 where
   pub same : y ≡ x
   pub empty : known x ≡ []
 

@@ -48,5 +48,5 @@ abbrev pub known : InLane → List Letter
 known lane = known_items lane.ring
 
 -- the two ends of one ring
-abbrev pub IsLink : OutEnd → InLane → Type 0
-IsLink out into = IsPair out.ring into.ring
+abbrev pub AreRingEnds : OutEnd → InLane → Type 0
+AreRingEnds out into = IsPair out.ring into.ring

@@ -4,7 +4,7 @@ use Rattle.rtrb.specs.Ring.{sent, producer_capacity}
 use Rattle.lt_mail.specs.declared.lane.OutEnd.{OutEnd}
 use Rattle.lt_mail.specs.declared.lane.InLane.{InLane}
 use Rattle.lt_mail.specs.declared.mail.Mail.{Mail}
-use Rattle.lt_mail.specs.Lanes.{OutLane, taken, known, IsLink}
+use Rattle.lt_mail.specs.Lanes.{OutLane, taken, known, AreRingEnds}
 use Rattle.lt_mail.specs.Words.{out_at, end_at, in_at, outs_count, ins_count, sent_to, taken_from, known_from, Both, AreLinked}
 
 -- the mail of a node of a script with so many nodes, in which no letter was sent, taken or seen
@@ -36,7 +36,7 @@ pub record IsNewIn (lane : InLane) : Type 0 where
 
 -- the two ends of a new ring
 pub record IsNewLink (capacity : ℕ) (out : OutEnd) (into : InLane) : Type 0 where
-  pub link : IsLink out into
+  pub link : AreRingEnds out into
   pub new_out : IsNewOut capacity out
   pub new_in : IsNewIn into
 
@@ -74,7 +74,7 @@ pub record Opening (nodes capacity a b : ℕ) (ms : List Mail) : Type 0 where
   pub new_out : (k j : ℕ) (m : Mail) (lane : OutEnd) → slice_get ms k ≡ Some m → end_at m j ≡ Some lane → IsNewOut capacity lane
   pub new_in : (k j : ℕ) (m : Mail) (lane : InLane) → slice_get ms k ≡ Some m → in_at m j ≡ Some lane → IsNewIn lane
   pub links : (k j : ℕ) (x y : Mail) (out : OutEnd) (into : InLane) → slice_get ms k ≡ Some x → slice_get ms j ≡ Some y
-      → end_at x j ≡ Some out → in_at y k ≡ Some into → IsLink out into
+      → end_at x j ≡ Some out → in_at y k ≡ Some into → AreRingEnds out into
 
 -- a mail with no ring for each node
 pub record AreEmpty (nodes : ℕ) (ms : List Mail) : Type 0 where

@@ -8,7 +8,7 @@ use Rattle.lt_desk.specs.LetterSeen.{letter_seen}
 use Rattle.lt_mail.specs.declared.lane.OutEnd.{OutEnd}
 use Rattle.lt_mail.specs.declared.lane.InLane.{InLane}
 use Rattle.lt_mail.specs.declared.mail.Mail.{Mail}
-use Rattle.lt_mail.specs.Lanes.{OutLane, lane_in, ring_given, outbox_letters, sent_by, taken, known, IsLink}
+use Rattle.lt_mail.specs.Lanes.{OutLane, lane_in, ring_given, outbox_letters, sent_by, taken, known, AreRingEnds}
 
 abbrev pub seen : List Letter → List rules.Letter
 seen letters = map letter_seen letters
@@ -110,7 +110,7 @@ HasRoomFor m letters = deque_len m.waiting + letters ≤ deque_capacity m.waitin
 
 -- the two ends of one ring, which has places
 abbrev pub IsOpenLink : OutLane → InLane → Type 0
-IsOpenLink out into = IsLink out.end into × (0 < producer_capacity out.end.ring)
+IsOpenLink out into = AreRingEnds out.end into × (0 < producer_capacity out.end.ring)
 
 -- the one sends to the other
 abbrev pub AreLinked : Mail → Mail → Type 0

@@ -5,7 +5,7 @@ ghost use Rattle.lt_mail.specs.Words.{out_at, in_at, outs_count, ins_count, sent
 ghost use Rattle.std.specs.VecDeque.{deque_len, deque_capacity};
 ghost use Rattle.lt_mail.specs.Both.{Sees};
 ghost use Rattle.lt_mail.specs.Looks.{LooksAtSome, SawNone};
-ghost use Rattle.lt_mail.specs.Changes.{KeepsSent, OutChanges, InChanges, Puts, Flushes, Takes, TakesKnown, TakesNone, KnowsNone, Saw};
+ghost use Rattle.lt_mail.specs.Changes.{KeepsSent, OutChanges, InChanges, Puts, Flushes, Takes, TakesKnown, TakesNone, FindsNoLetter, Saw};
 
 use crate::lane::{InLane, OutEnd};
 use crate::looking::first_with_letter;
@@ -250,7 +250,7 @@ impl Mail {
     pub(crate) fn take_known_on(&mut self, from: u8) -> Option<Letter>
         requires { from < ins_count self.old }
         ensures some { IfSome result (λ letter. InChanges (TakesKnown letter) self.old self.new from) }
-        ensures none { IfNone result (InChanges KnowsNone self.old self.new from) }
+        ensures none { IfNone result (InChanges FindsNoLetter self.old self.new from) }
     {
         let lane = &mut self.ins[usize::from(from)];
         lane.take_known()

@@ -8,7 +8,7 @@ use Rattle.lt_modes.specs.declared.event.Event.{Event}
 use Rattle.lt_spec.specs.Log.{Logged}
 use Rattle.lt_merge.specs.declared.run.Mark.{Mark}
 use Rattle.lt_merge.specs.Run.{just_made, with_event, made_at, events_at}
-use Rattle.lt_merge.specs.Marks.{made_of, events_before, IsLaid, entries_of, events_bounds}
+use Rattle.lt_merge.specs.Marks.{move_by, events_before, IsLaid, entries_of, events_bounds}
 use Rattle.std.proofs.lemmas.Option.{some_pair_parts}
 
 pub length-entries_of : (marks : List Mark) (events : List Event) → length (entries_of marks events) ≡ length marks
@@ -52,34 +52,34 @@ range-add events more i j h =
 pub entries_of-event : (marks : List Mark) (events : List Event) (event : Event) → IsLaid marks (length events) → 0 < length marks → entries_of marks (events ++ event ∷ []) ≡ with_event (entries_of marks events) event
 entries_of-event [] events event laid some = absurd (omega (arith, some))
 entries_of-event (mark ∷ []) events event laid some =
-    ap (λ (es : List Event). record { made = made_of mark; events = es } ∷ []) (range_to_end-push events event mark.start laid.0)
+    ap (λ (es : List Event). record { made = move_by mark; events = es } ∷ []) (range_to_end-push events event mark.start laid.0)
 entries_of-event (mark ∷ next ∷ later) events event laid some =
-    ap (λ (es : List Event). record { made = made_of mark; events = es } ∷ entries_of (next ∷ later) (events ++ event ∷ []))
+    ap (λ (es : List Event). record { made = move_by mark; events = es } ∷ entries_of (next ∷ later) (events ++ event ∷ []))
     (range-add events (event ∷ []) mark.start next.start (events_before-within (next ∷ later) (length events) laid.1))
-    ∙ ap (λ (es : List Logged). record { made = made_of mark; events = slice_range events mark.start next.start } ∷ es)
+    ∙ ap (λ (es : List Logged). record { made = move_by mark; events = slice_range events mark.start next.start } ∷ es)
     (entries_of-event (next ∷ later) events event laid.1 (omega arith))
 
 -- a move with its events after the others
 pub entries_of-add : (marks : List Mark) (mark : Mark) (events more : List Event) → mark.start ≡ length events → IsLaid marks (length events)
-    → entries_of (marks ++ mark ∷ []) (events ++ more) ≡ entries_of marks events ++ record { made = made_of mark; events = more } ∷ []
+    → entries_of (marks ++ mark ∷ []) (events ++ more) ≡ entries_of marks events ++ record { made = move_by mark; events = more } ∷ []
 entries_of-add [] mark events more e laid =
-    ap (λ (es : List Event). record { made = made_of mark; events = es } ∷ [])
+    ap (λ (es : List Event). record { made = move_by mark; events = es } ∷ [])
     (between_to_end (events ++ more) mark.start _ (omega arith) ∙ drop_at events more mark.start (sym e))
 entries_of-add (first ∷ later) mark events more e laid =
-    ap (λ (n : ℕ). record { made = made_of first; events = slice_range (events ++ more) first.start n } ∷ entries_of (later ++ mark ∷ []) (events ++ more))
+    ap (λ (n : ℕ). record { made = move_by first; events = slice_range (events ++ more) first.start n } ∷ entries_of (later ++ mark ∷ []) (events ++ more))
     (events_before-add later mark (length events) (length (events ++ more)) e)
-    ∙ (ap (λ (es : List Event). record { made = made_of first; events = es } ∷ entries_of (later ++ mark ∷ []) (events ++ more))
+    ∙ (ap (λ (es : List Event). record { made = move_by first; events = es } ∷ entries_of (later ++ mark ∷ []) (events ++ more))
     (range-add events more first.start (events_before later (length events)) (events_before-within later (length events) laid.1))
-    ∙ ap (λ (es : List Logged). record { made = made_of first; events = slice_range events first.start (events_before later (length events)) } ∷ es)
+    ∙ ap (λ (es : List Logged). record { made = move_by first; events = slice_range events first.start (events_before later (length events)) } ∷ es)
     (entries_of-add later mark events more e laid.1))
 
 -- a move with no events after the others
 pub entries_of-push : (marks : List Mark) (mark : Mark) (events : List Event) → mark.start ≡ length events → IsLaid marks (length events)
-    → entries_of (marks ++ mark ∷ []) events ≡ entries_of marks events ++ just_made (made_of mark) ∷ []
+    → entries_of (marks ++ mark ∷ []) events ≡ entries_of marks events ++ just_made (move_by mark) ∷ []
 entries_of-push marks mark events e laid =
     ap (λ (es : List Event). entries_of (marks ++ mark ∷ []) es) (sym (append-nil events)) ∙ entries_of-add marks mark events [] e laid
 
-pub made_at-entries_of : (marks : List Mark) (events : List Event) (k : ℕ) → made_at (entries_of marks events) k ≡ option_map made_of (slice_get marks k)
+pub made_at-entries_of : (marks : List Mark) (events : List Event) (k : ℕ) → made_at (entries_of marks events) k ≡ option_map move_by (slice_get marks k)
 made_at-entries_of [] events k = refl
 made_at-entries_of (mark ∷ later) events zero = refl
 made_at-entries_of (mark ∷ later) events (suc k) = made_at-entries_of later events k

@@ -10,7 +10,7 @@ use Rattle.lt_lists.proofs.AllLemmas.{all_weaker}
 use Rattle.lt_lists.proofs.Members.{all_of, contains_filter, none_in}
 use Rattle.lt_spec.specs.Log.{Logged}
 use Rattle.lt_spec.specs.World.{is_of_node}
-use Rattle.lt_law_accounts.proofs.AccountFacts.{newer_by_clock, newer_in_turn}
+use Rattle.lt_modes.proofs.StampOrder.{newer_by_clock, newer_in_turn}
 use Rattle.lt_merge.specs.Merging.{IsBefore, AreRising, AreNodesApart, first_merged, both_merged}
 use Rattle.lt_merge.proofs.Filters.{filter_no, none_passes, all_fail}
 

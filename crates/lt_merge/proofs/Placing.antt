@@ -11,11 +11,11 @@ use Rattle.lt_lists.proofs.AllLemmas.{all_weaker}
 use Rattle.lt_lists.proofs.Members.{some_equal}
 use Rattle.lt_spec.specs.Log.{Logged}
 use Rattle.lt_spec.specs.World.{is_of_node}
-use Rattle.lt_law_accounts.proofs.AccountFacts.{newer_in_turn}
+use Rattle.lt_modes.proofs.StampOrder.{newer_in_turn}
 use Rattle.lt_merge.specs.declared.heads.Head.{Head}
 use Rattle.lt_merge.specs.Run.{RunData}
 use Rattle.lt_merge.specs.Merging.{all_entries, by_node, AreNodesApart, AreLogs}
-use Rattle.lt_merge.specs.Heads.{rest_of, rests_of, first_stamp, IsHead, AreInOrder, AreHeads, placed, settled, AreSame}
+use Rattle.lt_merge.specs.Heads.{rest_of, rests_of, first_stamp, IsHead, AreHeadsInOrder, AreHeads, placed, settled_heads, AreSame}
 use Rattle.lt_merge.proofs.ListParts.{both_empty, join_empty}
 use Rattle.lt_merge.proofs.MergedLists.{beside_by_node}
 
@@ -115,10 +115,10 @@ firsts_beside (entry ∷ rest) (other ∷ others) more a b e f h =
     (beside_by_node (entry ∷ rest) (other ∷ (others ++ more)) h).0.0)
 
 placed_order : (logs : List RunData) (head : Head) (others : List Head) → AllByRecursion (IsHead logs) (head ∷ others) → AreLogs (rests_of logs (head ∷ others))
-    → AreInOrder others → AreInOrder (placed head others)
+    → AreHeadsInOrder others → AreHeadsInOrder (placed head others)
 placed_order logs head [] each apart order = (tt, tt)
 placed_order logs head (other ∷ others) each apart order =
-    cond_both (is_newer head.stamp other.stamp) (other ∷ placed head others) (head ∷ other ∷ others) AreInOrder
+    cond_both (is_newer head.stamp other.stamp) (other ∷ placed head others) (head ∷ other ∷ others) AreHeadsInOrder
     (λ newer. (
       placed_all (λ (later : Head). IsTrue (is_newer later.stamp other.stamp)) head others newer order.0,
       placed_order logs head others (each.0, each.1.1) (without_second logs head other others apart) order.1,
@@ -138,7 +138,7 @@ placed_order logs head (other ∷ others) each apart order =
     head_first older (inr newer) = absurd (both_ways (is_newer head.stamp other.stamp) older newer)
 
 pub placed_heads : (logs : List RunData) (head : Head) (others : List Head) → AllByRecursion (IsHead logs) (head ∷ others) → AreLogs (rests_of logs (head ∷ others))
-    → AreInOrder others → AreHeads logs (placed head others)
+    → AreHeadsInOrder others → AreHeads logs (placed head others)
 placed_heads logs head others each apart order = record {
   each = placed_all (IsHead logs) head others each.0 each.1;
   order = placed_order logs head others each apart order;
@@ -148,7 +148,7 @@ placed_heads logs head others each apart order = record {
 -- the head and the next one change places
 next_place : (heads : List Head) (k : ℕ) (a b : Head) → suc k < length heads → a ≡ slice_index_or heads k a → b ≡ slice_index_or heads (suc k) b
     → is_newer a.stamp b.stamp ≡ true
-    → take (suc k) (slice_set (slice_set heads k b) (suc k) a) ++ settled (drop (suc k) (slice_set (slice_set heads k b) (suc k) a)) ≡ take k heads ++ settled (drop k heads)
+    → take (suc k) (slice_set (slice_set heads k b) (suc k) a) ++ settled_heads (drop (suc k) (slice_set (slice_set heads k b) (suc k) a)) ≡ take k heads ++ settled_heads (drop k heads)
 next_place [] k a b h is_a is_b newer = absurd (omega (arith, h))
 next_place (x ∷ []) zero a b h is_a is_b newer = absurd (omega (arith, h))
 next_place (x ∷ y ∷ rest) zero a b h is_a is_b newer =
@@ -160,7 +160,7 @@ next_place (x ∷ rest) (suc k) a b h is_a is_b newer = ap (λ (heads : List Hea
 
 -- the head stays where it is
 stays : (heads : List Head) (k : ℕ) (a b : Head) → suc k < length heads → a ≡ slice_index_or heads k a → b ≡ slice_index_or heads (suc k) b
-    → is_newer a.stamp b.stamp ≡ false → take k heads ++ settled (drop k heads) ≡ heads
+    → is_newer a.stamp b.stamp ≡ false → take k heads ++ settled_heads (drop k heads) ≡ heads
 stays [] k a b h is_a is_b older = absurd (omega (arith, h))
 stays (x ∷ []) zero a b h is_a is_b older = absurd (omega (arith, h))
 stays (x ∷ y ∷ rest) zero a b h is_a is_b older =
@@ -168,7 +168,7 @@ stays (x ∷ y ∷ rest) zero a b h is_a is_b older =
     (ap (λ (z : Head). is_newer x.stamp z.stamp) (sym is_b) ∙ (ap (λ (z : Head). is_newer z.stamp b.stamp) (sym is_a) ∙ older))
 stays (x ∷ rest) (suc k) a b h is_a is_b older = ap (λ (heads : List Head). x ∷ heads) (stays rest k a b (omega (arith, h)) is_a is_b older)
 
-stays_last : (heads : List Head) (k : ℕ) → length heads ≤ suc k → take k heads ++ settled (drop k heads) ≡ heads
+stays_last : (heads : List Head) (k : ℕ) → length heads ≤ suc k → take k heads ++ settled_heads (drop k heads) ≡ heads
 stays_last [] zero h = refl
 stays_last [] (suc k) h = refl
 stays_last (x ∷ []) zero h = refl
@@ -178,16 +178,16 @@ stays_last (x ∷ rest) (suc k) h = ap (λ (heads : List Head). x ∷ heads) (st
 -- the same for the places as the loop has them
 pub next_place_at : (heads : List Head) (j k next : ℕ) (a b : Head) → k ≡ suc j → next ≡ k → k < length heads → a ≡ slice_index_or heads j a → b ≡ slice_index_or heads k b
     → is_newer a.stamp b.stamp ≡ true
-    → take next (slice_set (slice_set heads j b) k a) ++ settled (drop next (slice_set (slice_set heads j b) k a)) ≡ take j heads ++ settled (drop j heads)
+    → take next (slice_set (slice_set heads j b) k a) ++ settled_heads (drop next (slice_set (slice_set heads j b) k a)) ≡ take j heads ++ settled_heads (drop j heads)
 next_place_at heads j k next a b e f h is_a is_b newer =
-    subst (λ (n : ℕ). take n (slice_set (slice_set heads j b) k a) ++ settled (drop n (slice_set (slice_set heads j b) k a)) ≡ take j heads ++ settled (drop j heads)) (sym f)
-    (subst (λ (n : ℕ). take n (slice_set (slice_set heads j b) n a) ++ settled (drop n (slice_set (slice_set heads j b) n a)) ≡ take j heads ++ settled (drop j heads)) (sym e)
+    subst (λ (n : ℕ). take n (slice_set (slice_set heads j b) k a) ++ settled_heads (drop n (slice_set (slice_set heads j b) k a)) ≡ take j heads ++ settled_heads (drop j heads)) (sym f)
+    (subst (λ (n : ℕ). take n (slice_set (slice_set heads j b) n a) ++ settled_heads (drop n (slice_set (slice_set heads j b) n a)) ≡ take j heads ++ settled_heads (drop j heads)) (sym e)
     (next_place heads j a b (subst (λ (n : ℕ). n < length heads) e h) is_a (subst (λ (n : ℕ). b ≡ slice_index_or heads n b) e is_b) newer))
 
 pub stays_at : (heads : List Head) (j k : ℕ) (a b : Head) → k ≡ suc j → k < length heads → a ≡ slice_index_or heads j a → b ≡ slice_index_or heads k b
-    → is_newer a.stamp b.stamp ≡ false → take j heads ++ settled (drop j heads) ≡ heads
+    → is_newer a.stamp b.stamp ≡ false → take j heads ++ settled_heads (drop j heads) ≡ heads
 stays_at heads j k a b e h is_a is_b older =
     stays heads j a b (subst (λ (n : ℕ). n < length heads) e h) is_a (subst (λ (n : ℕ). b ≡ slice_index_or heads n b) e is_b) older
 
-pub stays_at_last : (heads : List Head) (j k : ℕ) → k ≡ suc j → length heads ≤ k → take j heads ++ settled (drop j heads) ≡ heads
+pub stays_at_last : (heads : List Head) (j k : ℕ) → k ≡ suc j → length heads ≤ k → take j heads ++ settled_heads (drop j heads) ≡ heads
 stays_at_last heads j k e h = stays_last heads j (subst (λ (n : ℕ). length heads ≤ n) e h)

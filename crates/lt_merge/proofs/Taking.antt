@@ -12,7 +12,7 @@ use Rattle.lt_lists.proofs.AllLemmas.{all_append, all_weaker}
 use Rattle.lt_lists.proofs.Members.{all_of, contains_filter, contains_filtered, some_equal}
 use Rattle.lt_spec.specs.Log.{Logged}
 use Rattle.lt_spec.specs.World.{is_of_node}
-use Rattle.lt_law_accounts.proofs.AccountFacts.{newer_in_turn}
+use Rattle.lt_modes.proofs.StampOrder.{newer_in_turn}
 use Rattle.lt_merge.specs.declared.heads.Head.{Head}
 use Rattle.lt_merge.specs.Run.{RunData, made_at}
 use Rattle.lt_merge.specs.Merging.{IsBefore, AreRising, all_entries, AreLogs, Merges}

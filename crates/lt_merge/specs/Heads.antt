@@ -37,14 +37,14 @@ IsHeadAt logs log place None = drop place (entries_in (slice_get logs log)) ≡ 
 IsHeadAt logs log place (Some head) = IsHead logs head × (head.log ≡ log) × (head.place ≡ place)
 
 -- each head's stamp is less than those of all later ones
-abbrev pub AreInOrder : List Head → Type 0
-AreInOrder [] = Unit {0}
-AreInOrder (head ∷ heads) = AllByRecursion (λ (other : Head). IsTrue (is_newer other.stamp head.stamp)) heads × AreInOrder heads
+abbrev pub AreHeadsInOrder : List Head → Type 0
+AreHeadsInOrder [] = Unit {0}
+AreHeadsInOrder (head ∷ heads) = AllByRecursion (λ (other : Head). IsTrue (is_newer other.stamp head.stamp)) heads × AreHeadsInOrder heads
 
 -- heads of different logs, in order
 pub record AreHeads (logs : List RunData) (heads : List Head) : Type 0 where
   pub each : AllByRecursion (IsHead logs) heads
-  pub order : AreInOrder heads
+  pub order : AreHeadsInOrder heads
   pub apart : AreLogs (rests_of logs heads)
 
 -- the head at its place among others that are in order
@@ -53,9 +53,9 @@ placed head [] = head ∷ []
 placed head (other ∷ others) = if is_newer head.stamp other.stamp then other ∷ placed head others else head ∷ other ∷ others
 
 -- the first head at its place among the others
-abbrev pub settled : List Head → List Head
-settled [] = []
-settled (head ∷ heads) = placed head heads
+abbrev pub settled_heads : List Head → List Head
+settled_heads [] = []
+settled_heads (head ∷ heads) = placed head heads
 
 -- both have the same entries of each node
 pub record AreSame (first second : List RunData) : Type 0 where

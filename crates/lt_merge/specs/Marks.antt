@@ -8,13 +8,13 @@ use Rattle.lt_spec.specs.Log.{Logged}
 use Rattle.lt_merge.specs.declared.run.Mark.{Mark}
 
 -- a step, by whether it is a take, and by its client or sender
-abbrev pub step_of : Bool → ℕ → Step
-step_of true number = Take (number % 256)
-step_of false number = Act number
+abbrev pub step_by : Bool → ℕ → Step
+step_by true number = Take (number % 256)
+step_by false number = Act number
 
 -- the move that the mark stands for
-abbrev pub made_of : Mark → Move
-made_of mark = record { stamp = record { clock = mark.clock; node = mark.node }; step = step_of mark.takes mark.number }
+abbrev pub move_by : Mark → Move
+move_by mark = record { stamp = record { clock = mark.clock; node = mark.node }; step = step_by mark.takes mark.number }
 
 -- where the events end that stand before these moves
 abbrev pub events_before : List Mark → ℕ → ℕ
@@ -30,7 +30,7 @@ IsLaid (mark ∷ later) count = (mark.start ≤ events_before later count) × Is
 abbrev pub entries_of : List Mark → List Event → List Logged
 entries_of [] events = []
 entries_of (mark ∷ later) events =
-    record { made = made_of mark; events = slice_range events mark.start (events_before later (length events)) } ∷ entries_of later events
+    record { made = move_by mark; events = slice_range events mark.start (events_before later (length events)) } ∷ entries_of later events
 
 -- where the events of the move at place k begin and end
 abbrev pub events_bounds : List Mark → ℕ → ℕ → Option (ℕ × ℕ)

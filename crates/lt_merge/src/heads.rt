@@ -1,6 +1,6 @@
 ghost use Rattle.std.specs.Prelude.{◌≡◌, ◌∷◌, ◌+◌, ◌<◌, ◌^◌, length, drop, IfOk};
 ghost use Rattle.lt_merge.specs.Merging.{all_entries, AreLogs};
-ghost use Rattle.lt_merge.specs.Heads.{AreHeads, Advances, Begins, IsHeadAt, settled};
+ghost use Rattle.lt_merge.specs.Heads.{AreHeads, Advances, Begins, IsHeadAt, settled_heads};
 
 use crate::run::Log;
 use lt_modes::Stamp;
@@ -67,7 +67,7 @@ fn head_at(logs: &[Log], log: usize, place: u32) -> Option<Head>
 
 // Brings the first head to its place among the others, which are in order.
 fn settle(heads: &mut Vec<Head>)
-    ensures { heads.new.items ≡ settled heads.old.items }
+    ensures { heads.new.items ≡ settled_heads heads.old.items }
 {
     let mut k = 1;
     while k < heads.len() {

@@ -1,6 +1,6 @@
 ghost use Rattle.std.specs.Prelude.{◌≡◌, ◌+◌, ◌<◌, ◌≤◌, ◌^◌, [], ◌∷◌, ◌++◌, Some, length, take, drop, IfOk, IsOk, OnOk};
 ghost use Rattle.lt_merge.specs.Run.{just_made, with_event, made_at, events_at};
-ghost use Rattle.lt_merge.specs.Marks.{made_of, entries_of, IsLaid, events_bounds};
+ghost use Rattle.lt_merge.specs.Marks.{move_by, entries_of, IsLaid, events_bounds};
 
 use lt_modes::{Event, Move, Stamp, Step};
 use std::alloc::{AllocError, Global};
@@ -20,7 +20,7 @@ struct Mark {
 
 impl Mark {
     fn new(made: Move, start: u32) -> Mark
-        ensures made { made_of result ≡ made }
+        ensures made { move_by result ≡ made }
         ensures start { result.start ≡ start }
     {
         let (takes, number) = match made.step {
@@ -37,7 +37,7 @@ impl Mark {
     }
 
     fn made(self) -> Move
-        ensures { result ≡ made_of self }
+        ensures { result ≡ move_by self }
     {
         Move {
             stamp: Stamp {

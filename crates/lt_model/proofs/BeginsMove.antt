@@ -17,12 +17,13 @@ use Rattle.lt_lists.specs.Below.{one_if}
 use Rattle.lt_spec.specs.World.{World, after}
 use Rattle.lt_spec.specs.Facts.{state_at, tokens_in, places_in_state, places_in_body}
 use Rattle.lt_modes.specs.Queue.{times_in}
-use Rattle.lt_model.specs.OnWay.{OnWay, Comes, DeskIs, in_set, tell_in, tell_parked, copy_in, freeze_in, tells_of, copies_to, freezes_to, account_of, news_of}
+use Rattle.lt_model.specs.OnWay.{in_set, tell_in, tell_parked, copy_in, freeze_in, tells_of, copies_to, freezes_to, account_of, news_of}
+use Rattle.lt_spec.specs.Desks.{OnWay, Comes, DeskIs}
 use Rattle.lt_model.specs.Moments.{Moment, Between, Acting, Frozen, is_at, is_moving, is_unfrozen, is_serving}
 use Rattle.lt_law_accounts.specs.Account.{Account, AccountKept, AreClear, counted}
 use Rattle.lt_law_accounts.specs.News.{News, NewsKept, Notice}
 use Rattle.lt_model.specs.Paths.{Paths, StateOnPath, LetterOnPath}
-use Rattle.lt_model.specs.Touches.{of_set, SameSet}
+use Rattle.lt_spec.specs.Touches.{of_set, SameSet}
 use Rattle.lt_model.specs.Invariant.{PlacesKept, IsParkedFor, DeskKept, SetKept}
 use Rattle.lt_model.specs.MomentLaws.{begun, MoveBegins, AsideStays}
 use Rattle.lt_lists.proofs.Sums.{sum_below-same}

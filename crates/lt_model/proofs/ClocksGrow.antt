@@ -13,7 +13,7 @@ use Rattle.lt_modes.specs.SetMove.{take}
 use Rattle.lt_spec.specs.Log.{Logged}
 use Rattle.lt_spec.specs.NodeMove.{NodeState, NodeMade, next_command, act_stamp, take_stamp, at_clock, one_made, node_act, node_take}
 use Rattle.lt_spec.specs.World.{World, start, is_some_letter, opened, front_stamp, take_front, node_move, after_made, after, after_run}
-use Rattle.lt_model.specs.Touches.{AreStamped}
+use Rattle.lt_spec.specs.Touches.{AreStamped}
 use Rattle.lt_model.specs.Laws.{ClockMoves, OtherClocksStay, StampsKept, ClocksInRuns}
 use Rattle.lt_model.proofs.Letters.{all_sent, before_take}
 use Rattle.lt_model.proofs.SentInMove.{take-sent}

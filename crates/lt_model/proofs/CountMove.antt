@@ -21,7 +21,7 @@ use Rattle.lt_spec.specs.Families.{family, related}
 use Rattle.lt_spec.specs.NodeMove.{NodeState, NodeMade, node_waits, next_command, touched, each_touched, drop_all, locks_in_sets, act_stamp, take_stamp, at_clock, one_made, obey, node_act, node_take}
 use Rattle.lt_spec.specs.World.{World, start, opened, put_mail, after_made, after}
 use Rattle.lt_model.specs.AddedLocks.{adds, added_by}
-use Rattle.lt_model.specs.Homes.{HasTargetsAt, IsWhole}
+use Rattle.lt_spec.specs.WholeScripts.{HasTargetsAt, IsWhole}
 use Rattle.lt_lists.proofs.Sums.{sum_below-none, sum_below-change, sum_below-at}
 use Rattle.lt_model.proofs.Letters.{mail_weight, IsCounted, mail_weight-sent, mail_weight-taken}
 use Rattle.lt_lists.proofs.Puts.{put-same, put-other}

@@ -21,7 +21,7 @@ use Rattle.lt_spec.specs.Log.{Logged}
 use Rattle.lt_spec.specs.NodeMove.{NodeState, node_waits, next_command, touched, each_touched, drop_all, act_stamp, take_stamp, at_clock, one_made, obey}
 use Rattle.lt_spec.specs.World.{World, start, is_enabled, take_front, node_move, after, after_run, IsMove, IsRunFrom}
 use Rattle.lt_spec.specs.Facts.{state_at}
-use Rattle.lt_model.specs.TryLines.{IsNoTry, IsExactTry, IsOwnAnswer}
+use Rattle.lt_spec.specs.TryLines.{IsNoTry, IsExactTry, IsOwnAnswer}
 use Rattle.lt_model.specs.Laws.{TryIsExact, TriesAreExact, TriesInRuns}
 use Rattle.lt_lists.proofs.AllLemmas.{all_append, all_weaker}
 use Rattle.lt_lists.proofs.Members.{some_equal}

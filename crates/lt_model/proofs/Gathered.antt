@@ -13,7 +13,8 @@ use Rattle.lt_lists.specs.Below.{gather_below}
 use Rattle.lt_spec.specs.World.{World}
 use Rattle.lt_spec.specs.Facts.{state_at}
 use Rattle.lt_law_accounts.specs.News.{Notice}
-use Rattle.lt_model.specs.OnWay.{Comes, IsTellOf, in_set, tell_if, tell_in, tell_parked, copy_in, freeze_in, tells_of}
+use Rattle.lt_model.specs.OnWay.{IsTellOf, in_set, tell_if, tell_in, tell_parked, copy_in, freeze_in, tells_of}
+use Rattle.lt_spec.specs.Desks.{Comes}
 use Rattle.lt_model.specs.OnWayLaws.{TellsAreOnWay, CopiesAreOnWay, FreezesAreOnWay}
 
 -- what a letter of the set says

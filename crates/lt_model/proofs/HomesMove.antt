@@ -20,7 +20,8 @@ use Rattle.lt_spec.specs.Families.{command_if, commands_of, home, family, relate
 use Rattle.lt_spec.specs.Log.{Logged}
 use Rattle.lt_spec.specs.NodeMove.{NodeState, NodeMade, node_waits, next_command, touched, each_touched, drop_all, locks_in_sets, act_stamp, take_stamp, at_clock, one_made, obey, node_act, node_take}
 use Rattle.lt_spec.specs.World.{World, start, is_some_letter, is_enabled, opened, take_front, node_move, after, after_run, IsRunFrom}
-use Rattle.lt_model.specs.Homes.{HasTargetsAt, IsWhole, IsStateAtHome, IsLetterAtHome, Homes}
+use Rattle.lt_model.specs.Homes.{IsStateAtHome, IsLetterAtHome, Homes}
+use Rattle.lt_spec.specs.WholeScripts.{HasTargetsAt, IsWhole}
 use Rattle.lt_model.specs.HomeLaws.{HomesKept, HomesInRuns}
 use Rattle.lt_model.proofs.Letters.{all_sent, before_take}
 use Rattle.lt_model.proofs.SentInMove.{AreSentIn, finish-sent, lock-sent, try-sent, unlock-sent, change-sent, drop-sent, take-sent}

@@ -14,14 +14,15 @@ use Rattle.lt_modes.specs.Made.{Post}
 use Rattle.lt_spec.specs.Log.{Logged}
 use Rattle.lt_spec.specs.NodeMove.{node_act}
 use Rattle.lt_spec.specs.World.{World, start, is_some_letter, is_enabled, opened, front_stamp, move_stamp, take_front, node_move, after_made, after, IsMove, IsRunFrom}
-use Rattle.lt_model.specs.OnWay.{OnWay}
+use Rattle.lt_spec.specs.Desks.{OnWay}
 use Rattle.lt_spec.specs.Holdings.{lines_of}
 use Rattle.lt_model.specs.Invariant.{BodyKept}
 use Rattle.lt_model.specs.Paths.{Paths}
 use Rattle.lt_model.specs.Timed.{Timed}
-use Rattle.lt_model.specs.Touches.{AreStamped}
+use Rattle.lt_spec.specs.Touches.{AreStamped}
 use Rattle.lt_model.specs.AddedLocks.{adds, added_by}
-use Rattle.lt_model.specs.Homes.{IsWhole, Homes, HasMaker, IsLineWithin, IsEntryWithin}
+use Rattle.lt_model.specs.Homes.{Homes, HasMaker, IsLineWithin, IsEntryWithin}
+use Rattle.lt_spec.specs.WholeScripts.{IsWhole}
 use Rattle.lt_model.specs.HomeLaws.{LinesInRuns, FewAdded}
 use Rattle.lt_model.proofs.Letters.{IsCounted, sent_on_way}
 use Rattle.lt_model.proofs.StartKept.{paths_start}

@@ -15,7 +15,7 @@ use Rattle.lt_modes.specs.Telling.{finish}
 use Rattle.lt_modes.specs.SetMove.{lock, try, unlock, change, drop}
 use Rattle.lt_spec.specs.Families.{family, related}
 use Rattle.lt_spec.specs.NodeMove.{NodeState, node_waits, touched, each_touched, drop_all, obey}
-use Rattle.lt_model.specs.Touches.{sets_of_command}
+use Rattle.lt_spec.specs.Touches.{sets_of_command}
 use Rattle.lt_model.proofs.SentInMove.{AreSentIn, finish-sent, drop-sent}
 use Rattle.lt_lists.proofs.AllLemmas.{all_weaker}
 use Rattle.lt_lists.proofs.Puts.{put-same}

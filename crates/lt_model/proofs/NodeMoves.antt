@@ -15,7 +15,7 @@ use Rattle.lt_spec.specs.Families.{related}
 use Rattle.lt_spec.specs.NodeMove.{NodeState, NodeMade, node_waits, touched, each_touched, drop_all, obey}
 use Rattle.lt_lists.specs.Below.{put}
 use Rattle.lt_spec.specs.World.{World, node_move, after}
-use Rattle.lt_model.specs.Touches.{sets_of_command}
+use Rattle.lt_spec.specs.Touches.{sets_of_command}
 use Rattle.lt_model.proofs.SentInMove.{AreSentIn, finish-sent, lock-sent, try-sent, unlock-sent, change-sent, drop-sent}
 use Rattle.lt_lists.proofs.AllLemmas.{all_append, all_weaker}
 use Rattle.lt_lists.proofs.Puts.{put-other}

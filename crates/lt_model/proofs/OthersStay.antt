@@ -14,7 +14,7 @@ use Rattle.lt_modes.specs.SetMove.{take}
 use Rattle.lt_spec.specs.NodeMove.{NodeState, NodeMade, next_command, act_stamp, take_stamp, at_clock, one_made, node_act}
 use Rattle.lt_spec.specs.World.{World, put_mail, sent, take_front, after_made}
 use Rattle.lt_spec.specs.Facts.{state_at}
-use Rattle.lt_model.specs.Touches.{of_set, sets_of_front, SameSet}
+use Rattle.lt_spec.specs.Touches.{of_set, sets_of_front, SameSet}
 use Rattle.lt_model.specs.Laws.{OthersStay}
 use Rattle.lt_lists.proofs.Sums.{sum_below-same}
 use Rattle.lt_model.proofs.Letters.{letters_to, letters_to-same, letters_to-other}

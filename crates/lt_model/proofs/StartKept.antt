@@ -22,7 +22,8 @@ use Rattle.lt_modes.specs.Sound.{SoundSet}
 use Rattle.lt_lists.specs.Below.{sum_below, gather_below, one_if}
 use Rattle.lt_spec.specs.World.{start}
 use Rattle.lt_model.specs.Moments.{Between, is_at}
-use Rattle.lt_model.specs.OnWay.{Comes, DeskIs, in_set, tell_in, tell_parked, copy_in, freeze_in, tells_of, copies_to, freezes_to, account_of, news_of}
+use Rattle.lt_model.specs.OnWay.{in_set, tell_in, tell_parked, copy_in, freeze_in, tells_of, copies_to, freezes_to, account_of, news_of}
+use Rattle.lt_spec.specs.Desks.{Comes, DeskIs}
 use Rattle.lt_spec.specs.Facts.{state_at, places_in_state, place_count}
 use Rattle.lt_modes.specs.Queue.{times_in}
 use Rattle.lt_law_accounts.specs.Account.{Account, AccountKept, counted}

@@ -8,7 +8,7 @@ use Rattle.lt_modes.specs.State.{Desk, Body, AskBody, TellBody, CopyBody, TokenB
 use Rattle.lt_lists.specs.Below.{sum_below, one_if}
 use Rattle.lt_spec.specs.World.{World}
 use Rattle.lt_spec.specs.Facts.{state_at, tokens_in}
-use Rattle.lt_model.specs.OnWay.{Comes, DeskIs}
+use Rattle.lt_spec.specs.Desks.{Comes, DeskIs}
 use Rattle.lt_model.specs.Paths.{DeskOnPath, HasWay, BodyOnPath, Paths}
 use Rattle.lt_model.specs.Laws.{DeskSomewhere, TokenComes}
 use Rattle.lt_lists.proofs.Sums.{sum_below-some}

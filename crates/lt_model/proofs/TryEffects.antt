@@ -18,7 +18,7 @@ use Rattle.lt_modes.specs.Routing.{Way, Parks, Goes, learn, sent_on, route}
 use Rattle.lt_modes.specs.Telling.{tell_of, finish}
 use Rattle.lt_modes.specs.Taking.{take_body, arrive}
 use Rattle.lt_modes.specs.SetMove.{answers, given, granted, ask_of, asked, locked, unlocked, change_held, changed, dropped, lock, try, unlock, change, drop, take}
-use Rattle.lt_model.specs.TryLines.{IsNoTry}
+use Rattle.lt_spec.specs.TryLines.{IsNoTry}
 use Rattle.lt_lists.proofs.AllLemmas.{all_append, all_any, all_map}
 use Rattle.lt_model.proofs.Effects.{route_ways}
 use Rattle.lt_model.proofs.RuleEffects.{Between, EndRules, finish_rule}

@@ -8,7 +8,8 @@ use Rattle.lt_spec.specs.World.{World, is_enabled, after, world_after, IsRun}
 use Rattle.lt_spec.specs.Holdings.{lines_of}
 use Rattle.lt_model.specs.AddedLocks.{added_by}
 use Rattle.lt_spec.specs.Facts.{state_at}
-use Rattle.lt_model.specs.Homes.{IsWhole, Homes, HasSoundHomes, IsEntryWithin}
+use Rattle.lt_model.specs.Homes.{Homes, HasSoundHomes, IsEntryWithin}
+use Rattle.lt_spec.specs.WholeScripts.{IsWhole}
 
 -- an enabled move keeps locks and asks at home
 abbrev pub HomesKept : Type 0

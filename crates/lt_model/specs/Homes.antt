@@ -2,8 +2,6 @@
 use Rattle.std.specs.Prelude.{◌≡◌, ◌≤◌, ◌<◌, ℕ, length, IsTrue, All, Contains}
 use Rattle.lt_modes.specs.declared.ask.Ask.{Ask}
 use Rattle.lt_modes.specs.declared.parts.Row.{Row}
-use Rattle.lt_modes.specs.declared.command.Command.{Command}
-use Rattle.lt_modes.specs.declared.command.Command.TheVariants.{Lock, Try, Unlock, Change, DropAll}
 use Rattle.lt_modes.specs.declared.moves.Move.{Move}
 use Rattle.lt_modes.specs.declared.moves.Step.{Step}
 use Rattle.lt_modes.specs.declared.moves.Step.TheVariants.{Act, Take}
@@ -18,21 +16,6 @@ use Rattle.lt_spec.specs.Families.{home}
 use Rattle.lt_spec.specs.Log.{Logged}
 use Rattle.lt_spec.specs.World.{World}
 use Rattle.lt_spec.specs.Facts.{state_at}
-
--- the command is for a set of the script, and drops the locks of a client on the node of the one that makes it
-abbrev pub HasTargetsAt : ScriptData → ℕ → Command → Type 0
-HasTargetsAt script client (Lock s mode) = s < length script.sets
-HasTargetsAt script client (Try s mode) = s < length script.sets
-HasTargetsAt script client (Unlock s mode) = s < length script.sets
-HasTargetsAt script client (Change s gives_up mode) = s < length script.sets
-HasTargetsAt script client (DropAll other s) =
-    (s < length script.sets) × (other < length script.clients) × (home script other ≡ home script client)
-
--- the script has a node, clients are on nodes of the script, and what commands name is of the script
-pub record IsWhole (script : ScriptData) : Type 0 where
-  pub some_node : 0 < script.nodes
-  pub homes : (client : ℕ) → client < length script.clients → home script client < script.nodes
-  pub commands : All (λ (request : ℕ × Command). HasTargetsAt script request.0 request.1) script.commands
 
 -- the row is of a client of node q, and holds some lock
 pub record IsRowAtHome (script : ScriptData) (q : ℕ) (row : Row) : Type 0 where

@@ -19,10 +19,12 @@ use Rattle.lt_model.specs.SoundNode.{ClientsKept}
 use Rattle.lt_spec.specs.Facts.{state_at, place_count}
 use Rattle.lt_modes.specs.Queue.{times_in}
 use Rattle.lt_model.specs.Moments.{Moment, Between, is_moving, is_unfrozen}
-use Rattle.lt_model.specs.OnWay.{OnWay, Comes, IsCopyTo, DeskIs, account_of, news_of}
+use Rattle.lt_model.specs.OnWay.{IsCopyTo, account_of, news_of}
+use Rattle.lt_spec.specs.Desks.{OnWay, Comes, DeskIs}
 use Rattle.lt_model.specs.Paths.{Paths}
 use Rattle.lt_law_accounts.specs.Account.{AreClear, AccountKept, counted}
 use Rattle.lt_law_accounts.specs.News.{NewsKept}
+use Rattle.lt_spec.specs.Waits.{WaitsFor}
 
 -- what the letter says is not younger than the letter, and a tell is of a node of the script
 abbrev pub BodyKept : ScriptData → ℕ → Body → Type 0
@@ -91,11 +93,6 @@ pub record WorldInvariant (script : ScriptData) (w : World) : Type 0 where
       → All (λ (letter : Letter). letter.set < length script.sets) (w.mail p q)
   pub none_to_itself : (q : ℕ) → q < script.nodes → w.mail q q ≡ []
   pub sets : (s : ℕ) → s < length script.sets → SetKept script Between w s
-
--- the client waits for the mode: an unanswered ask of it wants it
-abbrev pub WaitsFor : ScriptData → World → ℕ → ℕ → Mode → Type 0
-WaitsFor script w client s mode =
-    (ask : Ask) × Contains (state_at w s (home script client)).pending ask × (ask.client ≡ client) × (ask.mode ≡ mode)
 
 -- the lines so far tell what is held and who waits: after them clients of the script hold locks in sets of it, each as many as
 -- its node keeps for it, and each waits exactly for what an unanswered ask of it wants

@@ -14,13 +14,13 @@ use Rattle.lt_spec.specs.NodeMove.{next_command}
 use Rattle.lt_spec.specs.World.{World, start, is_enabled, move_stamp, node_move, after, world_after, IsRun}
 use Rattle.lt_spec.specs.Facts.{state_at, token_count, place_count}
 use Rattle.lt_modes.specs.State.{Desk, TokenBody}
-use Rattle.lt_model.specs.OnWay.{Comes, DeskIs}
+use Rattle.lt_spec.specs.Desks.{Comes, DeskIs}
 use Rattle.lt_model.specs.Paths.{Paths}
-use Rattle.lt_model.specs.Touches.{IsAside, SameSet, AreStamped}
+use Rattle.lt_spec.specs.Touches.{IsAside, SameSet, AreStamped}
 use Rattle.lt_model.specs.Invariant.{IsServed, WorldInvariant, LinesKept}
 use Rattle.lt_model.specs.Timed.{Timed}
 use Rattle.lt_model.specs.Standing.{AsksStand}
-use Rattle.lt_model.specs.TryLines.{HasExactTries, IsOwnAnswer}
+use Rattle.lt_spec.specs.TryLines.{HasExactTries, IsOwnAnswer}
 
 -- the start of each script has the invariant
 abbrev pub StartKept : Type 0

@@ -4,12 +4,10 @@ pub mod NewsRules
 pub mod OnWay
 pub mod Paths
 pub mod PathEffects
-pub mod Touches
 pub mod Invariant
 pub mod MomentLaws
 pub mod Timed
 pub mod Standing
-pub mod TryLines
 pub mod AccountRules
 pub mod OnWayLaws
 pub mod Homes

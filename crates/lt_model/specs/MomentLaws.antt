@@ -19,7 +19,7 @@ use Rattle.lt_spec.specs.Families.{related}
 use Rattle.lt_spec.specs.NodeMove.{NodeState, NodeMade, node_waits, next_command, act_stamp, take_stamp, at_clock, one_made, touched, joined_moves}
 use Rattle.lt_spec.specs.World.{World, is_enabled, move_stamp, opened, after_made, after}
 use Rattle.lt_spec.specs.Facts.{state_at}
-use Rattle.lt_model.specs.Touches.{IsAside}
+use Rattle.lt_spec.specs.Touches.{IsAside}
 use Rattle.lt_model.specs.Moments.{Between, Acting}
 use Rattle.lt_model.specs.Invariant.{SetKept}
 

@@ -13,16 +13,7 @@ use Rattle.lt_law_accounts.specs.Account.{Account}
 use Rattle.lt_law_accounts.specs.News.{News, Notice}
 use Rattle.lt_spec.specs.World.{World}
 use Rattle.lt_spec.specs.Facts.{state_at}
-
--- the letter is one of the set's on its way from p to q
-pub record OnWay (w : World) (s p q : ℕ) (letter : Letter) : Type 0 where
-  pub among : Contains (w.mail p q) letter
-  pub set : letter.set ≡ s
-
--- a letter of the set that says this is on its way to q
-abbrev pub Comes : ScriptData → World → ℕ → ℕ → Body → Type 0
-Comes script w s q body =
-    (p : ℕ) × (letter : Letter) × (p < script.nodes) × OnWay w s p q letter × (letter.body ≡ body)
+use Rattle.lt_spec.specs.Desks.{Comes}
 
 -- the tell is parked at q or on its way to q
 abbrev pub IsTellAt : ScriptData → World → ℕ → ℕ → Tell → Type 0
@@ -40,11 +31,6 @@ IsCopyTo script w s x ask = Comes script w s x (CopyBody ask)
 -- a freeze with this number and these modes is on its way to x
 abbrev pub IsFreezeTo : ScriptData → World → ℕ → ℕ → ℕ → Modes → Type 0
 IsFreezeTo script w s x number modes = Comes script w s x (FreezeBody number modes)
-
--- the set's desk is this one: at a node, or in a letter on its way
-abbrev pub DeskIs : ScriptData → World → ℕ → Option ℕ → Desk → Type 0
-DeskIs script w s (Some t) desk = (t < script.nodes) × ((state_at w s t).desk ≡ Some desk)
-DeskIs script w s None desk = (q : ℕ) × (q < script.nodes) × Comes script w s q (TokenBody desk)
 
 -- what this reads from letters of the set
 abbrev pub in_set : {X : Type 0} → ℕ → (Body → Option X) → Letter → Option X

@@ -5,7 +5,8 @@ use Rattle.lt_modes.specs.Script.{ScriptData}
 use Rattle.lt_modes.specs.State.{Tell, FreezeBody}
 use Rattle.lt_spec.specs.World.{World}
 use Rattle.lt_law_accounts.specs.News.{Notice}
-use Rattle.lt_model.specs.OnWay.{Comes, IsTellOf, IsCopyTo, tells_of, copies_to, freezes_to}
+use Rattle.lt_model.specs.OnWay.{IsTellOf, IsCopyTo, tells_of, copies_to, freezes_to}
+use Rattle.lt_spec.specs.Desks.{Comes}
 
 -- the tells of a node are in letters on their way between nodes of the script, or parked at one
 abbrev pub TellsAreOnWay : Type 0

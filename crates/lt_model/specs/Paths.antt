@@ -7,7 +7,7 @@ use Rattle.lt_modes.specs.Script.{ScriptData}
 use Rattle.lt_modes.specs.State.{SetState, Desk, Body, AskBody, TellBody, CopyBody, TokenBody, FreezeBody, Letter, Parked, ParkedAsk, ParkedTell}
 use Rattle.lt_spec.specs.World.{World}
 use Rattle.lt_spec.specs.Facts.{state_at, token_count}
-use Rattle.lt_model.specs.OnWay.{OnWay}
+use Rattle.lt_spec.specs.Desks.{OnWay}
 
 -- the token went to the link's node with the link's epoch
 pub record IsTrueLink (went : List ℕ) (link : Link) : Type 0 where

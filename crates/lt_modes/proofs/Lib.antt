@@ -3,3 +3,6 @@ pub mod ModeAlgebra
 mod MaskLemmas
 pub mod ServingLemmas
 mod FiveModesKept
+mod PlaceLemmas
+pub mod SetLemmas
+pub mod StampOrder

@@ -21,3 +21,4 @@ pub mod Fits
 pub mod FiveModes
 pub mod Sound
 pub mod Waiting
+pub mod Counts

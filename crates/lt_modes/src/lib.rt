@@ -5,6 +5,7 @@
 
 mod ask;
 mod command;
+mod counts;
 mod event;
 mod laws;
 mod mode;
@@ -17,6 +18,7 @@ mod tests;
 
 pub use ask::Ask;
 pub use command::Command;
+pub use counts::{ModeCounts, place};
 pub use event::Event;
 pub use laws::{law_five_modes, law_modes};
 pub use mode::{MODES, Mode};

@@ -4,14 +4,14 @@ use Rattle.std.specs.Str.{bytes_eq}
 use Rattle.lt_modes.specs.declared.mode.Mode.{Mode}
 use Rattle.lt_modes.specs.Modes.{mode_of}
 use Rattle.lt_text.specs.Text.{lines, words}
-use Rattle.lt_script.specs.Names.{is_name}
+use Rattle.lt_spec.specs.Names.{is_name}
 use Rattle.lt_script.specs.Reading.{says_nothing}
 use Rattle.lt_nest_lines.specs.declared.limits.TheConstants.{MAX_SETS, MAX_TRANSACTIONS, MAX_LINES}
 use Rattle.lt_nest_lines.specs.declared.order.Order.{Order}
 use Rattle.lt_nest_lines.specs.declared.order.Order.TheVariants.{Begin, BeginIn, Lock, Try, Commit, Abort}
 use Rattle.lt_nest_lines.specs.declared.reading.ReadError.{ReadError}
 use Rattle.lt_nest_lines.specs.declared.reading.ReadError.TheVariants as errors
-use Rattle.lt_nest_lines.specs.Forms.{FormData, SetForm, BeginForm, BeginInForm, LockForm, TryForm, CommitForm, AbortForm, line_form}
+use Rattle.lt_nest_lines.specs.Forms.{NestFormData, SetForm, BeginForm, BeginInForm, LockForm, TryForm, CommitForm, AbortForm, line_form}
 
 -- the sets and transactions that lines declare, in order, and what the other lines order
 pub record InputData : Type 0 where
@@ -97,7 +97,7 @@ try_order (Some t) (Some set) (Some mode) = Some (Try t set mode)
 try_order t set mode = None
 
 -- the input after a line of this form; none where the line is refused
-abbrev pub input_after_form : InputData → FormData → Option InputData
+abbrev pub input_after_form : InputData → NestFormData → Option InputData
 input_after_form d (SetForm s) = set_line d s
 input_after_form d (BeginForm t) = begin_line d t (Some Begin)
 input_after_form d (BeginInForm t p) = begin_line d t (begin_in (place_of d.transactions p))
@@ -107,7 +107,7 @@ input_after_form d (CommitForm t) = order_line d (commit_order (place_of d.trans
 input_after_form d (AbortForm t) = order_line d (abort_order (place_of d.transactions t))
 
 -- a line that has no form is refused, and so is one too many
-abbrev pub input_after_words : InputData → Option FormData → Option InputData
+abbrev pub input_after_words : InputData → Option NestFormData → Option InputData
 input_after_words d None = None
 input_after_words d (Some form) = if nat_lt (line_count d) MAX_LINES then input_after_form d form else None
 

@@ -62,12 +62,12 @@ orders_text d p [] = []
 orders_text d p (order ∷ rest) = order_text d p order ++ orders_text d (after_order p order) rest
 
 -- nothing is declared yet
-abbrev pub first_of : InputData → PlayState
-first_of d = first_play (length d.sets)
+abbrev pub play_before : InputData → PlayState
+play_before d = first_play (length d.sets)
 
 -- what is written of an input
 abbrev pub report_text : InputData → List ℕ
-report_text d = orders_text d (first_of d) d.orders ++ closing_text d (after_orders (first_of d) d.orders)
+report_text d = orders_text d (play_before d) d.orders ++ closing_text d (after_orders (play_before d) d.orders)
 
 -- the text of a reading error
 abbrev pub read_error_text : ReadError → List ℕ

@@ -9,7 +9,7 @@ use Rattle.std.proofs.lemmas.Grind.{get_or-set_at}
 use Rattle.std.proofs.lemmas.List.Elements.{Contains-get_or}
 use Rattle.lt_modes.specs.declared.command.Command.{Command}
 use Rattle.lt_modes.specs.Script.{ScriptData}
-use Rattle.lt_script.specs.Script.{IsScript, IsRequest, HasTargets}
+use Rattle.lt_spec.specs.Script.{IsScript, IsRequest, HasTargets}
 use Rattle.lt_lists.specs.Below.{put}
 use Rattle.lt_lists.proofs.Members.{filter_map-which, some_equal}
 use Rattle.lt_spec.specs.Families.{commands_of, command_if, home}

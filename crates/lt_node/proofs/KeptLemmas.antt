@@ -10,7 +10,7 @@ use Rattle.std.proofs.lemmas.List.Sums.{sum_by-cons}
 use Rattle.lt_modes.specs.State.{SetState}
 use Rattle.lt_core.specs.CoreData.{CoreData, HasMemory, waiting_here}
 use Rattle.lt_core.specs.Bound.{most}
-use Rattle.lt_limits.specs.Limits.{node_within}
+use Rattle.lt_spec.specs.Limits.{node_within}
 use Rattle.lt_spec.specs.NodeMove.{NodeState}
 use Rattle.lt_node.specs.NodeData.{NodeData, IsNode, SameNode, state_of, first_core}
 use Rattle.lt_node.specs.Room.{KeptData, HasFewAsks, kept_of, most_sent}

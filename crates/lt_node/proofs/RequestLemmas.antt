@@ -8,7 +8,7 @@ use Rattle.std.proofs.lemmas.List.{take_more, get_or-set_same, get_or-set_other,
 use Rattle.std.proofs.lemmas.List.Elements.{filter_map-append}
 use Rattle.lt_modes.specs.declared.command.Command.{Command}
 use Rattle.lt_modes.specs.Script.{ScriptData}
-use Rattle.lt_script.specs.Script.{IsScript}
+use Rattle.lt_spec.specs.Script.{IsScript}
 use Rattle.lt_spec.specs.Families.{command_if, commands_of, home}
 use Rattle.lt_node.specs.Clients.{Progress, HaveFirst, progress_of, no_progress, no_command, with_command, with_own_request, homes_in, first_commands}
 use Rattle.lt_node.proofs.StartLemmas.{home_is, homes_count}

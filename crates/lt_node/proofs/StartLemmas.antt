@@ -7,7 +7,7 @@ use Rattle.std.proofs.lemmas.List.{take_more, map-append, length_push, length-ma
 use Rattle.std.proofs.Math.ListN.{get_or-map as map_read}
 use Rattle.lt_modes.specs.Script.{ScriptData, ClientData, home_at, node_of_client}
 use Rattle.lt_modes.specs.State.{first_state}
-use Rattle.lt_script.specs.Script.{IsScript}
+use Rattle.lt_spec.specs.Script.{IsScript}
 use Rattle.lt_spec.specs.Families.{commands_of, home}
 use Rattle.lt_spec.specs.World.{start}
 use Rattle.lt_core.specs.CoreData.{CoreData}

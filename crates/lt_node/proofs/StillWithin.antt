@@ -9,7 +9,7 @@ use Rattle.lt_modes.specs.Fits.{asks_here}
 use Rattle.lt_modes.specs.Held.{locks_in}
 use Rattle.lt_modes.specs.State.{SetState, Desk}
 use Rattle.lt_lists.proofs.Searches.{any_below_none}
-use Rattle.lt_limits.specs.Limits.{desk_within, set_within, node_within}
+use Rattle.lt_spec.specs.Limits.{desk_within, set_within, node_within}
 use Rattle.lt_core.specs.CoreData.{CoreData}
 use Rattle.lt_node.specs.NodeData.{NodeData, IsNode, state_of, core_at, first_core}
 use Rattle.lt_node.specs.Ready.{KnowsNone, KnowsWithin}

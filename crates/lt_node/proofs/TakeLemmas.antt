@@ -12,7 +12,7 @@ use Rattle.lt_desk.specs.OutData.{OutData, FitsOut}
 use Rattle.lt_core.specs.CoreData.{CoreData, Does, HasRoom, HasMemory, RoomForBody, waiting_here}
 use Rattle.lt_core.specs.Bound.{RoomToSend, most, brought}
 use Rattle.lt_core.proofs.BoundLemmas.{takes_fit}
-use Rattle.lt_limits.specs.Limits.{node_within}
+use Rattle.lt_spec.specs.Limits.{node_within}
 use Rattle.lt_node.specs.NodeData.{NodeData, NodeDoes, IsNode, IsCoreOf, state_of, core_at}
 use Rattle.lt_node.specs.Room.{RoomToTake}
 use Rattle.lt_node.proofs.NodeLemmas.{core_is, node_is, touch_does}

@@ -1,7 +1,6 @@
 -- What the limits of a node give of the premises of its moves.
-use Rattle.std.proofs.Common.{◌≡◌, ◌≤◌, ◌<◌, true, ℕ, Option, Some, None, length, nat_le, arith, subst, IsTrue}
+use Rattle.std.proofs.Common.{◌≡◌, ◌≤◌, ◌<◌, true, ℕ, Option, Some, None, length, nat_le, arith, subst, IsTrue, length-append}
 use Rattle.std.specs.Prelude.{not}
-use Rattle.std.proofs.Common.{length-append}
 use Rattle.std.proofs.lemmas.Bool.{and_parts, leb-true, ltb-true, not-true, not-false}
 use Rattle.std.proofs.lemmas.List.{get_or_default}
 use Rattle.lt_modes.specs.State.{SetState, Desk}
@@ -9,7 +8,7 @@ use Rattle.lt_modes.specs.Held.{locks_in}
 use Rattle.lt_modes.specs.Serving.{queue_of}
 use Rattle.lt_modes.specs.Fits.{parked_asks, asks_here}
 use Rattle.lt_lists.proofs.Searches.{any_below_none}
-use Rattle.lt_limits.specs.Limits.{desk_within, set_within, leaves_ask, node_within, leaves_asks}
+use Rattle.lt_spec.specs.Limits.{desk_within, set_within, leaves_ask, node_within, leaves_asks}
 use Rattle.lt_core.specs.CoreData.{CoreData, HasRoom, HasMemory, waiting_here, epoch_of, freeze_number_of}
 use Rattle.lt_desk.specs.OutData.{OutData}
 use Rattle.lt_node.specs.NodeData.{NodeData, IsNode, state_of, core_at, first_core}

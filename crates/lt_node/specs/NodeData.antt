@@ -4,7 +4,7 @@ use Rattle.lt_modes.specs.Script.{ScriptData}
 use Rattle.lt_modes.specs.State.{first_state}
 use Rattle.lt_desk.specs.OutData.{OutData}
 use Rattle.lt_core.specs.CoreData.{CoreData}
-use Rattle.lt_script.specs.Script.{IsScript}
+use Rattle.lt_spec.specs.Script.{IsScript}
 use Rattle.lt_spec.specs.NodeMove.{NodeState, NodeMade}
 
 -- the script, the node's number and clock, how many commands each client has made here, and its sets

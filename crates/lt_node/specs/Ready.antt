@@ -1,7 +1,7 @@
 -- What a node knows of its sets from one move to the next: a number for each set, where it is known.
 use Rattle.std.specs.Prelude.{◌≡◌, ◌<◌, ◌≤◌, ℕ, List, Option, Some, None, IsTrue, length, slice_index_or}
 use Rattle.lt_core.specs.CoreData.{CoreData, HasMemory}
-use Rattle.lt_limits.specs.Limits.{set_within}
+use Rattle.lt_spec.specs.Limits.{set_within}
 use Rattle.lt_node.specs.Room.{most_sent}
 
 -- the set has memory for one move, and may send so much in it

@@ -5,8 +5,8 @@ use Rattle.lt_spec.specs.Families.{home}
 use Rattle.lt_spec.specs.NodeMove.{NodeState, node_waits, has_command}
 
 -- the client is one of node q; it doesn't wait, and has a command left
-abbrev pub is_runnable : ScriptData → ℕ → NodeState → ℕ → Bool
-is_runnable script q n client = home script client == q && (not (node_waits script n client) && has_command script n client)
+abbrev pub is_runnable_here : ScriptData → ℕ → NodeState → ℕ → Bool
+is_runnable_here script q n client = home script client == q && (not (node_waits script n client) && has_command script n client)
 
 -- the least number below n that passes, where one does
 abbrev pub IsLeast : ℕ → (ℕ → Bool) → Option ℕ → Type 0

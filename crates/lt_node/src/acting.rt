@@ -1,7 +1,7 @@
 ghost use Rattle.std.specs.Prelude.{◌≡◌, ◌+◌, ◌<◌, ◌&&◌, ◌^◌, not, length, Some, IsTrue};
 ghost use Rattle.lt_core.specs.SetCommands.{answer_of, move_of};
-ghost use Rattle.lt_limits.specs.Limits.{node_within, leaves_asks};
-ghost use Rattle.lt_script.specs.Script.{HasTargets};
+ghost use Rattle.lt_spec.specs.Limits.{node_within, leaves_asks};
+ghost use Rattle.lt_spec.specs.Script.{HasTargets};
 ghost use Rattle.lt_spec.specs.Families.{home};
 ghost use Rattle.lt_spec.specs.NodeMove.{node_waits, has_command, next_command, node_act, one_made, at_clock, obey, touched};
 ghost use Rattle.lt_modes.specs.declared.command.Command.TheVariants as commands;

@@ -1,7 +1,7 @@
 // Commands that come while the node is at work.
 ghost use Rattle.std.specs.Prelude.{◌≡◌, ◌<◌, length, OnOk, OnErr};
-ghost use Rattle.lt_script.specs.Script.{HasTargets, HasModesOf};
-ghost use Rattle.lt_script.specs.declared.limits.TheConstants.{MAX_COMMANDS};
+ghost use Rattle.lt_spec.specs.Script.{HasTargets, HasModesOf};
+ghost use Rattle.lt_spec.specs.declared.limits.TheConstants.{MAX_COMMANDS};
 ghost use Rattle.lt_spec.specs.Families.{home};
 ghost use Rattle.lt_node.specs.Appending.{with_request};
 ghost use Rattle.lt_node.specs.Clients.{with_command};

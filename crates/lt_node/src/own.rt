@@ -1,7 +1,7 @@
 // The clients of a node, and the first of them that can act.
 ghost use Rattle.std.specs.Prelude.{◌<◌, ◌+◌, length, IfOk, OnOk};
 ghost use Rattle.lt_node.specs.NodeData.{state_of};
-ghost use Rattle.lt_node.specs.Running.{AreOwn, IsLeast, is_runnable};
+ghost use Rattle.lt_node.specs.Running.{AreOwn, IsLeast, is_runnable_here};
 
 use crate::node::Node;
 use lt_script::{MAX_CLIENTS_OF_NODE, Script};
@@ -10,7 +10,7 @@ use std::alloc::{AllocError, Global};
 impl Node {
     /// The first client of this node that doesn't wait and has a command left.
     pub fn first_runnable(&self) -> Option<u16>
-        ensures { IsLeast (length self.now.script.clients) (is_runnable self.now.script self.now.me (state_of self.now)) result }
+        ensures { IsLeast (length self.now.script.clients) (is_runnable_here self.now.script self.now.me (state_of self.now)) result }
     {
         first_of(self, &self.own)
     }
@@ -19,7 +19,7 @@ impl Node {
 // The same, of these, which are the node's own.
 fn first_of(node: &Node, own: &[u16]) -> Option<u16>
     requires { AreOwn node.now.script.clients node.now.me 0 (length node.now.script.clients) own.now }
-    ensures { IsLeast (length node.now.script.clients) (is_runnable node.now.script node.now.me (state_of node.now)) result }
+    ensures { IsLeast (length node.now.script.clients) (is_runnable_here node.now.script node.now.me (state_of node.now)) result }
 {
     for place in 0..own.len() {
         let client = own[place];

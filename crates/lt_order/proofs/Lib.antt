@@ -1,3 +1,2 @@
-pub mod FirstBad
 pub mod LockLists
 pub mod Orders

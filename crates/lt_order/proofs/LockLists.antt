@@ -8,7 +8,7 @@ use Rattle.lt_modes.specs.Modes.{same_mode}
 use Rattle.lt_modes.specs.Script.{ScriptData}
 use Rattle.lt_spec.specs.Families.{is_related}
 use Rattle.lt_spec.specs.Holdings.{Holding, holding, same_holding, without_holding, without_one, is_dropped}
-use Rattle.lt_order.specs.Ordered.{are_below, holds_none}
+use Rattle.lt_spec.specs.Ordered.{are_below, holds_none}
 use Rattle.lt_order.specs.Locks.{locks_from, is_mode}
 
 -- locks from set s on are below no smaller bound, unless they are none

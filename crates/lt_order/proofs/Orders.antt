@@ -7,7 +7,7 @@ use Rattle.lt_modes.specs.declared.command.Command.{Command}
 use Rattle.lt_modes.specs.Script.{ScriptData}
 use Rattle.lt_spec.specs.Families.{command_if}
 use Rattle.lt_spec.specs.Holdings.{Holding}
-use Rattle.lt_order.specs.Ordered.{keeps_order, may_hold_after, is_orderly_from}
+use Rattle.lt_spec.specs.Ordered.{keeps_order, may_hold_after, is_orderly_from}
 
 drop_first : {X : Type 0} (i : ℕ) (xs : List X) (d : X) → i < length xs → drop i xs ≡ slice_index_or xs i d ∷ drop (i + 1) xs
 drop_first i [] d h = absurd (omega (arith, h))

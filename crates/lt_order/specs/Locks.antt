@@ -24,8 +24,8 @@ locks_from client s [] = []
 locks_from client s (mode ∷ rest) = lock_then client s mode (locks_from client (s + 1) rest)
 
 -- the client's locks of these modes
-abbrev pub locks_in : ℕ → List (Option Mode) → List Holding
-locks_in client modes = locks_from client 0 modes
+abbrev pub locks_for : ℕ → List (Option Mode) → List Holding
+locks_for client modes = locks_from client 0 modes
 
 -- the mode that a set may have is this one
 abbrev pub is_mode : Option Mode → Mode → Bool

@@ -2,8 +2,8 @@ ghost use Rattle.std.specs.Prelude.{◌≡◌, ◌<◌, ◌++◌, ◌∷◌, [],
 ghost use Rattle.std.specs.List.{list_all};
 ghost use Rattle.lt_spec.specs.Families.{family};
 ghost use Rattle.lt_spec.specs.Holdings.{Holding, holding, without_one, is_dropped};
-ghost use Rattle.lt_order.specs.Ordered.{are_below, holds_none, keeps_order, may_hold_after};
-ghost use Rattle.lt_order.specs.Locks.{locks_in, set_named, is_mode};
+ghost use Rattle.lt_spec.specs.Ordered.{are_below, holds_none, keeps_order, may_hold_after};
+ghost use Rattle.lt_order.specs.Locks.{locks_for, set_named, is_mode};
 
 use lt_modes::{Command, Mode};
 use lt_script::{MAX_SETS, Script};
@@ -32,7 +32,7 @@ impl Model for Locks {
 impl Locks {
     /// No locks.
     pub(crate) fn none() -> Locks
-        ensures { (client : ℕ) → locks_in client result ≡ [] }
+        ensures { (client : ℕ) → locks_for client result ≡ [] }
     {
         Locks {
             modes: [None; MAX_SETS as usize],
@@ -41,7 +41,7 @@ impl Locks {
 
     /// Whether there is no lock.
     pub(crate) fn is_empty(&self) -> bool
-        ensures { (client : ℕ) → result ≡ holds_none (locks_in client self.now) }
+        ensures { (client : ℕ) → result ≡ holds_none (locks_for client self.now) }
     {
         are_free(&self.modes)
     }
@@ -50,9 +50,9 @@ impl Locks {
     /// after it.
     pub(crate) fn make(&mut self, script: &Script, client: u16, command: Command) -> bool
         requires { set_named command < 8 }
-        ensures keeps { result ≡ keeps_order client (locks_in client self.old) command }
+        ensures keeps { result ≡ keeps_order client (locks_for client self.old) command }
         ensures made { IsTrue result →
-            locks_in client self.new ≡ may_hold_after script.now client (locks_in client self.old) command }
+            locks_for client self.new ≡ may_hold_after script.now client (locks_for client self.old) command }
     {
         match command {
             Command::Lock { set, mode } | Command::Try { set, mode } => {
@@ -80,7 +80,7 @@ impl Locks {
     // Whether each lock is of a set with a smaller number.
     fn are_below(&self, set: u8) -> bool
         requires { set < 8 }
-        ensures { (client : ℕ) → result ≡ are_below set (locks_in client self.now) }
+        ensures { (client : ℕ) → result ≡ are_below set (locks_for client self.now) }
     {
         are_free(&self.modes[usize::from(set)..])
     }
@@ -88,8 +88,8 @@ impl Locks {
     // Adds a lock of a greater set than those of the others.
     fn add(&mut self, set: u8, mode: Mode)
         requires room { set < 8 }
-        requires rises { (client : ℕ) → IsTrue (are_below set (locks_in client self.old)) }
-        ensures { (client : ℕ) → locks_in client self.new ≡ locks_in client self.old ++ holding client set mode ∷ [] }
+        requires rises { (client : ℕ) → IsTrue (are_below set (locks_for client self.old)) }
+        ensures { (client : ℕ) → locks_for client self.new ≡ locks_for client self.old ++ holding client set mode ∷ [] }
     {
         self.modes[usize::from(set)] = Some(mode);
     }
@@ -97,7 +97,7 @@ impl Locks {
     // Takes one such lock away, where there is one.
     fn take(&mut self, set: u8, mode: Mode)
         requires { set < 8 }
-        ensures { (client : ℕ) → locks_in client self.new ≡ without_one (locks_in client self.old) (holding client set mode) }
+        ensures { (client : ℕ) → locks_for client self.new ≡ without_one (locks_for client self.old) (holding client set mode) }
     {
         if is_mode(self.modes[usize::from(set)], mode) {
             self.modes[usize::from(set)] = None;
@@ -106,8 +106,8 @@ impl Locks {
 
     // Drops the locks of the set's family.
     fn drop_family(&mut self, script: &Script, set: u8)
-        ensures { (client : ℕ) → locks_in client self.new
-            ≡ filter (λ lock. not (is_dropped script.now client set lock)) (locks_in client self.old) }
+        ensures { (client : ℕ) → locks_for client self.new
+            ≡ filter (λ lock. not (is_dropped script.now client set lock)) (locks_for client self.old) }
     {
         for other in 0..MAX_SETS {
             if family(script, other) == family(script, set) {

@@ -13,13 +13,13 @@ use Rattle.lt_pool.specs.Items.{ContinuesAt, EachContinues, AllSome}
 use Rattle.lt_pool.specs.Rule.{IsLive, Home, Kept}
 use Rattle.lt_pool.proofs.NumberLemmas.{none_in_none}
 use Rattle.lt_pool.proofs.ViewLemmas.{there_below, one_live}
-use Rattle.lt_pool.proofs.PostLemmas.{first_is}
+use Rattle.lt_pool.proofs.BadgeLemmas.{first_is}
 
 some_is : {T : Type 0} (x y : T) → Some x ≡ Some y → x ≡ y
 some_is {T} x y e = ap (λ (o : Option T). unwrap_or o x) e
 
 module _ {T : Type 0} (continues : T → T → Type 0) (firsts : List T) where
-  -- where the first post has no slot, and all that were split off it were joined, each slot is free
+  -- where the first badge has no slot, and all that were split off it were joined, each slot is free
   all_free : (s : State (Option T) (View T)) (id : ℕ) (v : View T) → Kept continues firsts s → IsLive s.views id v
       → v.number ≡ 0 → v.claimed ≡ [] → length v.joined ≡ v.splits
       → (i : ℕ) → i < length firsts → slice_index s.words (i + 1) ≡ 0

@@ -6,7 +6,7 @@ use native.Mathlib.Decide.{ℕ_discrete}
 use lib.ListN.{get_elem?}
 use Rattle.atomic_table.specs.Table.{Act, Valid, keeps, takes, gives, chain, homes_after, carried_after}
 use Rattle.atomic_table.proofs.Lists.{set_here, set_else}
-use Rattle.lt_pool.specs.Numbers.{Has, without, AllDiffer}
+use Rattle.lt_pool.specs.Numbers.{Has, without_first, AllDiffer}
 use Rattle.lt_pool.specs.Rule.{empty_hands}
 
 -- what lies in the slots that are at home
@@ -22,7 +22,7 @@ module _ {T : Type 0} where
   pub record Brings (homes : Homes T) (i : ℕ) (slots : List ℕ) : Type 0 where
     pub act : Act (Option T)
     pub valid : Valid homes (empty_hands slots) act
-    pub carried : carried_after (empty_hands slots) act ≡ empty_hands (i ∷ without i slots)
+    pub carried : carried_after (empty_hands slots) act ≡ empty_hands (i ∷ without_first i slots)
     pub wide : length (homes_after homes (empty_hands slots) act) ≡ length homes
     pub else : (j : ℕ) → (Has j slots → ⊥) → get_elem? (homes_after homes (empty_hands slots) act) j ≡ get_elem? homes j
 
@@ -66,7 +66,7 @@ module _ {T : Type 0} where
         act = keeps;
         valid = tt;
         carried = ap (λ y. (y, None) ∷ empty_hands xs) (sym e)
-            ∙ ap (λ t. empty_hands (i ∷ cond t xs (x ∷ without i xs))) (sym (eq-eqb i x e));
+            ∙ ap (λ t. empty_hands (i ∷ cond t xs (x ∷ without_first i xs))) (sym (eq-eqb i x e));
         wide = refl;
         else = λ j not. refl;
       })
@@ -75,7 +75,7 @@ module _ {T : Type 0} where
       let given = slice_set homes x (math.some None) in
       let as_wide : length given ≡ length homes = length-set homes x (math.some None) in
       let rest = brings given i xs later differ.1 (λ j h. subst (λ n. j < n) (sym as_wide) (below j (inr h))) in
-      let others = empty_hands (without i xs) in
+      let others = empty_hands (without_first i xs) in
       let homes_then = homes_after given (empty_hands xs) rest.act in
       let hands_then = carried_after (empty_hands xs) rest.act in
       let back = swaps homes_then hands_then i x others
@@ -86,7 +86,7 @@ module _ {T : Type 0} where
       record {
         act = chain gives (chain rest.act (swap i x));
         valid = (tt, (rest.valid, back.valid));
-        carried = back.carried ∙ ap (λ t. empty_hands (i ∷ cond t xs (x ∷ without i xs))) (sym (ne_eqb i x ne));
+        carried = back.carried ∙ ap (λ t. empty_hands (i ∷ cond t xs (x ∷ without_first i xs))) (sym (ne_eqb i x ne));
         wide = back.wide ∙ (rest.wide ∙ as_wide);
         else = λ j not.
             back.else j (λ e. not (inr (subst (λ y. Has y xs) (sym e) later))) (λ e. not (inl e))

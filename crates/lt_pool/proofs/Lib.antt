@@ -3,6 +3,6 @@ pub mod ViewLemmas
 pub mod Forwarding
 pub mod RuleLemmas
 pub mod StepLemmas
-pub mod PostLemmas
+pub mod BadgeLemmas
 pub mod OpeningLemmas
 pub mod ClosingLemmas

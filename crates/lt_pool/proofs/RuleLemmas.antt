@@ -1,4 +1,4 @@
--- How the rule of a pool goes on where the word of a slot, its home and the view of one post change.
+-- How the rule of a pool goes on where the word of a slot, its home and the view of one badge change.
 use Rattle.std.proofs.Common.{◌≡◌, ◌≢◌, ◌⊎◌, ℕ, ◌+◌, ◌<◌, true, List, [], ◌∷◌, ◌++◌, length, slice_index, slice_set, Option, Some, sym, refl, ap, ◌∙◌, subst, inl, inr, ⊎_elim, length-set, arith}
 use mathlib.Core.Logic.{dite}
 use mathlib.Core.Option as math
@@ -7,13 +7,13 @@ use lib.ListN.{get_elem?}
 use Rattle.atomic_table.specs.Table.{State}
 use Rattle.atomic_table.proofs.Lists.{set_here, set_else}
 use Rattle.lt_pool.specs.declared.view.View.{View}
-use Rattle.lt_pool.specs.Numbers.{Has, without, AllDiffer}
+use Rattle.lt_pool.specs.Numbers.{Has, without_first, AllDiffer}
 use Rattle.lt_pool.specs.Items.{ContinuesAt}
 use Rattle.lt_pool.specs.Views.{claimed_more, refused_more, claimed_less}
 use Rattle.lt_pool.specs.Rule.{NoneReadZero, IsLive, Owner, Knows, Home, Kept}
 use Rattle.lt_pool.specs.PoolLaws.{AtHome, InOneHand}
 use Rattle.lt_pool.proofs.NumberLemmas.{has_without, without_keeps, without_it, differ_without}
-use Rattle.lt_pool.proofs.ViewLemmas.{SamePost, word_here, word_else, live_set, set_live, apart_stays, first_stays, owner_stays}
+use Rattle.lt_pool.proofs.ViewLemmas.{SameBadge, word_here, word_else, live_set, set_live, apart_stays, first_stays, owner_stays}
 use Rattle.lt_pool.proofs.Forwarding.{Homes}
 
 none_zero_push : (refused : List (ℕ × ℕ)) (i word : ℕ) → word ≢ 0 → NoneReadZero refused
@@ -22,9 +22,9 @@ none_zero_push [] i word ne h = (ne, tt)
 none_zero_push (x ∷ xs) i word ne h = (h.0, none_zero_push xs i word ne h.1)
 
 module _ {T : Type 0} where
-  same_post : (v : View T) (claimed : List ℕ) (refused : List (ℕ × ℕ)) → v.live ≡ true
-      → SamePost v (record v { claimed = claimed; refused = refused })
-  same_post v claimed refused live = record {
+  same_badge : (v : View T) (claimed : List ℕ) (refused : List (ℕ × ℕ)) → v.live ≡ true
+      → SameBadge v (record v { claimed = claimed; refused = refused })
+  same_badge v claimed refused live = record {
     firsts = refl;
     live = live;
     number = refl;
@@ -33,7 +33,7 @@ module _ {T : Type 0} where
     joined = refl;
   }
 
-  -- what a post knows that doesn't have slot i, after the word of slot i changed
+  -- what a badge knows that doesn't have slot i, after the word of slot i changed
   knows_else : (firsts : List T) (words : List ℕ) (i n : ℕ) (v : View T) → (Has i v.claimed → ⊥)
       → Knows firsts words v → Knows firsts (slice_set words (i + 1) n) v
   knows_else firsts words i n v not k = record {
@@ -49,7 +49,7 @@ module _ {T : Type 0} (continues : T → T → Type 0) (firsts : List T) where
   abbrev Rule : State (Option T) (View T) → Type 0
   Rule s = Kept continues firsts s
 
-  -- no live post has a slot whose word is 0
+  -- no live badge has a slot whose word is 0
   not_free : (s : State (Option T) (View T)) (j i : ℕ) (v : View T) → Rule s → IsLive s.views j v
       → slice_index s.words (i + 1) ≡ 0 → Has i v.claimed → ⊥
   not_free s j i v r is free has =
@@ -77,7 +77,7 @@ module _ {T : Type 0} (continues : T → T → Type 0) (firsts : List T) where
 
   -- a step of seat `id`, whose view becomes w
   after_step : (s : State (Option T) (View T)) (id : ℕ) (v w : View T) (words : List ℕ) (homes : Homes T)
-      → Rule s → IsLive s.views id v → SamePost v w → length words ≡ length s.words → length homes ≡ length s.homes
+      → Rule s → IsLive s.views id v → SameBadge v w → length words ≡ length s.words → length homes ≡ length s.homes
       → ((i : ℕ) → i < length firsts → slice_index words (i + 1) ≡ 0 → Home continues firsts homes i)
       → ((i : ℕ) → i < length firsts → slice_index words (i + 1) ≢ 0 → Owner (slice_set s.views id w) i)
       → Knows firsts words w → ((j : ℕ) (u : View T) → j ≢ id → IsLive s.views j u → Knows firsts words u)
@@ -109,7 +109,7 @@ module _ {T : Type 0} (continues : T → T → Type 0) (firsts : List T) where
   view_changes s id v claimed refused homes r is back forth differ refusals rows else =
       let w = record v { claimed = claimed; refused = refused } in
       let k = r.knows id v is in
-      after_step s id v w s.words homes r is (same_post v claimed refused is.live) refl rows
+      after_step s id v w s.words homes r is (same_badge v claimed refused is.live) refl rows
       (λ i li free.
       let h = r.free i li free in
       record { item = h.item; there = else i (not_free s id i v r is free) ∙ h.there; fits = h.fits })
@@ -139,7 +139,7 @@ module _ {T : Type 0} (continues : T → T → Type 0) (firsts : List T) where
       let wide = r.wide in
       let here : slice_index words (i + 1) ≡ n = word_here s.words i n (omega arith) in
       let k = r.knows id v is in
-      after_step s id v w words (slice_set s.homes i math.none) r is (same_post v (i ∷ v.claimed) v.refused is.live)
+      after_step s id v w words (slice_set s.homes i math.none) r is (same_badge v (i ∷ v.claimed) v.refused is.live)
       (length-set s.words (i + 1) n) (length-set s.homes i math.none)
       (λ j lj z. dite (ℕ_discrete j i)
       (λ e. let nought : n ≡ 0 = sym here ∙ (ap (λ x. slice_index words (x + 1)) (sym e) ∙ z) in absurd (omega arith))
@@ -176,7 +176,7 @@ module _ {T : Type 0} (continues : T → T → Type 0) (firsts : List T) where
       let rows = r.rows in
       let here : slice_index words (i + 1) ≡ 0 = word_here s.words i 0 (omega arith) in
       let k = r.knows id v is in
-      after_step s id v w words homes r is (same_post v (without i v.claimed) v.refused is.live)
+      after_step s id v w words homes r is (same_badge v (without_first i v.claimed) v.refused is.live)
       (length-set s.words (i + 1) 0) (length-set s.homes i (math.some (Some item)))
       (λ j lj z. dite (ℕ_discrete j i)
       (λ e. subst (Home continues firsts homes) (sym e)
@@ -191,7 +191,7 @@ module _ {T : Type 0} (continues : T → T → Type 0) (firsts : List T) where
       record {
         told = k.told;
         claims = λ j h. let c = k.claims j (has_without i j v.claimed h) in
-            let other : j ≢ i = λ e. without_it i v.claimed k.differ (subst (λ x. Has x (without i v.claimed)) e h) in
+            let other : j ≢ i = λ e. without_it i v.claimed k.differ (subst (λ x. Has x (without_first i v.claimed)) e h) in
             (c.0, word_else s.words i j 0 other ∙ c.1);
         differ = differ_without i v.claimed k.differ;
         refusals = k.refusals;

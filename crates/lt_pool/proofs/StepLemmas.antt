@@ -8,7 +8,7 @@ use prog.Atomic.{either}
 use Rattle.atomic_table.specs.Table.{State, Act, Step, Valid, step, keeps, takes, gives, stepped, rest, homes_after, carried_after, Allows}
 use Rattle.atomic_table.proofs.Lists.{exchanged}
 use Rattle.lt_pool.specs.declared.view.View.{View}
-use Rattle.lt_pool.specs.Numbers.{Has, without}
+use Rattle.lt_pool.specs.Numbers.{Has, without_first}
 use Rattle.lt_pool.specs.Items.{ContinuesAt}
 use Rattle.lt_pool.specs.Views.{claimed_more, refused_more, claimed_less, brought_forward}
 use Rattle.lt_pool.specs.Rule.{IsLive, Kept, empty_hands}
@@ -86,7 +86,7 @@ module _ {T : Type 0} (continues : T → T → Type 0) (firsts : List T) where
       let homes_wide = r.rows in
       let b = brings s.homes i v.claimed has k.differ (λ j h. subst (λ n. j < n) (sym homes_wide) (k.claims j h).0) in
       let homes = homes_after s.homes (empty_hands v.claimed) b.act in
-      let kept = view_changes continues firsts s id v (i ∷ without i v.claimed) v.refused homes r is
+      let kept = view_changes continues firsts s id v (i ∷ without_first i v.claimed) v.refused homes r is
       (λ j. ⊎_elim (λ e. subst (λ x. Has x v.claimed) (sym e) has) (has_without i j v.claimed))
       (λ j h. dite (ℕ_discrete j i) (λ e. inl e) (λ ne. inr (without_keeps i j v.claimed ne h)))
       (without_it i v.claimed k.differ, differ_without i v.claimed k.differ)

@@ -52,8 +52,8 @@ module _ {T : Type 0} where
       → IsLive (slice_set views id w) j u
   else_live views id j u w ne is = record { there = set_else views id j w ne ∙ is.there; live = is.live }
 
-  -- v and w are views of one live post, which split off and joined no other in between
-  pub record SamePost (v w : View T) : Type 0 where
+  -- v and w are views of one live badge, which split off and joined no other in between
+  pub record SameBadge (v w : View T) : Type 0 where
     pub firsts : w.firsts ≡ v.firsts
     pub live : w.live ≡ true
     pub number : w.number ≡ v.number
@@ -76,8 +76,8 @@ module _ {T : Type 0} where
       (live_set views id k w b pk))
       (live_set views id j w a pj)
 
-  -- the first post itself goes on
-  first_goes_on : (views : List (View T)) (id : ℕ) (v w : View T) → IsLive views id v → SamePost v w → id ≡ 0
+  -- the first badge itself goes on
+  first_goes_on : (views : List (View T)) (id : ℕ) (v w : View T) → IsLive views id v → SameBadge v w → id ≡ 0
       → First views → First (slice_set views id w)
   first_goes_on views id v w is same z f =
       let one : f.view ≡ v = one_live views 0 id f.view v f.is is (sym z) in
@@ -99,7 +99,7 @@ module _ {T : Type 0} where
         counted = omega arith;
       }
 
-  pub first_stays : (views : List (View T)) (id : ℕ) (v w : View T) → IsLive views id v → SamePost v w
+  pub first_stays : (views : List (View T)) (id : ℕ) (v w : View T) → IsLive views id v → SameBadge v w
       → First views → First (slice_set views id w)
   first_stays views id v w is same f =
       dite (ℕ_discrete id 0)

@@ -1,4 +1,4 @@
--- Lists of numbers of slots and of posts.
+-- Lists of numbers of slots and of badges.
 use Rattle.std.specs.Prelude.{◌≡◌, ◌⊎◌, ◌==◌, ℕ, List, [], ◌∷◌, if◌then◌else◌}
 
 -- i is one of the numbers
@@ -7,9 +7,9 @@ Has i [] = ⊥
 Has i (x ∷ xs) = (i ≡ x) ⊎ Has i xs
 
 -- the numbers without the first i
-abbrev pub without : ℕ → List ℕ → List ℕ
-without i [] = []
-without i (x ∷ xs) = if i == x then xs else x ∷ without i xs
+abbrev pub without_first : ℕ → List ℕ → List ℕ
+without_first i [] = []
+without_first i (x ∷ xs) = if i == x then xs else x ∷ without_first i xs
 
 -- no number stands twice
 abbrev pub AllDiffer : List ℕ → Type 0

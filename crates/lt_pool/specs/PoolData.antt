@@ -1,7 +1,7 @@
--- What contracts see of a pool and of its posts.
+-- What contracts see of a pool and of its badges.
 use Rattle.std.specs.Prelude.{◌≡◌, ◌+◌, ℕ, List, [], ◌∷◌, ◌++◌, length}
 use Rattle.atomic_table.specs.Seated.{TableId}
-use Rattle.lt_pool.specs.Numbers.{without}
+use Rattle.lt_pool.specs.Numbers.{without_first}
 
 -- a pool: which one it is, and the items that it was made of, in order of their slots
 pub record PoolData (T : Type 0) : Type 0 where
@@ -12,10 +12,10 @@ pub record PoolData (T : Type 0) : Type 0 where
 abbrev pub IsTableOf : {T : Type 0} → List T → TableId → Type 0
 IsTableOf firsts table = (table.words ≡ table.slots + 1) × (length firsts ≡ table.slots)
 
--- A post: the pool that it is of, and its number.
+-- A badge: the pool that it is of, and its number.
 -- The slots that it has claimed, the last one first, and its refused claims, each a slot and the word that it read.
--- How many posts were split off it, and the numbers of those that were joined into it.
-pub record PostData (T : Type 0) : Type 0 where
+-- How many badges were split off it, and the numbers of those that were joined into it.
+pub record BadgeData (T : Type 0) : Type 0 where
   pub pool : PoolData T
   pub number : ℕ
   pub claimed : List ℕ
@@ -24,26 +24,26 @@ pub record PostData (T : Type 0) : Type 0 where
   pub joined : List ℕ
 
 module _ {T : Type 0} where
-  -- the post with this number as it begins
-  abbrev pub new_post : PoolData T → ℕ → PostData T
-  new_post pool number = record { pool = pool; number = number; claimed = []; refused = []; splits = 0; joined = [] }
+  -- the badge with this number as it begins
+  abbrev pub new_badge : PoolData T → ℕ → BadgeData T
+  new_badge pool number = record { pool = pool; number = number; claimed = []; refused = []; splits = 0; joined = [] }
 
-  -- the post has slot i too
-  abbrev pub after_claim : ℕ → PostData T → PostData T
-  after_claim i post = record post { claimed = i ∷ post.claimed }
+  -- the badge has slot i too
+  abbrev pub after_claim : ℕ → BadgeData T → BadgeData T
+  after_claim i badge = record badge { claimed = i ∷ badge.claimed }
 
   -- a claim of slot i was refused, for this word
-  abbrev pub after_refusal : ℕ → ℕ → PostData T → PostData T
-  after_refusal i word post = record post { refused = post.refused ++ (i, word) ∷ [] }
+  abbrev pub after_refusal : ℕ → ℕ → BadgeData T → BadgeData T
+  after_refusal i word badge = record badge { refused = badge.refused ++ (i, word) ∷ [] }
 
-  -- the post no longer has slot i
-  abbrev pub after_give : ℕ → PostData T → PostData T
-  after_give i post = record post { claimed = without i post.claimed }
+  -- the badge no longer has slot i
+  abbrev pub after_give : ℕ → BadgeData T → BadgeData T
+  after_give i badge = record badge { claimed = without_first i badge.claimed }
 
-  -- a further post was split off the post
-  abbrev pub after_split : PostData T → PostData T
-  after_split post = record post { splits = post.splits + 1 }
+  -- a further badge was split off the badge
+  abbrev pub after_split : BadgeData T → BadgeData T
+  after_split badge = record badge { splits = badge.splits + 1 }
 
-  -- the post with this number was joined into the post
-  abbrev pub after_join : ℕ → PostData T → PostData T
-  after_join number post = record post { joined = post.joined ++ number ∷ [] }
+  -- the badge with this number was joined into the badge
+  abbrev pub after_join : ℕ → BadgeData T → BadgeData T
+  after_join number badge = record badge { joined = badge.joined ++ number ∷ [] }

@@ -9,7 +9,7 @@ use Rattle.lt_pool.specs.declared.view.View.{View}
 use Rattle.lt_pool.specs.Numbers.{Has, AllDiffer}
 use Rattle.lt_pool.specs.Items.{ContinuesAt}
 
--- the slots that a seat has between claim and give: their items are in the hands of the post's worker
+-- the slots that a seat has between claim and give: their items are in the hands of the badge's worker
 abbrev pub empty_hands : {T : Type 0} → List ℕ → List (ℕ × Option T)
 empty_hands slots = map (λ slot. (slot, None)) slots
 
@@ -18,17 +18,17 @@ abbrev pub NoneReadZero : List (ℕ × ℕ) → Type 0
 NoneReadZero refused = AllByRecursion (λ (claim : ℕ × ℕ). claim.1 ≢ 0) refused
 
 module _ {T : Type 0} where
-  -- seat j has the view v, and its post is live
+  -- seat j has the view v, and its badge is live
   pub record IsLive (views : List (View T)) (j : ℕ) (v : View T) : Type 0 where
     pub there : get_elem? views j ≡ some v
     pub live : v.live ≡ true
 
-  -- no two live posts have one number
+  -- no two live badges have one number
   abbrev pub Apart : List (View T) → Type 0
   Apart views = (j k : ℕ) (v w : View T) → IsLive views j v → IsLive views k w → v.number ≡ w.number → j ≡ k
 
-  -- Seat 0 is of the first post, which has number 0.
-  -- Each other live post was split off it and not joined since; those have numbers from 1 to the number of splits.
+  -- Seat 0 is of the first badge, which has number 0.
+  -- Each other live badge was split off it and not joined since; those have numbers from 1 to the number of splits.
   pub record First (views : List (View T)) : Type 0 where
     pub view : View T
     pub is : IsLive views 0 view
@@ -37,14 +37,14 @@ module _ {T : Type 0} where
     pub below : (n : ℕ) → Has n view.out → (0 < n) × (n ≤ view.splits)
     pub counted : length view.out + length view.joined ≡ view.splits
 
-  -- a live post has claimed slot i
+  -- a live badge has claimed slot i
   pub record Owner (views : List (View T)) (i : ℕ) : Type 0 where
     pub seat : ℕ
     pub view : View T
     pub is : IsLive views seat view
     pub has : Has i view.claimed
 
-  -- what a live post knows: the words of its slots have its number plus 1, and none of its refused claims read 0
+  -- what a live badge knows: the words of its slots have its number plus 1, and none of its refused claims read 0
   pub record Knows (firsts : List T) (words : List ℕ) (v : View T) : Type 0 where
     pub told : v.firsts ≡ firsts
     pub claims : (i : ℕ) → Has i v.claimed → (i < length firsts) × (slice_index words (i + 1) ≡ v.number + 1)
@@ -59,7 +59,7 @@ module _ {T : Type 0} where
       pub fits : ContinuesAt continues firsts i item
 
     -- There is a word for each slot, and one before them.
-    -- Where a slot's word is 0, its item is at home; else a live post has claimed it.
+    -- Where a slot's word is 0, its item is at home; else a live badge has claimed it.
     pub record Kept (firsts : List T) (s : State (Option T) (View T)) : Type 0 where
       pub wide : length s.words ≡ length firsts + 1
       pub rows : length s.homes ≡ length firsts

@@ -1,20 +1,20 @@
--- What the steps on the word of a slot tell, of a post's view and the slots that its seat has, before and after.
+-- What the steps on the word of a slot tell, of a badge's view and the slots that its seat has, before and after.
 use Rattle.std.specs.Prelude.{◌≡◌, ◌≢◌, ◌-◌, ℕ, true, List, ◌∷◌, Option, Some}
 use Rattle.atomic_table.specs.Table.{Me, Step, rest}
 use Rattle.lt_pool.specs.declared.view.View.{View}
-use Rattle.lt_pool.specs.Numbers.{without}
+use Rattle.lt_pool.specs.Numbers.{without_first}
 use Rattle.lt_pool.specs.Items.{ContinuesAt}
 use Rattle.lt_pool.specs.Views.{claimed_more, refused_more, claimed_less, brought_forward}
 use Rattle.lt_pool.specs.Rule.{empty_hands}
 
--- a post's view, and the slots that its seat has, each with what lies in it
+-- a badge's view, and the slots that its seat has, each with what lies in it
 abbrev pub Mine : Type 0 → Type 0
 Mine T = Me (Option T) (View T)
 
 module _ {T : Type 0} where
-  -- a live post between its calls, with this number and these splits: the items of its slots are in its worker's hands
-  abbrev pub IsPost : ℕ → ℕ → Mine T → Type 0
-  IsPost number splits m =
+  -- a live badge between its calls, with this number and these splits: the items of its slots are in its worker's hands
+  abbrev pub IsBadge : ℕ → ℕ → Mine T → Type 0
+  IsBadge number splits m =
       (m.0.live ≡ true) × (m.1 ≡ empty_hands m.0.claimed) × (number ≡ m.0.number) × (splits ≡ m.0.splits)
 
   -- slot i stands before the others that the seat has, and in it lies an item that continues its first one
@@ -33,7 +33,7 @@ module _ {T : Type 0} where
 
   -- slot i is before the others
   abbrev pub forwarded : ℕ → Mine T → Mine T
-  forwarded i m = (brought_forward i m.0, empty_hands (i ∷ without i m.0.claimed))
+  forwarded i m = (brought_forward i m.0, empty_hands (i ∷ without_first i m.0.claimed))
 
   -- slot i, which was before the others, was given back
   abbrev pub released : ℕ → Mine T → Mine T

@@ -1,14 +1,14 @@
--- What each step makes of the view of a post.
+-- What each step makes of the view of a badge.
 use Rattle.std.specs.Prelude.{◌+◌, ℕ, true, false, List, [], ◌∷◌, ◌++◌}
 use Rattle.atomic_table.specs.Seated.{TableId}
 use Rattle.lt_pool.specs.declared.view.View.{View}
-use Rattle.lt_pool.specs.Numbers.{without}
-use Rattle.lt_pool.specs.PoolData.{PostData}
+use Rattle.lt_pool.specs.Numbers.{without_first}
+use Rattle.lt_pool.specs.PoolData.{BadgeData}
 
 module _ {T : Type 0} where
-  -- what contracts see of the post with this view
-  abbrev pub post_data : TableId → View T → PostData T
-  post_data table v = record {
+  -- what contracts see of the badge with this view
+  abbrev pub badge_data : TableId → View T → BadgeData T
+  badge_data table v = record {
     pool = record { table = table; firsts = v.firsts };
     number = v.number;
     claimed = v.claimed;
@@ -17,7 +17,7 @@ module _ {T : Type 0} where
     joined = v.joined;
   }
 
-  -- a live post with this number that has done nothing
+  -- a live badge with this number that has done nothing
   abbrev pub new_view : List T → ℕ → View T
   new_view firsts number = record {
     number = number;
@@ -30,7 +30,7 @@ module _ {T : Type 0} where
     firsts = firsts;
   }
 
-  -- the first post as it begins
+  -- the first badge as it begins
   abbrev pub first_view : List T → View T
   first_view firsts = new_view firsts 0
 
@@ -44,24 +44,24 @@ module _ {T : Type 0} where
 
   -- slot i was given back
   abbrev pub claimed_less : ℕ → View T → View T
-  claimed_less i v = record v { claimed = without i v.claimed }
+  claimed_less i v = record v { claimed = without_first i v.claimed }
 
   -- slot i stands before the others that were claimed
   abbrev pub brought_forward : ℕ → View T → View T
-  brought_forward i v = record v { claimed = i ∷ without i v.claimed }
+  brought_forward i v = record v { claimed = i ∷ without_first i v.claimed }
 
-  -- a post was split off
+  -- a badge was split off
   abbrev pub split_more : View T → View T
   split_more v = record v { splits = v.splits + 1; out = (v.splits + 1) ∷ v.out }
 
-  -- the post that was split off the one with this view
+  -- the badge that was split off the one with this view
   abbrev pub split_off : View T → View T
   split_off v = new_view v.firsts (v.splits + 1)
 
-  -- the post with the second view was joined in
+  -- the badge with the second view was joined in
   abbrev pub joined_more : View T → View T → View T
-  joined_more v w = record v { out = without w.number v.out; joined = v.joined ++ w.number ∷ [] }
+  joined_more v w = record v { out = without_first w.number v.out; joined = v.joined ++ w.number ∷ [] }
 
-  -- what is left of the view of a post that was joined into the first one
+  -- what is left of the view of a badge that was joined into the first one
   abbrev pub spent_view : View T
   spent_view = record (new_view [] 0) { live = false }

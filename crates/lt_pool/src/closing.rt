@@ -5,7 +5,7 @@ ghost use mathlib.Core.Option.{some};
 ghost use lib.ListN.{get_elem?};
 ghost use Rattle.lt_pool.specs.Items.{EachContinues, AllSome};
 
-use crate::pool::{Pool, Post};
+use crate::pool::{Badge, Pool};
 use crate::same::Same;
 use atomic_table::Closed;
 use std::alloc::Global;
@@ -13,20 +13,20 @@ use std::alloc::Global;
 impl<T: Same> Pool<T> {
     /// The items of the pool, in order of their slots.
     ///
-    /// Where there is no memory, the pool and the post come back.
-    pub fn close(self, post: Post<T>) -> Result<Vec<T>, (Pool<T>, Post<T>)>
-        requires of { post.pool ≡ self }
-        requires first { post.number ≡ 0 }
-        requires claimed { post.claimed ≡ [] }
-        requires joined { length post.joined ≡ post.splits }
+    /// Where there is no memory, the pool and the badge come back.
+    pub fn close(self, badge: Badge<T>) -> Result<Vec<T>, (Pool<T>, Badge<T>)>
+        requires of { badge.pool ≡ self }
+        requires first { badge.number ≡ 0 }
+        requires claimed { badge.claimed ≡ [] }
+        requires joined { length badge.joined ≡ badge.splits }
         ensures ok { IfOk result (λ items. EachContinues T.continues self.firsts items.items) }
-        ensures err { IfErr result (λ back. (back.0 ≡ self) × (back.1 ≡ post)) }
+        ensures err { IfErr result (λ back. (back.0 ≡ self) × (back.1 ≡ badge)) }
     {
         let Ok(items) = Vec::with_capacity(self.alloc, self.table.slot_count()) else {
-            return Err((self, post));
+            return Err((self, badge));
         };
         let Pool { table, .. } = self;
-        let Post { seat, .. } = post;
+        let Badge { seat, .. } = badge;
         Ok(taken_out(table.close_with(seat), items))
     }
 }

@@ -1,12 +1,12 @@
 //! Items in slots that workers claim, work on and give back, and that come back whole and in order at the end.
 #![tactic(auto)]
 
+mod badges;
 mod calls;
 mod closing;
 mod laws;
 mod opening;
 mod pool;
-mod posts;
 mod rule;
 mod same;
 mod steps;
@@ -15,5 +15,5 @@ mod tests;
 mod view;
 
 pub use laws::law_one_place;
-pub use pool::{Pool, Post};
+pub use pool::{Badge, Pool};
 pub use same::Same;

@@ -1,21 +1,21 @@
 // How a pool is made.
 ghost use Rattle.std.specs.Prelude.{◌≡◌, ◌≤◌, length, map, replicate, Some, IfOk};
-ghost use Rattle.lt_pool.specs.PoolData.{new_post};
+ghost use Rattle.lt_pool.specs.PoolData.{new_badge};
 
-use crate::pool::{Pool, Post};
+use crate::pool::{Badge, Pool};
 use crate::same::Same;
 use atomic_table::Table;
 use std::alloc::{AllocError, Global};
 use std::snapshot::Snapshot;
 
 impl<T: Same> Pool<T> {
-    /// A pool of these items, in order of its slots, and its first post.
+    /// A pool of these items, in order of its slots, and its first badge.
     ///
     /// Where there is no memory, the items are dropped.
-    pub fn new(alloc: Global, items: Vec<T>) -> Result<(Pool<T>, Post<T>), AllocError>
+    pub fn new(alloc: Global, items: Vec<T>) -> Result<(Pool<T>, Badge<T>), AllocError>
         requires { length items.items ≤ 255 }
         ensures pool { IfOk result (λ made. made.0.firsts ≡ items.items) }
-        ensures post { IfOk result (λ made. made.1 ≡ new_post made.0 0) }
+        ensures badge { IfOk result (λ made. made.1 ≡ new_badge made.0 0) }
     {
         let firsts = Snapshot::of(&items);
         let words = zeros();
@@ -24,12 +24,12 @@ impl<T: Same> Pool<T> {
         let Ok((table, seat)) = Table::new(alloc, words, slots, &firsts) else {
             return Err(AllocError);
         };
-        let post = Post {
+        let badge = Badge {
             seat,
             number: 0,
             splits: 0,
         };
-        Ok((Pool { table, alloc }, post))
+        Ok((Pool { table, alloc }, badge))
     }
 }
 

@@ -8,7 +8,7 @@ use crate::view::View;
 use atomic_table::{Join, Play, Split, TableRule};
 use std::snapshot::Snapshot;
 
-/// Each item is at home, or in the hand of the one post that has claimed its slot.
+/// Each item is at home, or in the hand of the one badge that has claimed its slot.
 pub struct PoolRule;
 
 impl<T: Same> TableRule<Option<T>, View<T>, Snapshot<Vec<T>>> for PoolRule {
@@ -38,7 +38,7 @@ impl<T: Same> Play<Option<T>, View<T>> for Release {
     ghost then = { Releases };
 }
 
-// A post is split off the first one.
+// A badge is split off the first one.
 pub(crate) struct SplitOff;
 
 impl<T> Split<View<T>> for SplitOff {
@@ -47,7 +47,7 @@ impl<T> Split<View<T>> for SplitOff {
     ghost right = { split_off };
 }
 
-// A post is joined into the first one.
+// A badge is joined into the first one.
 pub(crate) struct JoinIn;
 
 impl<T> Join<View<T>> for JoinIn {

@@ -16,7 +16,7 @@ impl Same for Named {
 }
 
 #[test]
-fn a_slot_is_one_posts_at_a_time(rt: HostRuntime) -> Result<(), Fail> {
+fn a_slot_is_one_badges_at_a_time(rt: HostRuntime) -> Result<(), Fail> {
     let mut items = Vec::new(rt.alloc());
     items.push(Named { name: 0 })?;
     items.push(Named { name: 1 })?;

@@ -8,8 +8,8 @@ use Rattle.lt_modes.specs.declared.ask.Ask.{Ask}
 use Rattle.lt_modes.specs.Modes.{Modes, has, one, no_modes, with_mode, same_mode}
 use Rattle.lt_modes.specs.Queue.{modes_of_asks}
 use Rattle.lt_modes.proofs.ModeAlgebra.{has-modes_by}
-use Rattle.lt_counts.specs.Counts.{mode_count, count_if, CanShift, IsShifted, modes_beyond}
-use Rattle.lt_counts.proofs.SetLemmas.{same_members, has-no_modes}
+use Rattle.lt_modes.specs.Counts.{mode_count, count_if, CanShift, IsShifted, modes_beyond}
+use Rattle.lt_modes.proofs.SetLemmas.{same_members, has-no_modes}
 use Rattle.lt_queue.specs.AskCounts.{asks_for, AreAskCounts}
 
 -- whether the ask wants the mode, as a number

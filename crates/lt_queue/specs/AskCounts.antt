@@ -3,7 +3,7 @@ use Rattle.std.specs.Prelude.{ℕ, ◌≡◌, List, count_by}
 use Rattle.lt_modes.specs.declared.mode.Mode.{Mode}
 use Rattle.lt_modes.specs.declared.ask.Ask.{Ask}
 use Rattle.lt_modes.specs.Modes.{same_mode}
-use Rattle.lt_counts.specs.Counts.{mode_count}
+use Rattle.lt_modes.specs.Counts.{mode_count}
 
 -- the number of asks for the mode
 abbrev pub asks_for : Mode → List Ask → ℕ

@@ -4,8 +4,7 @@ ghost use Rattle.lt_modes.specs.Queue.{place, after_holders_from, entered, modes
 ghost use Rattle.lt_modes.specs.Freezing.{frozen_by};
 ghost use Rattle.lt_queue.specs.AskCounts.{asks_for};
 
-use lt_counts::ModeCounts;
-use lt_modes::{Ask, Mode, ModeSet};
+use lt_modes::{Ask, Mode, ModeCounts, ModeSet};
 use std::alloc::{AllocError, Global};
 use std::marker::Model;
 

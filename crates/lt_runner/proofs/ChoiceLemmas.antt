@@ -5,11 +5,11 @@ use Rattle.std.proofs.lemmas.Bool.{and_parts, cases_eq, lt-ltb}
 use Rattle.lt_modes.specs.Script.{ScriptData}
 use Rattle.lt_modes.specs.Fits.{fits, numbers_of}
 use Rattle.lt_desk.specs.LetterSeen.{letter_seen}
-use Rattle.lt_limits.specs.Limits.{node_within, leaves_asks}
+use Rattle.lt_spec.specs.Limits.{node_within, leaves_asks}
 use Rattle.lt_spec.specs.NodeMove.{NodeState}
-use Rattle.lt_law_plays.specs.Plays.{can_act}
+use Rattle.lt_spec.specs.Plays.{can_act}
 use Rattle.lt_node.specs.NodeData.{state_of}
-use Rattle.lt_node.specs.Running.{IsLeast, is_runnable}
+use Rattle.lt_node.specs.Running.{IsLeast, is_runnable_here}
 use Rattle.lt_runner.specs.declared.choice.Choice.TheVariants.{Nothing, Act, Take}
 use Rattle.lt_core.specs.declared.fits.TheConstants.{LAST_CLOCK}
 use Rattle.lt_runner.specs.declared.parts.Hand.{Hand}
@@ -52,11 +52,11 @@ none_below (suc n) test none =
     ∙ ap (λ (b : Bool). if b then Some n else None) (none n (omega arith))
 
 -- of the script's clients those of the node that can go on can act
-acts : (script : ScriptData) (me : ℕ) (n : NodeState) (client : ℕ) → client < length script.clients → can_act script me n client ≡ is_runnable script me n client
-acts script me n client inside = ap (λ (b : Bool). b && is_runnable script me n client) (lt-ltb client (length script.clients) inside)
+acts : (script : ScriptData) (me : ℕ) (n : NodeState) (client : ℕ) → client < length script.clients → can_act script me n client ≡ is_runnable_here script me n client
+acts script me n client inside = ap (λ (b : Bool). b && is_runnable_here script me n client) (lt-ltb client (length script.clients) inside)
 
 -- and the first of them is the first that can act
-pub least_is : (script : ScriptData) (me : ℕ) (n : NodeState) (o : Option ℕ) → IsLeast (length script.clients) (is_runnable script me n) o → o ≡ first_client script me n
+pub least_is : (script : ScriptData) (me : ℕ) (n : NodeState) (o : Option ℕ) → IsLeast (length script.clients) (is_runnable_here script me n) o → o ≡ first_client script me n
 least_is script me n None none = sym (none_below (length script.clients) (can_act script me n) (λ k below. acts script me n k below ∙ none k below))
 least_is script me n (Some client) least =
     sym (least_found (length script.clients) client (can_act script me n) least.0

@@ -8,9 +8,9 @@ use Rattle.lt_modes.specs.State.{Letter}
 use Rattle.lt_spec.specs.Log.{Logged}
 use Rattle.lt_spec.specs.NodeMove.{NodeState}
 use Rattle.lt_spec.specs.World.{start}
-use Rattle.lt_law_plays.specs.Plays.{Cause, can_make, made_of, logged_of, used_by, letters_for, Plays}
+use Rattle.lt_spec.specs.Plays.{Cause, can_make_move, made_of, logged_of, used_by, letters_for, Plays}
 use Rattle.lt_law_plays.proofs.PlayLemmas.{plays_same, plays_grow}
-use Rattle.lt_law_recipients.specs.Peers.{NodeNames}
+use Rattle.lt_law_own_lines.specs.Peers.{NodeNames}
 use Rattle.lt_node.specs.NodeData.{state_of}
 use Rattle.lt_mail.specs.Words.{outs_count, ins_count, sent_to, taken_from}
 use Rattle.lt_mail.proofs.MailLemmas.{ends_join, ends_same}
@@ -78,7 +78,7 @@ kept_still a b h s from posts events same = record {
 -- one move was made
 pub record Moves (a b : Parts) (cause : Cause) : Type 0 where
   pub same : SameRunner a b
-  pub can : IsTrue (can_make a.node.script a.node.me (state_of a.node) cause)
+  pub can : IsTrue (can_make_move a.node.script a.node.me (state_of a.node) cause)
   pub state : state_of b.node ≡ (made_of a.node.script a.node.me (state_of a.node) cause).node
   pub log : b.log.entries ≡ a.log.entries ++ logged_of a.node.script a.node.me (state_of a.node) cause ∷ []
   pub sent : (node : ℕ) → sent_to b.mail node ≡ sent_to a.mail node ++ letters_for node (made_of a.node.script a.node.me (state_of a.node) cause).posts

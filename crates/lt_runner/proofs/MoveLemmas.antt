@@ -11,10 +11,10 @@ use Rattle.lt_desk.specs.OutData.{OutData}
 use Rattle.lt_desk.specs.LetterSeen.{letter_seen}
 use Rattle.lt_spec.specs.Families.{home}
 use Rattle.lt_spec.specs.NodeMove.{NodeMade, node_act, node_take, node_waits, has_command, act_stamp, take_stamp}
-use Rattle.lt_law_plays.specs.Plays.{Cause, OfClient, OfLetter, can_act, can_make, made_of, letters_for, logged_of, used_by}
-use Rattle.lt_law_recipients.specs.Peers.{IsForPeer}
-use Rattle.lt_law_recipients.specs.PeerLaws.{ReachesPeers}
-use Rattle.lt_law_recipients.proofs.Moves.{acts_reach_peers, takes_reach_peers}
+use Rattle.lt_spec.specs.Plays.{Cause, OfClient, OfLetter, can_act, can_make_move, made_of, letters_for, logged_of, used_by}
+use Rattle.lt_law_own_lines.specs.Peers.{IsForPeer}
+use Rattle.lt_law_own_lines.specs.PeerLaws.{ReachesPeers}
+use Rattle.lt_law_own_lines.proofs.Moves.{acts_reach_peers, takes_reach_peers}
 use Rattle.lt_node.specs.NodeData.{NodeData, NodeDoes, state_of}
 use Rattle.lt_mail.specs.Words.{on_in, sent_to}
 use Rattle.lt_mail.specs.Lanes.{taken}
@@ -43,7 +43,7 @@ moved_node a node out hand = record a { node = node; out = out; hand = hand; idl
 
 -- the runner made the move with this cause
 pub finished : (a f : Parts) (node : NodeData) (out : OutData) (hand : Option Hand) (cause : Cause)
-    → RunnerInvariant a → IsTrue (can_make a.node.script a.node.me (state_of a.node) cause)
+    → RunnerInvariant a → IsTrue (can_make_move a.node.script a.node.me (state_of a.node) cause)
     → ReachesPeers a.node.script.nodes a.node.me (made_of a.node.script a.node.me (state_of a.node) cause)
     → NodeDoes (made_of a.node.script a.node.me (state_of a.node) cause) a.node a.out node out
     → Finished (logged_of a.node.script a.node.me (state_of a.node) cause).made (moved_node a node out hand) f
@@ -102,7 +102,7 @@ is_runnable a client can =
 
 -- a letter of another node of the script can be taken
 pub can_take : (a : Parts) (hand : Hand) → a.node.me < a.node.script.nodes → (hand.from < a.node.script.nodes) × (hand.from ≢ a.node.me)
-    → IsTrue (can_make a.node.script a.node.me (state_of a.node) (OfLetter hand.from (letter_seen hand.letter)))
+    → IsTrue (can_make_move a.node.script a.node.me (state_of a.node) (OfLetter hand.from (letter_seen hand.letter)))
 can_take a hand below from =
     rw (lt-ltb hand.from a.node.script.nodes from.0) (rw (lt-ltb a.node.me a.node.script.nodes below) (rw (ne_eqb hand.from a.node.me from.1) refl))
 

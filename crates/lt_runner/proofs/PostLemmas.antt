@@ -5,8 +5,8 @@ use Rattle.std.proofs.lemmas.List.Elements.{All-head, All-rest}
 use Rattle.lt_modes.specs.State.{Letter}
 use Rattle.lt_modes.specs.Made.{Post}
 use Rattle.lt_desk.specs.OutData.{OutData}
-use Rattle.lt_law_recipients.specs.Peers.{IsForPeer}
-use Rattle.lt_law_plays.specs.Plays.{letters_for}
+use Rattle.lt_law_own_lines.specs.Peers.{IsForPeer}
+use Rattle.lt_spec.specs.Plays.{letters_for}
 use Rattle.lt_mail.specs.declared.mail.Mail.{Mail}
 use Rattle.lt_mail.specs.Words.{in_at, outs_count, HasRoomFor, sent_to, if_to, SameEnds}
 use Rattle.lt_mail.proofs.MailLemmas.{ends_join, ends_same, fewer_letters}

@@ -5,9 +5,9 @@ use Rattle.lt_modes.specs.Script.{ScriptData}
 use Rattle.lt_spec.specs.Log.{Logged}
 use Rattle.lt_spec.specs.NodeMove.{NodeState}
 use Rattle.lt_spec.specs.World.{start}
-use Rattle.lt_law_plays.specs.Plays.{Plays}
-use Rattle.lt_law_recipients.specs.Peers.{NodeNames}
-use Rattle.lt_law_recipients.proofs.Moves.{names_at_start}
+use Rattle.lt_spec.specs.Plays.{Plays}
+use Rattle.lt_law_own_lines.specs.Peers.{NodeNames}
+use Rattle.lt_law_own_lines.proofs.Moves.{names_at_start}
 use Rattle.lt_node.specs.NodeData.{state_of}
 use Rattle.lt_mail.specs.Words.{sent_to}
 use Rattle.lt_mail.specs.Opening.{IsFresh}

@@ -4,8 +4,8 @@ use mathlib.Core.List.{IsPrefix}
 use Rattle.lt_modes.specs.State.{Letter}
 use Rattle.lt_spec.specs.Log.{Logged}
 use Rattle.lt_spec.specs.World.{start}
-use Rattle.lt_law_plays.specs.Plays.{Plays}
-use Rattle.lt_law_recipients.specs.Peers.{NodeNames}
+use Rattle.lt_spec.specs.Plays.{Plays}
+use Rattle.lt_law_own_lines.specs.Peers.{NodeNames}
 use Rattle.lt_node.specs.NodeData.{state_of}
 use Rattle.lt_mail.specs.Words.{outs_count, ins_count, sent_to, waiting_to, taken_from, known_from, IsFullTo, SameEnds}
 use Rattle.lt_runner.specs.declared.choice.Choice.TheVariants as choices

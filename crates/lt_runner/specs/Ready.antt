@@ -3,7 +3,7 @@ use Rattle.std.specs.Prelude.{◌≤◌, ◌<◌, ℕ, nat_lt, IfSome, IsTrue}
 use Rattle.lt_modes.specs.Script.{ScriptData}
 use Rattle.lt_modes.specs.Fits.{fits, numbers_of}
 use Rattle.lt_desk.specs.LetterSeen.{letter_seen}
-use Rattle.lt_limits.specs.Limits.{node_within}
+use Rattle.lt_spec.specs.Limits.{node_within}
 use Rattle.lt_spec.specs.NodeMove.{NodeState}
 use Rattle.lt_core.specs.declared.fits.TheConstants.{LAST_CLOCK}
 use Rattle.lt_node.specs.Room.{RoomToAct, RoomToTake}

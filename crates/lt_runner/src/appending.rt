@@ -1,9 +1,9 @@
 // Commands that come while the runner is at work, and what it shows of its moves.
 ghost use Rattle.std.specs.Prelude.{◌≡◌, ◌<◌, length, OnOk, OnErr};
-ghost use Rattle.lt_script.specs.Script.{HasTargets, HasModesOf};
-ghost use Rattle.lt_script.specs.declared.limits.TheConstants.{MAX_COMMANDS};
+ghost use Rattle.lt_spec.specs.Script.{HasTargets, HasModesOf};
+ghost use Rattle.lt_spec.specs.declared.limits.TheConstants.{MAX_COMMANDS};
 ghost use Rattle.lt_spec.specs.Families.{home};
-ghost use Rattle.lt_runner.specs.Appended.{with_request};
+ghost use Rattle.lt_runner.specs.Appended.{with_appended};
 
 use crate::runner::Runner;
 use lt_merge::Log;
@@ -20,7 +20,7 @@ impl Runner {
         requires targets { HasTargets self.old.node.script.sets self.old.node.script.clients client command }
         requires modes { HasModesOf self.old.node.script.version command }
         requires room { length self.old.node.script.commands < MAX_COMMANDS }
-        ensures appended { OnOk result (self.new ≡ with_request self.old client command) }
+        ensures appended { OnOk result (self.new ≡ with_appended self.old client command) }
         ensures same { OnErr result (self.new ≡ self.old) }
     {
         let parts = self.parts.as_mut();

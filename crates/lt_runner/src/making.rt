@@ -1,6 +1,6 @@
 // The move that a runner makes.
 ghost use Rattle.std.specs.Prelude.{◌≡◌, ◌<◌, Some, None, All, length, ◌≤◌, [], ◌∷◌, ◌++◌};
-ghost use Rattle.lt_law_recipients.specs.Peers.{IsForPeer};
+ghost use Rattle.lt_law_own_lines.specs.Peers.{IsForPeer};
 ghost use Rattle.lt_node.specs.NodeData.{state_of};
 ghost use Rattle.lt_node.specs.Room.{RoomToTake};
 ghost use Rattle.lt_mail.specs.Words.{outs_count};

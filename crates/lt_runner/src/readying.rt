@@ -1,6 +1,6 @@
 // What a runner does before a move.
 ghost use Rattle.std.specs.Prelude.{◌≡◌, ◌≢◌, ◌<◌, None, ℕ, IsOk, IsTrue, IfSome, IfNone, OnOk, length};
-ghost use Rattle.lt_limits.specs.Limits.{node_within};
+ghost use Rattle.lt_spec.specs.Limits.{node_within};
 ghost use Rattle.lt_node.specs.NodeData.{state_of};
 ghost use Rattle.lt_node.specs.Room.{RoomToAct, RoomToTake};
 ghost use Rattle.lt_runner.specs.declared.choice.Choice.TheVariants as choices;

@@ -10,9 +10,9 @@ use Rattle.lt_modes.specs.Script.{ScriptData}
 use Rattle.lt_text.specs.Text.{words}
 use Rattle.lt_script.specs.declared.fault.Fault.{Fault}
 use Rattle.lt_script.specs.declared.fault.Fault.TheVariants as faults
-use Rattle.lt_script.specs.declared.limits.TheConstants.{MAX_LINE}
+use Rattle.lt_spec.specs.declared.limits.TheConstants.{MAX_LINE}
 use Rattle.lt_script.specs.Fault.{number_of}
-use Rattle.lt_script.specs.Names.{is_reserved}
+use Rattle.lt_spec.specs.Names.{is_reserved}
 use Rattle.lt_script.specs.Forms.{FormData, form_of}
 use Rattle.lt_script.specs.Faults.{is_plain_byte, first_true, fault_by_form}
 use Rattle.lt_script.specs.FaultLaws.{has_fault_by, IsLeastFault, LeastIsTold, LimitsAre, reserved, ReservedAre, NumbersAre, FormsAre}

@@ -6,7 +6,7 @@ use Rattle.std.proofs.lemmas.Bool.{cases_Bool, or_parts}
 use Rattle.std.proofs.lemmas.Slice.Eq.{bytes_eq-Decides}
 use Rattle.std.proofs.lemmas.Iterator.Adapters.{position_from-zero}
 use Rattle.lt_modes.specs.Script.{ScriptData, ClientData, name_of_client}
-use Rattle.lt_script.specs.Script.{set_number, client_number, is_declared}
+use Rattle.lt_spec.specs.Script.{set_number, client_number, is_declared}
 
 module _ {X : Type 0} (p : X → Bool) where
   from_stays : (xs ys : List X) (i k : ℕ) → position_from p i xs ≡ Some k → position_from p i (xs ++ ys) ≡ Some k

@@ -11,7 +11,7 @@ use Rattle.lt_modes.specs.Script.{ScriptData}
 use Rattle.lt_text.specs.Text.{spaced, each_after_space, is_blank, is_line_end, is_filled, without_return, IsWord, IsLine}
 use Rattle.lt_text.proofs.TextLemmas.{words_spaced}
 use Rattle.lt_text.proofs.NumberLemmas.{decimal_are_digits}
-use Rattle.lt_script.specs.Names.{is_name, is_name_byte, is_reserved}
+use Rattle.lt_spec.specs.Names.{is_name, is_name_byte, is_reserved}
 use Rattle.lt_script.specs.Forms.{FormData, form_of}
 use Rattle.lt_script.specs.Faults.{declared, is_plain_byte, form_fault, after_form}
 use Rattle.lt_script.specs.Reading.{line_step, says_nothing}

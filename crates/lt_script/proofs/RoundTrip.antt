@@ -17,10 +17,10 @@ use Rattle.lt_modes.specs.Script.{ScriptData, SetData, set_name, client_name, ho
 use Rattle.lt_text.specs.Text.{spaced, lines, IsLine}
 use Rattle.lt_text.specs.Number.{number}
 use Rattle.lt_text.proofs.TextLemmas.{lines_text, words_spaced}
-use Rattle.lt_script.specs.declared.limits.TheConstants.{MAX_LINE}
+use Rattle.lt_spec.specs.declared.limits.TheConstants.{MAX_LINE}
 use Rattle.lt_text.proofs.NumberLemmas.{number_decimal}
-use Rattle.lt_script.specs.Names.{is_name}
-use Rattle.lt_script.specs.Script.{IsScript, IsRequest, HasModesOf, HasTargets, most_nodes}
+use Rattle.lt_spec.specs.Names.{is_name}
+use Rattle.lt_spec.specs.Script.{IsScript, IsRequest, HasModesOf, HasTargets, most_nodes}
 use Rattle.lt_script.specs.Forms.{NodesForm, CommandForm, CommandWordsData, LockWords, TryWords, UnlockWords, ChangeWords, DropWords, form_of, asked_of}
 use Rattle.lt_script.specs.Faults.{only_nodes, mode_in}
 use Rattle.lt_script.specs.Reading.{ScriptBody, line_step, read_from, script_body, read_body, read_of}

@@ -10,8 +10,8 @@ use Rattle.lt_modes.specs.Script.{ScriptData, ClientData, client_name, name_of_c
 use Rattle.lt_text.specs.Text.{spaced}
 use Rattle.lt_text.specs.Number.{number}
 use Rattle.lt_text.proofs.NumberLemmas.{number_decimal}
-use Rattle.lt_script.specs.Names.{is_name}
-use Rattle.lt_script.specs.Script.{IsScript, most_clients, load_of, set_number, client_number}
+use Rattle.lt_spec.specs.Names.{is_name}
+use Rattle.lt_spec.specs.Script.{IsScript, most_clients, load_of, set_number, client_number}
 use Rattle.lt_script.specs.Forms.{ClientForm}
 use Rattle.lt_script.specs.Reading.{line_step}
 use Rattle.lt_script.specs.Printing.{client_words}

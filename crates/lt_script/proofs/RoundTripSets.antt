@@ -6,8 +6,8 @@ use Rattle.std.proofs.lemmas.Slice.Eq.{bytes_eq-Decides}
 use Rattle.lt_modes.specs.declared.command.Command.{Command}
 use Rattle.lt_modes.specs.Script.{ScriptData, SetData, ClientData, set_name, name_of_set, family_of_set, family_at}
 use Rattle.lt_text.specs.Text.{spaced}
-use Rattle.lt_script.specs.Names.{is_name}
-use Rattle.lt_script.specs.Script.{IsScript, set_number}
+use Rattle.lt_spec.specs.Names.{is_name}
+use Rattle.lt_spec.specs.Script.{IsScript, set_number}
 use Rattle.lt_script.specs.Forms.{SetForm, SetWithForm}
 use Rattle.lt_script.specs.Reading.{line_step, read_from}
 use Rattle.lt_script.specs.Printing.{first_name, set_words}

@@ -9,11 +9,11 @@ use Rattle.std.proofs.lemmas.Slice.Eq.{bytes_eq-Decides}
 use Rattle.lt_modes.specs.declared.command.Command.{Command}
 use Rattle.lt_modes.specs.declared.command.Command.TheVariants.{Lock, Try, Unlock, Change, DropAll}
 use Rattle.lt_modes.specs.Script.{ScriptData, SetData, ClientData, family_at, home_at, name_of_set, family_of_set, name_of_client, node_of_client}
-use Rattle.lt_script.specs.declared.limits.TheConstants.{MAX_SETS, MAX_CLIENTS, MAX_CLIENTS_OF_FIRST, MAX_CLIENTS_OF_NODE, MAX_COMMANDS}
+use Rattle.lt_spec.specs.declared.limits.TheConstants.{MAX_SETS, MAX_CLIENTS, MAX_CLIENTS_OF_FIRST, MAX_CLIENTS_OF_NODE, MAX_COMMANDS}
 use Rattle.std.specs.Prelude.{if◌then◌else◌}
 use Rattle.std.specs.Str.{bytes_eq}
-use Rattle.lt_script.specs.Names.{is_name}
-use Rattle.lt_script.specs.Script.{IsScript, IsFamilyOfNext, IsRequest, HasModesOf, HasTargets, most_clients, load_of, set_number, client_number, is_declared}
+use Rattle.lt_spec.specs.Names.{is_name}
+use Rattle.lt_spec.specs.Script.{IsScript, IsFamilyOfNext, IsRequest, HasModesOf, HasTargets, most_clients, load_of, set_number, client_number, is_declared}
 use Rattle.lt_script.proofs.NameLemmas.{found_stays, found_last, found_never, is_new, same_name, set_not_client}
 
 get_front : {X : Type 0} → (xs : List X) (y : X) (k : ℕ) → k < length xs → slice_get (xs ++ y ∷ []) k ≡ slice_get xs k

@@ -7,7 +7,7 @@ use Rattle.lt_modes.specs.Script.{ScriptData}
 use Rattle.lt_text.specs.Text.{words}
 use Rattle.lt_script.specs.declared.fault.Fault.{Fault}
 use Rattle.lt_script.specs.declared.fault.Fault.TheVariants as faults
-use Rattle.lt_script.specs.declared.limits.TheConstants.{MAX_LINE}
+use Rattle.lt_spec.specs.declared.limits.TheConstants.{MAX_LINE}
 use Rattle.lt_script.specs.Forms.{FormData, CommandForm, form_of, asked_of}
 use Rattle.lt_script.specs.Faults.{fault_by_form, form_fault}
 use Rattle.lt_script.specs.Reading.{line_step, unless, script_after}

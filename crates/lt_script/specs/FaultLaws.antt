@@ -6,9 +6,9 @@ use Rattle.lt_text.specs.Text.{lines, words}
 use Rattle.lt_script.specs.declared.fault.Fault.{Fault}
 use Rattle.lt_script.specs.declared.fault.Fault.TheVariants as faults
 use Rattle.lt_script.specs.declared.fault.ScriptFault.{ScriptFault}
-use Rattle.lt_script.specs.declared.limits.TheConstants.{MAX_NODES, MAX_NODES_OF_FIRST, MAX_SETS, MAX_CLIENTS, MAX_CLIENTS_OF_FIRST, MAX_CLIENTS_OF_NODE, MAX_COMMANDS, MAX_NAME, MAX_LINE}
+use Rattle.lt_spec.specs.declared.limits.TheConstants.{MAX_NODES, MAX_NODES_OF_FIRST, MAX_SETS, MAX_CLIENTS, MAX_CLIENTS_OF_FIRST, MAX_CLIENTS_OF_NODE, MAX_COMMANDS, MAX_NAME, MAX_LINE}
 use Rattle.lt_script.specs.Fault.{number_of}
-use Rattle.lt_script.specs.Names.{is_reserved}
+use Rattle.lt_spec.specs.Names.{is_reserved}
 use Rattle.lt_script.specs.Forms.{FormData, VersionForm, NodesForm, SetForm, SetWithForm, ClientForm, CommandForm, LockWords, TryWords, UnlockWords, ChangeWords, DropWords, form_of}
 use Rattle.lt_script.specs.Faults.{declared, is_plain_byte, has_bad_number, has_nodes_misplaced, declares_no_name, declares_again, uses_unknown, exceeds_limit, uses_no_mode, drops_elsewhere, line_fault}
 use Rattle.lt_script.specs.Reading.{ScriptBody, is_skipped, line_step, script_body, read_of}

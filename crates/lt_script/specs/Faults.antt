@@ -12,9 +12,9 @@ use Rattle.lt_text.specs.Text.{words}
 use Rattle.lt_text.specs.Number.{number}
 use Rattle.lt_script.specs.declared.fault.Fault.{Fault}
 use Rattle.lt_script.specs.declared.fault.Fault.TheVariants as faults
-use Rattle.lt_script.specs.declared.limits.TheConstants.{MAX_SETS, MAX_CLIENTS_OF_NODE, MAX_COMMANDS, MAX_LINE}
-use Rattle.lt_script.specs.Names.{is_name}
-use Rattle.lt_script.specs.Script.{most_nodes, most_clients, load_of, set_number, client_number, is_declared}
+use Rattle.lt_spec.specs.declared.limits.TheConstants.{MAX_SETS, MAX_CLIENTS_OF_NODE, MAX_COMMANDS, MAX_LINE}
+use Rattle.lt_spec.specs.Names.{is_name}
+use Rattle.lt_spec.specs.Script.{most_nodes, most_clients, load_of, set_number, client_number, is_declared}
 use Rattle.lt_script.specs.Forms.{FormData, VersionForm, NodesForm, SetForm, SetWithForm, ClientForm, CommandForm, CommandWordsData, LockWords, TryWords, UnlockWords, ChangeWords, DropWords, form_of}
 
 -- a script of this version that declares nothing but the number of its nodes
@@ -188,8 +188,8 @@ with_set s name family = record s { sets = s.sets ++ record { name = name; famil
 abbrev pub with_client : ScriptData → List ℕ → ℕ → ScriptData
 with_client s name node = record s { clients = s.clients ++ record { name = name; node = node } ∷ [] }
 
-abbrev pub with_command : ScriptData → ℕ → Command → ScriptData
-with_command s client command = record s { commands = s.commands ++ (client, command) ∷ [] }
+abbrev pub command_added : ScriptData → ℕ → Command → ScriptData
+command_added s client command = record s { commands = s.commands ++ (client, command) ∷ [] }
 
 -- the script with what a line of this form adds
 abbrev pub after_form : ScriptData → FormData → ScriptData
@@ -198,4 +198,4 @@ after_form s (NodesForm n) = only_nodes s.version (unwrap_or (number n) 0)
 after_form s (SetForm name) = with_set s name (length s.sets)
 after_form s (SetWithForm name t) = with_set s name (family_of s t)
 after_form s (ClientForm name n) = with_client s name (unwrap_or (number n) 0)
-after_form s (CommandForm c asked) = with_command s (unwrap_or (client_number s c) 0) (named_command s asked)
+after_form s (CommandForm c asked) = command_added s (unwrap_or (client_number s c) 0) (named_command s asked)

@@ -1,6 +1,4 @@
 pub mod Fault
-pub mod Names
-pub mod Script
 pub mod Views
 pub mod Forms
 pub mod Faults

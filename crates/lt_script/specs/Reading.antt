@@ -7,7 +7,7 @@ use Rattle.lt_script.specs.declared.fault.Fault.TheVariants as faults
 use Rattle.lt_script.specs.declared.fault.ScriptFault.{ScriptFault}
 use Rattle.lt_script.specs.declared.fault.ReadError.{ReadError}
 use Rattle.lt_script.specs.declared.fault.ReadError.TheVariants as errors
-use Rattle.lt_script.specs.declared.limits.TheConstants.{MAX_LINE}
+use Rattle.lt_spec.specs.declared.limits.TheConstants.{MAX_LINE}
 use Rattle.lt_script.specs.Forms.{FormData, VersionForm, form_of}
 use Rattle.lt_script.specs.Faults.{declared, line_fault, after_form}
 

@@ -9,10 +9,10 @@ use Rattle.lt_modes.specs.FiveModes.{is_of_version}
 use Rattle.lt_modes.specs.Script.{ScriptData, home_at}
 use Rattle.lt_script.specs.declared.fault.Fault.{Fault}
 use Rattle.lt_script.specs.declared.fault.Fault.TheVariants as faults
-use Rattle.lt_script.specs.declared.limits.TheConstants.{MAX_COMMANDS}
-use Rattle.lt_script.specs.Script.{set_number, client_number, IsRequest, HasModesOf}
+use Rattle.lt_spec.specs.declared.limits.TheConstants.{MAX_COMMANDS}
+use Rattle.lt_spec.specs.Script.{set_number, client_number, IsRequest, HasModesOf}
 use Rattle.lt_script.specs.Forms.{FormData, form_of}
-use Rattle.lt_script.specs.Faults.{declared, is_plain_byte, first_true, form_fault, mode_in, home_by, after_form, with_command}
+use Rattle.lt_script.specs.Faults.{declared, is_plain_byte, first_true, form_fault, mode_in, home_by, after_form, command_added}
 use Rattle.lt_script.specs.Reading.{unless, ReadsLine}
 
 -- the first word of a line makes it a comment
@@ -61,7 +61,7 @@ ReadsWords fault before after words = ReadsLine fault (Some after) (words_step b
 abbrev pub Resolves : ScriptData → FormData → Result (ℕ × Command) Fault → Type 0
 Resolves s form (Ok request) =
     (form_fault s.version (Some s) form ≡ None)
-    × (after_form s form ≡ with_command s request.0 request.1)
+    × (after_form s form ≡ command_added s request.0 request.1)
     × (length s.commands < MAX_COMMANDS)
     × IsRequest s.sets s.clients request
     × HasModesOf s.version request.1

@@ -1,6 +1,6 @@
 ghost use Rattle.std.specs.Prelude.{◌≡◌, Ok};
 ghost use Rattle.lt_modes.specs.Script.{ScriptData};
-ghost use Rattle.lt_script.specs.Script.{IsScript};
+ghost use Rattle.lt_spec.specs.Script.{IsScript};
 ghost use Rattle.lt_script.specs.Printing.{print_of};
 ghost use Rattle.lt_script.specs.Reading.{read_of};
 ghost use Rattle.lt_script.specs.FaultLaws.{LeastIsTold, FirstIsTold, LimitsAre, ReservedAre, NumbersAre, FormsAre};

@@ -16,7 +16,7 @@ mod script;
 
 pub use fault::{Fault, ReadError, ScriptFault};
 pub use laws::{law_faults, law_literals, law_print};
-pub use limits::{
+pub use lt_spec::{
     MAX_CLIENTS, MAX_CLIENTS_OF_FIRST, MAX_CLIENTS_OF_NODE, MAX_COMMANDS, MAX_LINE, MAX_NAME,
     MAX_NODES, MAX_NODES_OF_FIRST, MAX_SETS,
 };

@@ -8,10 +8,11 @@ ghost use Rattle.lt_script.specs.Steps.{is_text_byte, is_plain_line, Resolves, F
 
 use crate::fault::Fault;
 use crate::form::{CommandWords, Form};
-use crate::limits::{MAX_CLIENTS_OF_NODE, MAX_COMMANDS, MAX_SETS, most_clients, most_nodes};
+use crate::limits::{most_clients, most_nodes};
 use crate::name::is_name;
 use crate::script::Script;
 use lt_modes::{Command, Mode};
+use lt_spec::{MAX_CLIENTS_OF_NODE, MAX_COMMANDS, MAX_SETS};
 use lt_text::number;
 
 /// The first fault of a line where the line `nodes` was not before it.

@@ -1,9 +1,9 @@
 ghost use Rattle.std.specs.Prelude.{◌≡◌, slice_index};
 ghost use Rattle.std.specs.List.{list_all};
 ghost use Rattle.std.specs.Char.{is_ascii_alphabetic};
-ghost use Rattle.lt_script.specs.Names.{is_name_byte, is_reserved, is_name};
+ghost use Rattle.lt_spec.specs.Names.{is_name_byte, is_reserved, is_name};
 
-use crate::limits::MAX_NAME;
+use lt_spec::MAX_NAME;
 use lt_text::is;
 
 /// Whether the word may be the name of a set or a client.

@@ -2,7 +2,7 @@ ghost use Rattle.std.specs.Prelude.{◌≡◌, ◌<◌, ◌++◌, ◌∷◌, [],
 ghost use Rattle.std.specs.List.{flat_map};
 ghost use Rattle.lt_modes.specs.Modes.{word_of};
 ghost use Rattle.lt_text.specs.Text.{each_after_space};
-ghost use Rattle.lt_script.specs.Script.{IsRequest};
+ghost use Rattle.lt_spec.specs.Script.{IsRequest};
 ghost use Rattle.lt_script.specs.Reading.{read_of};
 ghost use Rattle.lt_script.specs.Printing.{print_of, ended_line, version_words, nodes_words, set_words, client_words, asked_words, command_words};
 

@@ -8,9 +8,9 @@ ghost use Rattle.lt_script.specs.Steps.{begins_comment, words_step, is_plain_lin
 use crate::fault::{Fault, ReadError, ScriptFault};
 use crate::form::{Form, form_of};
 use crate::later_lines::add_line;
-use crate::limits::MAX_LINE;
 use crate::line::{fault_before_nodes, is_plain_line, is_plain_text};
 use crate::script::Script;
+use lt_spec::MAX_LINE;
 use lt_text::{next_line, next_word, number};
 use std::alloc::{AllocError, Global};
 

@@ -1,7 +1,7 @@
 ghost use Rattle.std.specs.Prelude.{◌≡◌, ◌⊎◌, ◌<◌, ◌≤◌, [], length, slice_get, IfOk};
 ghost use Rattle.lt_modes.specs.Script.{set_name, family_at, client_name, home_at};
-ghost use Rattle.lt_script.specs.Script.{IsScript, most_nodes, load_of};
-ghost use Rattle.lt_script.specs.declared.limits.TheConstants.{MAX_NODES, MAX_NODES_OF_FIRST};
+ghost use Rattle.lt_spec.specs.Script.{IsScript, most_nodes, load_of};
+ghost use Rattle.lt_spec.specs.declared.limits.TheConstants.{MAX_NODES, MAX_NODES_OF_FIRST};
 
 mod adding;
 mod naming;
@@ -30,7 +30,7 @@ impl Model for Script {
 
     ghost Value = { ScriptData };
 
-    ghost use Rattle.lt_script.specs.Script.{IsScript};
+    ghost use Rattle.lt_spec.specs.Script.{IsScript};
     ghost use Rattle.lt_script.specs.Views.{script_data};
 
     ghost view = { script_data };

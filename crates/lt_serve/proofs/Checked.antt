@@ -8,16 +8,16 @@ use Rattle.lt_call.proofs.Answering.{failed_reading, long_reading, memory_readin
 use Rattle.lt_spec.specs.Log.{Logged}
 use Rattle.lt_modes.specs.Script.{ScriptData}
 use Rattle.lt_text.specs.Text.{lines}
-use Rattle.lt_script.specs.Script.{IsScript}
+use Rattle.lt_spec.specs.Script.{IsScript}
 use Rattle.lt_world.specs.Fields.{WorldData}
-use Rattle.lt_law_promises.specs.Promised.{Promised}
+use Rattle.lt_spec.specs.Promised.{Promised}
 use Rattle.lt_checker.specs.declared.limits.TheConstants.{MAX_JOURNAL}
 use Rattle.lt_checker.specs.declared.error.InputError.{InputError}
 use Rattle.lt_checker.specs.declared.error.InputError.TheVariants as error
 use Rattle.lt_checker.specs.Input.{IsJournalOf, IsEndedRun, FailsInput}
-use Rattle.lt_law_checking.specs.Checking.{checked}
-use Rattle.lt_law_checking.specs.Input.{counted_from, journal_in, lines_before}
-use Rattle.lt_law_checking.specs.Journals.{IsFinished, journal_lines}
+use Rattle.lt_law_journals.specs.Checking.{checked}
+use Rattle.lt_law_journals.specs.Input.{counted_from, journal_in, lines_before}
+use Rattle.lt_law_journals.specs.Journals.{IsFinished, journal_lines}
 use Rattle.lt_words.specs.declared.command.Command.TheVariants.{Check}
 use Rattle.lt_serve.specs.declared.made.Made.{Made}
 use Rattle.lt_serve.specs.declared.status.Status.TheVariants.{Done, NoMemory}

@@ -5,18 +5,18 @@ use Rattle.std.proofs.lemmas.Bool.{false≢true}
 use Rattle.std.proofs.lemmas.List.{take_all}
 use Rattle.lt_modes.specs.Script.{ScriptData}
 use Rattle.lt_script.specs.declared.fault.ScriptFault.{ScriptFault}
-use Rattle.lt_script.specs.Script.{IsScript}
+use Rattle.lt_spec.specs.Script.{IsScript}
 use Rattle.lt_script.specs.Reading.{read_of}
 use Rattle.lt_spec.specs.Log.{Logged}
 use Rattle.lt_spec.specs.World.{world_after, IsRun, is_at_rest, anyone_waits}
-use Rattle.lt_order.specs.Ordered.{IsOrdered}
+use Rattle.lt_spec.specs.Ordered.{IsOrdered}
 use Rattle.lt_law_ordered.specs.OrderedLaws.{OrderedFinish}
-use Rattle.lt_law_promises.specs.Promised.{RunsKeepPromises}
-use Rattle.lt_limits.specs.declared.ending.Ending.{Ending}
-use Rattle.lt_limits.specs.declared.ending.Ending.TheVariants as ending
-use Rattle.lt_limits.specs.Endings.{EndsBy}
+use Rattle.lt_law_promises.specs.Promises.{RunsKeepPromises}
+use Rattle.lt_spec.specs.declared.ending.Ending.{Ending}
+use Rattle.lt_spec.specs.declared.ending.Ending.TheVariants as ending
+use Rattle.lt_spec.specs.Endings.{EndsBy}
 use Rattle.lt_threads.specs.Threads.{StaysWithin}
-use Rattle.lt_law_limits.proofs.Within.{whole}
+use Rattle.lt_law_invariant.proofs.Within.{whole}
 use Rattle.lt_words.specs.declared.command.Command.{Command}
 use Rattle.lt_words.specs.declared.command.Command.TheVariants.{Run, SimFirst, Sim, Check, Make, Soak, Order}
 use Rattle.lt_serve.specs.declared.status.Status.{Status}

@@ -5,7 +5,7 @@ use Rattle.lt_modes.specs.Script.{ScriptData}
 use Rattle.lt_spec.specs.Log.{Logged}
 use Rattle.lt_spec.specs.World.{World, start, after, after_run, logged}
 use Rattle.lt_spec.specs.FixedOrder.{Turn, pick, count_turns, first_run_from}
-use Rattle.lt_law_checking.proofs.Places.{stamp_node}
+use Rattle.lt_law_journals.proofs.Places.{stamp_node}
 use Rattle.lt_world.specs.declared.choice.Choice.{Choice}
 use Rattle.lt_world.specs.Choice.{choice_of}
 use Rattle.lt_serve.specs.declared.schedule.Schedule.{Schedule}

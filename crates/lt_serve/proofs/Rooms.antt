@@ -7,14 +7,14 @@ use Rattle.std.proofs.lemmas.List.Sums.{sum_by-cons, sum_by-append}
 use Rattle.lt_modes.specs.declared.moves.Step.{Step}
 use Rattle.lt_modes.specs.declared.moves.Step.TheVariants.{Act, Take}
 use Rattle.lt_modes.specs.Script.{ScriptData}
-use Rattle.lt_script.specs.Script.{IsScript}
+use Rattle.lt_spec.specs.Script.{IsScript}
 use Rattle.lt_lists.specs.Below.{sum_below, any_below, first_below, earlier}
 use Rattle.lt_lists.proofs.Searches.{any_below_at}
 use Rattle.lt_lists.proofs.Sums.{sum_below-change}
 use Rattle.lt_spec.specs.Log.{Logged}
 use Rattle.lt_spec.specs.World.{World, world_after, logged, is_enabled, is_of_node}
-use Rattle.lt_law_checking.proofs.Places.{stamp_node}
-use Rattle.lt_limits.specs.Cut.{moves_of, can_move, is_full, full_node}
+use Rattle.lt_law_journals.proofs.Places.{stamp_node}
+use Rattle.lt_spec.specs.Cut.{moves_of, can_move, is_full, full_node}
 use Rattle.lt_threads.specs.Threads.{StaysWithin}
 use Rattle.lt_serve.specs.Endings.{StopsInTime}
 

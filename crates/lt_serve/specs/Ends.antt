@@ -4,7 +4,7 @@ use Rattle.lt_io.specs.FaultCounts.{Rose}
 use Rattle.lt_io.specs.Source.{SourceState}
 use Rattle.lt_modes.specs.Script.{ScriptData}
 use Rattle.lt_script.specs.Reading.{read_of}
-use Rattle.lt_order.specs.Ordered.{IsOrdered}
+use Rattle.lt_spec.specs.Ordered.{IsOrdered}
 use Rattle.lt_words.specs.declared.command.Command.{Command}
 use Rattle.lt_words.specs.declared.command.Command.TheVariants.{Run, SimFirst, Sim, Soak}
 use Rattle.lt_serve.specs.declared.status.Status.{Status}

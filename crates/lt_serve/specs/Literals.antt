@@ -5,8 +5,8 @@ use Rattle.lt_io.specs.declared.piece.TheConstants.{MAX_PIECE}
 use Rattle.lt_call.specs.Outcomes.{exit_code}
 use Rattle.lt_held.specs.HeldData.{most_locks}
 use Rattle.lt_gen.specs.Generator.{HasSizes}
-use Rattle.lt_summary.specs.Summary.{summary_text}
-use Rattle.lt_limits.specs.declared.moves.TheConstants.{MAX_MOVES}
+use Rattle.lt_tally.specs.Summary.{summary_text}
+use Rattle.lt_spec.specs.declared.moves.TheConstants.{MAX_MOVES}
 use Rattle.lt_mail.specs.declared.opening.TheConstants.{MAX_CAPACITY}
 use Rattle.lt_checker.specs.declared.limits.TheConstants.{MAX_JOURNAL}
 use Rattle.lt_serve.specs.declared.limits.TheConstants.{MAX_INPUT}

@@ -10,15 +10,15 @@ use Rattle.lt_spec.specs.FixedOrder.{first_run}
 use Rattle.lt_text.specs.Text.{lines}
 use Rattle.lt_journal.specs.Text.{text_of, lines_text}
 use Rattle.lt_journal.specs.declared.line.Line.TheVariants.{Cut as CutLine}
-use Rattle.lt_law_checking.specs.Input.{journal_in}
-use Rattle.lt_law_checking.specs.Journals.{IsFinished, journal_lines}
-use Rattle.lt_law_promises.specs.Promised.{Promised}
+use Rattle.lt_law_journals.specs.Input.{journal_in}
+use Rattle.lt_law_journals.specs.Journals.{IsFinished, journal_lines}
+use Rattle.lt_spec.specs.Promised.{Promised}
 use Rattle.lt_checker.specs.Input.{DenotesBefore, IsJournalOf}
 use Rattle.lt_gen.specs.Generator.{script_of}
-use Rattle.lt_order.specs.Ordered.{first_bad}
-use Rattle.lt_summary.specs.Summary.{summary_of, summary_text}
+use Rattle.lt_spec.specs.Ordered.{first_bad}
+use Rattle.lt_tally.specs.Summary.{summary_of, summary_text}
 use Rattle.lt_script.specs.declared.fault.ScriptFault.{ScriptFault}
-use Rattle.lt_script.specs.Script.{IsScript}
+use Rattle.lt_spec.specs.Script.{IsScript}
 use Rattle.lt_script.specs.Printing.{print_of}
 use Rattle.lt_script.specs.Reading.{read_of}
 use Rattle.lt_words.specs.declared.command.Command.{Command}

@@ -13,7 +13,7 @@ use crate::made::Made;
 use crate::status::Status;
 use lt_checker::check_input;
 use lt_io::Source;
-use lt_law_checking::law_means;
+use lt_law_journals::law_means;
 use lt_law_promises::law_promised;
 use lt_merge::Run;
 use std::alloc::{AllocError, Global};

@@ -1,8 +1,8 @@
 ghost use Rattle.std.specs.Prelude.{◌≡◌, ◌<◌, ◌≤◌, [], None, IsTrue, IfOk, OnOk};
-ghost use Rattle.lt_script.specs.Script.{IsScript};
+ghost use Rattle.lt_spec.specs.Script.{IsScript};
 ghost use Rattle.lt_spec.specs.World.{is_at_rest};
-ghost use Rattle.lt_limits.specs.declared.moves.TheConstants.{MAX_MOVES};
-ghost use Rattle.lt_limits.specs.Cut.{full_node};
+ghost use Rattle.lt_spec.specs.declared.moves.TheConstants.{MAX_MOVES};
+ghost use Rattle.lt_spec.specs.Cut.{full_node};
 ghost use Rattle.lt_world.specs.Fields.{world_of};
 ghost use Rattle.lt_threads.specs.Threads.{StaysWithin};
 ghost use Rattle.lt_serve.specs.Schedules.{AreInOrder};
@@ -11,9 +11,9 @@ ghost use Rattle.lt_serve.specs.Endings.{RanTo, StopsInTime, status_of_end};
 use crate::schedule::Schedule;
 use lt_law_ordered::law_ordered;
 use lt_law_promises::law_promised;
-use lt_limits::Ending;
 use lt_merge::Run;
 use lt_script::Script;
+use lt_spec::Ending;
 use lt_world::World;
 use std::alloc::{AllocError, Global};
 

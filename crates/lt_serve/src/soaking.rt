@@ -1,5 +1,5 @@
 ghost use Rattle.std.specs.Prelude.{◌≡◌, ◌<◌, ◌≤◌, IfOk};
-ghost use Rattle.lt_limits.specs.declared.moves.TheConstants.{MAX_MOVES};
+ghost use Rattle.lt_spec.specs.declared.moves.TheConstants.{MAX_MOVES};
 ghost use Rattle.lt_mail.specs.declared.opening.TheConstants.{MAX_CAPACITY};
 ghost use Rattle.lt_threads.specs.declared.sharing.TheConstants.{MAX_WORKERS};
 ghost use Rattle.lt_serve.specs.TopCall.{Soaks, soak_text};
@@ -12,7 +12,7 @@ use lt_journal::write_closing;
 use lt_merge::Run;
 use lt_runner::Gate;
 use lt_script::Script;
-use lt_summary::Summary;
+use lt_tally::Summary;
 use std::alloc::{AllocError, Global};
 use std::thread::Threads;
 

@@ -3,8 +3,8 @@ ghost use Rattle.lt_serve.specs.Status.{status_text};
 
 use lt_call::{Outcome, Status as CallStatus};
 use lt_checker::InputError;
-use lt_limits::Ending;
 use lt_script::ScriptFault;
+use lt_spec::Ending;
 use std::fmt;
 
 /// How a command ended.

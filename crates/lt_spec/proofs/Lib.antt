@@ -1,0 +1,2 @@
+pub mod LeastFull
+pub mod FirstBad

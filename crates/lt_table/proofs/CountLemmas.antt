@@ -12,8 +12,8 @@ use Rattle.lt_modes.specs.State.{SetState, Desk, Entry, first_entry}
 use Rattle.lt_modes.specs.Records.{record_of, own_part, others_below, others}
 use Rattle.lt_table.specs.TableData.{entry_at}
 use Rattle.lt_modes.proofs.ModeAlgebra.{has-modes_by}
-use Rattle.lt_counts.specs.Counts.{mode_count, count_if, CanShift, IsShifted, modes_beyond}
-use Rattle.lt_counts.proofs.SetLemmas.{same_members, has-union, has-no_modes}
+use Rattle.lt_modes.specs.Counts.{mode_count, count_if, CanShift, IsShifted, modes_beyond}
+use Rattle.lt_modes.proofs.SetLemmas.{same_members, has-union, has-no_modes}
 use Rattle.lt_table.specs.NodeCounts.{AreNodeCounts}
 
 -- whether the entry's record has the mode, as a number

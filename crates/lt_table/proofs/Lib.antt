@@ -3,3 +3,4 @@ mod EntryLemmas
 mod CountLemmas
 mod RecountLemmas
 mod ToldLemmas
+pub mod StampLemmas

@@ -8,7 +8,7 @@ use Rattle.lt_modes.specs.State.{SetState, Entry}
 use Rattle.lt_modes.specs.Held.{held_modes}
 use Rattle.lt_modes.specs.Records.{still_owed}
 use Rattle.lt_modes.specs.HandingOver.{stamps_of, settled}
-use Rattle.lt_asks.proofs.StampLemmas.{listed_of}
+use Rattle.lt_table.proofs.StampLemmas.{listed_of}
 use Rattle.lt_table.specs.TableData.{owed_listed, settled_by}
 
 -- the owed asks whose stamps are listed are the unanswered ones

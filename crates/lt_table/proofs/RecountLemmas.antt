@@ -11,7 +11,7 @@ use Rattle.lt_modes.specs.Records.{record_of, own_part, others}
 use Rattle.lt_table.specs.declared.entry.Entry.{Entry}
 use Rattle.lt_table.specs.Seen.{entry_seen}
 use Rattle.lt_table.specs.TableData.{entry_at}
-use Rattle.lt_counts.specs.Counts.{mode_count, CanShift, IsShifted, modes_beyond}
+use Rattle.lt_modes.specs.Counts.{mode_count, CanShift, IsShifted, modes_beyond}
 use Rattle.lt_table.specs.NodeCounts.{AreNodeCounts}
 use Rattle.lt_table.proofs.EntryLemmas.{entries_put}
 use Rattle.lt_table.proofs.CountLemmas.{can_shift, shifted_are, others_apart, others_plain}

@@ -2,3 +2,4 @@ pub mod TableData
 pub mod Seen
 pub mod NodeCounts
 pub mod Told
+pub mod Stamps

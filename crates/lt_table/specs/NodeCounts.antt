@@ -4,7 +4,7 @@ use Rattle.lt_modes.specs.declared.mode.Mode.{Mode}
 use Rattle.lt_modes.specs.Modes.{has}
 use Rattle.lt_modes.specs.State.{Entry}
 use Rattle.lt_modes.specs.Records.{record_of}
-use Rattle.lt_counts.specs.Counts.{mode_count}
+use Rattle.lt_modes.specs.Counts.{mode_count}
 
 -- the number of entries whose record has the mode
 abbrev pub nodes_with : Mode → List Entry → ℕ

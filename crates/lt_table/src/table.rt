@@ -12,9 +12,8 @@ ghost use Rattle.lt_table.specs.NodeCounts.{nodes_with};
 ghost use Rattle.lt_table.specs.Told.{AreTold};
 
 use crate::entry::{Entry, still_told};
-use lt_asks::Pending;
-use lt_counts::ModeCounts;
-use lt_modes::{Mode, ModeSet, Stamp};
+use crate::pending::Pending;
+use lt_modes::{Mode, ModeCounts, ModeSet, Stamp};
 use std::alloc::{AllocError, Global};
 use std::marker::Model;
 

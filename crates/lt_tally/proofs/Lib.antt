@@ -5,3 +5,4 @@ pub mod Few
 mod Places
 mod Steps
 mod Telling
+pub mod Lines

@@ -10,7 +10,7 @@ use Rattle.lt_modes.specs.declared.parts.Link.{Link}
 use Rattle.lt_modes.specs.Script.{ScriptData}
 use Rattle.lt_spec.specs.Holdings.{Holding, holding, holdings, after_line, wanted, wanted_after, owner_of, owner_after}
 use Rattle.lt_tally.proofs.Few.{length-without}
-use Rattle.lt_tally.specs.LockTable.{Counts, Tally, IsTallied, waits_for, owner_at}
+use Rattle.lt_tally.specs.LockTable.{Counts, Tally, IsTallied, waited_for, owner_at}
 
 -- the list after one event more
 abbrev pub waiting_after : List (Option Holding) → Event → List (Option Holding)
@@ -30,7 +30,7 @@ written {X} xs place k x d inside = elim (cases_eq place k) [
   | inr apart ↦ rw (ne_eqb place k apart) (get_or-set_other xs place k x d (λ e. apart (sym e)))
 ]
 
-waits_next : (waiting : List (Option Holding)) (client : ℕ) (event : Event) → client < length waiting → waits_for (waiting_after waiting event) client ≡ wanted_after client (waits_for waiting client) event
+waits_next : (waiting : List (Option Holding)) (client : ℕ) (event : Event) → client < length waiting → waited_for (waiting_after waiting event) client ≡ wanted_after client (waited_for waiting client) event
 waits_next waiting client (Grant c s mode) inside = written waiting c client None None inside
 waits_next waiting client (Wait c s mode) inside = written waiting c client (Some (holding c s mode)) None inside
 waits_next waiting client (Change c s gives_up mode) inside = written waiting c client None None inside

@@ -1,1 +1,2 @@
 pub mod LockTable
+pub mod Summary

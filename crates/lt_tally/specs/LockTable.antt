@@ -5,7 +5,7 @@ use Rattle.lt_modes.specs.Script.{ScriptData}
 use Rattle.lt_modes.specs.declared.event.Event.{Event}
 use Rattle.lt_modes.specs.declared.parts.Link.{Link}
 use Rattle.lt_spec.specs.Holdings.{Holding, holdings, times_held, wanted, owner_of}
-use Rattle.lt_counts.specs.Counts.{place_of_mode}
+use Rattle.lt_modes.specs.Counts.{place_of_mode}
 
 -- the place of a mode among all modes; sealed: what looks at it says so (`unfolding mode_place`)
 unfoldable pub mode_place : Mode → ℕ
@@ -31,17 +31,17 @@ pub record Tally : Type 0 where
   pub owners : List Link
 
 -- what the client waits for
-abbrev pub waits_for : List (Option Holding) → ℕ → Option Holding
-waits_for waiting client = slice_index_or waiting client None
+abbrev pub waited_for : List (Option Holding) → ℕ → Option Holding
+waited_for waiting client = slice_index_or waiting client None
 
 -- where the set's token went last
 abbrev pub owner_at : List Link → ℕ → Link
 owner_at owners set = slice_index_or owners set (record { node = 0; epoch = 0 })
 
 -- the list says what each client waits for after these events
-pub record TellsWaiting (script : ScriptData) (waiting : List (Option Holding)) (events : List Event) : Type 0 where
+pub record TellsWaits (script : ScriptData) (waiting : List (Option Holding)) (events : List Event) : Type 0 where
   pub room : length waiting ≡ length script.clients
-  pub each : (client : ℕ) → client < length script.clients → waits_for waiting client ≡ wanted client events
+  pub each : (client : ℕ) → client < length script.clients → waited_for waiting client ≡ wanted client events
 
 -- the list says where each set's token went last
 pub record TellsOwners (script : ScriptData) (owners : List Link) (events : List Event) : Type 0 where
@@ -51,5 +51,5 @@ pub record TellsOwners (script : ScriptData) (owners : List Link) (events : List
 -- the tally tells what these events come to
 pub record IsTallied (script : ScriptData) (tally : Tally) (events : List Event) : Type 0 where
   pub held : Counts script tally.cells (holdings script events)
-  pub waiting : TellsWaiting script tally.waiting events
+  pub waiting : TellsWaits script tally.waiting events
   pub owners : TellsOwners script tally.owners events

@@ -4,8 +4,7 @@ ghost use Rattle.lt_tally.specs.LockTable.{mode_place, cell_of, HasCell, Counts}
 
 use crate::families::is_related;
 use crate::holding::Holding;
-use lt_counts::place;
-use lt_modes::Mode;
+use lt_modes::{Mode, place};
 use lt_script::{MAX_SETS, Script};
 use std::alloc::{AllocError, Global};
 use std::marker::Model;

@@ -3,7 +3,7 @@ ghost use Rattle.lt_modes.specs.declared.event.Event.{Event as AnyEvent};
 ghost use Rattle.lt_modes.specs.declared.event.Event.TheVariants.{Grant, Change};
 ghost use Rattle.lt_modes.specs.Script.{ScriptData};
 ghost use Rattle.lt_spec.specs.Holdings.{holdings, times_held, wanted, owner_of, lines_of};
-ghost use Rattle.lt_tally.specs.LockTable.{HasCell, IsTallied, waits_for, owner_at};
+ghost use Rattle.lt_tally.specs.LockTable.{HasCell, IsTallied, waited_for, owner_at};
 
 use crate::holding::Holding;
 use crate::table::Table;
@@ -168,7 +168,7 @@ impl Tally {
 
 // What the client waits for, by this list.
 fn waits_for(waiting: &[Option<Holding>], client: u16) -> Option<Holding>
-    ensures { result ≡ waits_for waiting.now client }
+    ensures { result ≡ waited_for waiting.now client }
 {
     waiting.get(usize::from(client)).copied().flatten()
 }

@@ -11,9 +11,9 @@ use Rattle.lt_merge.specs.Run.{RunData}
 use Rattle.lt_merge.specs.Merging.{Merges}
 use Rattle.lt_runner.specs.declared.parts.Parts.{Parts}
 use Rattle.lt_runner.specs.Kept.{SameRunner, AsSeen, Grew}
-use Rattle.lt_limits.specs.Endings.{EndsBy}
-use Rattle.lt_limits.specs.Cut.{moves_of, can_move, full_node}
-use Rattle.lt_limits.proofs.LeastFull.{least_full}
+use Rattle.lt_spec.specs.Endings.{EndsBy}
+use Rattle.lt_spec.specs.Cut.{moves_of, can_move, full_node}
+use Rattle.lt_spec.proofs.LeastFull.{least_full}
 use Rattle.lt_law_merged.specs.CanMove.{RestIsNoMove}
 use Rattle.lt_threads.specs.Together.{EachIs, IsCrew, crew_run, crew_world}
 use Rattle.lt_threads.specs.Rounds.{IsCrewCut}
@@ -22,8 +22,8 @@ use Rattle.lt_threads.specs.Starting.{IsFirstCrew}
 use Rattle.lt_threads.proofs.Each.{each_join, each_weaker, each_before}
 use Rattle.lt_threads.proofs.Pushing.{same_world}
 use Rattle.lt_threads.proofs.Turns.{seen_grew, grew_join}
-use Rattle.lt_limits.specs.declared.ending.Ending.{Ending}
-use Rattle.lt_limits.specs.declared.ending.Ending.TheVariants.{Done, Stuck, Cut}
+use Rattle.lt_spec.specs.declared.ending.Ending.{Ending}
+use Rattle.lt_spec.specs.declared.ending.Ending.TheVariants.{Done, Stuck, Cut}
 use Rattle.lt_threads.specs.Crews.{CrewEnds, HasLimit, MovedOn}
 use Rattle.lt_threads.specs.Threads.{IsThreadRun, StaysWithin, GoesFar}
 

@@ -12,12 +12,11 @@ use Rattle.lt_modes.specs.Script.{ScriptData}
 use Rattle.lt_modes.specs.State.{Letter}
 use Rattle.lt_spec.specs.NodeMove.{NodeState}
 use Rattle.lt_spec.specs.World.{start}
-use Rattle.lt_law_plays.specs.Plays.{Plays}
+use Rattle.lt_spec.specs.Plays.{Plays}
 use Rattle.lt_law_plays.specs.Parts.{Part, Joined}
-use Rattle.lt_law_appended.proofs.Sharing.{plays_same_at}
+use Rattle.lt_law_plays.proofs.Sharing.{plays_same_at}
 use Rattle.lt_node.specs.NodeData.{state_of}
-use Rattle.lt_mail.specs.Lanes.{OutLane}
-use Rattle.lt_mail.specs.Lanes.{ring_given, outbox_letters, sent_by}
+use Rattle.lt_mail.specs.Lanes.{OutLane, ring_given, outbox_letters, sent_by}
 use Rattle.lt_mail.specs.Words.{on_out, out_at, sent_to, given_to, waiting_to, taken_from, known_from}
 use Rattle.lt_runner.specs.declared.parts.Parts.{Parts}
 use Rattle.lt_runner.specs.Hands.{in_hand}

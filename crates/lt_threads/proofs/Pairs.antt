@@ -11,7 +11,7 @@ use Rattle.lt_runner.specs.declared.parts.Parts.{Parts}
 use Rattle.lt_runner.specs.Kept.{AsSeen}
 use Rattle.lt_runner.specs.Looking.{AreBeside, HasMet, LooksTo, LooksFrom}
 use Rattle.lt_threads.specs.Together.{EachIs}
-use Rattle.lt_threads.specs.Meeting.{AreMet, AnyTwo, AmongFirst, RunnersLinked, LooksAt, BothLook, PairMeets, Meeting}
+use Rattle.lt_threads.specs.Meeting.{AreMet, AnyTwo, AmongFirst, RunnersLinked, LooksAtNode, BothLook, PairMeets, Meeting}
 use Rattle.lt_runner.proofs.KeptLemmas.{seen_join}
 use Rattle.lt_threads.proofs.Each.{seen_self, each_self, each_join, each_len, each_push, slice_left, slice_right, set_here, set_other}
 use Rattle.lt_threads.proofs.Linked.{linked_last}
@@ -80,7 +80,7 @@ was_at m n old new h k p e = elim (cases_eq k m) [
     same : {a b : Parts} → Some a ≡ Some b → a ≡ b
     same e = cc
 
-    looked : (k : ℕ) (p : Parts) (side : ℕ) (x u : Parts) → slice_get old k ≡ Some x → p ≡ u → LooksAt side x u → ((other : ℕ) → IsApart m n k other → other ≢ side)
+    looked : (k : ℕ) (p : Parts) (side : ℕ) (x u : Parts) → slice_get old k ≡ Some x → p ≡ u → LooksAtNode side x u → ((other : ℕ) → IsApart m n k other → other ≢ side)
         → Was m n k old p
     looked k p side x u here is look apart = subst (λ (q : Parts). Was m n k old q) (sym is) (record {
       was = x;

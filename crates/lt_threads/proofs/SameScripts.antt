@@ -8,8 +8,8 @@ use Rattle.lt_modes.specs.Script.{ScriptData}
 use Rattle.lt_desk.specs.LetterSeen.{letter_seen}
 use Rattle.lt_spec.specs.Families.{home}
 use Rattle.lt_spec.specs.NodeMove.{NodeState, node_waits}
-use Rattle.lt_law_plays.specs.Plays.{can_act}
-use Rattle.lt_law_appended.specs.Commands.{with_commands, SameAt}
+use Rattle.lt_spec.specs.Plays.{can_act}
+use Rattle.lt_spec.specs.Commands.{with_commands, SameAt}
 use Rattle.lt_runner.specs.declared.choice.Choice.TheVariants.{Nothing, Take}
 use Rattle.lt_runner.specs.declared.parts.Hand.{Hand}
 use Rattle.lt_runner.specs.Choices.{least_below, may_act, may_take, act_of, act_choice, choice_by}

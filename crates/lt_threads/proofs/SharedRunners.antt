@@ -9,7 +9,7 @@ use Rattle.lt_runner.specs.declared.parts.Parts.{Parts}
 use Rattle.lt_runner.specs.Kept.{Grew}
 use Rattle.lt_runner.specs.Same.{grew_itself}
 use Rattle.lt_threads.specs.Together.{EachIs}
-use Rattle.lt_threads.specs.Settled.{IsSettled, AreSettled}
+use Rattle.lt_threads.specs.Settled.{IsSettledRunner, AreSettled}
 use Rattle.lt_threads.proofs.Each.{each_self, set_here, set_other}
 use Rattle.lt_threads.proofs.Turns.{grew_join, get_is}
 
@@ -26,15 +26,15 @@ one_grew k rs d y within h j = elim (cases_eq j k) [
   | inr apart ↦ subst (λ (o : Option Parts). Alike Grew (slice_get rs j) o) (sym (set_other rs k y j apart)) (each_self Grew grew_itself rs j)
 ]
 
-pub one_settled : (patience k : ℕ) (rs : List Parts) (y p : Parts) → k < length rs → slice_get (slice_set rs k y) k ≡ Some p → IsSettled patience y → IsSettled patience p
-one_settled patience k rs y p within there h = subst (IsSettled patience) (some_equal y p (sym (set_here rs k y within) ∙ there)) h
+pub one_settled : (patience k : ℕ) (rs : List Parts) (y p : Parts) → k < length rs → slice_get (slice_set rs k y) k ≡ Some p → IsSettledRunner patience y → IsSettledRunner patience p
+one_settled patience k rs y p within there h = subst (IsSettledRunner patience) (some_equal y p (sym (set_here rs k y within) ∙ there)) h
 
 -- the first ones are settled
 abbrev pub SettledTo : ℕ → ℕ → List Parts → Type 0
-SettledTo patience place rs = (k : ℕ) (p : Parts) → k < place → slice_get rs k ≡ Some p → IsSettled patience p
+SettledTo patience place rs = (k : ℕ) (p : Parts) → k < place → slice_get rs k ≡ Some p → IsSettledRunner patience p
 
 pub next_settled : (patience place : ℕ) (old new : List Parts) → SettledTo patience place old → ((k : ℕ) → k ≢ place → slice_get new k ≡ slice_get old k)
-    → ((p : Parts) → slice_get new place ≡ Some p → IsSettled patience p) → SettledTo patience (place + 1) new
+    → ((p : Parts) → slice_get new place ≡ Some p → IsSettledRunner patience p) → SettledTo patience (place + 1) new
 next_settled patience place old new first others here k p below there = elim (cases_eq k place) [
   | inl e ↦ here p (subst (λ (i : ℕ). slice_get new i ≡ Some p) e there)
   | inr apart ↦ first k p (omega (arith, below, apart)) (sym (others k apart) ∙ there)

@@ -9,8 +9,8 @@ use Rattle.std.proofs.lemmas.List.Elements.{recursion_from_All}
 use Rattle.std.proofs.lemmas.Option.{slice_get-get_or, slice_get_within}
 use Rattle.lt_modes.specs.declared.command.Command.{Command}
 use Rattle.lt_modes.specs.Script.{ScriptData}
-use Rattle.lt_script.specs.Script.{IsScript, IsRequest}
-use Rattle.lt_script.specs.declared.limits.TheConstants.{MAX_COMMANDS}
+use Rattle.lt_spec.specs.Script.{IsScript, IsRequest}
+use Rattle.lt_spec.specs.declared.limits.TheConstants.{MAX_COMMANDS}
 use Rattle.lt_script.proofs.NameLemmas.{element_at}
 use Rattle.lt_spec.specs.Families.{command_if}
 use Rattle.lt_spec.specs.Log.{Logged}
@@ -20,9 +20,9 @@ use Rattle.lt_lists.specs.Below.{gather_below, sum_below}
 use Rattle.lt_lists.proofs.AllLemmas.{all_append, all_weaker}
 use Rattle.lt_lists.proofs.Sums.{sum_below-same, sum_below-none, sum_below-add, sum_below-at, sum_below-one}
 use Rattle.lt_lists.proofs.Members.{some_equal}
-use Rattle.lt_law_appended.specs.Commands.{with_commands, SameAt, AreAt, share_of}
-use Rattle.lt_law_appended.specs.ShareLaws.{AreShares as EachIsAt}
-use Rattle.lt_law_appended.proofs.Sharing.{share_is_same}
+use Rattle.lt_spec.specs.Commands.{with_commands, SameAt, AreAt, share_of}
+use Rattle.lt_law_plays.specs.ShareLaws.{AreOwnCommands as EachIsAt}
+use Rattle.lt_law_plays.proofs.Sharing.{share_is_same}
 use Rattle.lt_runner.specs.declared.parts.Parts.{Parts}
 use Rattle.lt_threads.specs.Shares.{AreShares, ShareScript, AreScripts, commands_in, AreTooMany, IsJoined, IsSharedRun}
 use Rattle.lt_threads.specs.Finished.{AreCrewLogs}

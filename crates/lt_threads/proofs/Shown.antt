@@ -13,11 +13,11 @@ use Rattle.lt_lists.proofs.Members.{contains_first}
 use Rattle.lt_lists.proofs.Searches.{any_below_at}
 use Rattle.lt_spec.specs.NodeMove.{NodeState}
 use Rattle.lt_spec.specs.World.{is_some_letter, has_mail}
-use Rattle.lt_limits.specs.declared.moves.TheConstants.{MAX_MOVES}
-use Rattle.lt_law_plays.specs.Plays.{can_act}
+use Rattle.lt_spec.specs.declared.moves.TheConstants.{MAX_MOVES}
+use Rattle.lt_spec.specs.Plays.{can_act}
 use Rattle.lt_law_plays.specs.Parts.{Part, Joined}
 use Rattle.lt_law_merged.specs.JoinedRun.{IsJoinedRun}
-use Rattle.lt_limits.specs.Cut.{can_move}
+use Rattle.lt_spec.specs.Cut.{can_move}
 use Rattle.lt_law_merged.proofs.Joining.{joined_merges}
 use Rattle.lt_law_merged.proofs.Moving.{can_move_is_seen}
 use Rattle.lt_law_merged.proofs.LeftLetters.{states_within, asks_have_place, clocks_below, letters_left_fit}

@@ -3,9 +3,9 @@ use Rattle.std.proofs.Common.{◌≡◌, ℕ, zero, suc, ◌+◌, ◌<◌, ◌�
 use Rattle.std.specs.Prelude.{◌⊎◌, slice_get, slice_index_or, remove}
 use Rattle.std.proofs.lemmas.List.{length-append, length-drop}
 use Rattle.lt_modes.specs.Script.{ScriptData}
-use Rattle.lt_script.specs.Script.{IsScript}
+use Rattle.lt_spec.specs.Script.{IsScript}
 use Rattle.lt_lists.proofs.Members.{some_equal}
-use Rattle.lt_limits.specs.declared.moves.TheConstants.{MAX_MOVES}
+use Rattle.lt_spec.specs.declared.moves.TheConstants.{MAX_MOVES}
 use Rattle.lt_desk.specs.declared.letter.Letter.{Letter}
 use Rattle.lt_mail.specs.declared.mail.Mail.{Mail}
 use Rattle.lt_mail.specs.declared.lane.OutEnd.{OutEnd}
@@ -14,7 +14,7 @@ use Rattle.lt_mail.specs.Words.{out_at, in_at, places_of, IsOpenLink, Both}
 use Rattle.lt_mail.specs.Opening.{Opened, IsFresh}
 use Rattle.lt_runner.specs.declared.parts.Parts.{Parts}
 use Rattle.lt_runner.specs.Starts.{StartsWith}
-use Rattle.lt_threads.specs.Starting.{IsFirst, Starting, IsFirstCrew}
+use Rattle.lt_threads.specs.Starting.{IsFirstRunner, Starting, IsFirstCrew}
 use Rattle.lt_threads.proofs.SameScripts.{same_itself, same_before}
 
 -- before the first runner
@@ -82,12 +82,12 @@ one_more script capacity limit k left rs d p h below starts = record {
         let here = first_left k h.all d within in
         here ∙ ap Some (sym (ap (λ (ms : List Mail). slice_index_or ms 0 d) h.left_is) ∙ sym starts.mail_is)
 
-    by_place : (j : ℕ) (q : Parts) → (slice_get rs j ≡ Some q) ⊎ ((j ≡ length rs) × (p ≡ q)) → IsFirst script limit j h.all q
+    by_place : (j : ℕ) (q : Parts) → (slice_get rs j ≡ Some q) ⊎ ((j ≡ length rs) × (p ≡ q)) → IsFirstRunner script limit j h.all q
     by_place j q (inl old) = h.each j q old
     by_place j q (inr new) =
         let at : j ≡ k = new.0 ∙ h.count in
-        subst (λ (x : Parts). IsFirst script limit j h.all x) new.1
-        (subst (λ (i : ℕ). IsFirst script limit i h.all p) (sym at)
+        subst (λ (x : Parts). IsFirstRunner script limit j h.all x) new.1
+        (subst (λ (i : ℕ). IsFirstRunner script limit i h.all p) (sym at)
         (record { script_is = starts.script_is; me = starts.me; limit_is = starts.limit_is; log = starts.log; mail = mail }))
 
 -- a ring to each node, with these places

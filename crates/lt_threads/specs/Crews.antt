@@ -6,8 +6,8 @@ use Rattle.lt_runner.specs.declared.parts.Parts.{Parts}
 use Rattle.lt_runner.specs.Kept.{Grew}
 use Rattle.lt_threads.specs.Together.{EachIs, IsCrew, crew_world}
 use Rattle.lt_threads.specs.Rounds.{IsCrewCut}
-use Rattle.lt_limits.specs.declared.ending.Ending.{Ending}
-use Rattle.lt_limits.specs.declared.ending.Ending.TheVariants.{Done, Stuck, Cut}
+use Rattle.lt_spec.specs.declared.ending.Ending.{Ending}
+use Rattle.lt_spec.specs.declared.ending.Ending.TheVariants.{Done, Stuck, Cut}
 
 -- the crew's world is at rest with nobody waiting, at rest with somebody waiting, or this node is cut
 abbrev pub CrewEnds : Ending → ScriptData → List Parts → Type 0

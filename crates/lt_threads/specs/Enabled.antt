@@ -2,7 +2,7 @@
 use Rattle.std.specs.Prelude.{◌≡◌, ◌<◌, true, false, ℕ, List, Option, Some, None, slice_get}
 use Rattle.lt_modes.specs.Script.{ScriptData}
 use Rattle.lt_spec.specs.World.{World, is_at_rest}
-use Rattle.lt_limits.specs.Cut.{can_move}
+use Rattle.lt_spec.specs.Cut.{can_move}
 use Rattle.lt_runner.specs.declared.parts.Parts.{Parts}
 use Rattle.lt_runner.specs.Choices.{next_choice}
 use Rattle.lt_runner.specs.Looking.{is_move}

@@ -28,7 +28,7 @@ pub record RunnersLinked (rs : List Parts) : Type 0 where
   pub links : (a b : ℕ) (x y : Parts) → slice_get rs a ≡ Some x → slice_get rs b ≡ Some y → a ≢ b → Both IsOpenLink (out_at x.mail b) (in_at y.mail a)
 
 -- nothing happened but that letters may have gone to the ring to this node, and that more of its letters may be known
-pub record LooksAt (other : ℕ) (a b : Parts) : Type 0 where
+pub record LooksAtNode (other : ℕ) (a b : Parts) : Type 0 where
   pub seen : AsSeen a b
   pub hand : b.hand ≡ a.hand
   pub outs : (node : ℕ) → node ≢ other → out_at b.mail node ≡ out_at a.mail node
@@ -36,8 +36,8 @@ pub record LooksAt (other : ℕ) (a b : Parts) : Type 0 where
 
 -- two runners looked at the rings between them
 pub record BothLook (m n : ℕ) (x y u v : Parts) : Type 0 where
-  pub first : LooksAt n x u
-  pub second : LooksAt m y v
+  pub first : LooksAtNode n x u
+  pub second : LooksAtNode m y v
   pub there : HasMet m n u v
   pub back : HasMet n m v u
 

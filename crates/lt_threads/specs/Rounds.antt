@@ -2,7 +2,7 @@
 use Rattle.std.specs.Prelude.{◌≡◌, ◌<◌, ◌-◌, true, false, ℕ, List, Some, length, sum_by, slice_get}
 use Rattle.lt_modes.specs.Script.{ScriptData}
 use Rattle.lt_spec.specs.World.{is_at_rest}
-use Rattle.lt_limits.specs.Cut.{can_move}
+use Rattle.lt_spec.specs.Cut.{can_move}
 use Rattle.lt_runner.specs.declared.parts.Parts.{Parts}
 use Rattle.lt_threads.specs.declared.rounds.Ended.{Ended}
 use Rattle.lt_threads.specs.declared.rounds.Ended.TheVariants.{Rest, Cut, NoMemory}

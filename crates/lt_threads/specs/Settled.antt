@@ -8,11 +8,11 @@ use Rattle.lt_runner.specs.Kept.{WorkEnds}
 use Rattle.lt_threads.specs.Together.{SomeCouldMove}
 
 -- where its log isn't full, it is as work leaves it that ends with Idle
-abbrev pub IsSettled : ℕ → Parts → Type 0
-IsSettled patience p = length p.log.entries < p.limit → WorkEnds Idle patience p
+abbrev pub IsSettledRunner : ℕ → Parts → Type 0
+IsSettledRunner patience p = length p.log.entries < p.limit → WorkEnds Idle patience p
 
 abbrev pub AreSettled : ℕ → List Parts → Type 0
-AreSettled patience rs = (k : ℕ) (p : Parts) → slice_get rs k ≡ Some p → IsSettled patience p
+AreSettled patience rs = (k : ℕ) (p : Parts) → slice_get rs k ≡ Some p → IsSettledRunner patience p
 
 -- some log is full
 abbrev pub some_full : List Parts → Bool

@@ -2,15 +2,15 @@
 use Rattle.std.specs.Prelude.{◌≡◌, ◌≢◌, ◌<◌, ◌≤◌, ℕ, List, [], ◌∷◌, ◌++◌, Some, length, filter, slice_get}
 use Rattle.lt_modes.specs.declared.command.Command.{Command}
 use Rattle.lt_modes.specs.Script.{ScriptData}
-use Rattle.lt_script.specs.Script.{IsScript}
-use Rattle.lt_script.specs.declared.limits.TheConstants.{MAX_COMMANDS}
-use Rattle.lt_limits.specs.declared.moves.TheConstants.{MAX_MOVES}
+use Rattle.lt_spec.specs.Script.{IsScript}
+use Rattle.lt_spec.specs.declared.limits.TheConstants.{MAX_COMMANDS}
+use Rattle.lt_spec.specs.declared.moves.TheConstants.{MAX_MOVES}
 use Rattle.lt_lists.specs.Below.{sum_below}
 use Rattle.lt_spec.specs.Families.{commands_of}
 use Rattle.lt_spec.specs.Log.{Logged}
 use Rattle.lt_spec.specs.World.{is_of_node, IsRun}
 use Rattle.lt_merge.specs.Merging.{AreRising}
-use Rattle.lt_law_appended.specs.Commands.{with_commands, AreAt}
+use Rattle.lt_spec.specs.Commands.{with_commands, AreAt}
 use Rattle.lt_mail.specs.Words.{out_at, in_at, Both, IsOpenLink}
 use Rattle.lt_runner.specs.declared.parts.Parts.{Parts}
 use Rattle.lt_threads.specs.Together.{IsCrew, crew_run}

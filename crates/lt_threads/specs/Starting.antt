@@ -8,7 +8,7 @@ use Rattle.lt_runner.specs.declared.parts.Parts.{Parts}
 use Rattle.lt_threads.specs.Together.{IsCrew}
 
 -- the runner of node k, with its mail of these, which has made no move
-pub record IsFirst (script : ScriptData) (limit k : ℕ) (all : List Mail) (p : Parts) : Type 0 where
+pub record IsFirstRunner (script : ScriptData) (limit k : ℕ) (all : List Mail) (p : Parts) : Type 0 where
   pub script_is : p.node.script ≡ script
   pub me : p.node.me ≡ k
   pub limit_is : p.limit ≡ limit
@@ -21,7 +21,7 @@ pub record Starting (script : ScriptData) (capacity limit k : ℕ) (left : List 
   pub opened : Opened script.nodes capacity all
   pub left_is : left ≡ drop k all
   pub count : length rs ≡ k
-  pub each : (j : ℕ) (p : Parts) → slice_get rs j ≡ Some p → IsFirst script limit j all p
+  pub each : (j : ℕ) (p : Parts) → slice_get rs j ≡ Some p → IsFirstRunner script limit j all p
 
 -- the runners of a script of which none has made a move; each may make so many, and its ring to each node has so many places
 pub record IsFirstCrew (script : ScriptData) (capacity limit : ℕ) (rs : List Parts) : Type 0 where

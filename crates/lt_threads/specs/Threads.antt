@@ -4,9 +4,9 @@ use Rattle.lt_modes.specs.Script.{ScriptData}
 use Rattle.lt_spec.specs.Log.{Logged}
 use Rattle.lt_spec.specs.World.{IsRun, world_after}
 use Rattle.lt_merge.specs.Merging.{AreRising}
-use Rattle.lt_limits.specs.declared.ending.Ending.{Ending}
-use Rattle.lt_limits.specs.Endings.{EndsBy}
-use Rattle.lt_limits.specs.Cut.{moves_of, can_move}
+use Rattle.lt_spec.specs.declared.ending.Ending.{Ending}
+use Rattle.lt_spec.specs.Endings.{EndsBy}
+use Rattle.lt_spec.specs.Cut.{moves_of, can_move}
 
 -- no node has made more moves than it may
 abbrev pub StaysWithin : ℕ → ScriptData → List Logged → Type 0

@@ -2,13 +2,13 @@
 use Rattle.std.specs.Prelude.{◌≡◌, ◌≢◌, ◌≤◌, ◌-◌, ℕ, List, Some, length, map, take, slice_get}
 use Rattle.lt_modes.specs.Script.{ScriptData}
 use Rattle.lt_modes.specs.State.{Letter}
-use Rattle.lt_script.specs.Script.{IsScript}
+use Rattle.lt_spec.specs.Script.{IsScript}
 use Rattle.lt_spec.specs.Log.{Logged}
 use Rattle.lt_spec.specs.World.{World, world_after}
-use Rattle.lt_limits.specs.declared.moves.TheConstants.{MAX_MOVES}
+use Rattle.lt_spec.specs.declared.moves.TheConstants.{MAX_MOVES}
 use Rattle.lt_law_plays.specs.Merged.{merged}
 use Rattle.lt_law_plays.specs.Parts.{Part, logs_of}
-use Rattle.lt_law_appended.specs.Commands.{SameAt}
+use Rattle.lt_spec.specs.Commands.{SameAt}
 use Rattle.lt_node.specs.NodeData.{state_of}
 use Rattle.lt_mail.specs.Words.{out_at, in_at, sent_to, taken_from, IsOpenLink, Both, Alike}
 use Rattle.lt_runner.specs.declared.parts.Parts.{Parts}

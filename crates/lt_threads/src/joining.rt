@@ -1,9 +1,9 @@
 // Runners that each appended commands: the script with the commands of all, and the run of it that they made.
 ghost use Rattle.std.specs.Prelude.{◌≡◌, ◌<◌, ◌≤◌, ◌+◌, ◌++◌, true, false, length, take, drop, IfOk, IfErr, OnOk};
 ghost use Rattle.lt_modes.specs.Script.{ScriptData};
-ghost use Rattle.lt_script.specs.Script.{IsScript};
-ghost use Rattle.lt_script.specs.declared.limits.TheConstants.{MAX_COMMANDS};
-ghost use Rattle.lt_law_appended.specs.Commands.{with_commands};
+ghost use Rattle.lt_spec.specs.Script.{IsScript};
+ghost use Rattle.lt_spec.specs.declared.limits.TheConstants.{MAX_COMMANDS};
+ghost use Rattle.lt_spec.specs.Commands.{with_commands};
 ghost use Rattle.lt_threads.specs.declared.joining.JoinError.TheVariants as errors;
 ghost use Rattle.lt_threads.specs.Shares.{AreShares, ShareScript, AreScripts, IsJoined, IsSharedRun, AreTooMany, commands_in};
 

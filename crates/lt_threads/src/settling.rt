@@ -3,7 +3,7 @@ ghost use Rattle.std.specs.Prelude.{◌≡◌, ◌≢◌, ◌<◌, ℕ, true, fa
 ghost use Rattle.lt_runner.specs.Kept.{Grew, CouldMove};
 ghost use Rattle.lt_runner.specs.declared.parts.Parts.{Parts as RunnerParts};
 ghost use Rattle.lt_threads.specs.Together.{EachIs, SomeCouldMove};
-ghost use Rattle.lt_threads.specs.Settled.{IsSettled, AreSettled, CrewWorked, some_full};
+ghost use Rattle.lt_threads.specs.Settled.{IsSettledRunner, AreSettled, CrewWorked, some_full};
 
 use lt_runner::{Gate, Runner, Worked};
 
@@ -47,7 +47,7 @@ fn settle_at<G: Gate>(runners: &mut Vec<Runner>, place: usize, patience: u32, ga
     requires { place < length runners.old.items }
     ensures grew { EachIs Grew runners.old.items runners.new.items }
     ensures others { (k : ℕ) → k ≢ place → slice_get runners.new.items k ≡ slice_get runners.old.items k }
-    ensures settled { (p : RunnerParts) → result ≡ false → slice_get runners.new.items place ≡ Some p → IsSettled patience p }
+    ensures settled { (p : RunnerParts) → result ≡ false → slice_get runners.new.items place ≡ Some p → IsSettledRunner patience p }
     ensures short { result ≡ true → SomeCouldMove runners.new.items }
 {
     settle_one(&mut runners[place], patience, gate)
@@ -55,7 +55,7 @@ fn settle_at<G: Gate>(runners: &mut Vec<Runner>, place: usize, patience: u32, ga
 
 fn settle_one<G: Gate>(runner: &mut Runner, patience: u32, gate: &G) -> bool
     ensures grew { Grew runner.old runner.new }
-    ensures settled { result ≡ false → IsSettled patience runner.new }
+    ensures settled { result ≡ false → IsSettledRunner patience runner.new }
     ensures short { result ≡ true → CouldMove runner.new }
 {
     if patience == 0 || runner.is_full() {

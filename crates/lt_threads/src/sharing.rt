@@ -1,16 +1,16 @@
 // Workers that share the runners.
 ghost use Rattle.std.specs.Prelude.{◌≡◌, ◌<◌, ◌≤◌, length, IfOk};
-ghost use Rattle.lt_pool.specs.PoolData.{new_post};
+ghost use Rattle.lt_pool.specs.PoolData.{new_badge};
 ghost use Rattle.lt_runner.specs.Kept.{Grew};
 ghost use Rattle.lt_threads.specs.Together.{EachIs};
-ghost use Rattle.lt_threads.specs.Workers.{IsFree, AreFree, Leads};
+ghost use Rattle.lt_threads.specs.Workers.{IsFree, AreFree, LeadsPool};
 ghost use Rattle.lt_threads.specs.Settled.{CrewWorked};
 ghost use Rattle.lt_threads.specs.declared.sharing.TheConstants.{MAX_WORKERS};
 
 use crate::outlook::{Outlook, most_workers};
 use crate::settling::settle;
 use crate::worker::Worker;
-use lt_pool::{Pool, Post};
+use lt_pool::{Badge, Pool};
 use lt_runner::{Gate, Runner, Worked};
 use std::alloc::{AllocError, Global};
 use std::thread::{Threads, for_each_mut};
@@ -65,23 +65,23 @@ fn share<R: Threads + Sync, G: Gate>(
     }
 }
 
-// So many workers, each with a post of its own, and each begins at a node of its own.
+// So many workers, each with a badge of its own, and each begins at a node of its own.
 fn engage(
     alloc: Global,
     pool: &Pool<Runner>,
-    first: &mut Post<Runner>,
+    first: &mut Badge<Runner>,
     workers: u8,
 ) -> Result<Vec<Worker>, AllocError>
-    requires { (first.old ≡ new_post pool.now 0) × (workers ≤ MAX_WORKERS) }
+    requires { (first.old ≡ new_badge pool.now 0) × (workers ≤ MAX_WORKERS) }
     ensures free { IfOk result (λ hands. AreFree pool.now hands.items) }
-    ensures first { IfOk result (λ hands. Leads pool.now (length hands.items) first.new) }
+    ensures first { IfOk result (λ hands. LeadsPool pool.now (length hands.items) first.new) }
 {
     let mut hands = Vec::with_capacity(alloc, usize::from(workers))?;
     for place in 0..workers {
-        let post = pool.split(first);
+        let badge = pool.split(first);
         let outlook = Outlook::new(place);
         hands.push_reserved(Worker {
-            post,
+            badge,
             outlook,
             short: false,
         });
@@ -112,20 +112,20 @@ fn work_all<R: Threads + Sync, G: Gate>(
         hands,
         threads,
         &|_: usize, hand: &mut Worker|
-            requires { IsFree pool.now hand.old.post × (count ≡ length pool.now.firsts) × (0 < count) }
-            ensures { IsFree pool.entry.now hand.new.post }
+            requires { IsFree pool.now hand.old.badge × (count ≡ length pool.now.firsts) × (0 < count) }
+            ensures { IsFree pool.entry.now hand.new.badge }
         { hand.run(pool, count, patience, gate) },
     );
 }
 
-// Joins all posts into the first one.
-fn dismiss(pool: &Pool<Runner>, first: &mut Post<Runner>, mut hands: Vec<Worker>)
+// Joins all badges into the first one.
+fn dismiss(pool: &Pool<Runner>, first: &mut Badge<Runner>, mut hands: Vec<Worker>)
     requires free { AreFree pool.now hands.items }
-    requires first { Leads pool.now (length hands.items) first.old }
-    ensures { Leads pool.now 0 first.new }
+    requires first { LeadsPool pool.now (length hands.items) first.old }
+    ensures { LeadsPool pool.now 0 first.new }
 {
     while let Some(hand) = hands.pop() {
-        let Worker { post, .. } = hand;
-        pool.join(first, post);
+        let Worker { badge, .. } = hand;
+        pool.join(first, badge);
     }
 }

@@ -1,5 +1,5 @@
 ghost use Rattle.std.specs.Prelude.{◌<◌, ◌≤◌, ◌+◌, IfOk, OnOk};
-ghost use Rattle.lt_limits.specs.declared.moves.TheConstants.{MAX_MOVES};
+ghost use Rattle.lt_spec.specs.declared.moves.TheConstants.{MAX_MOVES};
 ghost use Rattle.lt_threads.specs.Starting.{Starting, IsFirstCrew};
 
 use lt_mail::{MAX_CAPACITY, Mail, open};

@@ -1,5 +1,5 @@
 ghost use Rattle.std.specs.Prelude.{◌<◌, ◌≤◌, IfOk, IfErr};
-ghost use Rattle.lt_limits.specs.declared.moves.TheConstants.{MAX_MOVES};
+ghost use Rattle.lt_spec.specs.declared.moves.TheConstants.{MAX_MOVES};
 ghost use Rattle.lt_threads.specs.Together.{IsCrew, EachIs, SomeCouldMove};
 ghost use Rattle.lt_threads.specs.Rounds.{RoundsEnd};
 ghost use Rattle.lt_runner.specs.Kept.{AsSeen};
@@ -12,11 +12,11 @@ use crate::rounds::{Ended, run_rounds};
 use crate::starting::start_crew;
 use crate::waiting::anyone_waits;
 use lt_law_merged::law_can_move;
-use lt_limits::Ending;
 use lt_mail::MAX_CAPACITY;
 use lt_merge::{Run, merge};
 use lt_runner::{Gate, Runner};
 use lt_script::Script;
+use lt_spec::Ending;
 use std::alloc::{AllocError, Global};
 use std::thread::Threads;
 

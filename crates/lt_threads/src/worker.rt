@@ -5,14 +5,14 @@ ghost use Rattle.lt_threads.specs.Workers.{IsFree};
 
 use crate::outlook::Outlook;
 use crate::taking::take_letters;
-use lt_pool::{Pool, Post};
+use lt_pool::{Badge, Pool};
 use lt_runner::{Gate, Runner, Worked};
 use std::thread::yield_now;
 
 /// A worker: what it claims runners with, where it looks next, and whether it found no memory for a move, which ends it.
 #[derive(Drop)]
 pub(crate) struct Worker {
-    pub(crate) post: Post<Runner>,
+    pub(crate) badge: Badge<Runner>,
     pub(crate) outlook: Outlook,
     pub(crate) short: bool,
 }
@@ -29,9 +29,9 @@ struct Visit {
 impl Worker {
     /// Visits one node after the other until it has tried often enough, or memory ran out.
     pub(crate) fn run<G: Gate>(&mut self, pool: &Pool<Runner>, count: u8, patience: u32, gate: &G)
-        requires free { IsFree pool.now self.old.post }
+        requires free { IsFree pool.now self.old.badge }
         requires count { (count ≡ length pool.now.firsts) × (0 < count) }
-        ensures { IsFree pool.now self.new.post }
+        ensures { IsFree pool.now self.new.badge }
     {
         for _ in 0..u64::MAX {
             if self.short || self.outlook.is_over(count, patience) {
@@ -44,23 +44,23 @@ impl Worker {
 
     // Claims the node's runner, lets it work and gives it back; or another worker has it, which may wait for a processor.
     fn visit<G: Gate>(&mut self, pool: &Pool<Runner>, node: u8, gate: &G)
-        requires free { IsFree pool.now self.old.post }
+        requires free { IsFree pool.now self.old.badge }
         requires inside { node < length pool.now.firsts }
-        ensures { IsFree pool.now self.new.post }
+        ensures { IsFree pool.now self.new.badge }
     {
-        let Ok(mut runner) = pool.claim(&mut self.post, node) else {
+        let Ok(mut runner) = pool.claim(&mut self.badge, node) else {
             self.outlook.note_refusal(node);
             yield_now();
             return;
         };
         let visit = work_on(&mut runner, self.outlook.is_by_mail(), gate);
-        pool.give(&mut self.post, node, runner);
+        pool.give(&mut self.badge, node, runner);
         self.note(node, visit);
     }
 
     // Notes what came of a visit.
     fn note(&mut self, node: u8, visit: Visit)
-        ensures { self.new.post ≡ self.old.post }
+        ensures { self.new.badge ≡ self.old.badge }
     {
         self.outlook.note_claim(node);
         if visit.moves == 0 {

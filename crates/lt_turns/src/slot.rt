@@ -1,6 +1,6 @@
 ghost use Rattle.std.specs.Prelude.{◌≡◌, None, Some, IsTrue, option_map};
 ghost use Rattle.lt_turns.specs.declared.tree.Turn.{Turn as AnyTurn};
-ghost use Rattle.lt_turns.specs.Turns.{earlier};
+ghost use Rattle.lt_turns.specs.Turns.{earlier_turn};
 
 use std::marker::Model;
 
@@ -58,7 +58,7 @@ impl Slot {
 
     /// The first one of two turns, where there are some.
     pub(crate) fn earlier(self, other: Slot) -> Slot
-        ensures { result ≡ earlier self other }
+        ensures { result ≡ earlier_turn self other }
     {
         if other.rank < self.rank { other } else { self }
     }

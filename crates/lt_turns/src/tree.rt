@@ -1,5 +1,5 @@
 ghost use Rattle.std.specs.Prelude.{◌≡◌, ◌<◌, ◌*◌, ◌^◌, ◌/◌, ◌+◌, length};
-ghost use Rattle.lt_turns.specs.Turns.{turn_of, winner_at, earlier, comes_before, turn_after, IsFirstAfter, AreWon, AreWonBut};
+ghost use Rattle.lt_turns.specs.Turns.{turn_at, winner_at, earlier_turn, comes_before, turn_after, IsFirstAfter, AreWon, AreWonBut};
 
 use crate::slot::Slot;
 
@@ -27,7 +27,7 @@ pub(crate) fn winner_at(numbers: &[Option<u32>], winners: &[Slot], node: usize) 
 fn slot_of(numbers: &[Option<u32>], player: usize) -> Slot
     requires player { player < length numbers.now }
     requires few { length numbers.now < 2 ^ 16 }
-    ensures { result ≡ turn_of numbers.now player }
+    ensures { result ≡ turn_at numbers.now player }
 {
     match numbers[player] {
         Some(number) => Slot::of(number, player as u16),
@@ -39,7 +39,7 @@ fn slot_of(numbers: &[Option<u32>], player: usize) -> Slot
 pub(crate) fn turn_of(numbers: &[Option<u32>], player: usize) -> Option<Turn>
     requires player { player < length numbers.now }
     requires few { length numbers.now < 2 ^ 16 }
-    ensures { result ≡ turn_of numbers.now player }
+    ensures { result ≡ turn_at numbers.now player }
 {
     match numbers[player] {
         Some(number) => Some(Turn {
@@ -96,7 +96,7 @@ pub(crate) fn update(numbers: &[Option<u32>], winners: &mut [Slot], player: usiz
 
 // The first one of two turns, where there are some.
 fn earlier(first: Option<Turn>, second: Option<Turn>) -> Option<Turn>
-    ensures { result ≡ earlier first second }
+    ensures { result ≡ earlier_turn first second }
 {
     match (first, second) {
         (Some(a), Some(b)) => Some(if comes_before(b, a) { b } else { a }),

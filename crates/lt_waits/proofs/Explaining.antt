@@ -3,13 +3,13 @@ use Rattle.std.proofs.Common.{ℕ, List, length, take, subst, sym, arith}
 use Rattle.std.specs.Prelude.{IsTrue}
 use Rattle.std.proofs.lemmas.List.{take_all}
 use Rattle.lt_modes.specs.Script.{ScriptData}
-use Rattle.lt_script.specs.Script.{IsScript}
+use Rattle.lt_spec.specs.Script.{IsScript}
 use Rattle.lt_spec.specs.Log.{Logged}
 use Rattle.lt_spec.specs.Waiting.{waits_for}
 use Rattle.lt_spec.specs.World.{world_after, IsRun, is_at_rest}
-use Rattle.lt_model.specs.Homes.{IsWhole}
-use Rattle.lt_law_limits.proofs.Within.{whole}
-use Rattle.lt_law_checking.specs.Journals.{IsFinished}
+use Rattle.lt_spec.specs.WholeScripts.{IsWhole}
+use Rattle.lt_law_invariant.proofs.Within.{whole}
+use Rattle.lt_law_journals.specs.Journals.{IsFinished}
 use Rattle.lt_law_waiting.specs.ReportLaws.{CyclesAreRings, RingsAreTold}
 use Rattle.lt_law_waiting.specs.WaitingLaws.{EachWaitsForSome, EndsAreReported, WaitersAreReported}
 use Rattle.lt_waits.specs.Explained.{Explains}

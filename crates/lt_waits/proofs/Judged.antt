@@ -6,7 +6,7 @@ use Rattle.lt_call.specs.Outcomes.{IsRefusal, SaysOfSource}
 use Rattle.lt_call.proofs.Answering.{failed_reading, long_reading, memory_reading, refused_reading}
 use Rattle.lt_modes.specs.Script.{ScriptData}
 use Rattle.lt_spec.specs.World.{world_after}
-use Rattle.lt_law_waiting.specs.Reports.{waits_report}
+use Rattle.lt_spec.specs.Reports.{waits_report}
 use Rattle.lt_world.specs.Fields.{WorldData, world_of}
 use Rattle.lt_checker.specs.declared.limits.TheConstants.{MAX_JOURNAL}
 use Rattle.lt_checker.specs.declared.error.InputError.{InputError}

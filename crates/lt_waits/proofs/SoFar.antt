@@ -8,7 +8,7 @@ use Rattle.std.proofs.lemmas.List.Elements.{filter-append}
 use Rattle.lt_modes.specs.Script.{ScriptData, client_name}
 use Rattle.lt_text.specs.Text.{spaced, text, after_space, each_after_space}
 use Rattle.lt_spec.specs.Rings.{Graph, numbers_below, ring_set, walk_end, waits_for_some}
-use Rattle.lt_law_waiting.specs.Reports.{ReportLine, WaitsLine, NoCycleLine, EndsLine, waits_lines, ends_lines, last_lines, report}
+use Rattle.lt_spec.specs.Reports.{ReportLine, WaitsLine, NoCycleLine, EndsLine, waits_lines, ends_lines, last_lines, report}
 use Rattle.lt_waits.proofs.Told.{report_same}
 use Rattle.lt_waits.specs.Report.{report_words, waits_text, waits_line, waits_lines_of, ends_line}
 

@@ -3,7 +3,7 @@ use Rattle.std.proofs.Common.{◌≡◌, ℕ, zero, suc, ◌+◌, ◌<◌, ◌�
 use Rattle.std.specs.Prelude.{◌||◌, if◌then◌else◌, map, filter, IfSome}
 use Rattle.std.specs.List.{AllByRecursion, list_any, find, flat_map, range_with_len}
 use Rattle.lt_spec.specs.Rings.{Graph, numbers_below, still_waiting, remaining, ring_set, next_among, has_come, from_coming, ring_from, walk_on, walk_end_from, walk_end, waits_for_some}
-use Rattle.lt_law_waiting.specs.Reports.{ReportLine, WaitsLine, CycleLine, NoCycleLine, EndsLine, waits_lines, ends_lines, last_lines, report}
+use Rattle.lt_spec.specs.Reports.{ReportLine, WaitsLine, CycleLine, NoCycleLine, EndsLine, waits_lines, ends_lines, last_lines, report}
 
 -- tests and functions that agree on a list
 any_same : (p q : ℕ → Bool) (xs : List ℕ) → AllByRecursion (λ x. p x ≡ q x) xs → list_any p xs ≡ list_any q xs

@@ -7,8 +7,8 @@ use Rattle.lt_spec.specs.Log.{Logged}
 use Rattle.lt_spec.specs.Rings.{AreBelow, IsRing}
 use Rattle.lt_spec.specs.Waiting.{waits_for}
 use Rattle.lt_spec.specs.World.{world_after, is_waiting}
-use Rattle.lt_law_waiting.specs.Reports.{CycleLine, EndsLine, waits_lines, waits_report}
-use Rattle.lt_law_waiting.specs.WaitingLaws.{HasEnded, HoldsUp, WaitInRing}
+use Rattle.lt_spec.specs.Reports.{CycleLine, EndsLine, waits_lines, waits_report}
+use Rattle.lt_spec.specs.Ended.{HasEnded, HoldsUp, WaitInRing}
 
 -- the report at the end of the run tells why each client waits
 pub record Explains (script : ScriptData) (run : List Logged) : Type 0 where

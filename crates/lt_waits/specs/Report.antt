@@ -3,7 +3,7 @@ use Rattle.std.specs.Prelude.{ℕ, List, [], ◌∷◌, if◌then◌else◌, map
 use Rattle.lt_modes.specs.Script.{ScriptData, client_name}
 use Rattle.lt_text.specs.Text.{spaced, text}
 use Rattle.lt_spec.specs.Rings.{Graph, numbers_below, walk_end, waits_for_some}
-use Rattle.lt_law_waiting.specs.Reports.{ReportLine, WaitsLine, CycleLine, NoCycleLine, EndsLine}
+use Rattle.lt_spec.specs.Reports.{ReportLine, WaitsLine, CycleLine, NoCycleLine, EndsLine}
 
 -- the words of a line of the report
 abbrev pub report_words : ScriptData → ReportLine → List (List ℕ)

@@ -5,8 +5,8 @@ use Rattle.lt_call.specs.Calls.{Serves}
 use Rattle.lt_modes.specs.Script.{ScriptData}
 use Rattle.lt_spec.specs.Log.{Logged}
 use Rattle.lt_spec.specs.World.{world_after}
-use Rattle.lt_law_checking.specs.Journals.{IsFinished}
-use Rattle.lt_law_waiting.specs.Reports.{waits_report}
+use Rattle.lt_law_journals.specs.Journals.{IsFinished}
+use Rattle.lt_spec.specs.Reports.{waits_report}
 use Rattle.lt_checker.specs.declared.limits.TheConstants.{MAX_JOURNAL}
 use Rattle.lt_checker.specs.Input.{DenotesBefore, HasFaultBefore, IsJournalOf, IsBad}
 use Rattle.lt_waits.specs.declared.answer.Answer.{Answer}

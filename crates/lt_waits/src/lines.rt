@@ -2,7 +2,7 @@ ghost use Rattle.std.specs.Prelude.{◌≡◌, ◌<◌, ◌≤◌, ◌++◌, ◌
 ghost use Rattle.lt_text.specs.Text.{after_space, spaced, text};
 ghost use Rattle.lt_modes.specs.Script.{ScriptData, client_name};
 ghost use Rattle.lt_spec.specs.Rings.{Graph, ring_set};
-ghost use Rattle.lt_law_waiting.specs.Reports.{CycleLine, NoCycleLine, waits_lines, ends_lines, last_lines, report};
+ghost use Rattle.lt_spec.specs.Reports.{CycleLine, NoCycleLine, waits_lines, ends_lines, last_lines, report};
 ghost use Rattle.lt_waits.specs.Graph.{graph_of, Tells};
 ghost use Rattle.lt_waits.specs.Report.{waits_text, waits_line, waits_lines_of, ends_line};
 

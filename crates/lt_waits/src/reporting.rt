@@ -1,5 +1,5 @@
 ghost use Rattle.std.specs.Prelude.{◌≡◌, IfOk};
-ghost use Rattle.lt_law_waiting.specs.Reports.{waits_report};
+ghost use Rattle.lt_spec.specs.Reports.{waits_report};
 ghost use Rattle.lt_world.specs.Fields.{world_of};
 ghost use Rattle.lt_waits.specs.Report.{waits_text};
 

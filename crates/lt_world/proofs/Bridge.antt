@@ -12,11 +12,11 @@ use Rattle.lt_spec.specs.World.{World, put_mail, after_made, letter_for}
 use Rattle.lt_desk.specs.OutData.{OutData}
 use Rattle.lt_node.specs.NodeData.{NodeData, NodeDoes, SameNode, state_of, with_sent}
 use Rattle.lt_inbox.specs.Mail.{MailData, mail_in, SameLetters, AreDelivered}
-use Rattle.lt_world.specs.Fields.{no_node, node_at, IsNodeOf, IsWorld, OnlyMemory}
+use Rattle.lt_world.specs.Fields.{node_of_none, node_at, IsNodeOf, IsWorld, OnlyMemory}
 
 -- one node of these, with another in its place
 pub node_put : (nodes : List NodeData) (q : ℕ) (d : NodeData) → q < length nodes → node_at (slice_set nodes q d) q ≡ d
-node_put nodes q d inside = get_or-set_same nodes q d no_node inside
+node_put nodes q d inside = get_or-set_same nodes q d node_of_none inside
 
 nodes_put : (script : ScriptData) (state state' : ℕ → NodeState) (nodes : List NodeData) (q : ℕ) (d : NodeData)
     → length nodes ≡ script.nodes → ((k : ℕ) → k < script.nodes → IsNodeOf script k (state k) (node_at nodes k))
@@ -28,7 +28,7 @@ nodes_put script state state' nodes q d count are inside is others k below = eli
       (subst (IsNodeOf script q (state' q)) (sym (node_put nodes q d (omega (arith, inside, count)))) is)
   | inr other ↦
       subst (λ (n : NodeState). IsNodeOf script k n (node_at (slice_set nodes q d) k)) (sym (others k other))
-      (subst (IsNodeOf script k (state k)) (sym (get_or-set_other nodes q k d no_node other)) (are k below))
+      (subst (IsNodeOf script k (state k)) (sym (get_or-set_other nodes q k d node_of_none other)) (are k below))
 ]
 
 -- a node with other memory is the same node

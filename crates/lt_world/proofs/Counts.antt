@@ -10,12 +10,12 @@ use Rattle.lt_lists.proofs.Searches.{any_below_at}
 use Rattle.lt_modes.specs.declared.moves.Step.{Step}
 use Rattle.lt_modes.specs.declared.moves.Step.TheVariants.{Act, Take}
 use Rattle.lt_modes.specs.Script.{ScriptData}
-use Rattle.lt_script.specs.Script.{IsScript}
+use Rattle.lt_spec.specs.Script.{IsScript}
 use Rattle.lt_spec.specs.Log.{Logged}
 use Rattle.lt_spec.specs.World.{World, world_after, is_enabled, is_of_node, IsRun}
 use Rattle.lt_law_enabled.proofs.Order.{takes_where}
-use Rattle.lt_limits.specs.declared.moves.TheConstants.{MAX_MOVES}
-use Rattle.lt_limits.specs.Cut.{moves_of, can_move, is_full}
+use Rattle.lt_spec.specs.declared.moves.TheConstants.{MAX_MOVES}
+use Rattle.lt_spec.specs.Cut.{moves_of, can_move, is_full}
 use Rattle.lt_law_ends.proofs.Short.{runs_are_short}
 use Rattle.lt_world.specs.Fields.{AreCounted, AreAtMost}
 use Rattle.lt_world.proofs.Premises.{act_parts, act_inside}

@@ -9,7 +9,7 @@ use Rattle.lt_modes.specs.declared.moves.Step.{Step}
 use Rattle.lt_modes.specs.declared.moves.Step.TheVariants.{Act, Take}
 use Rattle.lt_modes.specs.Script.{ScriptData}
 use Rattle.lt_spec.specs.World.{World}
-use Rattle.lt_law_own_lines.specs.OwnLines.{line_client}
+use Rattle.lt_spec.specs.OwnLines.{line_client}
 use Rattle.lt_world.specs.Fields.{AreTurns, turn_of}
 use Rattle.lt_world.specs.Turns.{NoneNames, OthersStand, with_turn}
 

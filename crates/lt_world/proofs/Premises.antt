@@ -6,15 +6,15 @@ use Rattle.lt_modes.specs.declared.moves.Step.TheVariants.{Act, Take}
 use Rattle.lt_modes.specs.Script.{ScriptData}
 use Rattle.lt_modes.specs.State.{Letter}
 use Rattle.lt_modes.specs.Fits.{Numbers, fits, head_fits, numbers_of}
-use Rattle.lt_script.specs.Script.{IsScript}
-use Rattle.lt_limits.specs.Limits.{node_within, leaves_asks}
+use Rattle.lt_spec.specs.Script.{IsScript}
+use Rattle.lt_spec.specs.Limits.{node_within, leaves_asks}
 use Rattle.lt_spec.specs.Log.{Logged}
 use Rattle.lt_spec.specs.Families.{home}
 use Rattle.lt_spec.specs.NodeMove.{NodeState, node_waits, has_command}
 use Rattle.lt_spec.specs.World.{World, world_after, is_enabled, is_runnable, IsRun}
 use Rattle.lt_model.proofs.ClocksGrow.{clocks_in_runs}
 use Rattle.lt_law_invariant.proofs.KeptRuns.{letters_fit_in_runs}
-use Rattle.lt_law_limits.proofs.Within.{nodes_within, asks_placed, whole}
+use Rattle.lt_law_invariant.proofs.Within.{nodes_within, asks_placed, whole}
 use Rattle.lt_law_enabled.specs.OrderLaws.{HasLetter}
 use Rattle.lt_law_enabled.proofs.Order.{takes_where}
 use Rattle.lt_node.specs.NodeData.{NodeData, state_of}

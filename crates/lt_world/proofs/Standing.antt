@@ -5,7 +5,7 @@ use Rattle.lt_modes.specs.declared.moves.Step.{Step}
 use Rattle.lt_modes.specs.Script.{ScriptData}
 use Rattle.lt_spec.specs.Log.{Logged}
 use Rattle.lt_spec.specs.World.{World, world_after, is_enabled, logged}
-use Rattle.lt_limits.specs.Cut.{moves_of}
+use Rattle.lt_spec.specs.Cut.{moves_of}
 use Rattle.lt_desk.specs.OutData.{OutData}
 use Rattle.lt_node.specs.NodeData.{NodeData}
 use Rattle.lt_inbox.specs.Mail.{MailData}

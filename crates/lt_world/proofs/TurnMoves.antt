@@ -12,19 +12,19 @@ use Rattle.lt_modes.specs.Fits.{numbers_of}
 use Rattle.lt_modes.specs.Sound.{SoundSet}
 use Rattle.lt_lists.specs.Below.{put}
 use Rattle.lt_lists.proofs.Puts.{put-same, put-other}
-use Rattle.lt_script.specs.Script.{IsScript}
+use Rattle.lt_spec.specs.Script.{IsScript}
 use Rattle.lt_spec.specs.Log.{Logged}
 use Rattle.lt_spec.specs.Families.{home, commands_of}
 use Rattle.lt_spec.specs.NodeMove.{NodeState, node_waits, has_command, act_stamp, take_stamp}
 use Rattle.lt_spec.specs.World.{World, world_after, after, node_move, take_front, is_enabled, logged, IsRun}
 use Rattle.lt_model.specs.Invariant.{WorldInvariant}
 use Rattle.lt_law_invariant.proofs.KeptRuns.{kept_in_runs}
-use Rattle.lt_law_limits.proofs.Within.{whole}
+use Rattle.lt_law_invariant.proofs.Within.{whole}
 use Rattle.lt_law_own_lines.specs.WaitingLaws.{AreOfOthers, EachAsksKnown, SameClient}
 use Rattle.lt_law_own_lines.proofs.WaitingMoves.{waiting_in_acts, waiting_in_node_takes, known_where_sound}
 use Rattle.lt_world.specs.Fields.{AreTurns, turn_of}
 use Rattle.lt_world.specs.Network.{run_with}
-use Rattle.lt_world.specs.Turns.{last_lines, OthersStand}
+use Rattle.lt_world.specs.Turns.{lines_of_last_move, OthersStand}
 use Rattle.lt_world.proofs.Counts.{moves_inside}
 use Rattle.lt_world.proofs.Premises.{front_fits}
 use Rattle.lt_world.proofs.Runs.{longer_world, whole_run}
@@ -91,7 +91,7 @@ at_end : (run : List Logged) (entry : Logged) → slice_get (run ++ entry ∷ []
 at_end [] entry = refl
 at_end (first ∷ rest) entry = at_end rest entry
 
-lines_of_last : (run : List Logged) (entry : Logged) → last_lines (run ++ entry ∷ []) ≡ entry.events
+lines_of_last : (run : List Logged) (entry : Logged) → lines_of_last_move (run ++ entry ∷ []) ≡ entry.events
 lines_of_last run entry =
     let place : length (run ++ entry ∷ []) - 1 ≡ length run = omega (arith, length_push run entry) in
     ap (λ (k : ℕ). unwrap_or (option_map (λ (e : Logged). e.events) (slice_get (run ++ entry ∷ []) k)) []) place
@@ -101,14 +101,14 @@ lines_of_last run entry =
 pub others_stand : (script : ScriptData) (run run' : List Logged) (q : ℕ) (step : Step) (turns : List (Option ℕ)) → IsScript script → IsRun script run
     → IsTrue (is_enabled script (world_after script run) q step) → length run + 1 < 2 ^ 32
     → AreTurns script turns (world_after script run) → run' ≡ run_with script run q step
-    → OthersStand script turns (world_after script run') step (last_lines run') 0
+    → OthersStand script turns (world_after script run') step (lines_of_last_move run') 0
 others_stand script run run' q step turns good is_run enabled few h longer =
-    subst (λ (r : List Logged). OthersStand script turns (world_after script r) step (last_lines r) 0) (sym longer) stand
+    subst (λ (r : List Logged). OthersStand script turns (world_after script r) step (lines_of_last_move r) 0) (sym longer) stand
   where
     w : World
     w = world_after script run
 
-    stand : OthersStand script turns (world_after script (run_with script run q step)) step (last_lines (run_with script run q step)) 0
+    stand : OthersStand script turns (world_after script (run_with script run q step)) step (lines_of_last_move (run_with script run q step)) 0
     stand = λ c below other none.
         let lines : AreOfOthers c (node_move script w q step).events =
         subst (AreOfOthers c) (lines_of_last run (logged script w q step)) (λ k d within. none k d (omega arith) within) in

@@ -8,6 +8,6 @@ use Rattle.lt_spec.specs.Families.{home}
 use Rattle.lt_world.specs.Fields.{WorldData, world_of}
 
 -- the client holds a lock of the set in its own mode, with which the mode conflicts
-abbrev pub is_against : WorldData → ℕ → Mode → ℕ → Mode → Bool
-is_against w set mode client own =
+abbrev pub bars_by_lock : WorldData → ℕ → Mode → ℕ → Mode → Bool
+bars_by_lock w set mode client own =
     conflicts mode own && nat_lt 0 (count_of (state_at (world_of w) set (home w.script client)).held client own)

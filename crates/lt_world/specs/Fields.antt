@@ -3,15 +3,15 @@ use Rattle.std.specs.Prelude.{◌≡◌, ◌<◌, ◌≤◌, ◌+◌, ◌^◌, �
 use Rattle.lt_modes.specs.declared.moves.Step.{Step}
 use Rattle.lt_modes.specs.Script.{ScriptData}
 use Rattle.lt_lists.specs.Below.{sum_below}
-use Rattle.lt_script.specs.Script.{IsScript}
+use Rattle.lt_spec.specs.Script.{IsScript}
 use Rattle.lt_spec.specs.Log.{Logged}
 use Rattle.lt_spec.specs.NodeMove.{NodeState}
 use Rattle.lt_spec.specs.World.{World, world_after, made_by, is_runnable, is_enabled, opened, IsRun}
 use Rattle.lt_desk.specs.OutData.{OutData}
 use Rattle.lt_node.specs.NodeData.{NodeData, SameNode, state_of}
 use Rattle.lt_merge.specs.Run.{RunData}
-use Rattle.lt_limits.specs.declared.moves.TheConstants.{MAX_MOVES}
-use Rattle.lt_limits.specs.Cut.{moves_of}
+use Rattle.lt_spec.specs.declared.moves.TheConstants.{MAX_MOVES}
+use Rattle.lt_spec.specs.Cut.{moves_of}
 use Rattle.lt_inbox.specs.Mail.{MailData, mail_in}
 
 -- what contracts see of a world: its script, how many moves a node may make, and the run so far
@@ -32,11 +32,11 @@ IsRunnable w client =
 abbrev pub no_script : ScriptData
 no_script = record { version = 1; nodes = 0; sets = []; clients = []; commands = [] }
 
-abbrev pub no_node : NodeData
-no_node = record { script = no_script; me = 0; clock = 0; made = []; cores = [] }
+abbrev pub node_of_none : NodeData
+node_of_none = record { script = no_script; me = 0; clock = 0; made = []; cores = [] }
 
 abbrev pub node_at : List NodeData → ℕ → NodeData
-node_at nodes q = slice_index_or nodes q no_node
+node_at nodes q = slice_index_or nodes q node_of_none
 
 -- the code's node is node q of the script, in this state
 pub record IsNodeOf (script : ScriptData) (q : ℕ) (state : NodeState) (n : NodeData) : Type 0 where

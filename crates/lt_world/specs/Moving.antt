@@ -2,7 +2,7 @@
 use Rattle.std.specs.Prelude.{◌≡◌, ◌<◌, ◌+◌, ◌^◌, ◌&&◌, not, ℕ, length, IsTrue}
 use Rattle.lt_modes.specs.State.{Letter}
 use Rattle.lt_modes.specs.Fits.{fits, numbers_of}
-use Rattle.lt_limits.specs.Limits.{node_within, leaves_asks}
+use Rattle.lt_spec.specs.Limits.{node_within, leaves_asks}
 use Rattle.lt_spec.specs.Families.{home}
 use Rattle.lt_spec.specs.NodeMove.{node_waits, has_command}
 use Rattle.lt_node.specs.NodeData.{NodeData, state_of}

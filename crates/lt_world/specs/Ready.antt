@@ -1,6 +1,6 @@
 -- A world with room for one move.
 use Rattle.std.specs.Prelude.{◌≡◌, ◌<◌}
-use Rattle.lt_limits.specs.Cut.{moves_of}
+use Rattle.lt_spec.specs.Cut.{moves_of}
 use Rattle.lt_world.specs.declared.choice.Choice.{Choice}
 use Rattle.lt_world.specs.declared.reserved.Reserved.{Reserved}
 use Rattle.lt_world.specs.declared.world.ready.Parts.{Parts}
@@ -18,11 +18,11 @@ abbrev pub world_with : Parts → WorldData
 world_with p = record { script = p.script; limit = p.limit; run = p.network.run.entries }
 
 -- they make a world, between two moves
-abbrev pub IsWhole : Parts → Type 0
-IsWhole p = Stands p.script p.limit p.most p.network.nodes.items p.network.inboxes p.moves.items p.turns p.network.out p.network.run.entries
+abbrev pub AreWorldParts : Parts → Type 0
+AreWorldParts p = Stands p.script p.limit p.most p.network.nodes.items p.network.inboxes p.moves.items p.turns p.network.out p.network.run.entries
 
 -- there is room in them for the move
-pub record IsReady (p : Parts) (choice : Choice) (reserved : Reserved) : Type 0 where
+pub record HasRoomToMove (p : Parts) (choice : Choice) (reserved : Reserved) : Type 0 where
   pub reserved_for : IsReserved p.script p.network choice.node reserved
   pub step_is : step_of reserved ≡ choice.step
   pub below : moves_of choice.node p.network.run.entries < p.limit

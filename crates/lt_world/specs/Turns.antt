@@ -7,12 +7,12 @@ use Rattle.lt_modes.specs.Script.{ScriptData}
 use Rattle.lt_spec.specs.Log.{Logged}
 use Rattle.lt_spec.specs.World.{World}
 use Rattle.lt_merge.specs.Run.{events_at}
-use Rattle.lt_law_own_lines.specs.OwnLines.{line_client}
+use Rattle.lt_spec.specs.OwnLines.{line_client}
 use Rattle.lt_world.specs.Fields.{turn_of}
 
 -- the lines of the last move
-abbrev pub last_lines : List Logged → List Event
-last_lines run = unwrap_or (events_at run (length run - 1)) []
+abbrev pub lines_of_last_move : List Logged → List Event
+lines_of_last_move run = unwrap_or (events_at run (length run - 1)) []
 
 -- none of the lines from place k on names the client
 abbrev pub NoneNames : ℕ → List Event → ℕ → Type 0

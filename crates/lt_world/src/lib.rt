@@ -9,5 +9,5 @@ mod reserved;
 mod world;
 
 pub use choice::Choice;
-pub use lt_limits::MAX_MOVES;
+pub use lt_spec::MAX_MOVES;
 pub use world::{Ready, World};

@@ -9,7 +9,7 @@ ghost use Rattle.lt_spec.specs.NodeMove.{node_act, node_take, act_stamp, take_st
 ghost use Rattle.lt_node.specs.NodeData.{NodeDoes, state_of};
 ghost use Rattle.lt_node.specs.Room.{RoomToAct, RoomToTake};
 ghost use Rattle.lt_inbox.specs.Mail.{AreDelivered};
-ghost use Rattle.lt_script.specs.Script.{IsScript};
+ghost use Rattle.lt_spec.specs.Script.{IsScript};
 ghost use Rattle.lt_world.specs.Moving.{CanAct, CanTake};
 ghost use Rattle.lt_world.specs.Network.{IsAfterRun, world_in, run_with};
 ghost use Rattle.lt_world.specs.declared.reserved.Reserved.TheVariants.{Acting, Taking};

@@ -2,7 +2,7 @@
 ghost use Rattle.std.specs.Prelude.{◌≡◌, ◌<◌, Some, length, position, IfSome, IsTrue};
 ghost use Rattle.std.specs.Str.{bytes_eq};
 ghost use Rattle.lt_modes.specs.Script.{SetData, ClientData};
-ghost use Rattle.lt_script.specs.Script.{set_number, client_number, is_declared};
+ghost use Rattle.lt_spec.specs.Script.{set_number, client_number, is_declared};
 
 use crate::declarations::{ClientDecl, SetDecl};
 use crate::script::Script;

@@ -3,14 +3,14 @@ ghost use Rattle.lt_modes.specs.declared.moves.Step.{Step};
 ghost use Rattle.lt_modes.specs.declared.moves.Step.TheVariants.{Act, Take};
 ghost use Rattle.lt_lists.specs.Below.{any_below};
 ghost use Rattle.lt_spec.specs.World.{is_enabled, is_at_rest};
-ghost use Rattle.lt_limits.specs.Cut.{moves_of, can_move, is_full, full_node};
-ghost use Rattle.lt_limits.specs.Endings.{EndsBy};
+ghost use Rattle.lt_spec.specs.Cut.{moves_of, can_move, is_full, full_node};
+ghost use Rattle.lt_spec.specs.Endings.{EndsBy};
 ghost use Rattle.lt_world.specs.Fields.{world_of};
 
 use super::World;
 use crate::choice::Choice;
-use lt_limits::Ending;
 use lt_modes::Step;
+use lt_spec::Ending;
 
 // Nodes that have made as many moves as they may.
 impl World {

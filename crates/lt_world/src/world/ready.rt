@@ -1,8 +1,8 @@
 ghost use Rattle.std.specs.Prelude.{◌≡◌, ◌<◌, ◌∷◌, ◌++◌, [], IsTrue, IfOk, IfErr};
 ghost use Rattle.lt_spec.specs.World.{is_enabled, logged};
-ghost use Rattle.lt_limits.specs.Cut.{moves_of};
+ghost use Rattle.lt_spec.specs.Cut.{moves_of};
 ghost use Rattle.lt_world.specs.Fields.{world_of};
-ghost use Rattle.lt_world.specs.Ready.{IsWhole, world_with};
+ghost use Rattle.lt_world.specs.Ready.{AreWorldParts, world_with};
 
 use super::turns::note_turns;
 use super::{World, count_move};
@@ -33,7 +33,7 @@ struct Parts {
 }
 
 impl Model for Ready {
-    ghost use Rattle.lt_world.specs.Ready.{ReadyData, IsReady, world_with};
+    ghost use Rattle.lt_world.specs.Ready.{ReadyData, HasRoomToMove, world_with};
 
     ghost Value = { ReadyData };
 
@@ -42,7 +42,7 @@ impl Model for Ready {
       choice = r.choice;
     } };
 
-    ghost invariant = { λ r. IsReady r.parts r.choice r.reserved };
+    ghost invariant = { λ r. HasRoomToMove r.parts r.choice r.reserved };
 }
 
 impl World {
@@ -99,7 +99,7 @@ impl Ready {
 impl Parts {
     // Takes a world apart.
     fn of(world: World) -> Parts
-        ensures whole { IsWhole result }
+        ensures whole { AreWorldParts result }
         ensures same { world_with result ≡ world }
     {
         let World {
@@ -122,7 +122,7 @@ impl Parts {
 
     // Puts them together again.
     fn whole(self) -> World
-        requires { IsWhole self }
+        requires { AreWorldParts self }
         ensures { result ≡ world_with self }
     {
         let Parts {

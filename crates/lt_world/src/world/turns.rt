@@ -1,9 +1,9 @@
 ghost use Rattle.std.specs.Prelude.{◌≡◌, ◌≢◌, ◌<◌, None, ℕ, length, slice_index_or, Some, IfOk};
 ghost use Rattle.lt_modes.specs.declared.moves.Step.TheVariants.{Act};
-ghost use Rattle.lt_law_own_lines.specs.OwnLines.{line_client};
+ghost use Rattle.lt_spec.specs.OwnLines.{line_client};
 ghost use Rattle.lt_world.specs.Fields.{AreTurns, turn_of};
 ghost use Rattle.lt_world.specs.Network.{IsAfterRun, world_in};
-ghost use Rattle.lt_world.specs.Turns.{OthersStand, last_lines, with_turn};
+ghost use Rattle.lt_world.specs.Turns.{OthersStand, lines_of_last_move, with_turn};
 
 use crate::network::Network;
 use lt_modes::{Event, Step};
@@ -33,7 +33,7 @@ pub(super) fn note_turns(turns: &mut Turns, script: &Script, network: &Network, 
     requires holds { IsAfterRun script.now network.now }
     requires some { 0 < length network.now.run.entries }
     requires count { length turns.old ≡ length script.now.clients }
-    requires others { OthersStand script.now turns.old (world_in script.now network.now) step (last_lines network.now.run.entries) 0 }
+    requires others { OthersStand script.now turns.old (world_in script.now network.now) step (lines_of_last_move network.now.run.entries) 0 }
     ensures { AreTurns script.now turns.new (world_in script.now network.now) }
 {
     note_named(turns, script, network, step);
@@ -47,7 +47,7 @@ fn note_named(turns: &mut Turns, script: &Script, network: &Network, step: Step)
     requires holds { IsAfterRun script.now network.now }
     requires some { 0 < length network.now.run.entries }
     requires count { length turns.old ≡ length script.now.clients }
-    requires others { OthersStand script.now turns.old (world_in script.now network.now) step (last_lines network.now.run.entries) 0 }
+    requires others { OthersStand script.now turns.old (world_in script.now network.now) step (lines_of_last_move network.now.run.entries) 0 }
     ensures count { length turns.new ≡ length script.now.clients }
     ensures others { (c : ℕ) → c < length script.now.clients → step ≢ Act c
         → slice_index_or turns.new c None ≡ turn_of script.now (world_in script.now network.now) c }

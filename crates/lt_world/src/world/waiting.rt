@@ -6,7 +6,7 @@ ghost use Rattle.lt_spec.specs.Facts.{state_at};
 ghost use Rattle.lt_spec.specs.Families.{home};
 ghost use Rattle.lt_spec.specs.Waiting.{holds_against, waits_behind, is_kept_by, kept_if, waits_for};
 ghost use Rattle.lt_world.specs.Fields.{world_of};
-ghost use Rattle.lt_world.specs.Against.{is_against};
+ghost use Rattle.lt_world.specs.Against.{bars_by_lock};
 
 use super::World;
 use lt_modes::{Ask, MODES, Mode};
@@ -79,7 +79,7 @@ impl World {
     fn is_against(&self, set: u8, mode: Mode, client: u16, own: Mode) -> bool
         requires set { set < length self.now.script.sets }
         requires client { client < length self.now.script.clients }
-        ensures { result ≡ is_against self.now set mode client own }
+        ensures { result ≡ bars_by_lock self.now set mode client own }
     {
         mode.conflicts(own) && self.held(set, client, own) > 0
     }

@@ -2,7 +2,7 @@ use Rattle.std.proofs.Common.{◌≡◌, ◌++◌, ◌∙◌, ◌==◌, ℕ, Lis
 use Rattle.std.proofs.lemmas.List.{take_min}
 use Rattle.std.proofs.lemmas.Bool.{eqb-true}
 use Rattle.lt_text.specs.Text.{without_return}
-use Rattle.lt_law_checking.specs.Checking.{read_on}
+use Rattle.lt_law_journals.specs.Checking.{read_on}
 use Rattle.lt_checker.proofs.checker.end_line.Goals as goal
 
 none_kept : (rest : List ℕ) → (length rest == 0) ≡ true → rest ≡ []

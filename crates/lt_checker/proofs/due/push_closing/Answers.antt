@@ -4,7 +4,7 @@ use Rattle.lt_spec.specs.Log.{Logged}
 use Rattle.lt_spec.specs.World.{world_after, is_at_rest}
 use Rattle.lt_journal.specs.declared.line.Line.{Line}
 use Rattle.lt_journal.specs.RunLines.{closing_lines}
-use Rattle.lt_law_checking.specs.Checking.{closing_at_rest}
+use Rattle.lt_law_journals.specs.Checking.{closing_at_rest}
 use Rattle.lt_checker.proofs.due.push_closing.Goals as goal
 
 pub returns-in_ok-push_all : goal.returns-in_ok-push_all

@@ -3,7 +3,7 @@ use Rattle.lt_text.specs.Text.{lines}
 use Rattle.lt_script.specs.Reading.{read_of}
 use Rattle.lt_journal.specs.declared.splitting.Parts.{Parts}
 use Rattle.lt_journal.specs.Split.{input_parts}
-use Rattle.lt_law_checking.specs.Checking.{checked}
+use Rattle.lt_law_journals.specs.Checking.{checked}
 use Rattle.lt_checker.specs.Endings.{IsWorldAnswer}
 use Rattle.lt_checker.specs.declared.limits.TheConstants.{MAX_JOURNAL}
 use Rattle.lt_checker.proofs.BadLines.{journal_few, line_within, lines_few}

@@ -1,7 +1,7 @@
 use Rattle.std.proofs.Common.{◌≡◌, ◌+◌, ◌∙◌, ℕ, List, map, fold, drop, ap, ap₂, sym}
 use Rattle.lt_modes.specs.Script.{ScriptData}
 use Rattle.lt_journal.specs.declared.line.Line.{Line}
-use Rattle.lt_law_checking.specs.Checking.{Reader, written, read_on}
+use Rattle.lt_law_journals.specs.Checking.{Reader, written, read_on}
 use Rattle.lt_checker.proofs.LeftLines.{drop_get}
 use Rattle.lt_checker.proofs.replaying.read_all.Goals as goal
 

@@ -1,5 +1,5 @@
 use Rattle.std.proofs.Common.{◌≡◌, map, fold, drop}
-use Rattle.lt_law_checking.specs.Checking.{written, read_on, reader_after}
+use Rattle.lt_law_journals.specs.Checking.{written, read_on, reader_after}
 use Rattle.lt_checker.proofs.replaying.read_all.Given as goal
 
 -- what the lines that are left make of the reader is what all lines make

@@ -2,7 +2,7 @@ use Rattle.std.proofs.Common.{◌≡◌, ◌∙◌, ap, sym, subst, arith, ◌++
 use Rattle.std.proofs.lemmas.List.Elements.{All-from_recursion}
 use Rattle.lt_modes.specs.Script.{ScriptData}
 use Rattle.lt_modes.specs.declared.command.Command.{Command}
-use Rattle.lt_script.specs.Script.{HasModesOf}
+use Rattle.lt_spec.specs.Script.{HasModesOf}
 use Rattle.lt_gen.specs.Groups.{group_commands, requests_of}
 use Rattle.lt_gen.specs.Generator.{requests_in}
 use Rattle.lt_gen.specs.Making.{Making}

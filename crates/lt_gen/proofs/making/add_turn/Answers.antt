@@ -1,6 +1,6 @@
 use Rattle.std.proofs.lemmas.List.Elements.{All-get_or}
 use Rattle.lt_modes.specs.declared.command.Command.{Command}
-use Rattle.lt_script.specs.Script.{IsRequest}
+use Rattle.lt_spec.specs.Script.{IsRequest}
 use Rattle.lt_gen.proofs.making.add_turn.Goals as goal
 
 pub add_command-requires-clause-request : goal.add_command-requires-clause-request

@@ -1,11 +1,11 @@
 -- One session more.
 use Rattle.std.proofs.Common.{◌≡◌, ◌+◌, ◌/◌, ℕ, List, [], ◌∷◌, ◌++◌, length, subst, sym, ap, ◌∙◌}
 use Rattle.std.specs.Prelude.{slice_set, slice_index_or}
-use Rattle.lt_script.specs.declared.limits.TheConstants.{MAX_COMMANDS}
+use Rattle.lt_spec.specs.declared.limits.TheConstants.{MAX_COMMANDS}
 use Rattle.lt_spec.specs.Families.{home}
 use Rattle.lt_live.specs.declared.ends.Session.{Session}
 use Rattle.lt_live.specs.Stations.{StationData}
-use Rattle.lt_live.specs.Opened.{Opening}
+use Rattle.lt_live.specs.Opened.{Opens}
 use Rattle.lt_live.proofs.OpenedStations.{Adds, opening_more, found_once, others_there, seat_there, station_there}
 use Rattle.lt_live.proofs.starting.add_session.Goals as goal
 
@@ -54,7 +54,7 @@ returns c =
       places = c.in_ok-session.ensures.places.1;
       commands = c.in_ok-session.ensures.fresh.3;
     } in
-    subst (λ (sessions : List Session). Opening c.args.script.now c.args._limit c.args.capacity (c.args.client + 1) (slice_set stations c.from-home.result c.add_seat.new.self) sessions)
+    subst (λ (sessions : List Session). Opens c.args.script.now c.args._limit c.args.capacity (c.args.client + 1) (slice_set stations c.from-home.result c.add_seat.new.self) sessions)
     (sym c.in_ok-push.ensures.items)
     (opening_more c.args.script.now c.args._limit c.args.capacity c.args.client c.from-home.result stations c.args.sessions.now.items d c.add_seat.new.self
     c.in_ok-session.session c.in_ok-session.seat c.requires.opening inside adds)

@@ -1,6 +1,6 @@
 -- The sessions of the first clients.
-use Rattle.lt_live.specs.Opened.{Opening}
+use Rattle.lt_live.specs.Opened.{Opens}
 use Rattle.lt_live.proofs.starting.open.Given as goal
 
 abbrev pub invariant-loop-client : goal.invariant-loop-client
-invariant-loop-client l = Opening l.script l.limit l.capacity l.client l.stations.items l.sessions.items
+invariant-loop-client l = Opens l.script l.limit l.capacity l.client l.stations.items l.sessions.items

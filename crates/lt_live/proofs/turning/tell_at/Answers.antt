@@ -3,7 +3,7 @@ use Rattle.std.specs.Prelude.{slice_index_or}
 use Rattle.std.proofs.lemmas.Option.{slice_get-get_or}
 use Rattle.lt_live.specs.declared.ends.Seat.{Seat}
 use Rattle.lt_live.specs.Cursor.{IsCursor}
-use Rattle.lt_live.specs.Seats.{Tells}
+use Rattle.lt_live.specs.Seats.{TellsSeat}
 use Rattle.lt_live.proofs.SeatLists.{seat_set}
 use Rattle.lt_live.proofs.turning.tell_at.Goals as goal
 
@@ -15,5 +15,5 @@ tell-requires c =
 
 pub returns : goal.returns
 returns c =
-    seat_set (Tells c.args.log.now.entries) c.args.place c.args.seats.now.items c.index_mut.result.now c.tell.new.self c.requires.inside
-    (subst (λ (s : Seat). Tells c.args.log.now.entries s c.tell.new.self) c.index_mut.ensures.value c.tell.ensures)
+    seat_set (TellsSeat c.args.log.now.entries) c.args.place c.args.seats.now.items c.index_mut.result.now c.tell.new.self c.requires.inside
+    (subst (λ (s : Seat). TellsSeat c.args.log.now.entries s c.tell.new.self) c.index_mut.ensures.value c.tell.ensures)

@@ -1,7 +1,7 @@
 -- A turn leaves a station a station.
 use Rattle.std.proofs.Common.{subst, sym}
 use Rattle.lt_merge.specs.Run.{RunData}
-use Rattle.lt_live.specs.Seats.{Tells}
+use Rattle.lt_live.specs.Seats.{TellsSeat}
 use Rattle.lt_live.specs.Stations.{EachSeat, HaveCursors}
 use Rattle.lt_live.proofs.KeptStations.{station_taken, station_told, station_grew}
 use Rattle.lt_live.proofs.TurnParts.{cursors, turns}
@@ -20,7 +20,7 @@ pub returns-clause-kept : goal.returns-clause-kept
 returns-clause-kept g c =
     station_told c.make_move-turned.new.runner c.append_all-fits.new.seats.items c.tell_all.new.seats.items
     (station_grew c.append_all-fits.new.runner c.make_move-turned.new.runner c.append_all-fits.new.seats.items c.append_all-fits.ensures.kept c.make_move-turned.ensures.grew)
-    (subst (λ (log : RunData). EachSeat (Tells log.entries) c.append_all-fits.new.seats.items c.tell_all.new.seats.items) c.log.ensures c.tell_all.ensures)
+    (subst (λ (log : RunData). EachSeat (TellsSeat log.entries) c.append_all-fits.new.seats.items c.tell_all.new.seats.items) c.log.ensures c.tell_all.ensures)
 
 pub returns-clause-turns : goal.returns-clause-turns
 returns-clause-turns g c =
@@ -29,4 +29,4 @@ returns-clause-turns g c =
     c.args.seats.now.items c.take_all.new.seats.items c.append_all-fits.new.seats.items c.tell_all.new.seats.items
     c.take_all.ensures c.append_all-fits.ensures.runner c.append_all-fits.ensures.seats c.append_all-fits.ensures.all c.append_all-fits.ensures.memory
     (record { grew = move.grew; ends = move.ends; shown = move.shown; memory = move.memory })
-    (subst (λ (log : RunData). EachSeat (Tells log.entries) c.append_all-fits.new.seats.items c.tell_all.new.seats.items) c.log.ensures c.tell_all.ensures)
+    (subst (λ (log : RunData). EachSeat (TellsSeat log.entries) c.append_all-fits.new.seats.items c.tell_all.new.seats.items) c.log.ensures c.tell_all.ensures)

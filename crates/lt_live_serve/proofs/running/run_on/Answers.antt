@@ -3,7 +3,7 @@ use Rattle.std.proofs.Common.{List, subst}
 use Rattle.lt_runner.specs.declared.parts.Parts.{Parts}
 use Rattle.lt_threads.specs.Together.{IsCrew}
 use Rattle.lt_live.specs.Stations.{StationData}
-use Rattle.lt_live_serve.specs.Completing.{AreKept}
+use Rattle.lt_live_serve.specs.Completing.{AreStationsKept}
 use Rattle.lt_live_serve.proofs.Parted.{crew_of, go_together, serving_moved}
 use Rattle.lt_live_serve.proofs.running.run_on.Goals as goal
 
@@ -15,7 +15,7 @@ run_crew-requires-clause-crew g c κs within =
 pub put_together-requires-clause-together : goal.put_together-requires-clause-together
 put_together-requires-clause-together g c =
     go_together c.args.stations.items c.take_apart-runners.result.0.items c.in_ok-runners-2.runners.items c.take_apart-runners.result.1.items
-    (subst (λ (stations : List StationData). AreKept stations) c.deref.ensures.value c.are_kept.ensures) c.take_apart-runners.ensures c.in_ok-runners-2.ensures.grew
+    (subst (λ (stations : List StationData). AreStationsKept stations) c.deref.ensures.value c.are_kept.ensures) c.take_apart-runners.ensures c.in_ok-runners-2.ensures.grew
 
 pub returns-clause-serving : goal.returns-clause-serving
 returns-clause-serving g c =

@@ -1,7 +1,7 @@
 use Rattle.std.proofs.Common.{◌≡◌, ◌∷◌, ◌+◌, List, drop, ap, sym, subst, arith, ◌∙◌}
 use Rattle.std.specs.Prelude.{slice_set, remove}
 use Rattle.lt_merge.specs.declared.heads.Head.{Head}
-use Rattle.lt_merge.specs.Heads.{AreHeads, Advances, IsHeadAt, placed, settled}
+use Rattle.lt_merge.specs.Heads.{AreHeads, Advances, IsHeadAt, placed, settled_heads}
 use Rattle.lt_merge.proofs.Taking.{first_inside, log_inside, all_longer, advanced, ended}
 use Rattle.lt_merge.proofs.heads.advance.Goals as goal
 
@@ -26,7 +26,7 @@ returns-in-Some c =
     let others = drop 1 c.args.heads.now.items in
     let e = c.requires.first in
     let at = subst (IsHeadAt logs head.log (head.place + 1)) c.in-Some.is c.head_at.ensures in
-    let now : c.settle.new.heads.items ≡ placed c.in-Some.next others = c.settle.ensures ∙ ap (λ (l : List Head). settled (slice_set l 0 c.in-Some.next)) e in
+    let now : c.settle.new.heads.items ≡ placed c.in-Some.next others = c.settle.ensures ∙ ap (λ (l : List Head). settled_heads (slice_set l 0 c.in-Some.next)) e in
     subst (λ (l : List Head). Advances logs head l c.settle.new.heads.items) (sym e) (subst (λ (l : List Head). Advances logs head (head ∷ others) l) (sym now)
     (advanced logs head c.in-Some.next others (subst (AreHeads logs) e c.requires.heads) at))
 

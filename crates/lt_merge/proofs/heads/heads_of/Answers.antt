@@ -1,5 +1,5 @@
 use Rattle.std.proofs.Common.{◌≡◌, ◌+◌, ◌-◌, ap, sym, subst, arith, ◌∙◌, ℕ}
-use Rattle.lt_merge.specs.Heads.{Begins, IsHeadAt, placed, settled}
+use Rattle.lt_merge.specs.Heads.{Begins, IsHeadAt, placed, settled_heads}
 use Rattle.lt_merge.proofs.Beginning.{head_found, none_found}
 use Rattle.lt_merge.proofs.heads.heads_of.Goals as goal
 
@@ -11,7 +11,7 @@ loop-log-preserved-in-Some c =
     let one_more : c.loop-log.log ≡ k + 1 = omega arith in
     let begun = subst (λ (n : ℕ). Begins logs n heads) one_more c.loop-log.invariant.begun in
     let at = subst (IsHeadAt logs k 0) c.in-Some.is c.head_at.ensures in
-    let now : c.settle.new.heads.items ≡ placed c.in-Some.head heads = c.settle.ensures ∙ ap settled c.in_ok-insert-in-Some.ensures.items in
+    let now : c.settle.new.heads.items ≡ placed c.in-Some.head heads = c.settle.ensures ∙ ap settled_heads c.in_ok-insert-in-Some.ensures.items in
     record {
       inside = omega (arith, c.loop-log.invariant.inside);
       begun = subst (Begins logs k) (sym now) (head_found logs k c.in-Some.head heads c.requires (omega (arith, c.loop-log.invariant.inside)) at begun);

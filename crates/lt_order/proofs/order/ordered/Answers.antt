@@ -1,5 +1,5 @@
 use Rattle.std.proofs.Common.{sym, ◌∙◌}
-use Rattle.lt_order.proofs.FirstBad.{first_bad_is_exact}
+use Rattle.lt_spec.proofs.FirstBad.{first_bad_is_exact}
 use Rattle.lt_order.proofs.Orders.{none_is, none_told}
 use Rattle.lt_order.proofs.order.ordered.Goals as goal
 

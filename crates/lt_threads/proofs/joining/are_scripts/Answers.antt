@@ -1,6 +1,6 @@
 -- One runner more has a script.
 use Rattle.std.proofs.Common.{subst, arith}
-use Rattle.lt_script.specs.Script.{IsScript}
+use Rattle.lt_spec.specs.Script.{IsScript}
 use Rattle.lt_runner.specs.declared.parts.Parts.{Parts}
 use Rattle.lt_threads.proofs.Shares.{next_script, all_scripts}
 use Rattle.lt_threads.proofs.joining.are_scripts.Goals as goal

@@ -1,12 +1,12 @@
--- The loop that joins posts.
+-- The loop that joins badges.
 use Rattle.std.proofs.Common.{length, vec_len}
-use Rattle.lt_threads.specs.Workers.{AreFree, Leads}
+use Rattle.lt_threads.specs.Workers.{AreFree, LeadsPool}
 use Rattle.lt_threads.proofs.sharing.dismiss.Given as goal
 
 abbrev pub invariant-loop-hand : goal.invariant-loop-hand
 invariant-loop-hand l = record {
   free : AreFree l.pool l.hands.items;
-  first : Leads l.pool (length l.hands.items) l.first;
+  first : LeadsPool l.pool (length l.hands.items) l.first;
 }
 
 abbrev pub decreases-loop-hand : goal.decreases-loop-hand

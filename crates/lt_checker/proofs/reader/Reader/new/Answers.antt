@@ -2,11 +2,11 @@ use Rattle.std.proofs.Common.{◌≡◌, ◌++◌, ◌∙◌, [], List, ap, ap�
 use Rattle.lt_spec.specs.Log.{Logged}
 use Rattle.lt_journal.specs.declared.line.Line.{Line}
 use Rattle.lt_journal.specs.RunLines.{first_lines}
-use Rattle.lt_limits.specs.declared.moves.TheConstants.{MAX_MOVES}
+use Rattle.lt_spec.specs.declared.moves.TheConstants.{MAX_MOVES}
 use Rattle.lt_world.specs.Fields.{WorldData}
-use Rattle.lt_law_checking.specs.Checking.{Place, first_place, closing_at_rest}
-use Rattle.lt_law_checking.specs.Journals.{HasCome}
-use Rattle.lt_law_checking.proofs.Places.{first_begins}
+use Rattle.lt_law_journals.specs.Checking.{Place, first_place, closing_at_rest}
+use Rattle.lt_law_journals.specs.Journals.{HasCome}
+use Rattle.lt_law_journals.proofs.Places.{first_begins}
 use Rattle.lt_checker.proofs.reader.Reader.new.Goals as goal
 
 pub invariant_of-result : goal.invariant_of-result

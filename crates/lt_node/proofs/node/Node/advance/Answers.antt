@@ -1,7 +1,7 @@
 use Rattle.std.proofs.Common.{◌+◌, Some, ap, arith, refl, subst, sym, ◌∙◌, length}
 use Rattle.std.proofs.lemmas.List.{length-map}
 use Rattle.lt_modes.specs.declared.command.Command.{Command}
-use Rattle.lt_script.specs.Script.{HasTargets}
+use Rattle.lt_spec.specs.Script.{HasTargets}
 use Rattle.lt_node.specs.NodeData.{NodeData}
 use Rattle.lt_node.specs.Clients.{progress_made}
 use Rattle.lt_node.proofs.NodeLemmas.{node_is}

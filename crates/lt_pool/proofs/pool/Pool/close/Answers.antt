@@ -7,14 +7,14 @@ use Rattle.lt_pool.proofs.pool.Pool.close.Goals as goal
 pub taken_out-requires-clause-full : goal.taken_out-requires-clause-full
 taken_out-requires-clause-full g c =
     let closed = c.close_with.ensures.values in
-    let live = c.post.invariant.0 in
+    let live = c.badge.invariant.0 in
     let left = leaves g.T.Same.continues _ _ _ _ _ live (search rules) (search rules) (search rules) closed.2 in
     (closed.1, left.full)
 
 pub returns-clause-ok : goal.returns-clause-ok
 returns-clause-ok g c =
     let closed = c.close_with.ensures.values in
-    let live = c.post.invariant.0 in
+    let live = c.badge.invariant.0 in
     let left = leaves g.T.Same.continues _ _ _ _ _ live (search rules) (search rules) (search rules) closed.2 in
     subst (λ (firsts : List g.row.T.Denot). EachContinues g.T.Same.continues firsts c.taken_out.result.items)
     (ap (λ (p : PoolData g.row.T.Denot). p.firsts) c.self.view_is)

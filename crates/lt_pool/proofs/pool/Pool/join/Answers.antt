@@ -1,5 +1,5 @@
 use Rattle.std.proofs.Common.{rules}
-use Rattle.lt_pool.proofs.PostLemmas.{joins}
+use Rattle.lt_pool.proofs.BadgeLemmas.{joins}
 use Rattle.lt_pool.proofs.pool.Pool.join.Goals as goal
 
 pub join_seat-requires : goal.join_seat-requires

@@ -1,5 +1,5 @@
 use Rattle.std.proofs.Common.{rules}
-use Rattle.lt_pool.proofs.PostLemmas.{splits}
+use Rattle.lt_pool.proofs.BadgeLemmas.{splits}
 use Rattle.lt_pool.proofs.pool.Pool.split.Goals as goal
 
 pub split_seat-seat-requires : goal.split_seat-seat-requires

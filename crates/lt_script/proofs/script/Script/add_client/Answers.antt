@@ -1,8 +1,8 @@
 use Rattle.std.proofs.Common.{◌≡◌, ◌<◌, false, length, sym, subst}
 use Rattle.std.specs.Prelude.{IsOk}
 use Rattle.lt_modes.specs.Script.{ScriptData, ClientData}
-use Rattle.lt_script.specs.declared.limits.TheConstants.{MAX_CLIENTS_OF_NODE}
-use Rattle.lt_script.specs.Script.{most_clients, load_of, is_declared}
+use Rattle.lt_spec.specs.declared.limits.TheConstants.{MAX_CLIENTS_OF_NODE}
+use Rattle.lt_spec.specs.Script.{most_clients, load_of, is_declared}
 use Rattle.lt_script.specs.Views.{script_data}
 use Rattle.lt_script.proofs.PartsLemmas.{same_or_copy}
 use Rattle.lt_script.proofs.ScriptLemmas.{client_added}

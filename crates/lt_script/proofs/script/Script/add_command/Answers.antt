@@ -1,8 +1,8 @@
 use Rattle.std.proofs.Common.{◌<◌, length, sym, subst}
 use Rattle.std.specs.Prelude.{IsOk}
 use Rattle.lt_modes.specs.Script.{ScriptData}
-use Rattle.lt_script.specs.declared.limits.TheConstants.{MAX_COMMANDS}
-use Rattle.lt_script.specs.Script.{IsRequest, HasModesOf}
+use Rattle.lt_spec.specs.declared.limits.TheConstants.{MAX_COMMANDS}
+use Rattle.lt_spec.specs.Script.{IsRequest, HasModesOf}
 use Rattle.lt_script.specs.Views.{script_data}
 use Rattle.lt_script.proofs.PartsLemmas.{same_or_copy}
 use Rattle.lt_script.proofs.ScriptLemmas.{command_added}

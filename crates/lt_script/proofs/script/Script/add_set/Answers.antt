@@ -1,8 +1,8 @@
 use Rattle.std.proofs.Common.{◌≡◌, ◌<◌, false, length, sym, subst}
 use Rattle.std.specs.Prelude.{IsOk}
 use Rattle.lt_modes.specs.Script.{ScriptData, SetData}
-use Rattle.lt_script.specs.declared.limits.TheConstants.{MAX_SETS}
-use Rattle.lt_script.specs.Script.{IsFamilyOfNext, is_declared}
+use Rattle.lt_spec.specs.declared.limits.TheConstants.{MAX_SETS}
+use Rattle.lt_spec.specs.Script.{IsFamilyOfNext, is_declared}
 use Rattle.lt_script.specs.Views.{script_data}
 use Rattle.lt_script.proofs.PartsLemmas.{same_or_copy}
 use Rattle.lt_script.proofs.ScriptLemmas.{set_added}

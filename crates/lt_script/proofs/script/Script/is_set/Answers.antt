@@ -1,7 +1,7 @@
 use Rattle.std.proofs.Common.{◌≡◌, ◌<◌, Some, slice_get, length, refl, sym, subst, ◌∙◌}
 use Rattle.std.proofs.lemmas.Option.{slice_get_read}
 use Rattle.lt_modes.specs.Script.{ScriptData, SetData}
-use Rattle.lt_script.specs.Script.{set_number}
+use Rattle.lt_spec.specs.Script.{set_number}
 use Rattle.lt_script.specs.Views.{script_data}
 use Rattle.lt_script.proofs.ScriptLemmas.{set_named}
 use Rattle.lt_script.proofs.script.Script.is_set.Goals as goal

@@ -2,7 +2,7 @@ use Rattle.std.proofs.Common.{◌≡◌, ◌<◌, ◌∙◌, ℕ, ◌-◌, ◌+�
 use Rattle.std.specs.Prelude.{if◌then◌else◌, is_some, slice_set}
 use Rattle.std.proofs.lemmas.List.{take_at, get_or_default}
 use Rattle.lt_turns.specs.declared.tree.Turn.{Turn}
-use Rattle.lt_turns.specs.Turns.{IsTree, AreWon, number_of}
+use Rattle.lt_turns.specs.Turns.{IsTree, AreWon, number_at}
 use Rattle.lt_turns.proofs.TreeLemmas.{counted_changed}
 use Rattle.lt_turns.proofs.turns.Turns.set.Goals as goal
 
@@ -11,7 +11,7 @@ invariant_of-self c =
     let s = c.self.inside in
     let place = c.from-place.result in
     let inside : place < length s.numbers.items = omega (arith, c.from-place.ensures, c.requires, ap length c.self.view_is) in
-    let lost : c.one_if-2.result ≡ (if is_some (number_of s.numbers.items place) then 1 else 0) =
+    let lost : c.one_if-2.result ≡ (if is_some (number_at s.numbers.items place) then 1 else 0) =
     c.one_if-2.ensures ∙ ap (λ (o : Option ℕ). if is_some o then 1 else 0) (c.index.ensures ∙ get_or_default s.numbers.items place c.index.result.now None inside) in
     let won : IsTree (slice_set s.numbers.items place c.args.number) c.update.new.winners (s.count + c.one_if.result - c.one_if-2.result) = record {
       nodes = c.update.ensures.count ∙ ap length c.deref.ensures.value;

@@ -2,7 +2,7 @@ use Rattle.std.proofs.Common.{◌<◌, List, sym, subst}
 use Rattle.std.specs.Prelude.{IsTrue}
 use Rattle.lt_spec.specs.Log.{Logged}
 use Rattle.lt_spec.specs.World.{is_enabled, world_after}
-use Rattle.lt_limits.specs.Cut.{moves_of}
+use Rattle.lt_spec.specs.Cut.{moves_of}
 use Rattle.lt_world.specs.Fields.{WorldData, world_of, AreCounted, AreAtMost, AreTurns}
 use Rattle.lt_world.proofs.Counts.{few_moves}
 use Rattle.lt_world.proofs.TurnMoves.{others_stand}

@@ -1,7 +1,7 @@
 use Rattle.std.proofs.Common.{◌≡◌, ◌∙◌, Option, Some, None, List, ap, subst}
 use Rattle.std.specs.Prelude.{slice_get, option_map}
 use Rattle.lt_spec.specs.FixedOrder.{Turn, takes}
-use Rattle.lt_inbox.specs.Takes.{turn_of}
+use Rattle.lt_inbox.specs.Takes.{turn_of_take}
 use Rattle.lt_world.specs.Choice.{choice_of}
 use Rattle.lt_world.specs.Fields.{WorldData, world_of}
 use Rattle.lt_world.proofs.WorldTakes.{takes_are}
@@ -18,6 +18,6 @@ returns-in_err-take c =
 pub returns : goal.returns
 returns c =
     let s = c.self.inside in
-    let some : Option Turn = Some (turn_of c.in_ok-take.take) in
+    let some : Option Turn = Some (turn_of_take c.in_ok-take.take) in
     let here = ap (λ (ts : List Turn). slice_get ts c.args.k) (takes_are s.script s.network.nodes.items s.network.inboxes s.network.out s.network.run.entries c.self.invariant.holds) in
     ap (option_map choice_of) (subst (λ (w : WorldData). some ≡ slice_get (takes w.script (world_of w)) c.args.k) c.self.view_is (c.in_ok-take.ensures ∙ here))

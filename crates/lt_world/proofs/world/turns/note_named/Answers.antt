@@ -1,6 +1,6 @@
 use Rattle.std.proofs.Common.{◌∙◌, ◌+◌, ℕ, List, Option, length, sym, ap, subst, arith}
 use Rattle.lt_spec.specs.World.{World}
-use Rattle.lt_law_own_lines.specs.OwnLines.{line_client}
+use Rattle.lt_spec.specs.OwnLines.{line_client}
 use Rattle.lt_world.specs.Network.{world_in}
 use Rattle.lt_world.specs.Turns.{OthersStand}
 use Rattle.lt_world.proofs.Noting.{with_turn_count, line_noted}

@@ -1,5 +1,0 @@
-use Rattle.lt_law_appended.proofs.laws.law_append.Goals as goal
-use Rattle.lt_law_appended.proofs.Appending.{plays_go_on, runs_go_on, appended_commands, plays_of_appended, runs_of_appended}
-
-pub returns : goal.returns
-returns c = record { plays = plays_go_on; runs = runs_go_on; commands = appended_commands; play_of_appended = plays_of_appended; run_of_appended = runs_of_appended }

@@ -1,2 +1,0 @@
-pub mod LinesAmong
-pub mod ClosingLines

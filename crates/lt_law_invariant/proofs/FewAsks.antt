@@ -1,0 +1,138 @@
+-- No more asks stand at a node than a script has clients, and fewer are unanswered than a node may have clients where one of them can act.
+use Rattle.std.proofs.Common.{◌≡◌, ◌≢◌, ℕ, zero, suc, ◌+◌, ◌<◌, ◌≤◌, inl, inr, Bool, true, false, List, [], ◌∷◌, length, refl, arith, ap, sym, subst, ◌∙◌}
+use Rattle.std.specs.Prelude.{◌==◌, ◌||◌, if◌then◌else◌, not, nat_lt, All, Contains, count_by, IsTrue}
+use Rattle.std.proofs.lemmas.Bool.{cases_eq, eq-eqb, ne_eqb, and_parts, ltb-true, true≢false}
+use Rattle.std.proofs.lemmas.List.{length-map}
+use Rattle.std.proofs.lemmas.List.Elements.{All-contains}
+use Rattle.std.proofs.lemmas.List.Sums.{sum_by-cons}
+use Rattle.lt_modes.specs.declared.ask.Ask.{Ask}
+use Rattle.lt_modes.specs.Script.{ScriptData, ClientData, home_at}
+use Rattle.lt_modes.specs.State.{SetState}
+use Rattle.lt_modes.specs.Serving.{waits}
+use Rattle.lt_modes.specs.Fits.{has_client, are_apart, asks_here, is_at_home, numbers_of}
+use Rattle.lt_modes.specs.Sound.{SoundHere}
+use Rattle.lt_spec.specs.Script.{IsScript, load_of}
+use Rattle.lt_spec.specs.declared.limits.TheConstants.{MAX_CLIENTS, MAX_CLIENTS_OF_NODE}
+use Rattle.lt_lists.specs.Below.{sum_below, one_if}
+use Rattle.lt_lists.proofs.Members.{contains_first, contains_later}
+use Rattle.lt_lists.proofs.Sums.{sum_below-add, sum_below-at, sum_below-most}
+use Rattle.lt_spec.specs.Families.{home}
+use Rattle.lt_spec.specs.NodeMove.{NodeState}
+use Rattle.lt_model.specs.Homes.{IsAskOf}
+use Rattle.lt_model.specs.SoundNode.{ClientsKept}
+use Rattle.lt_law_invariant.proofs.Counting.{weight_at, by_key, few_keys, length_sum}
+
+abbrev asks_by : List Ask → ℕ → ℕ
+asks_by asks c = weight_at (λ (ask : Ask). ask.client) (λ (ask : Ask). 1) asks c
+
+-- no ask of a client is in a list that has none
+none_by : (c : ℕ) (asks : List Ask) → has_client c asks ≡ false → asks_by asks c ≡ 0
+none_by c [] e = refl
+none_by c (ask ∷ rest) e = by_test (none_by c rest) (ask.client == c) refl e
+  where
+    by_test : (has_client c rest ≡ false → asks_by rest c ≡ 0) → (same : Bool) → (ask.client == c) ≡ same
+        → (same || has_client c rest) ≡ false → asks_by (ask ∷ rest) c ≡ 0
+    by_test again true t h = absurd (true≢false h)
+    by_test again false t h =
+        let here : ◌≡◌ {A = ℕ} (if ask.client == c then 1 else 0) 0 = ap (λ (b : Bool). if b then 1 else 0) t in
+        omega (arith, here, again h, sum_by-cons (λ (other : Ask). if other.client == c then 1 else 0) ask rest)
+
+-- asks that are apart have each client once
+once_by : (asks : List Ask) → are_apart asks ≡ true → (c : ℕ) → asks_by asks c ≤ 1
+once_by [] h c = omega arith
+once_by (ask ∷ rest) h c =
+    let parts = and_parts _ _ h in
+    let added = sum_by-cons (λ (other : Ask). if other.client == c then 1 else 0) ask rest in
+    elim (cases_eq ask.client c) [
+      | inl e ↦
+          let none = none_by c rest (subst (λ (k : ℕ). has_client k rest ≡ false) e (is_not (has_client ask.client rest) parts.0)) in
+          let here : ◌≡◌ {A = ℕ} (if ask.client == c then 1 else 0) 1 = ap (λ (b : Bool). if b then 1 else 0) (eq-eqb ask.client c e) in
+          omega (arith, added, none, here)
+      | inr d ↦
+          let here : ◌≡◌ {A = ℕ} (if ask.client == c then 1 else 0) 0 = ap (λ (b : Bool). if b then 1 else 0) (ne_eqb ask.client c d) in
+          omega (arith, added, here, once_by rest parts.1 c)
+    ]
+  where
+    is_not : (found : Bool) → not found ≡ true → found ≡ false
+    is_not true e = sym e
+    is_not false e = refl
+
+client_below : (script : ScriptData) (ask : Ask) → IsTrue (is_at_home (numbers_of script) ask) → ask.client < length script.clients
+client_below script ask h =
+    let below : nat_lt ask.client (length (numbers_of script).homes) ≡ true = (and_parts _ _ (and_parts _ _ h).1).0 in
+    omega (arith, ltb-true ask.client (length (numbers_of script).homes) below, length-map script.clients (λ (client : ClientData). client.node))
+
+pub few_here : (script : ScriptData) (q : ℕ) (t : SetState) → IsScript script → All (SoundHere (numbers_of script) q t) (asks_here t)
+    → IsTrue (are_apart (asks_here t)) → length (asks_here t) ≤ MAX_CLIENTS
+few_here script q t is_script here apart =
+    let few = few_keys (length script.clients) (λ (ask : Ask). ask.client) (asks_here t)
+    (λ ask on. client_below script ask (All-contains (SoundHere (numbers_of script) q t) (asks_here t) ask here on).home)
+    (λ c h. once_by (asks_here t) apart c) in
+    omega (arith, few, is_script.few_clients)
+
+-- a sum without its first term
+sum_rest : (n : ℕ) (f : ℕ → ℕ) → sum_below (suc n) f ≡ f 0 + sum_below n (λ k. f (suc k))
+sum_rest zero f = omega arith
+sum_rest (suc n) f = omega (arith, sum_rest n f)
+
+-- the clients of a node, by number
+loads : (q : ℕ) (clients : List ClientData) → sum_below (length clients) (λ c. one_if (home_at clients c == q)) ≡ load_of clients q
+loads q [] = refl
+loads q (client ∷ rest) =
+    let first = sum_rest (length rest) (λ c. one_if (home_at (client ∷ rest) c == q)) in
+    let added = sum_by-cons (λ (x : ClientData). if x.node == q then 1 else 0) client rest in
+    omega (arith, first, added, loads q rest, ones (client.node == q))
+  where
+    ones : (same : Bool) → one_if same ≡ (if same then 1 else 0)
+    ones true = refl
+    ones false = refl
+
+-- where a client of the node waits for nothing in the set, fewer asks are unanswered than a node may have clients
+pub few_pending : (script : ScriptData) (q s c : ℕ) (n : NodeState) → IsScript script → ClientsKept script n
+    → All (IsAskOf script q) (n.set s).pending → s < length script.sets → c < length script.clients → home script c ≡ q
+    → waits (n.set s) c ≡ false → length (n.set s).pending < MAX_CLIENTS_OF_NODE
+few_pending script q s c n is_script clients own within below at_home free =
+    let asks = (n.set s).pending in
+    let count = length script.clients in
+    let here : ℕ → ℕ = λ k. if k == c then 1 else 0 in
+    let counted = by_key count (λ (ask : Ask). ask.client) (λ (ask : Ask). 1) asks
+    (λ ask on. (All-contains (IsAskOf script q) asks ask own on).0.client) in
+    let most = sum_below-most count (λ k. asks_by asks k + here k) (λ k. one_if (home script k == q)) (λ k h. each k) in
+    let added = sum_below-add count (asks_by asks) here in
+    let itself : ◌≡◌ {A = ℕ} (if c == c then 1 else 0) 1 = ap (λ (b : Bool). if b then 1 else 0) (eq-eqb c c refl) in
+    let one = sum_below-at count c here below in
+    omega (arith, counted, length_sum asks, most, added, one, itself, loads q script.clients, is_script.loads q)
+  where
+    elsewhere : (k : ℕ) (asks : List Ask) → home script k ≢ q → ((ask : Ask) → Contains asks ask → IsAskOf script q ask) → asks_by asks k ≡ 0
+    elsewhere k [] d own_each = refl
+    elsewhere k (ask ∷ rest) d own_each =
+        let first = own_each ask (contains_first ask ask rest refl) in
+        let other : ask.client ≢ k = λ e. d (sym (ap (home script) e) ∙ (first.0.home ∙ first.1)) in
+        let none : ◌≡◌ {A = ℕ} (if ask.client == k then 1 else 0) 0 = ap (λ (b : Bool). if b then 1 else 0) (ne_eqb ask.client k other) in
+        omega (
+          arith,
+          none,
+          elsewhere k rest d (λ x on. own_each x (contains_later ask x rest on)),
+          sum_by-cons (λ (x : Ask). if x.client == k then 1 else 0) ask rest,
+        )
+
+    each : (k : ℕ) → asks_by (n.set s).pending k + (if k == c then 1 else 0) ≤ one_if (home script k == q)
+    each k = elim (cases_eq k c) [
+      | inl e ↦
+          let none = subst (λ (x : ℕ). asks_by (n.set s).pending x ≡ 0) (sym e) (none_by c (n.set s).pending free) in
+          let here : ◌≡◌ {A = ℕ} (if k == c then 1 else 0) 1 = ap (λ (b : Bool). if b then 1 else 0) (eq-eqb k c e) in
+          let there = ap one_if (eq-eqb (home script k) q (ap (home script) e ∙ at_home)) in
+          omega (arith, none, here, there)
+      | inr d ↦
+          let here : ◌≡◌ {A = ℕ} (if k == c then 1 else 0) 0 = ap (λ (b : Bool). if b then 1 else 0) (ne_eqb k c d) in
+          elim (cases_eq (home script k) q) [
+            | inl e ↦
+                let there = ap one_if (eq-eqb (home script k) q e) in
+                let one = sum_below-at (length script.sets) s (λ t. count_by (λ (ask : Ask). ask.client == k) (n.set t).pending) within in
+                omega (arith, here, there, one, clients.one_ask k)
+            | inr away ↦
+                let there = ap one_if (ne_eqb (home script k) q away) in
+                let none = elsewhere k (n.set s).pending away (λ ask on. All-contains (IsAskOf script q) (n.set s).pending ask own on) in
+                omega (arith, here, there, none)
+          ]
+    ]

@@ -1,0 +1,158 @@
+-- Accounts and news of a later world, by what is seen of their nodes.
+use Rattle.std.proofs.Common.{◌≡◌, ℕ, ◌<◌, List, Option, Some, Bool, refl, sym, ap, subst, ◌∙◌}
+use Rattle.std.proofs.lemmas.Bool.{eq-eqb}
+use Rattle.lt_modes.specs.declared.ask.Ask.{Ask}
+use Rattle.lt_modes.specs.Script.{ScriptData}
+use Rattle.lt_modes.specs.State.{SetState, Desk, Entry, Tell}
+use Rattle.lt_modes.specs.Made.{Made}
+use Rattle.lt_modes.specs.Records.{entry_of, record_of}
+use Rattle.lt_modes.specs.Freezing.{frozen_by}
+use Rattle.lt_spec.specs.World.{World}
+use Rattle.lt_spec.specs.Facts.{state_at}
+use Rattle.lt_model.specs.Moments.{Moment, Acting, is_at, is_moving, is_serving}
+use Rattle.lt_model.specs.OnWay.{tells_of, copies_to, freezes_to, account_of, news_of}
+use Rattle.lt_model.specs.AccountRules.{account_with}
+use Rattle.lt_model.specs.NewsRules.{news_with}
+use Rattle.lt_model.specs.Invariant.{DeskKept}
+use Rattle.lt_law_accounts.specs.AccountPlay.{AllKept}
+use Rattle.lt_law_accounts.specs.News.{NewsKept, Notice}
+use Rattle.lt_law_accounts.specs.NewsSteps.{changing}
+use Rattle.lt_law_accounts.proofs.NewsLemmas.{changes_kept}
+use Rattle.lt_law_invariant.specs.OneEffect.{after_effect}
+use Rattle.lt_law_invariant.proofs.AfterEffect.{part_stays}
+
+-- the accounts of a ledger are kept
+pub all_kept : (script : ScriptData) (moment : Moment) (w : World) (s : ℕ) (place : Option ℕ) (desk : Desk) → DeskKept script moment w s place desk
+    → AllKept script.nodes (account_of script moment w s place desk)
+all_kept script moment w s place desk h = record { kept = h.accounts; clear = h.clear }
+
+-- and a ledger is kept by its accounts and its news
+pub kept_by : (script : ScriptData) (moment : Moment) (w : World) (s : ℕ) (place : Option ℕ) (desk : Desk)
+    → AllKept script.nodes (account_of script moment w s place desk)
+    → ((x : ℕ) → x < script.nodes → NewsKept (news_of script moment w s place desk x))
+    → DeskKept script moment w s place desk
+kept_by script moment w s place desk h news = record { accounts = h.kept; clear = h.clear; news = news }
+
+-- rows, charge and unanswered asks are the same
+pub record SameOwn (t u : SetState) : Type 0 where
+  pub held : u.held ≡ t.held
+  pub charge : u.charge ≡ t.charge
+  pub pending : u.pending ≡ t.pending
+
+pub own_as : (t u : SetState) → u ≡ t → SameOwn t u
+own_as t u e = record { held = ap (λ (v : SetState). v.held) e; charge = ap (λ (v : SetState). v.charge) e; pending = ap (λ (v : SetState). v.pending) e }
+
+pub own_then : (t u v : SetState) → SameOwn t u → SameOwn u v → SameOwn t v
+own_then t u v first second = record { held = second.held ∙ first.held; charge = second.charge ∙ first.charge; pending = second.pending ∙ first.pending }
+
+pub own_stays : (w : World) (q s : ℕ) (m : Made) (x : ℕ) → SameOwn (state_at w s q) m.state
+    → SameOwn (state_at w s x) (state_at (after_effect w q s m) s x)
+own_stays w q s m x same = record {
+  held = part_stays (λ t. t.held) w q s m same.held x;
+  charge = part_stays (λ t. t.charge) w q s m same.charge x;
+  pending = part_stays (λ t. t.pending) w q s m same.pending x;
+}
+
+-- what a node keeps of freezes is the same
+pub record SameFrozen (t u : SetState) : Type 0 where
+  pub number : u.number ≡ t.number
+  pub frozen : u.frozen ≡ t.frozen
+
+pub frozen_as : (t u : SetState) → u ≡ t → SameFrozen t u
+frozen_as t u e = record { number = ap (λ (v : SetState). v.number) e; frozen = ap (λ (v : SetState). v.frozen) e }
+
+pub frozen_then : (t u v : SetState) → SameFrozen t u → SameFrozen u v → SameFrozen t v
+frozen_then t u v first second = record { number = second.number ∙ first.number; frozen = second.frozen ∙ first.frozen }
+
+pub frozen_stays : (w : World) (q s : ℕ) (m : Made) (x : ℕ) → SameFrozen (state_at w s q) m.state
+    → SameFrozen (state_at w s x) (state_at (after_effect w q s m) s x)
+frozen_stays w q s m x same =
+    record { number = part_stays (λ t. t.number) w q s m same.number x; frozen = part_stays (λ t. t.frozen) w q s m same.frozen x }
+
+-- the clock of node x, and what is on its way from it and to it, are as they were
+pub record SameHeard (script : ScriptData) (w later : World) (s x : ℕ) : Type 0 where
+  pub clock : (later.node x).clock ≡ (w.node x).clock
+  pub tells : tells_of script later s x ≡ tells_of script w s x
+  pub copies : copies_to script later s x ≡ copies_to script w s x
+  pub freezes : freezes_to script later s x ≡ freezes_to script w s x
+
+pub heard_then : (script : ScriptData) (w base later : World) (s x : ℕ) → SameHeard script w base s x → SameHeard script base later s x
+    → SameHeard script w later s x
+heard_then script w base later s x first second = record {
+  clock = second.clock ∙ first.clock;
+  tells = second.tells ∙ first.tells;
+  copies = second.copies ∙ first.copies;
+  freezes = second.freezes ∙ first.freezes;
+}
+
+-- and so is what it keeps for itself
+pub record SameSeen (script : ScriptData) (w later : World) (s x : ℕ) : Type 0 where
+  pub heard : SameHeard script w later s x
+  pub own : SameOwn (state_at w s x) (state_at later s x)
+
+-- the account by what was heard before
+pub account_heard : (script : ScriptData) (moment : Moment) (w later : World) (s : ℕ) (place : Option ℕ) (desk : Desk) (x : ℕ)
+    → SameHeard script w later s x
+    → account_of script moment later s place desk x
+    ≡ account_with (w.node x).clock (is_at place x) (is_moving moment x) (entry_of desk x) (state_at later s x) (tells_of script w s x) (copies_to script w s x)
+account_heard script moment w later s place desk x same =
+    λ i. account_with (same.clock i) (is_at place x) (is_moving moment x) (entry_of desk x) (state_at later s x) (same.tells i) (same.copies i)
+
+-- accounts by states that keep the same for themselves
+pub account_as : (clock : ℕ) (here moving : Bool) (entry : Entry) (tells : List Tell) (copies : List Ask) (t u : SetState) → SameOwn t u
+    → account_with clock here moving entry u tells copies ≡ account_with clock here moving entry t tells copies
+account_as clock here moving entry tells copies t u same = λ i. record {
+  clock = clock;
+  held = same.held i;
+  charge = same.charge i;
+  pending = same.pending i;
+  entry = entry;
+  tells = tells;
+  copies = copies;
+  here = here;
+  moving = moving;
+}
+
+-- the account of a node that is seen as before, with the same entry
+pub account_seen : (script : ScriptData) (moment former : Moment) (w later : World) (s : ℕ) (place before : Option ℕ) (desk old : Desk) (x : ℕ)
+    → SameSeen script w later s x
+    → entry_of desk x ≡ entry_of old x → is_at place x ≡ is_at before x → is_moving moment x ≡ is_moving former x
+    → account_of script moment later s place desk x ≡ account_of script former w s before old x
+account_seen script moment former w later s place before desk old x seen entry here moving =
+    account_heard script moment w later s place desk x seen.heard
+    ∙ account_as (w.node x).clock (is_at place x) (is_moving moment x) (entry_of desk x) (tells_of script w s x) (copies_to script w s x) (state_at w s x) (state_at later s x) seen.own
+    ∙ λ i. account_with (w.node x).clock (here i) (moving i) (entry i) (state_at w s x) (tells_of script w s x) (copies_to script w s x)
+
+-- news of states that keep the same of freezes
+pub news_as : (coming : List Notice) (entry : Entry) (desk : Desk) (here serving : Bool) (t u : SetState) → SameFrozen t u
+    → news_with u coming entry desk here serving ≡ news_with t coming entry desk here serving
+news_as coming entry desk here serving t u same = λ i. record {
+  number = same.number i;
+  frozen = same.frozen i;
+  coming = coming;
+  recorded = record_of entry;
+  told = entry.frozen_told;
+  last = desk.number;
+  wanted = frozen_by desk.queue;
+  here = here;
+  serving = serving;
+}
+
+-- the news by what its node kept of freezes before, and what came to it
+pub news_seen : (script : ScriptData) (moment : Moment) (w later : World) (s : ℕ) (place : Option ℕ) (desk : Desk) (x : ℕ)
+    → freezes_to script later s x ≡ freezes_to script w s x → SameFrozen (state_at w s x) (state_at later s x)
+    → news_of script moment later s place desk x ≡ news_with (state_at w s x) (freezes_to script w s x) (entry_of desk x) desk (is_at place x) (is_serving moment place)
+news_seen script moment w later s place desk x coming same =
+    ap (λ l. news_with (state_at later s x) l (entry_of desk x) desk (is_at place x) (is_serving moment place)) coming
+    ∙ news_as (freezes_to script w s x) (entry_of desk x) desk (is_at place x) (is_serving moment place) (state_at w s x) (state_at later s x) same
+
+-- in the move of the desk's node records and the queue change
+pub news_change : (script : ScriptData) (w later : World) (s q : ℕ) (desk old : Desk) (x : ℕ)
+    → freezes_to script later s x ≡ freezes_to script w s x → SameFrozen (state_at w s x) (state_at later s x)
+    → (entry_of desk x).frozen_told ≡ (entry_of old x).frozen_told → desk.number ≡ old.number
+    → NewsKept (news_of script (Acting q) w s (Some q) old x) → NewsKept (news_of script (Acting q) later s (Some q) desk x)
+news_change script w later s q desk old x coming same told number h =
+    subst NewsKept
+    (sym (news_seen script (Acting q) w later s (Some q) desk x coming same
+    ∙ λ i. record (changing (record_of (entry_of desk x)) (frozen_by desk.queue) (news_of script (Acting q) w s (Some q) old x)) { told = told i; last = number i }))
+    (changes_kept (news_of script (Acting q) w s (Some q) old x) (record_of (entry_of desk x)) (frozen_by desk.queue) h (eq-eqb q q refl))

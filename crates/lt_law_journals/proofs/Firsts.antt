@@ -1,0 +1,199 @@
+-- The first bad line, and what may follow the lines before it.
+use Rattle.std.proofs.Common.{◌≡◌, ℕ, zero, suc, ◌+◌, ◌<◌, ◌≤◌, cond, Bool, true, List, [], ◌∷◌, ◌++◌, length, map, take, fold, Option, Some, None, Ok, Err, refl, sym, ap, ◌∙◌, inl, inr, arith, bytes_eq, append_assoc, append-nil}
+use Rattle.std.specs.List.{flat_map}
+use Rattle.std.proofs.lemmas.Bool.{cases_Bool}
+use Rattle.std.proofs.lemmas.List.{map-append}
+use Rattle.std.proofs.lemmas.List.Concat.{flat_map-append}
+use Rattle.std.proofs.lemmas.List.Sums.{fold-append}
+use Rattle.lt_modes.specs.Script.{ScriptData}
+use Rattle.lt_spec.specs.Log.{Logged}
+use Rattle.lt_spec.specs.World.{World, start, world_after, after_run, is_at_rest, logged, IsRun, IsRunFrom}
+use Rattle.lt_spec.specs.World as world
+use Rattle.lt_spec.specs.Script.{IsScript}
+use Rattle.lt_journal.specs.declared.line.Line.{Line}
+use Rattle.lt_journal.specs.Grammar.{read_line}
+use Rattle.lt_journal.specs.RunLines.{first_lines, entry_lines, moves_lines, closing_lines, run_lines}
+use Rattle.lt_law_journals.specs.Checking.{Place, Reader, written, closing_at_rest, first_place, by_due, place_after, first_reader, read_on, reader_after, led_to, verdict, verdict_at, checked}
+use Rattle.lt_law_journals.specs.Journals.{IsFinished, IsFirstBad, IsContinued, BeginsWith}
+use Rattle.lt_law_journals.proofs.Fitting.{journal_written}
+use Rattle.lt_law_journals.proofs.Places.{not_bad, next_move, not_at_rest, first_begins}
+use Rattle.lt_law_journals.proofs.Accepting.{at_place, stays_bad, begins_all, accepted_at, all_lines, means, accepts, begun, none_is_some}
+
+-- where the first bad line is, of lines that are read from this place on
+record Met (script : ScriptData) (place : Place) (n : ℕ) (ls : List (List ℕ)) (k : ℕ) : Type 0 where
+  at : ℕ
+  k_is : k ≡ suc (n + at)
+  within : at ≤ length ls
+  before : (j : ℕ) → j ≤ at → (q : Place) × ((fold (read_on script) (at_place place n) (take j ls)).place ≡ Some q)
+  ends : at < length ls → (fold (read_on script) (at_place place n) (take (suc at) ls)).place ≡ None
+  stays : at < length ls → (more : List (List ℕ)) → verdict script (fold (read_on script) (at_place place n) (take (suc at) ls ++ more)) ≡ Err k
+
+end_missing : (script : ScriptData) (run : List Logged) (due : List Line) (n k : ℕ) → verdict_at script n (Some (record { run = run; due = due })) ≡ Err k → k ≡ suc n
+end_missing script run [] n k e = elim (cases_Bool (is_at_rest script (world_after script run))) [
+  | inl rest ↦ absurd (let e' : Ok run ≡ Err k = sym (ap (λ (b : Bool). cond b (Ok run) (Err (suc n))) rest) ∙ e in cc)
+  | inr moves ↦
+      let e' : Err (suc n) ≡ Err k = sym (ap (λ (b : Bool). cond b (Ok run) (Err (suc n))) moves) ∙ e in
+      let same : suc n ≡ k = cc in
+      sym same
+]
+end_missing script run (x ∷ due) n k e = let same : suc n ≡ k = cc in sym same
+
+met : (script : ScriptData) (place : Place) (n : ℕ) (ls : List (List ℕ)) (k : ℕ) → verdict script (fold (read_on script) (at_place place n) ls) ≡ Err k → Met script place n ls k
+met script place n [] k e = record {
+  at = 0;
+  k_is = omega (arith, end_missing script place.run place.due n k e);
+  within = omega arith;
+  before = before_end;
+  ends = λ lt. absurd (omega (arith, lt));
+  stays = λ lt more. absurd (omega (arith, lt));
+}
+  where
+    before_end : (j : ℕ) → j ≤ 0 → (q : Place) × ((fold (read_on script) (at_place place n) (take j [])).place ≡ Some q)
+    before_end zero le = (place, refl)
+    before_end (suc j) le = absurd (omega (arith, le))
+met script place n (line ∷ ls) k e = by_next (place_after script place line) refl (λ next rest. met script next (suc n) ls k rest) e
+  where
+    by_next : (next : Option Place) → place_after script place line ≡ next
+        → ((next : Place) → verdict script (fold (read_on script) (at_place next (suc n)) ls) ≡ Err k → Met script next (suc n) ls k)
+        → verdict script (fold (read_on script) (led_to (at_place place n) next) ls) ≡ Err k → Met script place n (line ∷ ls) k
+    by_next None came again e =
+        let bad : Err (suc n) ≡ Err k = sym (ap (verdict script) (stays_bad script n ls)) ∙ e in
+        let same : suc n ≡ k = cc in
+        record {
+          at = 0;
+          k_is = omega (arith, same);
+          within = omega arith;
+          before = before_none;
+          ends = λ lt. ap (λ (next : Option Place). (led_to (at_place place n) next).place) came;
+          stays = λ lt more. ap (λ (next : Option Place). verdict script (fold (read_on script) (led_to (at_place place n) next) more)) came
+              ∙ (ap (verdict script) (stays_bad script n more) ∙ bad);
+        }
+      where
+        before_none : (j : ℕ) → j ≤ 0 → (q : Place) × ((fold (read_on script) (at_place place n) (take j (line ∷ ls))).place ≡ Some q)
+        before_none zero le = (place, refl)
+        before_none (suc j) le = absurd (omega (arith, le))
+    by_next (Some next) came again e =
+        let rest = again next e in
+        record {
+          at = suc rest.at;
+          k_is = omega (arith, rest.k_is);
+          within = omega (arith, rest.within);
+          before = before_some rest;
+          ends = λ lt. ap (λ (o : Option Place). (fold (read_on script) (led_to (at_place place n) o) (take (suc rest.at) ls)).place) came ∙ rest.ends (omega (arith, lt));
+          stays = λ lt more. ap (λ (o : Option Place). verdict script (fold (read_on script) (led_to (at_place place n) o) (take (suc rest.at) ls ++ more))) came
+              ∙ rest.stays (omega (arith, lt)) more;
+        }
+      where
+        before_some : (rest : Met script next (suc n) ls k) (j : ℕ) → j ≤ suc rest.at → (q : Place) × ((fold (read_on script) (at_place place n) (take j (line ∷ ls))).place ≡ Some q)
+        before_some rest zero le = (place, refl)
+        before_some rest (suc j) le =
+            let b = rest.before j (omega (arith, le)) in
+            (b.0, ap (λ (o : Option Place). (fold (read_on script) (led_to (at_place place n) o) (take j ls)).place) came ∙ b.1)
+
+pub first_bad : (script : ScriptData) (all : List (List ℕ)) (k : ℕ) → IsScript script → checked script all ≡ Err k → IsFirstBad script all k
+first_bad script all k is_script e =
+    let m = met script (first_place script) 0 all k e in
+    let k_is : k ≡ suc m.at = omega (arith, m.k_is) in
+    let stays : k ≤ length all → (more : List (List ℕ)) → checked script (take k all ++ more) ≡ Err k = λ le more.
+    ap (λ (n : ℕ). checked script (take n all ++ more)) k_is ∙ m.stays (omega (arith, k_is, le)) more in
+    record {
+      some = omega (arith, k_is);
+      within = omega (arith, k_is, m.within);
+      before = λ j lt.
+          let b = m.before j (omega (arith, k_is, lt)) in
+          (b.0, begins_all script [] (first_place script) 0 (take j all) b.0 (first_begins script) b.1);
+      not_with = λ le beginning.
+          let here = begun script (take k all) beginning.0 is_script beginning.1 in
+          let none : None ≡ (reader_after script (take k all)).place = sym (ap (λ (n : ℕ). (reader_after script (take n all)).place) k_is ∙ m.ends (omega (arith, k_is, le))) in
+          none_is_some here.0 (none ∙ here.1);
+      missing = λ is_last run done same.
+          let clash : Ok run ≡ Err k = sym (accepts script run is_script done) ∙ (ap (checked script) same ∙ e) in
+          cc;
+      stays = stays;
+      no_run = λ le more run done same.
+          let clash : Ok run ≡ Err k = sym (accepts script run is_script done) ∙ (ap (checked script) same ∙ stays le more) in
+          cc;
+    }
+
+-- the moves of a reader stay
+grows_due : (script : ScriptData) (run : List Logged) (due : List Line) (line : List ℕ) (next : Place) → by_due script run due line ≡ Some next → (later : List Logged) × (next.run ≡ run ++ later)
+grows_due script run [] line next e =
+    let m = next_move script run line next (read_line script line) (not_bad script line) e in
+    (logged script (world_after script run) m.node m.step ∷ [], ap (λ (p : Place). p.run) m.place_is)
+grows_due script run (x ∷ due) line next e = elim (cases_Bool (bytes_eq line (written script x))) [
+  | inl same ↦
+      let e' : Some (record { run = run; due = due }) ≡ Some next = sym (ap (λ (b : Bool). cond b (Some (record { run = run; due = due })) None) same) ∙ e in
+      let is : record { run = run; due = due } ≡ next = cc in
+      ([], ap (λ (p : Place). p.run) (sym is) ∙ sym (append-nil run))
+  | inr other ↦ absurd (let e' : None ≡ Some next = sym (ap (λ (b : Bool). cond b (Some (record { run = run; due = due })) None) other) ∙ e in cc)
+]
+
+grows : (script : ScriptData) (place : Place) (n : ℕ) (ls : List (List ℕ)) (last : Place) → (fold (read_on script) (at_place place n) ls).place ≡ Some last
+    → (later : List Logged) × (last.run ≡ place.run ++ later)
+grows script place n [] last e =
+    let is : place ≡ last = cc in
+    ([], ap (λ (p : Place). p.run) (sym is) ∙ sym (append-nil place.run))
+grows script place n (line ∷ ls) last e = by_next (place_after script place line) refl (λ next rest. grows script next (suc n) ls last rest) e
+  where
+    by_next : (next : Option Place) → place_after script place line ≡ next
+        → ((next : Place) → (fold (read_on script) (at_place next (suc n)) ls).place ≡ Some last → (later : List Logged) × (last.run ≡ next.run ++ later))
+        → (fold (read_on script) (led_to (at_place place n) next) ls).place ≡ Some last
+        → (later : List Logged) × (last.run ≡ place.run ++ later)
+    by_next None came again e = absurd (let bad = ap (λ (r : Reader). r.place) (stays_bad script n ls) in cc)
+    by_next (Some next) came again e =
+        let first = grows_due script place.run place.due line next came in
+        let rest = again next e in
+        (first.0 ++ rest.0, rest.1 ∙ (ap (λ (r : List Logged). r ++ rest.0) first.1 ∙ append_assoc place.run first.0 rest.0))
+
+reader_is : (reader : Reader) (place : Place) → reader.place ≡ Some place → reader ≡ at_place place reader.good
+reader_is reader place e = λ i. record { place = e i; good = reader.good }
+
+run_from : (script : ScriptData) (w : World) (first later : List Logged) → IsRunFrom script w (first ++ later) → IsRunFrom script (after_run script w first) later
+run_from script w [] later h = h
+run_from script w (entry ∷ first) later h = run_from script (world.after script w entry.made.stamp.node entry.made.step) first later h.1
+
+pub continued : (script : ScriptData) (read : List (List ℕ)) (place : Place) → IsScript script → (reader_after script read).place ≡ Some place → IsContinued script read place
+continued script read place is_script e = record { only = only; each = each }
+  where
+    b : BeginsWith script read place
+    b = begins_all script [] (first_place script) 0 read place (first_begins script) e
+
+    only : (more : List (List ℕ)) (run : List Logged) → checked script (read ++ more) ≡ Ok run → IsFinished script run × ((later : List Logged) × (run ≡ place.run ++ later))
+    only more run accepted =
+        let end = accepted_at script (reader_after script (read ++ more)) run accepted in
+        let split : reader_after script (read ++ more) ≡ fold (read_on script) (at_place place (reader_after script read).good) more =
+        fold-append (read_on script) (first_reader script) read more ∙ ap (λ (r : Reader). fold (read_on script) r more) (reader_is (reader_after script read) place e) in (
+          (means script (read ++ more) run is_script accepted).0,
+          grows script place (reader_after script read).good more (record { run = run; due = [] }) (ap (λ (r : Reader). r.place) (sym split) ∙ end.place),
+        )
+
+    left : (later : List Logged) → IsFinished script (place.run ++ later) → (left : List Line) × (run_lines script (place.run ++ later) None ≡ b.told ++ left)
+    left [] done =
+        let same : place.run ++ [] ≡ place.run = append-nil place.run in
+        let rest : is_at_rest script (world_after script place.run) ≡ true = ap (λ (r : List Logged). is_at_rest script (world_after script r)) (sym same) ∙ done.at_rest in
+        (place.due, ap (λ (r : List Logged). run_lines script r None) same ∙ (sym (all_lines script place.run rest) ∙ sym b.parts))
+    left (entry ∷ later) done =
+        let from = run_from script (start script) place.run (entry ∷ later) done.is_run in
+        let none : closing_at_rest script place.run ≡ [] =
+        ap (λ (b : Bool). cond b (closing_lines script place.run None) []) (not_at_rest script (world_after script place.run) entry.made.stamp.node entry.made.step from.0.enabled) in
+        let v = script.version in
+        let first = first_lines v in
+        let before = moves_lines v place.run in
+        let moves : first ++ before ≡ b.told ++ place.due = ap (λ (t : List Line). first ++ t) (sym (append-nil before) ∙ ap (λ (t : List Line). before ++ t) (sym none)) ∙ sym b.parts in
+        let closing = closing_lines script (place.run ++ entry ∷ later) None in
+        let tail = moves_lines v (entry ∷ later) in (
+          (place.due ++ tail) ++ closing,
+          ap (λ (t : List Line). first ++ (t ++ closing)) (flat_map-append (entry_lines v) place.run (entry ∷ later))
+              ∙ (sym (append_assoc first (before ++ tail) closing)
+              ∙ (ap (λ (t : List Line). t ++ closing) (sym (append_assoc first before tail) ∙ (ap (λ (t : List Line). t ++ tail) moves ∙ append_assoc b.told place.due tail))
+              ∙ append_assoc b.told (place.due ++ tail) closing)),
+        )
+
+    each : (later : List Logged) → IsFinished script (place.run ++ later) → (more : List (List ℕ)) × (checked script (read ++ more) ≡ Ok (place.run ++ later))
+    each later done =
+        let rest = left later done in (
+          map (written script) rest.0,
+          ap (λ (ls : List (List ℕ)). checked script (ls ++ map (written script) rest.0)) b.lines
+              ∙ (ap (checked script) (sym (map-append (written script) b.told rest.0) ∙ (ap (map (written script)) (sym rest.1) ∙ sym (journal_written script (place.run ++ later) is_script done.is_run)))
+              ∙ accepts script (place.run ++ later) is_script done),
+        )

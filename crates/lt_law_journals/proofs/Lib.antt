@@ -1,0 +1,13 @@
+pub mod Fitting
+pub mod Places
+pub mod Accepting
+pub mod Firsts
+pub mod Short
+pub mod Feeds
+pub mod RowAnswers
+pub mod Heard
+pub mod Inputs
+pub mod Cuts
+pub mod FitsInRuns
+pub mod LinesAmong
+pub mod ClosingLines

@@ -1,5 +1,0 @@
-use Rattle.lt_law_ledgers.proofs.laws.law_held_up.Goals as goal
-use Rattle.lt_law_ledgers.proofs.HeldUpMoves.{moves_hold_up}
-
-pub returns : goal.returns
-returns c = moves_hold_up

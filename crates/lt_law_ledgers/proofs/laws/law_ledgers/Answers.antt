@@ -1,5 +1,0 @@
-use Rattle.lt_law_ledgers.proofs.laws.law_ledgers.Goals as goal
-use Rattle.lt_law_ledgers.proofs.EachMove.{moves_keep_ledgers}
-
-pub returns : goal.returns
-returns c = moves_keep_ledgers

@@ -1,5 +1,0 @@
-pub mod Counting
-pub mod MadeCommands
-pub mod FewLocks
-pub mod FewAsks
-pub mod Within

@@ -1,5 +1,0 @@
-use Rattle.lt_law_limits.proofs.laws.law_within.Goals as goal
-use Rattle.lt_law_limits.proofs.Within.{nodes_within, asks_placed}
-
-pub returns : goal.returns
-returns c = record { within = nodes_within; asks = asks_placed }

@@ -1,0 +1,21 @@
+use Rattle.lt_law_pinned.proofs.LocksExcluded.{locks_excluded}
+use Rattle.lt_law_pinned.proofs.PlacesExcluded.{places_excluded}
+use Rattle.lt_law_pinned.proofs.WaitsExcluded.{waits_excluded}
+use Rattle.lt_law_pinned.proofs.RestsExcluded.{rests_excluded}
+use Rattle.lt_law_pinned.proofs.TriesExcluded.{tries_excluded}
+use Rattle.lt_law_pinned.proofs.laws.law_excluded.Goals as goal
+
+pub returns-clause-locks : goal.returns-clause-locks
+returns-clause-locks c = locks_excluded
+
+pub returns-clause-places : goal.returns-clause-places
+returns-clause-places c = places_excluded
+
+pub returns-clause-waits : goal.returns-clause-waits
+returns-clause-waits c = waits_excluded
+
+pub returns-clause-rests : goal.returns-clause-rests
+returns-clause-rests c = rests_excluded
+
+pub returns-clause-tries : goal.returns-clause-tries
+returns-clause-tries c = tries_excluded

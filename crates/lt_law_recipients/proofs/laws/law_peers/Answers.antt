@@ -1,5 +1,0 @@
-use Rattle.lt_law_recipients.proofs.laws.law_peers.Goals as goal
-use Rattle.lt_law_recipients.proofs.Moves.{names_at_start, acts_reach_peers, takes_reach_peers}
-
-pub returns : goal.returns
-returns c = record { start = names_at_start; acts = acts_reach_peers; takes = takes_reach_peers }

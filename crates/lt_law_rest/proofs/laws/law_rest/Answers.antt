@@ -1,8 +1,0 @@
-use Rattle.lt_law_rest.proofs.laws.law_rest.Goals as goal
-use Rattle.lt_law_rest.proofs.FirstWaiter.{first_waiter_conflicts}
-use Rattle.lt_law_rest.proofs.BarredByLines.{barred_by_lines}
-use Rattle.lt_law_rest.proofs.LedAtRest.{asks_are_led}
-use Rattle.lt_law_rest.proofs.FrozenAtRest.{holders_are_frozen}
-
-pub returns : goal.returns
-returns c = record { first = first_waiter_conflicts; lines = barred_by_lines; led = asks_are_led; frozen = holders_are_frozen }

@@ -1,3 +1,0 @@
-pub mod Numbers
-pub mod WholeTexts
-pub mod DrawnScript

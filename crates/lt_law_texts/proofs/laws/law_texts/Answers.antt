@@ -1,9 +1,0 @@
-use Rattle.lt_law_texts.proofs.WholeTexts.{whole_is}
-use Rattle.lt_law_texts.proofs.DrawnScript.{drawn_is}
-use Rattle.lt_law_texts.proofs.laws.law_texts.Goals as goal
-
-pub returns-clause-whole : goal.returns-clause-whole
-returns-clause-whole c = whole_is
-
-pub returns-clause-drawn : goal.returns-clause-drawn
-returns-clause-drawn c = drawn_is

@@ -1,3 +1,0 @@
-pub mod Whole
-pub mod Drawn
-pub mod Texts

@@ -1,0 +1,12 @@
+use Rattle.std.proofs.Common.{◌∙◌, ap, List, []}
+use Rattle.std.specs.Prelude.{fold}
+use Rattle.lt_spec.specs.Holdings.{Holding, after_line}
+use Rattle.lt_tally.proofs.Lines.{fold_lines-more}
+use Rattle.lt_tally.proofs.locks.locks_held.Goals as goal
+
+pub loop-k-preserved : goal.loop-k-preserved
+loop-k-preserved c =
+    let step = after_line c.args.script.now in
+    c.in_ok-apply_all.ensures
+    ∙ (ap (λ (held : List Holding). fold step held c.events.result.now) c.loop-k.invariant
+    ∙ fold_lines-more step [] c.args.run.now.entries c.loop-k.k c.events.result.now c.events.ensures)

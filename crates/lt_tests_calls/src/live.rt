@@ -1,0 +1,102 @@
+ghost use Rattle.std.specs.Prelude.{◌≡◌, ◌<◌, ◌≤◌, [], IfOk};
+ghost use Rattle.lt_spec.specs.declared.limits.TheConstants.{MAX_COMMANDS};
+ghost use Rattle.lt_live.specs.Words.{SameSession};
+
+use lt_live::{Reply, Session, Station, open};
+use lt_modes::{Command, Mode};
+use lt_runner::{Open, Turned};
+use lt_script::{MAX_COMMANDS, Script, read};
+use std::alloc::Global;
+use std::test::Fail;
+
+const ONE_CLIENT: &str = "nodes 1\n\
+set s\n\
+client a at 0\n";
+
+// The desk is at node 0, so that the client's ask goes to the other node.
+pub(crate) const TWO_NODES: &str = "nodes 2\n\
+set s\n\
+client a at 1\n";
+
+pub(crate) const LOCK: Command = Command::Lock {
+    set: 0,
+    mode: Mode::Write,
+};
+
+const UNLOCK: Command = Command::Unlock {
+    set: 0,
+    mode: Mode::Write,
+};
+
+pub(crate) fn script_of(alloc: Global, text: &str) -> Result<Script, Fail>
+    ensures { IfOk result (λ script. script.commands ≡ []) }
+{
+    if text.len() > 65_536 {
+        return Err(Fail::from("a long text"));
+    }
+    match read(alloc, text.as_bytes()) {
+        Ok(script) if script.commands() == 0 => Ok(script),
+        _ => Err(Fail::from("no script without commands")),
+    }
+}
+
+// The first client's session, and the station of its node.
+fn first_client(alloc: Global, text: &str, capacity: u32) -> Result<(Station, Session), Fail>
+    requires { (0 < capacity) × (capacity ≤ MAX_COMMANDS) }
+{
+    let script = script_of(alloc, text)?;
+    if script.clients() == 0 {
+        return Err(Fail::from("no client"));
+    }
+    let (mut stations, mut sessions) = open(alloc, &script, 10, capacity)?;
+    let station = stations.remove(usize::from(script.home(0)));
+    Ok((station, sessions.remove(0)))
+}
+
+pub(crate) fn submit(session: &mut Session, command: Command) -> Result<Result<(), Command>, Fail>
+    ensures { SameSession session.old session.new }
+{
+    if session.left() == 0 || !session.may_submit(command) {
+        return Err(Fail::from("a command that may not be submitted"));
+    }
+    Ok(session.submit(command))
+}
+
+#[test]
+fn a_full_ring_gives_the_command_back(rt: HostRuntime) -> Result<(), Fail> {
+    let (mut station, mut session) = first_client(rt.alloc(), ONE_CLIENT, 1)?;
+    assert_eq!(rt; submit(&mut session, LOCK)?, Ok(()));
+    assert_eq!(rt; submit(&mut session, UNLOCK)?, Err(UNLOCK));
+    assert_eq!(rt; session.poll(), None);
+    assert_eq!(rt; station.turn(&Open), Turned::Moved);
+    assert_eq!(rt; submit(&mut session, UNLOCK)?, Ok(()));
+    assert_eq!(rt; session.poll(), Some(Reply::Granted));
+    assert_eq!(rt; station.turn(&Open), Turned::Moved);
+    assert_eq!(rt; session.poll(), Some(Reply::Unlocked));
+    assert_eq!(rt; station.turn(&Open), Turned::Quiet);
+    assert_eq!(rt;
+        (session.left(), station.script().commands()),
+        (MAX_COMMANDS - 2, 2)
+    );
+    Ok(())
+}
+
+#[test]
+fn an_ask_goes_to_the_other_node(rt: HostRuntime) -> Result<(), Fail> {
+    let script = script_of(rt.alloc(), TWO_NODES)?;
+    let (mut stations, mut sessions) = open(rt.alloc(), &script, 10, 1)?;
+    assert_eq!(rt; stations.len(), 2);
+    assert_eq!(rt; sessions.len(), 1);
+    let mut session = sessions.remove(0);
+    let mut far = stations.remove(1);
+    let mut near = stations.remove(0);
+    assert_eq!(rt; submit(&mut session, LOCK)?, Ok(()));
+    for round in 0_u8..4 {
+        near.turn(&Open);
+        far.turn(&Open);
+        assert_eq!(rt; (far.waits(0), session.unanswered()), (round < 3, 1));
+    }
+    assert_eq!(rt; session.poll(), Some(Reply::Granted));
+    assert_eq!(rt; session.unanswered(), 0);
+    Ok(())
+}

@@ -1,0 +1,213 @@
+ghost use Rattle.std.specs.Prelude.{◌<◌, ◌≤◌, IfOk};
+ghost use Rattle.lt_spec.specs.declared.moves.TheConstants.{MAX_MOVES};
+ghost use Rattle.lt_runner.specs.Looking.{AreBeside};
+
+use lt_mail::open;
+use lt_modes::{Command, Mode};
+use lt_runner::{Choice, Found, Gate, Runner, Turned, Worked, all_at_once};
+use lt_script::{MAX_COMMANDS, Script, read};
+use lt_spec::MAX_MOVES;
+use std::alloc::{AllocError, Global};
+use std::sync::atomic::{AtomicU64, Ordering};
+use std::test::Fail;
+
+// The second client waits for the first one.
+const ONE_NODE: &str = "nodes 1\n\
+set s\n\
+client a at 0\n\
+client b at 0\n\
+a lock s write\n\
+b lock s write\n";
+
+// The client's ask goes to the other node, and the token comes back.
+const TWO_NODES: &str = "nodes 2\n\
+set s\n\
+client a at 1\n\
+a lock s write\n";
+
+// A patience, how many moves the node may make, how its work ends, and how many moves it makes.
+const WORK: [(u32, u32, Worked, u32); 4] = [
+    (0, 1_000, Worked::Idle, 0),
+    (1, 1_000, Worked::Idle, 2),
+    (3, 2, Worked::Idle, 2),
+    (1, 1, Worked::Full, 1),
+];
+
+// Counts the moves.
+#[derive(Drop)]
+struct Counter {
+    passes: AtomicU64,
+}
+
+impl Counter {
+    fn new() -> Counter {
+        Counter {
+            passes: AtomicU64::new(0),
+        }
+    }
+
+    fn count(&self) -> u64 {
+        self.passes.load(Ordering::SeqCst)
+    }
+}
+
+impl Gate for Counter {
+    fn pass(&self, _node: u8) {
+        self.passes.fetch_add(1, Ordering::SeqCst);
+    }
+}
+
+fn script_of(alloc: Global, text: &str) -> Result<Script, Fail> {
+    if text.len() > 65_536 {
+        return Err(Fail::from("a long text"));
+    }
+    match read(alloc, text.as_bytes()) {
+        Ok(script) => Ok(script),
+        Err(_) => Err(Fail::from("no script")),
+    }
+}
+
+// The runner of node 0.
+#[tactic(auto, using(lt_mail::proofs::FirstMails::first_fresh))]
+fn first_runner(alloc: Global, script: &Script, limit: u32) -> Result<Runner, Fail>
+    requires { (0 < limit) × (limit ≤ MAX_MOVES) }
+{
+    let mut mails = open(alloc, script.nodes(), 1)?;
+    let mail = mails.remove(0);
+    let runner = Runner::new(alloc, script, 0, mail, limit)?;
+    Ok(runner)
+}
+
+// The runners of nodes 0 and 1.
+#[tactic(auto, using(lt_mail::proofs::FirstMails::first_fresh))]
+fn two_runners(alloc: Global, script: &Script) -> Result<(Runner, Runner), Fail>
+    requires { 1 < script.now.nodes }
+    ensures { IfOk result (λ runners. AreBeside runners.1 runners.0) }
+{
+    let mut mails = open(alloc, script.nodes(), 1)?;
+    let mail = mails.remove(0);
+    let first = Runner::new(alloc, script, 0, mail, 10)?;
+    let mail = mails.remove(0);
+    let second = Runner::new(alloc, script, 1, mail, 10)?;
+    Ok((first, second))
+}
+
+// The second runner makes a turn, and both look at the ring between them.
+#[tactic(auto, using(lt_runner::proofs::FirstRunners::beside_later))]
+fn turn_and_meet(first: &mut Runner, second: &mut Runner, gate: &Counter) -> Turned
+    requires { AreBeside second.old first.old }
+{
+    let turned = second.turn(gate);
+    second.meet(first);
+    turned
+}
+
+#[test]
+fn work_ends(rt: HostRuntime) -> Result<(), Fail> {
+    let script = script_of(rt.alloc(), ONE_NODE)?;
+    for (patience, limit, ends, moves) in WORK {
+        assert!(rt; 0 < limit && limit <= MAX_MOVES);
+        let mut runner = first_runner(rt.alloc(), &script, limit)?;
+        let gate = Counter::new();
+        assert_eq!(rt; runner.work(patience, &gate), ends);
+        assert_eq!(rt; runner.moves(), moves);
+        assert_eq!(rt; gate.count(), u64::from(moves));
+    }
+    Ok(())
+}
+
+#[test]
+fn one_turn_makes_one_move(rt: HostRuntime) -> Result<(), Fail> {
+    let script = script_of(rt.alloc(), ONE_NODE)?;
+    let mut runner = first_runner(rt.alloc(), &script, 2)?;
+    let gate = Counter::new();
+    for (turned, moves) in [(Turned::Moved, 1), (Turned::Moved, 2), (Turned::Quiet, 2)] {
+        assert_eq!(rt; runner.turn(&gate), turned);
+        assert_eq!(rt; runner.moves(), moves);
+    }
+    assert_eq!(rt; (runner.waits(0), runner.waits(1)), (false, true));
+    assert_eq!(rt; runner.into_log().len(), 2);
+    Ok(())
+}
+
+#[test]
+fn a_move_is_found_and_made(rt: HostRuntime) -> Result<(), Fail> {
+    let script = script_of(rt.alloc(), ONE_NODE)?;
+    let mut runner = first_runner(rt.alloc(), &script, 1)?;
+    let found = runner.find();
+    assert_eq!(rt; found, Found::Move(Choice::Act(0)));
+    if let Found::Move(choice) = found {
+        runner.reserve(choice)?;
+        runner.make(choice);
+    }
+    assert_eq!(rt; runner.moves(), 1);
+    assert_eq!(rt; runner.find(), Found::Full);
+    Ok(())
+}
+
+// The client of the runner's node is then to unlock what it locks.
+fn append_unlock(runner: &mut Runner, client: u16) -> Result<bool, AllocError> {
+    let (set, mode) = (0, Mode::Write);
+    let script = runner.script();
+    if script.sets() == 0
+        || script.commands() >= MAX_COMMANDS
+        || client >= script.clients()
+        || script.home(client) != runner.me()
+    {
+        return Ok(false);
+    }
+    runner.append(client, Command::Unlock { set, mode })?;
+    Ok(true)
+}
+
+#[test]
+fn an_appended_command_is_made(rt: HostRuntime) -> Result<(), Fail> {
+    let script = script_of(rt.alloc(), ONE_NODE)?;
+    let mut runner = first_runner(rt.alloc(), &script, 10)?;
+    let gate = Counter::new();
+    assert_eq!(rt; runner.work(1, &gate), Worked::Idle);
+    assert_eq!(rt; runner.log().len(), 2);
+    assert!(rt; append_unlock(&mut runner, 0)?);
+    assert_eq!(rt; runner.script().commands(), 3);
+    assert_eq!(rt; runner.work(1, &gate), Worked::Idle);
+    assert_eq!(rt; runner.log().len(), 3);
+    Ok(())
+}
+
+#[test]
+fn a_letter_is_met_and_fetched(rt: HostRuntime) -> Result<(), Fail> {
+    let script = script_of(rt.alloc(), TWO_NODES)?;
+    assert_eq!(rt; script.nodes(), 2);
+    let (mut first, mut second) = two_runners(rt.alloc(), &script)?;
+    let gate = Counter::new();
+    assert_eq!(rt;
+        turn_and_meet(&mut first, &mut second, &gate),
+        Turned::Moved
+    );
+    assert!(rt; second.waits(0));
+    assert!(rt; !first.has_move());
+    first.fetch();
+    assert!(rt; first.has_move());
+    Ok(())
+}
+
+#[test]
+fn all_work_at_once(rt: HostRuntime) -> Result<(), Fail> {
+    let script = script_of(rt.alloc(), TWO_NODES)?;
+    assert_eq!(rt; script.nodes(), 2);
+    let (first, second) = two_runners(rt.alloc(), &script)?;
+    let mut runners = Vec::new(rt.alloc());
+    runners.push(first)?;
+    runners.push(second)?;
+    let gate = Counter::new();
+    for _ in 0..4 {
+        all_at_once(&rt, runners.as_mut_slice(), 4, &gate);
+    }
+    let mut moves = 0_u64;
+    for runner in &runners {
+        moves = moves.saturating_add(u64::from(runner.moves()));
+    }
+    assert_eq!(rt; moves, 3);
+    assert_eq!(rt; gate.count(), 3);
+    Ok(())
+}
