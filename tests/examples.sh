@@ -158,6 +158,8 @@ parts() {
   for tool in picture summary state trace; do
     said=$(tools/journal-$tool "$script" "$journal" 2>&1 >/dev/full)
     [ "$said" = "journal-$tool: write fault" ] || fail "journal-$tool on a full disk: it says: $said"
+    said=$(tools/journal-$tool --help 2>&1 >/dev/full)
+    [ "$said" = "journal-$tool: write fault" ] || fail "journal-$tool --help on a full disk: it says: $said"
   done
 }
 parts

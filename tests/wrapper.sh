@@ -10,7 +10,7 @@ tests=0 failed=0
 # A copy of the wrapper with a program that was built, and a second one with none.
 make_top() {
   mkdir -p "$1/tools" "$1/crates/lockrun/src" && cp "$here/lockrun" "$here/lockwaits" "$here/locknest" "$here/locklive" "$1/" &&
-    cp "$here/tools/wrapper" "$here/tools/sources" "$here/tools/explain" "$here/tools/explain.awk" "$1/tools/" &&
+    cp "$here/tools/wrapper" "$here/tools/sources" "$here/tools/explain" "$here"/tools/*.awk "$1/tools/" &&
     printf 'lockrun:\n' >"$1/crates.txt" && : >"$1/crates/lockrun/src/main.rt" &&
     cp "$here/build" "$1/" && cp "$here/tools/seeds" "$1/tools/"
 }
@@ -18,12 +18,18 @@ make_top() {
 # The stand-in for the program: prints its words and its input. The first line of the input may ask for an answer.
 program='#!/bin/sh
 printf "<%s>" "$@"; echo
-case "$1" in make) exit 0 ;; esac
+case "$1:$2:$3:$4:$5" in
+  make:20:* | make:2:0:* | make:2:33:* | *:4097:* | *:99999999999999999999:* | *:18446744073709551616)
+    echo "lockrun: usage: run | sim first | sim SEED | check | make NODES CLIENTS COMMANDS SEED | soak SEED | order" >&2
+    exit 1 ;;
+  make:*) exit 0 ;;
+esac
 cat >"$0.input" || { echo "lockrun: read fault" >&2; exit 4; }
 cat "$0.input"
 case $(head -n 1 "$0.input") in
   "# refuse "*) set -- $(head -n 1 "$0.input"); echo "lockrun: line $3: S$4" >&2; exit 2 ;;
   "# stuck") exit 3 ;;
+  "# for ever") echo $$ >"$0.pid"; while :; do sleep 0.1; done ;;
   "# by seed") case $2 in *3) exit 3 ;; *5) exit 7 ;; 42) echo "lockrun: no memory" >&2; exit 6 ;; esac ;;
 esac
 exit 0'
@@ -74,7 +80,7 @@ mkdir "$room/with-rt" && mv "$room/rt" "$room/with-rt/rt"
 with_rt=$room/with-rt:$PATH
 # A path with all but the toolchain.
 mkdir "$room/no-rt"
-for tool in sh cat grep sed awk tr mktemp rm dirname readlink head; do
+for tool in sh cat grep sed awk tr mktemp rm dirname readlink head cut tail wc; do
   ln -s "$(command -v $tool)" "$room/no-rt/$tool"
 done
 
@@ -88,28 +94,57 @@ for word in 'sim first' 'sim SEED' 'seeds FROM TO' run check 'make NODES CLIENTS
 done
 expect '--version' "lockrun $(sed -n 's/^version=//p' "$here/lockrun")
 status 0" "$(said "$top/lockrun" --version)"
-usage='lockrun: usage: run | sim first | sim SEED | check | make NODES CLIENTS COMMANDS SEED | soak SEED | order
-status 1'
-no_command() { expect "no command: $*" "$usage" "$(PATH=$room/no-rt && said "$room/bare/lockrun" "$@" </dev/null)"; }
-no_command
+usage='lockrun: usage: run | sim first | sim SEED | check | make NODES CLIENTS COMMANDS SEED | soak SEED | order'
+no_command() {
+  why=$1
+  shift
+  expect "no command: $*" "$usage${why:+
+lockrun: $why}
+status 1" "$(PATH=$room/no-rt && said "$room/bare/lockrun" "$@" </dev/null)"
+}
+long=$(printf '%070d' 7)
 no_command ''
-no_command simulate first
-no_command sim
-no_command sim 'two words'
-no_command sim first --help
-no_command sim 7x
-no_command soak
-no_command soak -7
-no_command make 2 3 8
-no_command make 2 3 eight 7
-no_command run now
-no_command order first
-for words in '' 1 '1 x' '1 -2' '1 2 3'; do
-  # shellcheck disable=SC2086 # a call may be more words
-  expect "no seeds: $words" 'lockrun: usage: seeds FROM TO
-status 1' "$(PATH=$room/no-rt && said "$room/bare/lockrun" seeds $words </dev/null)"
-done
-for words in 'sim 99999999999999999999' 'make 17 1 1 1' 'soak 007' 'check' 'order'; do
+no_command '"" is none of run, sim, check, make, soak, order and seeds' ''
+no_command '"simulate" is none of run, sim, check, make, soak, order and seeds' simulate first
+no_command '"r?n" is none of run, sim, check, make, soak, order and seeds' "$(printf 'r\377n')"
+no_command 'sim has a seed behind it: first, or 1 to 20 digits' sim
+no_command '"two words" is no seed: first, or 1 to 20 digits, and less than 2^64' sim 'two words'
+no_command '"--help" is no file that can be read, and nothing else may stand there' sim first --help
+no_command '"7x" is no seed: first, or 1 to 20 digits, and less than 2^64' sim 7x
+no_command "\"$(echo "$long" | cut -c 1-56) ..\" is no seed: first, or 1 to 20 digits, and less than 2^64" sim "$long" more
+no_command 'soak has a seed behind it: 1 to 20 digits' soak
+no_command '"-7" is no seed: 1 to 20 digits, and less than 2^64' soak -7
+no_command '"now" is one word too many' soak 7 now
+no_command 'make has four numbers behind it: NODES CLIENTS COMMANDS SEED' make 2 3 8
+no_command '"eight" is no number of commands: 0 to 4096' make 2 3 eight 7
+no_command '"8" is one word too many' make 2 3 4 7 8
+no_command '"now" is no file that can be read, and nothing else may stand there' run now
+no_command "\"$room\" is no file that can be read, and nothing else may stand there" order "$room"
+no_command '"/dev/null" is one word too many' order /etc/passwd /dev/null
+no_seeds() {
+  expect "no seeds: $2" "lockrun: usage: seeds FROM TO
+lockrun: $1
+status 1" "$(PATH=$room/no-rt && said "$room/bare/lockrun" seeds $2 </dev/null)"
+}
+for words in '' 1 '1 2 3'; do no_seeds 'seeds has two numbers behind it, the first seed and the last one, and maybe a file' "$words"; done
+no_seeds '"x" is no number' '1 x'
+no_seeds '"-2" is no number' '-2 x'
+# Of words that may be a command the program says whether they are one, and the wrapper which word is wrong.
+refused_words() {
+  why=$1
+  shift
+  expect "no command for the program: $*" "$usage
+lockrun: $why
+status 1" "$(said "$top/lockrun" "$@" </dev/null | sed '/^</d')"
+}
+refused_words '"20" is no number of nodes: 1 to 16' make 20 3 12 5
+refused_words '"0" is no number of clients: 1 to 64' make 2 0 12 5
+refused_words '"33" clients are more than 16 on a node' make 2 33 12 5
+refused_words '"4097" is no number of commands: 0 to 4096' make 2 32 4097 5
+refused_words '"18446744073709551616" is no seed: 1 to 20 digits, and less than 2^64' make 2 32 4096 18446744073709551616
+refused_words '"99999999999999999999" is no seed: 1 to 20 digits, and less than 2^64' soak 99999999999999999999
+refused_words '"99999999999999999999" is no seed: first, or 1 to 20 digits, and less than 2^64' sim 99999999999999999999
+for words in 'sim 18446744073709551615' 'make 17 1 1 1' 'soak 007' 'check' 'order'; do
   # shellcheck disable=SC2086 # a call may be more words
   expect "a command, or the program says why not: $words" "$(printf '<%s>' $words)
 status 0" "$(said "$top/lockrun" $words </dev/null)"
@@ -148,8 +183,9 @@ expect 'seeds, one cut' 'status 7' "$(echo '# by seed' | said "$top/lockrun" see
 expect 'seeds, another end' 'lockrun: seed 42
 lockrun: no memory
 status 6' "$(echo '# by seed' | said "$top/lockrun" seeds 40 99)"
-expect 'seeds of a script with a fault' 'lockrun: line 5: S10
-status 2' "$(echo '# refuse 5 10' | said "$top/lockrun" seeds 1 99)"
+expect 'seeds of a script with a fault' 'lockrun: line 1: S3
+lockrun: "# refuse 1 3", at "refuse": not a command: lock, try, unlock, change or drop
+status 2' "$(echo '# refuse 1 3' | said "$top/lockrun" seeds 1 99)"
 expect 'no seed' 'lockrun: there is no seed from 2 to 1
 status 1' "$(said "$top/lockrun" seeds 2 1 </dev/null)"
 expect 'too long a seed' 'lockrun: seeds of at most 18 digits
@@ -158,7 +194,7 @@ expect 'seeds of a folder' 'lockrun: read fault
 status 4' "$(said "$top/lockrun" seeds 1 2 </)"
 expect 'seeds on a full disk' 'lockrun: write fault
 status 5' "$(echo x | said sh -c "'$top/lockrun' seeds 1 2 >/dev/full")"
-expect 'seeds, unproved' 'lockrun: not proved: no program is built from these sources (./build proves and builds it)
+expect 'seeds, unproved' 'lockrun: not proved: no program is built from these sources (./build makes it), so this takes a minute or more
 lockrun: so each further seed takes as long as the first
 status 3' "$(echo '# stuck' | (PATH=$with_rt && said "$room/bare/lockrun" seeds 1 2) | grep -e '^lockrun' -e '^status [0-9]')"
 expect 'seeds, no toolchain' 'status 127' "$( (PATH=$room/no-rt && said "$room/bare/lockrun" seeds 1 2 </dev/null) | tail -n 1)"
@@ -183,7 +219,7 @@ status 0' "$(PATH=$top:$PATH && said lockrun run </dev/null)"
 
 # A folder as standard input is a read fault, whichever way the program runs.
 expect 'a folder as input' 'status 4' "$(said "$top/lockrun" run 2>/dev/null </ | tail -n 1)"
-expect 'a folder as input, unproved' 'lockrun: not proved: no program is built from these sources (./build proves and builds it)
+expect 'a folder as input, unproved' 'lockrun: not proved: no program is built from these sources (./build makes it), so this takes a minute or more
 lockrun: read fault
 status 4' "$(PATH=$with_rt && said "$room/bare/lockrun" run </ | grep -v '^<')"
 expect 'a folder as input that nothing reads, unproved' '<make><1><1><1><1>
@@ -205,13 +241,13 @@ expect 'no folder can be made' 'lockrun: no folder can be made for what is kept 
 status 125' "$(echo x | (TMPDIR=$room/none && export TMPDIR && unproved run))"
 
 # Without a program that was built from the sources as they are, the toolchain runs them.
-expect 'unproved' 'lockrun: not proved: no program is built from these sources (./build proves and builds it)
+expect 'unproved' 'lockrun: not proved: no program is built from these sources (./build makes it), so this takes a minute or more
 <sim><first>
 status 0' "$(echo x | (PATH=$with_rt && said "$room/bare/lockrun" sim first))"
 expect 'no toolchain' "lockrun: no program is built, and the toolchain's program rt isn't on the PATH: README.md says what it is, under \"What it needs\"
 status 127" "$(PATH=$room/no-rt && said "$room/bare/lockrun" sim first </dev/null)"
 is_stale() {
-  expect "$1" 'lockrun: not proved: no program is built from these sources (./build proves and builds it)' \
+  expect "$1" 'lockrun: not proved: no program is built from these sources (./build makes it), so this takes a minute or more' \
     "$(PATH=$with_rt && said "$top/lockrun" run <"$room/bytes" 2>&1 | head -n 1)"
   build "$top"
 }
@@ -229,10 +265,25 @@ echo '# stuck' >"$room/stuck"
 expect 'a file as the input' '<sim><first>
 # stuck
 status 3' "$(said "$top/lockrun" sim first "$room/stuck")"
+expect 'a file as the script of seeds' '3, stuck          2   first: 1' \
+  "$(said "$top/lockrun" seeds 1 2 "$room/stuck" | sed -n 3p)"
 expect 'a file as the input of no command' 'status 1' "$(said "$top/lockrun" soak 7 "$room/stuck" | tail -n 1)"
 expect 'help on a full disk' 'lockrun: write fault
 status 5' "$("$top/lockrun" --help 2>&1 >/dev/full; echo "status $?")"
 expect 'called by the shell' '<check>' "$(cd "$top" && sh lockrun check "$room/stuck" "$room/stuck" 2>&1 | head -n 1)"
+
+# A signal to the wrapper ends the program too.
+pid=$top/crates/lockrun/out/lockrun.pid
+echo '# for ever' >"$room/for-ever"
+"$top/lockrun" run <"$room/for-ever" >/dev/null 2>&1 &
+wrapper=$!
+while ! [ -s "$pid" ]; do sleep 0.1; done
+kill $wrapper
+wait $wrapper
+expect 'a signal' 143 $?
+tries=0
+while [ $tries -lt 100 ] && kill -0 "$(cat "$pid")" 2>/dev/null; do tries=$((tries + 1)) && sleep 0.1; done
+expect 'no program is left after a signal' 'gone' "$(kill -0 "$(cat "$pid")" 2>/dev/null || echo gone)"
 
 # The build: how far it is, what it leaves, and what it can't do. Its stand-in for the toolchain has two crates to prove.
 made=$room/made
@@ -292,10 +343,23 @@ else
   echo "tests/wrapper.sh: no other user can be had: no checkout that can't be written is tried"
 fi
 
-# How a refused script is explained: only if standard error is a terminal.
+# How a refused script is explained: on a terminal with the line and a caret, elsewhere in one line.
 printf '# refuse 5 10\nnodes 1\nset s\nclient a at 0\na lock s reed\n' >"$room/refused"
 expect 'refused' 'lockrun: line 5: S10
-status 2' "$(said "$top/lockrun" sim 7 <"$room/refused" | tail -n 2)"
+lockrun: "a lock s reed", at "reed": not a mode: intention_read, read, upgrade, intention_write or write
+status 2' "$(said "$top/lockrun" sim 7 <"$room/refused" | tail -n 3)"
+printf '# refuse 3 3\n\na lock\r\n' >"$room/short"
+expect 'refused at the end of a line' 'lockrun: line 3: S3
+lockrun: "a lock", at its end: the form is: CLIENT lock SET MODE
+status 2' "$(said "$top/lockrun" run "$room/short" | tail -n 3)"
+printf '# refuse 3 5\n\n' >"$room/short"
+expect 'refused for a line that is missing' 'lockrun: line 3: S5
+lockrun: the script has no line `nodes NUMBER`
+status 2' "$(said "$top/lockrun" run "$room/short" | tail -n 3)"
+expect 'refused, with no folder to be made' 'lockrun: line 5: S10
+status 2' "$( (TMPDIR=$room/none && export TMPDIR && said "$top/lockrun" run "$room/refused") | tail -n 2)"
+expect 'an input that can only be written' 'lockrun: read fault
+status 4' "$(said "$top/lockrun" run 0>"$room/written")"
 on_a_terminal() {
   expect 'refused, on a terminal' 'lockrun: line 5: S10
   a lock s reed
@@ -316,12 +380,15 @@ status 2' "$(on_terminal "'$top/lockrun' seeds 1 9 <'$room/refused'; echo status
 status 3' "$(on_terminal "echo '# stuck' | '$top/lockrun' sim first; echo status \$?")"
   expect 'words that read nothing leave the input, on a terminal' '<make><1><1><1><1>
 left' "$(on_terminal "echo left | { '$top/lockrun' make 1 1 1 1; cat; }")"
+  expect 'a word that is wrong, on a terminal' 'lockrun: "-7" is no seed: 1 to 20 digits, and less than 2^64
+lockrun: ./lockrun --help says more
+status 1' "$(on_terminal "'$top/lockrun' soak -7; echo status \$?" | tail -n 3)"
   expect 'no words, on a terminal' 'lockrun: ./lockrun --help says more
 status 1' "$(on_terminal "'$top/lockrun'; echo status \$?" | tail -n 2)"
   on_terminal "yes | '$top/lockrun' sim first" >/dev/null
   expect 'an endless input, on a terminal' 1048577 "$(wc -c <"$top/crates/lockrun/out/lockrun.input")"
-  expect 'no folder can be made, on a terminal' 'lockrun: no folder can be made for what is kept while it runs
-status 125' "$(on_terminal "TMPDIR='$room/none' '$top/lockrun' run; echo status \$?")"
+  expect 'no folder can be made, on a terminal' '<run>
+status 0' "$(on_terminal "TMPDIR='$room/none' '$top/lockrun' run; echo status \$?")"
   expect 'no answer, on a terminal, unproved' 'lockrun: the trial runner gave no answer; ./build makes the program
 status 125' "$(on_terminal "echo '# no answer' | PATH='$with_rt' '$room/bare/lockrun' run; echo status \$?" | tail -n 2)"
 }
@@ -330,7 +397,7 @@ if [ "$(on_terminal 'test -t 2 && echo yes')" = yes ]; then on_a_terminal; else 
 # locknest takes no words, and reads whatever it is given.
 nest=$room/nest
 make_top "$nest" && mkdir -p "$nest/crates/locknest/out" "$nest/crates/locknest/src" && : >"$nest/crates/locknest/src/main.rt"
-expect 'locknest, unproved' 'locknest: not proved: no program is built from these sources (./build proves and builds it)
+expect 'locknest, unproved' 'locknest: not proved: no program is built from these sources (./build makes it), so this takes a minute or more
 locknest: read fault
 status 4' "$(PATH=$with_rt && said "$nest/locknest" </)"
 printf '%s\n' '#!/bin/sh
@@ -341,6 +408,7 @@ printf 'crates.txt\ncrates/locknest/src\ncrates/locknest/src/main.rt\n' >"$nest/
 expect 'locknest' '<set s>
 status 0' "$(echo 'set s' | said "$nest/locknest")"
 expect 'locknest with a word' 'locknest: usage: locknest
+locknest: "run" is no file that can be read, and nothing else may stand there
 status 1' "$(said "$nest/locknest" run </dev/null)"
 expect 'locknest --version' "locknest $(sed -n 's/^version=//p' "$here/locknest")
 status 0" "$(said "$nest/locknest" --version)"
@@ -348,11 +416,14 @@ expect 'locknest --help names the limits' 1 "$("$nest/locknest" --help | grep -c
 expect 'locknest called by a link' '<x>
 status 0' "$(ln -s "$nest/locknest" "$room/nested" && echo x | said "$room/nested")"
 expect 'locknest, refused' 'locknest: line 2
+locknest: "t? begin", at "t?": not a name: 1 to 32 letters, digits, _, - and ., a letter first, and not nodes, set, client, journal, version or begin
 status 2' "$(printf 'refuse this\nt\001 begin\n' | said "$nest/locknest")"
 nest_on_a_terminal() {
   printf 'refuse this\nt\001 begin\n' >"$room/refused"
   expect 'locknest, refused, on a terminal' 'locknest: line 2
   t? begin
+  ^^
+  not a name: 1 to 32 letters, digits, _, - and ., a letter first, and not nodes, set, client, journal, version or begin
 status 2' "$(on_terminal "'$nest/locknest' <'$room/refused'; echo status \$?")"
 }
 if [ "$(on_terminal 'test -t 2 && echo yes')" = yes ]; then nest_on_a_terminal; fi
@@ -361,7 +432,7 @@ if [ "$(on_terminal 'test -t 2 && echo yes')" = yes ]; then nest_on_a_terminal; 
 waits=$room/waits
 make_top "$waits" && mkdir -p "$waits/crates/lockwaits/out" "$waits/crates/lockwaits/src" &&
   : >"$waits/crates/lockwaits/src/main.rt"
-expect 'lockwaits, unproved' 'lockwaits: not proved: no program is built from these sources (./build proves and builds it)
+expect 'lockwaits, unproved' 'lockwaits: not proved: no program is built from these sources (./build makes it), so this takes a minute or more
 lockwaits: read fault
 status 4' "$(PATH=$with_rt && said "$waits/lockwaits" </)"
 printf '%s\n' '#!/bin/sh
@@ -388,18 +459,29 @@ nodes 1
 journal
 end 0
 status 0' "$(said "$top/lockrun" check "$room/a script" "$room/-journal" | sed 's/^end 0status/end 0\nstatus/')"
-for words in run 'one two three'; do
-  # shellcheck disable=SC2086 # a call may be more words
-  expect "lockwaits with words: $words" 'lockwaits: usage: lockwaits
-status 1' "$(said "$waits/lockwaits" $words </dev/null)"
-done
+expect 'lockwaits with a word' 'lockwaits: usage: lockwaits
+lockwaits: "run" is no file that can be read, and nothing else may stand there
+status 1' "$(said "$waits/lockwaits" run </dev/null)"
+expect 'lockwaits with three words' 'lockwaits: usage: lockwaits
+lockwaits: "three" is one word too many
+status 1' "$(said "$waits/lockwaits" one two three </dev/null)"
 expect 'lockwaits --version' "lockwaits $(sed -n 's/^version=//p' "$here/lockwaits")
 status 0" "$(said "$waits/lockwaits" --version)"
 expect 'lockwaits --help names the two files' 1 "$("$waits/lockwaits" --help | grep -c '^  ./lockwaits SCRIPT JOURNAL  ')"
 expect 'lockwaits called by a link' '<x>
 status 0' "$(ln -s "$waits/lockwaits" "$room/waiting" && echo x | said "$room/waiting")"
+cp "$here"/tools/*.py "$here/tools/journal-summary" "$waits/tools/"
+printf '# bad\nnodes 1\nset s\n# journal\n journal\r\nowner s 0 0\nmo\001ve\r\n' >"$room/bad"
 expect 'lockwaits, a bad journal' 'lockwaits: line 7: journal
-status 8' "$(echo '# bad' | said "$waits/lockwaits")"
+lockwaits: "mo?ve": line 2 of the journal: no run that ends at rest goes on so; due there is end 0
+status 8' "$(said "$waits/lockwaits" <"$room/bad")"
+expect 'lockwaits, a bad journal, with no Python' 'lockwaits: line 7: journal
+lockwaits: "mo?ve": line 2 of the journal: no run that ends at rest goes on so
+status 8' "$(PATH=$room/no-rt && said "$waits/lockwaits" <"$room/bad")"
+printf '# bad\nnodes 1\nset s\nset t\njournal\nowner s 0 0\n' >"$room/bad"
+expect 'lockwaits, a journal too short' 'lockwaits: line 7: journal
+lockwaits: line 2 of the journal is missing: no run ends here at rest; due there is owner t 0 0
+status 8' "$(said "$waits/lockwaits" <"$room/bad")"
 waits_on_a_terminal() {
   printf '# fault\nnodes 1\nset s\nclient a at 0\na lock s reed\n' >"$room/refused"
   expect 'lockwaits, refused, on a terminal' 'lockwaits: line 5: S10
@@ -407,14 +489,14 @@ waits_on_a_terminal() {
            ^^^^
   not a mode: intention_read, read, upgrade, intention_write or write
 status 2' "$(on_terminal "'$waits/lockwaits' <'$room/refused'; echo status \$?")"
-  printf '# bad\nnodes 1\nset s\n# journal\n journal\r\nmove 1 0 act a\nmo\001ve\r\n' >"$room/refused"
+  printf '# bad\nnodes 1\nset s\n# journal\n journal\r\nowner s 0 0\nmo\001ve\r\n' >"$room/refused"
   expect 'lockwaits, a bad journal, on a terminal' 'lockwaits: line 7: journal
   mo?ve
-  line 2 of the journal: no run that ends at rest goes on so
+  line 2 of the journal: no run that ends at rest goes on so; due there is end 0
 status 8' "$(on_terminal "'$waits/lockwaits' <'$room/refused'; echo status \$?")"
   printf '# bad\nnodes 1\nset s\nset t\njournal\nowner s 0 0\n' >"$room/refused"
   expect 'lockwaits, a journal too short, on a terminal' 'lockwaits: line 7: journal
-  line 2 of the journal is missing: no run ends here at rest
+  line 2 of the journal is missing: no run ends here at rest; due there is owner t 0 0
 status 8' "$(on_terminal "'$waits/lockwaits' <'$room/refused'; echo status \$?")"
 }
 if [ "$(on_terminal 'test -t 2 && echo yes')" = yes ]; then waits_on_a_terminal; fi
@@ -422,7 +504,7 @@ if [ "$(on_terminal 'test -t 2 && echo yes')" = yes ]; then waits_on_a_terminal;
 # locklive takes no words, and explains a script that is refused.
 live=$room/live
 make_top "$live" && mkdir -p "$live/crates/locklive/out" "$live/crates/locklive/src" && : >"$live/crates/locklive/src/main.rt"
-expect 'locklive, unproved' 'locklive: not proved: no program is built from these sources (./build proves and builds it)
+expect 'locklive, unproved' 'locklive: not proved: no program is built from these sources (./build makes it), so this takes a minute or more
 locklive: read fault
 status 4' "$(PATH=$with_rt && said "$live/locklive" </)"
 printf '%s\n' '#!/bin/sh
@@ -436,13 +518,19 @@ printf 'crates.txt\ncrates/locklive/src\ncrates/locklive/src/main.rt\n' >"$live/
 expect 'locklive' '<nodes 1
 set s>
 status 0' "$(printf 'nodes 1\nset s\n' | said "$live/locklive")"
+printf '# many\nnodes 1\nset s\nclient a at 0\nclient b at 0\nclient c at 0\n client d at 0\nd lock s read\nd unlock s read\n' \
+  >"$room/many"
 expect 'locklive, too many commands' 'locklive: too many commands of client 3
-status 10' "$(echo '# many' | said "$live/locklive")"
-for words in run 'a.script' 'one two'; do
-  # shellcheck disable=SC2086 # a call may be more words
-  expect "locklive with words: $words" 'locklive: usage: locklive
-status 1' "$(said "$live/locklive" $words </dev/null)"
-done
+locklive: " client d at 0": line 7: d has 2 commands, and each of 4 clients at most 1024
+status 10' "$(said "$live/locklive" <"$room/many")"
+expect 'locklive with a word' 'locklive: usage: locklive
+locklive: "a.script" is no file that can be read, and nothing else may stand there
+status 1' "$(said "$live/locklive" a.script </dev/null)"
+expect 'locklive with two words' 'locklive: usage: locklive
+locklive: "two" is one word too many
+status 1' "$(said "$live/locklive" one two </dev/null)"
+expect 'locklive with a file' '<# stuck>
+status 0' "$(said "$live/locklive" "$room/stuck")"
 expect 'locklive --version' "locklive $(sed -n 's/^version=//p' "$here/locklive")
 status 0" "$(said "$live/locklive" --version)"
 expect 'locklive --help names the status of a share' 1 "$("$live/locklive" --help | grep -c ' 10  a client has more commands')"
@@ -453,12 +541,10 @@ live_on_a_terminal() {
            ^^^^
   not a mode: intention_read, read, upgrade, intention_write or write
 status 2' "$(on_terminal "'$live/locklive' <'$room/refused'; echo status \$?")"
-  printf '# many\nnodes 1\nset s\nclient a at 0\nclient b at 0\nclient c at 0\n client d at 0\nd lock s read\nd unlock s read\n' \
-    >"$room/refused"
   expect 'locklive, too many commands, on a terminal' 'locklive: too many commands of client 3
    client d at 0
   line 7: d has 2 commands, and each of 4 clients at most 1024
-status 10' "$(on_terminal "'$live/locklive' <'$room/refused'; echo status \$?")"
+status 10' "$(on_terminal "'$live/locklive' <'$room/many'; echo status \$?")"
 }
 if [ "$(on_terminal 'test -t 2 && echo yes')" = yes ]; then live_on_a_terminal; fi
 
@@ -502,6 +588,33 @@ fault 'version 2\nnodes 65\n' 2 9 7 2 'a script of version 2 has at most 64 node
 fault "$head"'a lock s read_intention_write\n' 5 10 10 20 'a mode of version 2 alone: the first line would be `version 2`'
 fault "$second"'a change s read_intention_write ride\n' 6 10 33 4 'not a mode: intention_read, read, upgrade, intention_write, read_intention_write or write'
 expect 'a script without a line' '  the script has no line `nodes NUMBER`' "$(printf '# nothing\n' | "$here/tools/explain" 2 5)"
+
+# Each line of nested transactions that is refused: the lines, the last of which it is, the place of the caret and so on.
+nested_fault() {
+  expect "the last line of: $1" "$2 $3 $4" "$(printf "$1" | "$here/tools/explain" "$(printf "$1" | wc -l)" | awk '
+    NR == 2 { match($0, /\^+/); at = RSTART - 2; long = RLENGTH }
+    NR == 3 { print at, long, substr($0, 3) }')"
+}
+nest_head='set s\np begin\n'
+nested_fault 'set\n' 5 1 'the form is: set S'
+nested_fault 'set s more\r\n' 7 4 'the form is: set S'
+nested_fault 'p\n' 1 1 'no line: set, or a transaction with begin, lock, try, commit or abort'
+nested_fault "$nest_head"'p unlock s read\n' 3 6 'not one of begin, lock, try, commit and abort'
+nested_fault 'p begin under q\n' 9 5 'the forms are: T begin, and T begin in P'
+nested_fault 'p begin in\n' 12 1 'the forms are: T begin, and T begin in P'
+nested_fault "$nest_head"'p  lock\ts\n' 11 1 'the form is: T lock S MODE'
+nested_fault "$nest_head"'p try s read now\n' 14 3 'the form is: T try S MODE'
+nested_fault "$nest_head"'p commit now\n' 10 3 'the form is: T commit'
+nested_fault "$nest_head"'q begin in s\n' 12 1 's is a set, and not a transaction'
+nested_fault "$nest_head"'s begin\n' 1 1 'declared before, in line 1'
+nested_fault "$nest_head"'# q begin\nq abort\n' 1 1 'no transaction of this name was declared before'
+nested_fault "$nest_head"'p lock t read\n' 8 1 'no set of this name was declared before'
+nested_fault "$nest_head"'p lock s raed\n' 10 4 'not a mode: intention_read, read, upgrade, intention_write, read_intention_write or write'
+nested_fault 'set begin\n' 5 5 'not a name: 1 to 32 letters, digits, _, - and ., a letter first, and not nodes, set, client, journal, version or begin'
+nested_fault "$(printf 'set s%s\\n' 1 2 3 4 5 6 7 8 9)" 5 2 'an input has at most 8 sets'
+nested_fault "$(awk 'BEGIN { for (k = 1; k <= 257; k++) printf "p%d begin\\n", k }')" 1 4 'an input has at most 256 transactions'
+nested_fault "$(awk 'BEGIN { printf "p begin\\n# no line\\n"; for (k = 1; k <= 65535; k++) printf "p abort\\n" }')" 1 1 \
+  'an input has at most 65,535 lines that say something'
 
 echo "tests/wrapper.sh: $tests tests, $failed failed"
 [ $failed -eq 0 ]

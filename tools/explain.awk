@@ -16,19 +16,6 @@ NR < line && count && word[1] !~ /^#/ { declare() }
 NR == line { explain(); show(); is_shown = 1; exit }
 END { if (!is_shown) print "  the script has no line `nodes NUMBER`" }
 
-# Cuts the line into word[1], word[2] .., which begin at place[1], place[2] ..; gives their number.
-function split_words(text,    n, at) {
-  for (k in word) delete word[k]
-  for (n = 0; match(text, /[^ \t]+/); n++) {
-    at += RSTART
-    word[n + 1] = substr(text, RSTART, RLENGTH)
-    place[n + 1] = at
-    at += RLENGTH - 1
-    text = substr(text, RSTART + RLENGTH)
-  }
-  return n
-}
-
 # Keeps what a line without fault declares.
 function declare() {
   if (word[1] == "version") { version = 2; return }
@@ -37,13 +24,6 @@ function declare() {
   kind[word[2]] = word[1]
   declared_in[word[2]] = NR
   if (word[1] == "client") { node_of[word[2]] = word[4] + 0; clients++ }
-}
-
-# Points at word k; past the last word, behind the line.
-function point(k, words) {
-  from = k <= count ? place[k] : length($0) + 2
-  width = k <= count ? length(word[k]) : 1
-  said = words
 }
 
 function explain() {
@@ -113,11 +93,6 @@ function explain_unknown() {
   else unknown(4, "set")
 }
 
-function unknown(k, wanted) {
-  if (word[k] in kind && kind[word[k]] != "") point(k, word[k] " is a " kind[word[k]] ", and not a " wanted)
-  else point(k, "no " wanted " of this name was declared before")
-}
-
 function most_nodes() { return version == 2 ? 64 : 16 }
 function most_clients() { return version == 2 ? 256 : 64 }
 function of_version() { return version == 2 ? " of version 2" : "" }
@@ -128,16 +103,4 @@ function explain_limit() {
   else if (word[1] != "client") point(2, "a script has at most 4,096 commands")
   else if (clients >= most_clients()) point(2, "a script" of_version() " has at most " most_clients() " clients")
   else point(4, "a node has at most 16 clients")
-}
-
-# Prints the line, the carets and the words. Of a long line the part around the caret is shown.
-function show(    text, carets) {
-  text = $0
-  gsub(/\t/, " ", text)
-  gsub(/[^ -~]/, "?", text)
-  if (from > 60) { text = "... " substr(text, from - 30); from = 35 }
-  if (length(text) > 90) text = substr(text, 1, 86) " ..."
-  if (width > 91 - from) width = 91 - from
-  for (carets = ""; length(carets) < width; ) carets = carets "^"
-  printf "  %s\n%" (from + 1) "s%s\n  %s\n", text, "", carets, said
 }

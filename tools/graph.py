@@ -5,9 +5,11 @@ from math import cos, pi, sin
 from curves import clear_curve, path
 from waiting import all_waits, behind, edges_of, lock_edges_of, ring_of
 
-RADIUS, ROOM, HEAD = 13, 56, 46
+RADIUS, ROOM, HEAD = 13, 56, 60
 INK, FAINT, RING, BEHIND, EDGE = '#222222', '#8a8a8a', '#d1381f', '#a9aeb6', '#f0a30a'
 MOST_CURVES = 400   # of more arrows each is a straight line
+MOST_NAMES = 4      # of those that have no arrow
+KINDS = {'ring': 'red: a ring', 'behind': 'grey: behind it', 'edge': 'amber: others'}
 
 
 class Waits:
@@ -17,16 +19,36 @@ class Waits:
         waits = all_waits(follower)
         self.ring = ring_of(waits)
         self.behind = set(behind(waits, self.ring))
-        edges = edges_of(waits) if is_all else lock_edges_of(waits)
+        self.locks = lock_edges_of(waits)
+        edges = edges_of(waits) if is_all else dict(self.locks)
         for client, other in zip(self.ring, self.ring[1:] + self.ring[:1]):
             edges[client] = list(dict.fromkeys(edges[client] + [other]))
         self.edges = {client: edges[client] for client in follower.script.node_of if edges.get(client)}
+        shown = clients_of(self.edges)
+        self.left_out = [wait.client for wait in waits if wait.client not in shown]
 
     def kind(self, client, other):
         """How an arrow is drawn."""
         if client in self.ring and other == self.ring[(self.ring.index(client) + 1) % len(self.ring)]:
             return 'ring'
         return 'behind' if client in self.ring or client in self.behind else 'edge'
+
+    def is_by_lock(self, client, other):
+        """Whether a lock of the other one is in the way."""
+        return other in self.locks[client]
+
+    def legend(self):
+        """What the colours mean that are there, and who waits without an arrow."""
+        kinds = {self.kind(client, other) for client, others in self.edges.items() for other in others}
+        words = [KINDS[kind] for kind in KINDS if kind in kinds]
+        if not all(self.is_by_lock(client, other) for client, others in self.edges.items() for other in others):
+            words.append('dashed: behind an ask')
+        lines = ['; '.join(words)] if self.ring else ['no ring: an arrow ends at a client that has ended']
+        if self.left_out:
+            count = len(self.left_out)
+            names = ' '.join(self.left_out) if count <= MOST_NAMES else f'{count} clients'
+            lines.append(f'behind others, with no arrow: {names}')
+        return lines
 
 
 def size_of(edges):
@@ -53,14 +75,14 @@ def graph(waits, left, top):
     pieces = [text(left, top + 14, 'who waits for whom at the end', INK, 'font-weight="bold"')]
     if not edges:
         return pieces + [text(left, top + 34, 'nobody waits', FAINT)]
-    pieces.append(text(left, top + 30, 'red: a ring; grey: behind it' if waits.ring
-                       else 'no ring: an arrow ends at a client that has ended', FAINT))
+    pieces += [text(left, top + 30 + 14 * place, words, FAINT) for place, words in enumerate(waits.legend())]
     places = places_of(edges, left, top)
     marks = list(places.values())
     is_bent = sum(map(len, edges.values())) <= MOST_CURVES
     for client, others in edges.items():
         for other in others:
-            pieces.append(edge(places[client], places[other], marks if is_bent else [], waits.kind(client, other)))
+            look = waits.kind(client, other), waits.is_by_lock(client, other)
+            pieces.append(edge(places[client], places[other], marks if is_bent else [], *look))
     middle = sum(y for _, y in marks) / len(marks)
     return pieces + [mark for client, (x, y) in places.items()
                      for mark in client_at(client, x, y, y < middle - 1, client in waits.ring)]
@@ -75,16 +97,17 @@ def places_of(edges, left, top):
             for client, turn in zip(clients, turns)}
 
 
-def edge(start, end, marks, kind):
+def edge(start, end, marks, kind, is_by_lock):
     """An arrow that keeps away from the other clients; of two that wait for each other each has one of its own."""
     beside = [mark for mark in marks if mark not in (start, end)]
     curve = clear_curve(start, end, beside, RADIUS + 4)
     along = end[0] - start[0], end[1] - start[1]
     length = max(1.0, (along[0] ** 2 + along[1] ** 2) ** 0.5)
     side = -9 * along[1] / length, 9 * along[0] / length
+    dash = '' if is_by_lock else 'stroke-dasharray="5 3" '
     bent = (curve[0], *(tuple(a + b for a, b in zip(point, side)) for point in curve[1:3]), curve[3])
     return (f'<path d="{path(bent, RADIUS, RADIUS)}" fill="none" stroke="{markers()[kind]}" stroke-width="1.6" '
-            f'marker-end="url(#{kind})"/>')
+            f'{dash}marker-end="url(#{kind})"/>')
 
 
 def client_at(client, x, y, is_above, in_ring):

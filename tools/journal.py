@@ -134,7 +134,7 @@ class Journal:
     closing: list
     letters: list = field(default_factory=list)
     lines: int = 0                        # how many lines the text has, or those before one that can't stand there
-    bad: Optional[Exception] = None       # that line
+    bad: Optional[int] = None             # the number of that line
 
     @property
     def is_cut(self):
@@ -323,35 +323,32 @@ def read_journal(name, script, data):
     lines = lines_of(data)
     if lines[:len(first)] != first:
         raise unfit(1, f'the first line is `{SECOND}`, as in the script')
-    try:
-        for number, line in list(enumerate(lines, 1))[len(first):]:
-            read_line(journal, number, line.split(' '))
-    except Fault as fault:
-        journal.bad = fault
+    numbered = list(enumerate(lines, 1))[len(first):]
+    journal.bad = next((number for number, line in numbered if not read_line(journal, number, line.split(' '))), None)
     journal.lines = len(lines)
     return journal
 
 
 def read_line(journal, number, words):
-    """Takes a line into the journal."""
+    """Takes a line into the journal; whether it has a form that can stand there."""
     if words[0] == 'move' and not journal.closing:
-        journal.moves.append(read_move(journal.script, words, number, len(journal.moves) + 1))
-        return
+        return read_move(journal, words, number)
     is_event = words[0] in EVENTS and bool(journal.moves) and not journal.closing
     form = EVENTS.get(words[0]) if is_event else CLOSING.get(words[0])
     if form is None or not has_form(journal.script, words[1:], form):
-        raise unfit(number, 'no line that can stand there')
+        return False
     (journal.moves[-1].events if is_event else journal.closing).append(Event(number, words[0], words[1:]))
+    return True
 
 
-def read_move(script, words, line, number):
-    """The move of a line whose first word is `move`."""
-    is_act = has_form(script, words[1:3] + words[4:], 'npc') and words[3] == 'act'
-    is_take = has_form(script, words[1:3] + words[4:], 'npp') and words[3] == 'take'
-    if not is_act and not is_take:
-        raise unfit(line, 'no line that can stand there')
-    client, sender = (words[4], None) if is_act else (None, int(words[4]))
-    return Move(number, line, int(words[1]), int(words[2]), client, sender)
+def read_move(journal, words, line):
+    """Takes a line whose first word is `move`; whether it has the form of a move."""
+    is_act = has_form(journal.script, words[1:3] + words[4:], 'npc') and words[3] == 'act'
+    is_take = has_form(journal.script, words[1:3] + words[4:], 'npp') and words[3] == 'take'
+    if is_act or is_take:
+        client, sender = (words[4], None) if is_act else (None, int(words[4]))
+        journal.moves.append(Move(len(journal.moves) + 1, line, int(words[1]), int(words[2]), client, sender))
+    return is_act or is_take
 
 
 def unfit(line, what):
@@ -363,14 +360,21 @@ def unfit(line, what):
 
 def serve(tool, usage, write, words, more=''):
     """Reads a script and its journal, and prints what `write` makes of them."""
-    if len(words) != 2:
-        is_help = words in (['--help'], ['-h'])
-        print(f'usage: {tool} SCRIPT JOURNAL{more}\n\n{usage}', file=sys.stdout if is_help else sys.stderr)
-        return 0 if is_help else 1
-    try:
+    def make():
         script = read_script(text_of(words[0]))
-        text = write(read_journal(Path(words[0]).stem, script, text_of(words[1])))
-        print(text, end='', flush=True)
+        return write(read_journal(Path(words[0]).stem, script, text_of(words[1])))
+
+    return answer(tool, f'usage: {tool} SCRIPT JOURNAL{more}\n\n{usage}\n', make, words)
+
+
+def answer(tool, page, make, words):
+    """Prints what is made of two files, or the page of help; the status, which is 1 where a line tells what is wrong."""
+    is_help = words in (['--help'], ['-h'])
+    if len(words) != 2 and not is_help:
+        print(page, end='', file=sys.stderr)
+        return 1
+    try:
+        print(page if is_help else make(), end='', flush=True)
     except (Fault, OSError) as fault:
         is_write = isinstance(fault, OSError) and fault.filename is None
         what = f'{fault.filename}: {fault.strerror}' if isinstance(fault, OSError) else fault

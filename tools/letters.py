@@ -11,6 +11,7 @@ from typing import NamedTuple, Optional
 from journal import CONFLICTS, MODES, SIXTH, Ask, Fault, Letter, in_order, unfit
 
 BIT = {mode: 1 << k for k, mode in enumerate(MODES)}
+MOST_DUE = 3   # of the moves that can be made, so many are named
 
 
 def follow(journal):
@@ -172,7 +173,8 @@ class Follower:
             if place >= len(move.events) or move.events[place].text != text:
                 raise unfit(move.line + 1 + place, f'due there is {text}')
         if len(move.events) > len(self.said):
-            raise unfit(move.events[len(self.said)].number, 'not an event of this move')
+            extra = move.events[len(self.said)].number
+            raise unfit(extra, f'not an event of this move; due there is {self.due(move.number)}')
 
     # The begin of a move
 
@@ -181,9 +183,9 @@ class Follower:
         client, made = move.client, self.made[move.client]
         commands = self.script.commands[client]
         if self.script.node_of[client] != move.node:
-            raise unfit(move.line, f'{client} is not on node {move.node}')
+            raise self.no_move(move, f'{client} is not on node {move.node}')
         if made >= len(commands) or self.waits_in[client]:
-            raise unfit(move.line, f'{client} waits or has no command left')
+            raise self.no_move(move, f'{client} waits or has no command left')
         self.tick(move, self.clocks[move.node])
         self.made[client] += 1
         kind, *words = commands[made]
@@ -258,7 +260,7 @@ class Follower:
         """Takes the oldest letter of the sender; the set that it touched."""
         way = self.on_way[move.sender, move.node]
         if not way:
-            raise unfit(move.line, f'no letter is on its way from node {move.sender}')
+            raise self.no_move(move, f'no letter is on its way from node {move.sender}')
         letter = way[0]
         self.tick(move, max(self.clocks[move.node], letter.sent.clock))
         move.letter = way.popleft()
@@ -440,22 +442,39 @@ class Follower:
         movers = self.movers()
         if journal.is_cut and not journal.bad and int(journal.closing[0].words[0]) in movers:
             return
-        due = ['a move, since the run is not at rest'] if movers else self.closing_lines(len(journal.moves))
+        count = len(journal.moves)
+        due = [self.due(count)] if movers else self.closing_lines(count)
         for place, text in enumerate(due):
             if place >= len(journal.closing):
-                raise journal.bad or unfit(journal.lines + 1, f'{text} is missing')
+                raise unfit(journal.bad or journal.lines + 1, f'due there is {text}')
             if journal.closing[place].text != text:
                 raise unfit(journal.closing[place].number, f'due there is {text}')
         if len(journal.closing) > len(due):
             raise unfit(journal.closing[len(due)].number, 'nothing is due there')
         if journal.bad:
-            raise journal.bad
+            raise unfit(journal.bad, 'nothing is due there')
+
+    def no_move(self, move, why):
+        """The fault of a move that can't be made here."""
+        return unfit(move.line, f'{why}; due there is {self.due(move.number - 1)}')
+
+    def due(self, count):
+        """The lines that can stand after so many moves: of moves not more than three, or the first closing line."""
+        lines = [f'move {self.clocks[node] + 1} {node} act {client}'
+                 for client, node in self.script.node_of.items() if self.can_act(client)]
+        lines += [f'move {max(self.clocks[to], way[0].sent.clock) + 1} {to} take {sender}'
+                  for (sender, to), way in sorted(self.on_way.items()) if way]
+        more = [f'one of {len(lines) - MOST_DUE} others'] * (len(lines) > MOST_DUE)
+        return ' or '.join(lines[:MOST_DUE] + more) or self.closing_lines(count)[0]
+
+    def can_act(self, client):
+        """Whether a client can make a command."""
+        return not self.waits_in[client] and self.made[client] < len(self.script.commands[client])
 
     def movers(self):
         """The nodes that can make a move."""
         nodes = {to for (_, to), way in self.on_way.items() if way}
-        return nodes | {node for client, node in self.script.node_of.items()
-                        if not self.waits_in[client] and self.made[client] < len(self.script.commands[client])}
+        return nodes | {node for client, node in self.script.node_of.items() if self.can_act(client)}
 
     def closing_lines(self, count):
         """The lines that a run at rest ends with."""
