@@ -10,7 +10,7 @@ import tempfile
 from pathlib import Path
 
 TOP = Path(__file__).resolve().parent.parent
-FUNCTION = re.compile(r'( *)(?:pub(?:\([a-z]+\))? )?(?:const )?fn ([a-z_0-9]+)')
+FUNCTION = re.compile(r'( *)(?:pub(?:\([a-z]+\))? )?(?:const )?(?:extern "C" )?fn ([a-z_0-9]+)')
 IMPL = re.compile(r'impl\b(?:<[^>]*>)? (?:(?:[a-z_]+::)*([A-Za-z<>]+) for )?([A-Za-z]+)')
 TOLD = re.compile(r'^fn (\S+): (proved|not proved|no proof: .*)', re.MULTILINE)
 

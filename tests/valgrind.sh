@@ -1,10 +1,10 @@
 #!/bin/sh
 # Runs the proved programs under valgrind, which has to find no error, and at the end no memory that wasn't given back: on
 # each example (`sim first`, `sim 7`, `run`, `order`, `check` of its journal, who waits for whom, and on live sessions), on
-# inputs that are refused, on the stored inputs, on the programs of clients/c, and on each case of the folders that are named. A case is a file NAME, the
+# inputs that are refused, on the stored inputs, and on each case of the folders that are named. A case is a file NAME, the
 # input, with NAME.args beside it, one word on each line; NAME.nest stands for locknest, NAME.waits for lockwaits, NAME.live
 # for locklive, any other name for lockrun. NAME.status has the wanted status, if it isn't 0, and NAME.stdout the wanted
-# output, if that is known.
+# output, if that is known. clients/run does the same with the programs of clients/c.
 top=$(CDPATH='' cd -- "$(dirname -- "$0")/.." && pwd) || exit 1
 lockrun=${LOCKRUN:-$top/crates/lockrun/out/lockrun}
 locknest=${LOCKNEST:-$top/crates/locknest/out/locknest}
@@ -94,19 +94,6 @@ under /dev/null 'no script' 2 "$locklive"
 under "$room/input" 'a long input, locklive' 2 "$locklive"
 { printf 'nodes 1\nset s\nclient a at 0\nclient b at 0\n'; yes 'b lock s read' | head -n 2049; } >"$room/many"
 under "$room/many" 'too many commands of a client' 10 "$locklive"
-
-# The programs of clients/c, with the library of lt_live_c.
-library=$top/crates/lt_live_c/out/liblt_live_c.a
-if [ -f "$library" ]; then
-  for program in bank codes; do
-    cc -std=c11 -g -O1 -pthread -o "$room/$program" "$top/clients/c/$program.c" "$library" "$(dirname "$(rt doc)")/c/liblibc_c.a" ||
-      fail "clients/c/$program.c isn't built"
-  done
-  under /dev/null 'the codes of the library' 0 "$room/codes"
-  under /dev/null 'the bank in C' 0 "$room/bank" 4 2 20 "$room/script" "$room/journal"
-else
-  fail "crates/lt_live_c isn't built: clients/run builds it"
-fi
 
 for folder; do
   for args in "$folder"/*.args; do

@@ -167,7 +167,9 @@ class Session:
     """The session of one client. Its calls wait by turning the nodes."""
 
     def __init__(self, nodes, handle):
-        self.nodes, self.handle, self.asked = nodes, handle, None
+        self.nodes, self.handle = nodes, handle
+        # Whether a reply is still to come, and the lock that it is to grant, if the command asked for one.
+        self.waits, self.asked = False, None
         self.home = nodes.library.lockrun_home(handle)
         self.client = nodes.library.lockrun_client(handle)
 
@@ -204,13 +206,21 @@ class Session:
         return count
 
     def _submit(self, kind, name, first, second=0):
-        if self.asked is not None:
+        if self.waits:
             raise StillWaits
         said(self.nodes.library.lockrun_submit(self.handle, kind, self.nodes.sets[name], first, second))
+        self.waits = True
 
     def _call(self, kind, name, first, second=0):
+        """A call that nobody can go on with later. A turn without memory loses nothing, so it is made again."""
         self._submit(kind, name, first, second)
-        return self._reply(None)
+        while True:
+            try:
+                return self._reply(None)
+            except LockError as error:
+                if error.code != NO_MEMORY:
+                    raise
+            time.sleep(LONGEST_NAP)
 
     def _reply(self, patience):
         end = None if patience is None else time.monotonic() + patience
@@ -219,6 +229,7 @@ class Session:
             self.nodes.turn(self.home) if tries < OWN else self.nodes.turn_all()
             code = self.nodes.library.lockrun_poll(self.handle, count)
             if code != NOTHING:
+                self.waits = False
                 return code, count.value
             if tries >= OWN and end is not None and time.monotonic() >= end:
                 raise StillWaits

@@ -29,7 +29,8 @@ pub struct Session {
     stations: Arc<Stations>,
     client: u32,
     home: usize,
-    // What it asked for and has no reply to yet.
+    // Whether a reply is still to come, and the lock that it is to grant, if the command asked for one.
+    waits: bool,
     asked: Option<(u8, Mode)>,
 }
 
@@ -44,7 +45,7 @@ impl Session {
     pub(crate) fn new(mut raw: Handle, stations: Arc<Stations>) -> Session {
         // SAFETY: the handle stands for something.
         let (client, home) = unsafe { (exports::lockrun_client(&mut raw), exports::lockrun_home(&mut raw)) };
-        Session { raw, stations, client, home: home as usize, asked: None }
+        Session { raw, stations, client, home: home as usize, waits: false, asked: None }
     }
 
     pub(crate) fn is_of(&self, stations: &Arc<Stations>) -> bool {
@@ -117,17 +118,25 @@ impl Session {
         }
     }
 
+    // A call that nobody can go on with later. A turn without memory loses nothing, so it is made again.
     fn call(&mut self, kind: u32, set: u8, first: u32, second: u32) -> Result<(u32, u32), Error> {
         self.submit(kind, set, first, second)?;
-        self.reply(None)
+        loop {
+            match self.reply(None) {
+                Err(Error::NoMemory) => sleep(LONGEST_NAP),
+                told => return told,
+            }
+        }
     }
 
     fn submit(&mut self, kind: u32, set: u8, first: u32, second: u32) -> Result<(), Error> {
-        if self.asked.is_some() {
+        if self.waits {
             return Err(Error::StillWaits);
         }
         // SAFETY: the handle stands for something, and `&mut` gives it to one call at a time.
-        check(unsafe { exports::lockrun_submit(&mut self.raw, kind, set, first, second) })
+        check(unsafe { exports::lockrun_submit(&mut self.raw, kind, set, first, second) })?;
+        self.waits = true;
+        Ok(())
     }
 
     // The next reply, with its count.
@@ -139,7 +148,10 @@ impl Session {
             // SAFETY: as in `submit`.
             match unsafe { exports::lockrun_poll(&mut self.raw, &mut count) } {
                 exports::NOTHING => turned?,
-                code => return Ok((code, count)),
+                code => {
+                    self.waits = false;
+                    return Ok((code, count));
+                }
             }
             if tries >= OWN && end.is_some_and(|end| Instant::now() >= end) {
                 return Err(Error::StillWaits);

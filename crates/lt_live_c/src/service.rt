@@ -60,6 +60,7 @@ impl Service {
     }
 
     /// The journal of the run that the stations made. Without memory all is dropped.
+    #[tactic(auto, using(crate::proofs::Finishing::is_journal))]
     pub fn finish(self, alloc: Global) -> Result<Journal, AllocError>
         requires { LiveScript self.stations.items self.sessions.items }
         ensures { IfOk result (λ journal. IsJournalOfService self journal) }
