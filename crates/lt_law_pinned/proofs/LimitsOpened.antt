@@ -103,6 +103,7 @@ never law command input node run t = never_cut 1073741824 (Some command) (Cut no
 
 pub ends_told : NeverCutAtAll → EndsTold
 ends_told law = record {
+  usual = refl;
   first = never law SimFirst;
   drawn = λ seed. never law (Sim seed);
   threads = never law Run;

@@ -29,7 +29,7 @@ text_so : (end : Ending) (run : List Logged) (polled : List (ℕ × Reply)) (tex
     → text ≡ text_of two_writers_script run None
 text_so end run polled text j =
     j.journal
-    ∙ ap (text_of j.script run) (uncut end j.live.never_cut)
+    ∙ ap (text_of j.script run) (uncut end j.never_cut)
     ∙ ap (λ (s : ScriptData). text_of s run None) (same_script j.script two_writers_script (read_of two_writers) j.denoted writers_read)
   where
     uncut : (e : Ending) → ((node : ℕ) → e ≢ ending.Cut node) → cut_of e ≡ None

@@ -10,6 +10,7 @@ use Rattle.lt_law_examples.specs.Worked.{declared_set, declared_client, act}
 use Rattle.lt_spec.specs.Cut.{can_move}
 use Rattle.lt_words.specs.declared.command.Command.{Command}
 use Rattle.lt_words.specs.declared.command.Command.TheVariants.{Run, SimFirst, Sim, Soak}
+use Rattle.lt_serve.specs.declared.serving.TheConstants.{USUAL}
 use Rattle.lt_serve.specs.declared.status.Status.TheVariants.{Done, Stuck, Cut}
 use Rattle.lt_serve.specs.TopCall.{greatest_script}
 use Rattle.lt_law_pinned.specs.ToldRuns.{SaysOf, IsNeverTold, two_writers, both_moves}
@@ -77,6 +78,8 @@ abbrev pub IsNeverCut : Command → Type 0
 IsNeverCut command = (input : Option (List ℕ)) (node : ℕ) (run : List Logged) → IsNeverTold 1073741824 command (Cut node) input run
 
 pub record EndsTold : Type 0 where
+  -- and so many it may make usually
+  pub usual : USUAL ≡ record { moves = 1073741824; capacity = 4; patience = 256; workers = 8 }
   pub first : IsNeverCut SimFirst
   pub drawn : (seed : ℕ) → IsNeverCut (Sim seed)
   pub threads : IsNeverCut Run

@@ -30,7 +30,7 @@ not_cut : (status : Status) (left : Option (List ℕ)) (run : List Logged) (poll
     → Did status left run polled old new → (node : ℕ) → status ≢ Cut node
 not_cut status left run polled old new did node cut =
     let wrote : Did (Cut node) left run polled old new = subst (λ (s : Status). Did s left run polled old new) cut did in
-    wrote.1.live.never_cut node refl
+    wrote.1.never_cut node refl
 
 -- nor one of an ordered script at whose end somebody waits
 not_stuck : (left : Option (List ℕ)) (run : List Logged) (polled : List (ℕ × Reply)) (old new : Option (List ℕ))

@@ -9,8 +9,7 @@ use Rattle.lt_spec.specs.Script.{IsScript}
 use Rattle.lt_script.proofs.NameLemmas.{element_at}
 use Rattle.lt_lists.specs.Below.{gather_below}
 use Rattle.lt_spec.specs.declared.ending.Ending.{Ending}
-use Rattle.lt_spec.specs.declared.moves.TheConstants.{MAX_MOVES}
-use Rattle.lt_law_ends.specs.EndLaws.{NeverCutAtAll}
+use Rattle.lt_live_serve.specs.declared.limits.TheConstants.{MOVES}
 use Rattle.lt_law_invariant.proofs.Within.{whole}
 use Rattle.lt_law_merged.specs.CanMove.{RestIsNoMove}
 use Rattle.lt_law_ordered.specs.OrderedLaws.{OrderedFinish}
@@ -33,7 +32,7 @@ use Rattle.lt_live_serve.specs.Calls.{session_of}
 use Rattle.lt_live_serve.specs.Runs.{LiveRun, all_replies}
 use Rattle.lt_live_serve.specs.Serving.{AreServing, HaveHeard}
 use Rattle.lt_live_serve.specs.Telling.{marked_by, heard_at}
-use Rattle.lt_live_serve.proofs.Ended.{not_cut, not_stuck}
+use Rattle.lt_live_serve.proofs.Ended.{not_stuck}
 
 gather_same : {X : Type 0} (n : ℕ) (f g : ℕ → List X) → ((k : ℕ) → k < n → f k ≡ g k) → gather_below n f ≡ gather_below n g
 gather_same zero f g h = refl
@@ -69,17 +68,16 @@ module _ (script : ScriptData) (stations : List StationData) (callers : List Cal
       ∙ gather_same (length script.clients) (heard_at callers) (λ client. map (λ (reply : Reply). (client, reply)) (replies_in client (lines_of run))) replies
 
 -- a live run
-pub live_run : RunsKeepPromises → OrderedFinish → RestIsNoMove → NeverCutAtAll → (script : ScriptData) (end : Ending) (before : List Parts) (stations later : List StationData) (callers : List Caller)
+pub live_run : RunsKeepPromises → OrderedFinish → RestIsNoMove → (script : ScriptData) (end : Ending) (before : List Parts) (stations later : List StationData) (callers : List Caller)
     (polled : List (ℕ × Reply)) (run : List Logged) → IsScript script → MovedOn script end before (map runner_of stations) → map runner_of later ≡ map runner_of stations
     → AreServing script later callers → HaveHeard script (length callers) (map runner_of later) callers → polled ≡ gather_below (length callers) (heard_at callers)
     → IsRunOf script (map runner_of later) run → LiveRun end script run polled
-live_run promises finish rest never script end before stations later callers polled run is_script moved_then same h heard told made =
+live_run promises finish rest script end before stations later callers polled run is_script moved_then same h heard told made =
     let moved : MovedOn script end before (map runner_of later) = subst (λ (rs : List Parts). MovedOn script end before rs) (sym same) moved_then in
-    let ran = made_run rest MAX_MOVES end script (map runner_of later) made.logs run moved.crew h.limits made.are made.merges moved.ends in
+    let ran = made_run rest MOVES end script (map runner_of later) made.logs run moved.crew h.limits made.are made.merges moved.ends in
     record {
       ran = ran;
       promised = promises script run (whole script is_script) ran.is_run;
-      never_cut = not_cut never end script run is_script ran.is_run ran.ends;
       ordered = not_stuck end script run is_script ran.is_run ran.ends finish;
       polled_is = told ∙ polled_all script later callers run is_script h heard made;
     }

@@ -6,7 +6,7 @@ use Rattle.std.proofs.lemmas.Bool.{cases_eq}
 use Rattle.std.proofs.lemmas.List.Sums.{sum_by-cons}
 use Rattle.std.proofs.lemmas.Option.{same_Some, slice_get-get_or, slice_get-map, slice_get_within}
 use Rattle.lt_modes.specs.Script.{ScriptData}
-use Rattle.lt_spec.specs.declared.moves.TheConstants.{MAX_MOVES}
+use Rattle.lt_live_serve.specs.declared.limits.TheConstants.{MOVES}
 use Rattle.lt_spec.specs.Commands.{with_commands}
 use Rattle.lt_mail.specs.Words.{Alike}
 use Rattle.lt_runner.specs.declared.parts.Parts.{Parts}
@@ -66,8 +66,8 @@ sessions_same callers after calls k =
     here (Some x) None p = absurd p
     here (Some x) (Some y) p = p.session
 
-limits_last : (stations later : List StationData) → EachStation StationGoesOn stations later → HasLimit MAX_MOVES (map runner_of stations)
-    → HasLimit MAX_MOVES (map runner_of later)
+limits_last : (stations later : List StationData) → EachStation StationGoesOn stations later → HasLimit MOVES (map runner_of stations)
+    → HasLimit MOVES (map runner_of later)
 limits_last stations later goes h k p e =
     let (y, there, is) = mapped_at runner_of later k p e in
     let (x, here, on) = alike_before StationGoesOn stations later goes k y there in

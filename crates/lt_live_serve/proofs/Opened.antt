@@ -10,7 +10,7 @@ use Rattle.std.proofs.lemmas.Option.{same_Some, slice_get-get_or, slice_get-map,
 use Rattle.lt_modes.specs.declared.command.Command.{Command}
 use Rattle.lt_modes.specs.Script.{ScriptData}
 use Rattle.lt_spec.specs.Script.{IsScript, IsRequest, HasTargets, HasModesOf}
-use Rattle.lt_spec.specs.declared.moves.TheConstants.{MAX_MOVES}
+use Rattle.lt_live_serve.specs.declared.limits.TheConstants.{MOVES}
 use Rattle.lt_spec.specs.Families.{command_if, commands_of}
 use Rattle.lt_spec.specs.Commands.{with_commands}
 use Rattle.lt_live.specs.declared.ends.Session.{Session}
@@ -62,7 +62,7 @@ share_is script client below =
 
 -- the sessions that are opened can be called
 pub are_new : (script : ScriptData) (stations : List StationData) (sessions : List Session) → IsFirstOver script None
-    → IsOpen (with_commands script []) MAX_MOVES (share_or_one script) stations sessions → AreNew script sessions
+    → IsOpen (with_commands script []) MOVES (share_or_one script) stations sessions → AreNew script sessions
 are_new script stations sessions none opened k s e =
     let below : k < length script.clients = omega (arith, slice_get_within sessions k s e, opened.count) in
     let new = (opened.each k s e).0 in (
@@ -102,7 +102,7 @@ can_call script sessions k s new inside here = (new k s (slice_get-get_or sessio
 
 -- so stations and callers are those of the script
 pub first_serving : (script bare : ScriptData) (stations : List StationData) (sessions : List Session) (callers : List Caller) (share : ℕ) → bare ≡ with_commands script []
-    → IsOpen bare MAX_MOVES share stations sessions → AreNewCallers script sessions callers → AreServing script stations callers
+    → IsOpen bare MOVES share stations sessions → AreNewCallers script sessions callers → AreServing script stations callers
 first_serving script bare stations sessions callers share is opened made = record {
   live = live;
   limits = opened.runners.limits;
@@ -115,4 +115,4 @@ first_serving script bare stations sessions callers share is opened made = recor
     live =
         subst (λ (ss : List Session). AreLive (with_commands script []) stations ss) (sym made.sessions_are)
         (subst (λ (s : ScriptData). AreLive s stations sessions) is
-        (opened_are_live bare MAX_MOVES share stations sessions (ap (λ (s : ScriptData). s.commands) is) opened))
+        (opened_are_live bare MOVES share stations sessions (ap (λ (s : ScriptData). s.commands) is) opened))

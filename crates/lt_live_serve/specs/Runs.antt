@@ -4,7 +4,7 @@ use Rattle.lt_modes.specs.Script.{ScriptData}
 use Rattle.lt_lists.specs.Below.{gather_below}
 use Rattle.lt_spec.specs.declared.ending.Ending.{Ending}
 use Rattle.lt_spec.specs.declared.ending.Ending.TheVariants as ending
-use Rattle.lt_spec.specs.declared.moves.TheConstants.{MAX_MOVES}
+use Rattle.lt_live_serve.specs.declared.limits.TheConstants.{MOVES}
 use Rattle.lt_script.specs.declared.fault.ScriptFault.{ScriptFault}
 use Rattle.lt_script.specs.Reading.{read_of}
 use Rattle.lt_spec.specs.Holdings.{lines_of}
@@ -44,11 +44,9 @@ all_replies script run = replies_below (length script.clients) run
 -- a run of the script by all rules, its moves in the order of their stamps, that ended so and keeps all that is promised; and what
 -- the sessions polled, which is every reply of it
 pub record LiveRun (end : Ending) (script : ScriptData) (run : List Logged) (polled : List (ℕ × Reply)) : Type 0 where
-  pub ran : IsThreadRun MAX_MOVES end script run
+  pub ran : IsThreadRun MOVES end script run
   pub promised : Promised script run
-  -- no node made as many moves as it may
-  pub never_cut : (node : ℕ) → end ≢ ending.Cut node
-  -- if the script is ordered, no client waits at its end
+  -- if the script is ordered, it didn't end at rest with a client waiting
   pub ordered : IsOrdered script → end ≢ ending.Stuck
   pub polled_is : polled ≡ all_replies script run
 
@@ -58,4 +56,6 @@ pub record Journals (end : Ending) (left : Option (List ℕ)) (run : List Logged
   pub denoted : Denotes left script
   pub shared : IsFirstOver script None
   pub live : LiveRun end script run polled
+  -- it wasn't cut
+  pub never_cut : (node : ℕ) → end ≢ ending.Cut node
   pub journal : text ≡ text_of script run (cut_of end)

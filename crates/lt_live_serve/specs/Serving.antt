@@ -1,6 +1,6 @@
 -- Stations and callers of a script that was read.
 use Rattle.std.specs.Prelude.{◌≡◌, ◌<◌, ℕ, List, [], Some, map, slice_get}
-use Rattle.lt_spec.specs.declared.moves.TheConstants.{MAX_MOVES}
+use Rattle.lt_live_serve.specs.declared.limits.TheConstants.{MOVES}
 use Rattle.lt_modes.specs.Script.{ScriptData}
 use Rattle.lt_spec.specs.Families.{commands_of, home}
 use Rattle.lt_spec.specs.Holdings.{lines_of}
@@ -18,7 +18,7 @@ use Rattle.lt_live_serve.specs.Calls.{session_of}
 -- had at first
 pub record AreServing (script : ScriptData) (stations : List StationData) (callers : List Caller) : Type 0 where
   pub live : AreLive (with_commands script []) stations (map session_of callers)
-  pub limits : HasLimit MAX_MOVES (map runner_of stations)
+  pub limits : HasLimit MOVES (map runner_of stations)
   pub lists : (client : ℕ) (c : Caller) → slice_get callers client ≡ Some c → c.commands.items ≡ commands_of script client
 
 -- the station of the client's node has appended all commands of the client

@@ -1,5 +1,5 @@
 // The run of a script whose commands are submitted by callers.
-ghost use Rattle.std.specs.Prelude.{None, map, IfOk};
+ghost use Rattle.std.specs.Prelude.{◌≢◌, ℕ, None, map, IfOk};
 ghost use Rattle.lt_spec.specs.Script.{IsScript};
 ghost use Rattle.lt_live.specs.Opened.{runner_of};
 ghost use Rattle.lt_threads.specs.Together.{IsCrew};
@@ -35,7 +35,25 @@ pub(crate) struct Live {
 }
 
 /// The run of the script, whose commands callers submit and whose replies they poll.
+#[tactic(auto, using(crate::proofs::Ended::not_cut, crate::proofs::Ended::moves_are_many))]
 pub(crate) fn live_run<R: Threads + Sync, G: Gate>(
+    rt: &R,
+    alloc: Global,
+    script: &Script,
+    gate: &G,
+) -> Result<Live, AllocError>
+    requires kept { IsScript script.now }
+    requires shared { IsFirstOver script.now None }
+    ensures never_cut { IfOk result (λ live. (node : ℕ) → live.ending ≢ Ending.Cut node) }
+    ensures live { IfOk result (λ live. LiveRun live.ending script.now live.run.entries live.polled.items) }
+{
+    law_never_cut();
+    let live = ended_run(rt, alloc, script, gate)?;
+    Ok(live)
+}
+
+// The run up to its end, which may be a cut.
+fn ended_run<R: Threads + Sync, G: Gate>(
     rt: &R,
     alloc: Global,
     script: &Script,
@@ -48,7 +66,6 @@ pub(crate) fn live_run<R: Threads + Sync, G: Gate>(
     law_can_move();
     law_promised();
     law_ordered();
-    law_never_cut();
     let (mut stations, mut callers) = begin(alloc, script)?;
     first_round(rt, &mut stations, &mut callers, gate);
     rounds(rt, &mut stations, &mut callers, gate);

@@ -9,10 +9,10 @@ ghost use Rattle.lt_live_serve.specs.Over.{IsFirstOver};
 ghost use Rattle.lt_live_serve.specs.Serving.{AreServing};
 
 use crate::callers::Caller;
+use crate::limits::MOVES;
 use lt_live::{Session, Station, open};
 use lt_modes::Command;
 use lt_script::{MAX_COMMANDS, Script};
-use lt_spec::MAX_MOVES;
 use std::alloc::{AllocError, Global};
 
 /// The stations of all nodes of the script, and the callers of all clients, of whom none has submitted a command.
@@ -26,7 +26,7 @@ pub(crate) fn begin(
     ensures { IfOk result (λ made. AreServing script.now made.0.items made.1.items) }
 {
     let bare = script.without_commands(alloc)?;
-    let (stations, sessions) = open(alloc, &bare, MAX_MOVES, share_of(script))?;
+    let (stations, sessions) = open(alloc, &bare, MOVES, share_of(script))?;
     let callers = callers_of(alloc, script, sessions)?;
     Ok((stations, callers))
 }

@@ -45,5 +45,5 @@ pub record RanTo (moves : ℕ) (ending : Status) (script : ScriptData) (run : Li
   pub within : StaysWithin moves script run
   pub ends : EndsAs moves ending script run
   pub promised : Promised script run
-  -- if the script is ordered, no client waits at its end
+  -- if the script is ordered, it didn't end at rest with a client waiting
   pub ordered : IsOrdered script → ending ≢ Stuck

@@ -10,7 +10,6 @@ use Rattle.lt_spec.specs.declared.moves.TheConstants.{MAX_MOVES}
 use Rattle.lt_mail.specs.declared.opening.TheConstants.{MAX_CAPACITY}
 use Rattle.lt_checker.specs.declared.limits.TheConstants.{MAX_JOURNAL}
 use Rattle.lt_serve.specs.declared.limits.TheConstants.{MAX_INPUT}
-use Rattle.lt_serve.specs.declared.serving.TheConstants.{USUAL}
 use Rattle.lt_serve.specs.declared.status.Status.{Status}
 use Rattle.lt_serve.specs.declared.status.Status.TheVariants.{Done, Stuck, Usage, Refused, TooLong, ReadFault, WriteFault, NoMemory, Cut, BadJournal}
 use Rattle.lt_serve.specs.Status.{outcome_of, status_text}
@@ -53,7 +52,6 @@ pub record SoakLimitsAre : Type 0 where
   pub piece : MAX_PIECE ≡ 4096
   -- locks of one mode that a client holds in a set
   pub locks : most_locks ≡ 65536
-  pub usual : USUAL ≡ record { moves = 1073741824; capacity = 4; patience = 256; workers = 8 }
 
 pub record SoakIs : Type 0 where
   -- the script that is made from each seed

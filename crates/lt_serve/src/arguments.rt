@@ -1,7 +1,6 @@
 ghost use Rattle.std.specs.Prelude.{◌≡◌, ◌≢◌, [], map, IfOk, IfErr};
 ghost use Rattle.std.specs.IoError.{error_kind};
 ghost use Rattle.std.specs.String.{string_bytes};
-ghost use Rattle.lt_spec.specs.declared.moves.TheConstants.{MAX_MOVES};
 ghost use Rattle.lt_words.specs.Words.{command_of};
 ghost use Rattle.lt_serve.specs.Ends.{Ends};
 ghost use Rattle.lt_serve.specs.Serves.{Serves};
@@ -24,8 +23,8 @@ pub fn program<R: Threads + Sync, S: Source, K: Sink, G: Gate>(
     sink: &mut K,
     gate: &G,
 ) -> Served
-    ensures served { IfOk words.now (λ texts. Serves S.state K.held K.faults MAX_MOVES (command_of (map string_bytes texts.items)) result source.old source.new sink.old sink.new) }
     ensures ends { IfOk words.now (λ texts. Ends (command_of (map string_bytes texts.items)) result.status (S.state source.old) (S.state source.new) (K.faults sink.old) (K.faults sink.new)) }
+    ensures served { IfOk words.now (λ texts. Serves S.state K.held K.faults USUAL.moves (command_of (map string_bytes texts.items)) result source.old source.new sink.old sink.new) }
     ensures no_memory { IfErr words.now (λ error. error_kind error ≡ ErrorKind.OutOfMemory → result.status ≡ Status.NoMemory) }
     ensures no_text { IfErr words.now (λ error. error_kind error ≢ ErrorKind.OutOfMemory → result.status ≡ Status.Usage) }
     ensures setup { result.setup ≡ USUAL }

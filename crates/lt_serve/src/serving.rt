@@ -71,8 +71,8 @@ pub fn serve<R: Threads + Sync, S: Source, K: Sink, G: Gate>(
     sink: &mut K,
     gate: &G,
 ) -> Served
-    ensures served { Serves S.state K.held K.faults MAX_MOVES (command_of (map string_bytes words.now)) result source.old source.new sink.old sink.new }
     ensures ends { Ends (command_of (map string_bytes words.now)) result.status (S.state source.old) (S.state source.new) (K.faults sink.old) (K.faults sink.new) }
+    ensures served { Serves S.state K.held K.faults USUAL.moves (command_of (map string_bytes words.now)) result source.old source.new sink.old sink.new }
     ensures setup { result.setup ≡ USUAL }
 {
     serve_with(rt, alloc, USUAL, words, source, sink, gate)
@@ -94,8 +94,8 @@ pub fn serve_with<R: Threads + Sync, S: Source, K: Sink, G: Gate>(
     requires moves { (0 < setup.moves) × (setup.moves ≤ MAX_MOVES) }
     requires capacity { (0 < setup.capacity) × (setup.capacity ≤ MAX_CAPACITY) }
     requires workers { (0 < setup.workers) × (setup.workers ≤ MAX_WORKERS) }
-    ensures served { Serves S.state K.held K.faults setup.moves (command_of (map string_bytes words.now)) result source.old source.new sink.old sink.new }
     ensures ends { 2 ^ 30 ≤ setup.moves → Ends (command_of (map string_bytes words.now)) result.status (S.state source.old) (S.state source.new) (K.faults sink.old) (K.faults sink.new) }
+    ensures served { Serves S.state K.held K.faults setup.moves (command_of (map string_bytes words.now)) result source.old source.new sink.old sink.new }
     ensures setup { result.setup ≡ setup }
 {
     law_never_cut();

@@ -1,6 +1,6 @@
 use Rattle.std.proofs.Common.{ℕ, subst}
 use Rattle.lt_modes.specs.Script.{ScriptData}
-use Rattle.lt_spec.specs.declared.moves.TheConstants.{MAX_MOVES}
+use Rattle.lt_live_serve.specs.declared.limits.TheConstants.{MOVES}
 use Rattle.lt_live.specs.Opened.{IsOpen}
 use Rattle.lt_live_serve.specs.Opening.{share_or_one}
 use Rattle.lt_live_serve.proofs.Opened.{are_new, first_serving}
@@ -9,8 +9,8 @@ use Rattle.lt_live_serve.proofs.opening.begin.Goals as goal
 pub callers_of-requires-clause-new : goal.callers_of-requires-clause-new
 callers_of-requires-clause-new c =
     are_new c.args.script.now c.in_ok-stations.stations.items c.in_ok-stations.sessions.items c.requires.shared
-    (subst (λ (s : ScriptData). IsOpen s MAX_MOVES (share_or_one c.args.script.now) c.in_ok-stations.stations.items c.in_ok-stations.sessions.items) c.in_ok-bare.ensures
-    (subst (λ (n : ℕ). IsOpen c.in_ok-bare.bare MAX_MOVES n c.in_ok-stations.stations.items c.in_ok-stations.sessions.items) c.share_of.ensures.share
+    (subst (λ (s : ScriptData). IsOpen s MOVES (share_or_one c.args.script.now) c.in_ok-stations.stations.items c.in_ok-stations.sessions.items) c.in_ok-bare.ensures
+    (subst (λ (n : ℕ). IsOpen c.in_ok-bare.bare MOVES n c.in_ok-stations.stations.items c.in_ok-stations.sessions.items) c.share_of.ensures.share
     c.in_ok-stations.ensures))
 
 pub returns : goal.returns

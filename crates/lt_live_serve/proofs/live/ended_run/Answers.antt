@@ -6,7 +6,7 @@ use Rattle.lt_live_serve.specs.declared.callers.Caller.{Caller}
 use Rattle.lt_live_serve.specs.Telling.{heard_at}
 use Rattle.lt_live_serve.proofs.Heard.{live_run}
 use Rattle.lt_live_serve.proofs.Lasting.{serving_lasts}
-use Rattle.lt_live_serve.proofs.live.live_run.Goals as goal
+use Rattle.lt_live_serve.proofs.live.ended_run.Goals as goal
 
 pub complete_all-requires-clause-serving : goal.complete_all-requires-clause-serving
 complete_all-requires-clause-serving g c κs within =
@@ -21,7 +21,7 @@ complete_all-requires-clause-serving g c κs within =
 pub returns : goal.returns
 returns g c =
     let polled = c.in_ok-polled.polled.items in
-    live_run c.law_promised.ensures c.law_ordered.ensures.finish c.law_can_move.ensures.rest c.law_never_cut.ensures.at_all c.args.script.now c.in_ok-stations-2.ending
+    live_run c.law_promised.ensures c.law_ordered.ensures.finish c.law_can_move.ensures.rest c.args.script.now c.in_ok-stations-2.ending
     (map runner_of c.complete_all.new.stations.items) c.in_ok-stations-2.stations.items c.tell_all.new.stations.items c.tell_all.new.callers.items
     polled c.in_ok-run.run'.entries c.requires.kept c.in_ok-stations-2.ensures.moved c.in_ok-tell_all.ensures.runners
     c.in_ok-tell_all.ensures.serving c.in_ok-tell_all.ensures.heard
