@@ -1,13 +1,15 @@
 """Reads the crates' definitions and laws: what each definition opens, and which clauses each law has."""
 import re
+import sys
 from dataclasses import dataclass
 from functools import cached_property
 from pathlib import Path
 
+from scopes import names_of
+
 TOP = Path(__file__).resolve().parent.parent
 CRATES = TOP / 'crates'
 
-WORD = re.compile(r'[^\s(){},;:.λ→×⊎↔≡≢∷]+')
 OPENED = re.compile(r'^(?:pub )?use (Rattle[\w.◌-]*)\.\{(.*)\}')
 WHOLE = re.compile(r'^(?:pub )?use (Rattle[\w.]*?)(?: as (\w+))?$')
 BESIDE = re.compile(r'(?:pub )?use |(?:pub )?mod |unfolding')
@@ -121,12 +123,22 @@ class House:
         """What a definition names: modules with names, in the order in which they stand there."""
         imports, wholes = self.imports[found.module], self.wholes[found.module]
         body = re.sub(r'codes "[^"]*"', '', found.text)
-        names = [imports[word] for word in WORD.findall(body) if word in imports]
-        pairs = re.findall(r'\b(\w+)\.([A-Za-z_]\w*)', body)
-        names += [(wholes[before], after) for before, after in pairs if before in wholes]
-        signs = {word.replace('◌', ''): key for word, key in imports.items() if '◌' in word}
-        names += [key for sign, key in signs.items() if sign and sign in body]
+        names = []
+        for word in names_of(body, found.name, lambda word: self.is_variable(found.module, word)):
+            before, _, after = word.partition('.')
+            if before in imports:
+                names.append(imports[before])
+            elif after and before in wholes:
+                names.append((wholes[before], after.partition('.')[0]))
+        signs = set(re.split(r'[\s(){},;]+', body))
+        names += [key for word, key in imports.items() if '◌' in word and word.replace('◌', '') in signs]
         return list(dict.fromkeys(names))
+
+    def is_variable(self, module, word):
+        """Whether this word of a pattern in a module is a variable: no constructor has this name there."""
+        key = self.imports[module].get(word)
+        further = key and self.at(key)
+        return '.' not in word and (not key or bool(further) and further.name == key[1])
 
     def opened(self, start):
         """All that a definition opens, itself first, in the order in which a reader meets it level by level; and the
@@ -139,6 +151,8 @@ class House:
                     order.setdefault(further)
                 elif '.declared.' in key[0]:
                     code.add(key)
+                elif key[0].split('.')[1] in self.crates:
+                    sys.exit(f'{found.crate}: {found.name} names {key[1]} of {key[0]}, which is not found')
                 else:
                     library.add(key)
         return list(order), code, library

@@ -51,14 +51,11 @@ IsRefused other = ⊥
 
 -- all was read
 abbrev pub HasRead : Outcome → Type 0
-HasRead Done = Unit {0}
-HasRead Stuck = Unit {0}
-HasRead Cut = Unit {0}
-HasRead WriteFault = Unit {0}
-HasRead Refused = Unit {0}
-HasRead BadJournal = Unit {0}
-HasRead Share = Unit {0}
-HasRead other = ⊥
+HasRead Usage = ⊥
+HasRead TooLong = ⊥
+HasRead ReadFault = ⊥
+HasRead NoMemory = ⊥
+HasRead other = Unit {0}
 
 -- nothing was written
 abbrev pub WritesNothing : Outcome → Type 0

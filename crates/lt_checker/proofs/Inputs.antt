@@ -1,5 +1,5 @@
 -- What is told of the bytes of an input is told of its source.
-use Rattle.std.proofs.Common.{◌≡◌, ◌∙◌, ℕ, ◌≤◌, List, ◌++◌, Option, Some, None, Result, length, drop, refl, sym, ap, subst, inl, inr, arith, length-append, append-nil}
+use Rattle.std.proofs.Common.{◌≡◌, ◌∙◌, ℕ, ◌+◌, ◌≤◌, List, ◌++◌, Option, Some, None, Ok, Err, length, take, drop, refl, sym, ap, subst, inl, inr, arith, length-append, append-nil}
 use Rattle.std.specs.Prelude.{◌⊎◌, ◌≢◌}
 use Rattle.std.specs.Io.KnownBytes.{Consumes, IsAtEnd}
 use Rattle.lt_io.specs.Source.{SourceState}
@@ -9,12 +9,13 @@ use Rattle.lt_io.specs.declared.whole.ReadFailure.{ReadFailure}
 use Rattle.lt_io.specs.declared.whole.ReadFailure.TheVariants.{Memory, Failed, TooLong as Long}
 use Rattle.lt_io.proofs.InPieces.{read_out, fails_later}
 use Rattle.lt_modes.specs.Script.{ScriptData}
-use Rattle.lt_spec.specs.Log.{Logged}
+use Rattle.lt_spec.specs.Script.{IsScript}
 use Rattle.lt_text.specs.Text.{lines}
+use Rattle.lt_script.specs.Reading.{read_of}
 use Rattle.lt_journal.specs.Split.{input_parts}
-use Rattle.lt_world.specs.Fields.{WorldData}
 use Rattle.lt_law_journals.specs.Checking.{checked}
-use Rattle.lt_law_journals.specs.Input.{journal_in, lines_before, counted_from, checked_input}
+use Rattle.lt_law_journals.proofs.Firsts.{first_bad}
+use Rattle.lt_world.specs.Fields.{WorldData}
 use Rattle.lt_script.specs.declared.fault.ScriptFault.{ScriptFault}
 use Rattle.lt_checker.specs.declared.limits.TheConstants.{MAX_JOURNAL}
 use Rattle.lt_checker.specs.declared.error.InputError.{InputError}
@@ -22,15 +23,11 @@ use Rattle.lt_checker.specs.declared.error.InputError.TheVariants.{ReadFault, To
 use Rattle.lt_checker.specs.Input.{HasFaultBefore, IsBad, IsEndedRun, FailsInput, error_of}
 use Rattle.lt_checker.specs.Heads.{IsReadTo, IsRest, FailsRest, FailsBytes}
 
--- what is told of the journal in an input is told of the input
-pub input_told : (script : ScriptData) (bytes : List ℕ) (told : Result (List Logged) ℕ)
-    → lines (drop (input_parts bytes).journal bytes) ≡ journal_in (lines bytes) → (input_parts bytes).lines ≡ lines_before (lines bytes)
-    → checked script (lines (drop (input_parts bytes).journal bytes)) ≡ told
-    → checked_input script (lines bytes) ≡ counted_from (input_parts bytes).lines told
-input_told script bytes told journal before h =
-    ap (λ (all : List (List ℕ)). counted_from (lines_before (lines bytes)) (checked script all)) (sym journal)
-    ∙ (ap (λ (answer : Result (List Logged) ℕ). counted_from (lines_before (lines bytes)) answer) h
-    ∙ ap (λ (n : ℕ). counted_from n told) (sym before))
+-- the first bad line of the journal in an input is that of the input
+pub bad_input : (script : ScriptData) (bytes : List ℕ) (before k : ℕ) → IsScript script → read_of (take (input_parts bytes).script bytes) ≡ Ok script
+    → before ≡ (input_parts bytes).lines → checked script (lines (drop (input_parts bytes).journal bytes)) ≡ Err k → IsBad (Some bytes) (before + k)
+bad_input script bytes before k is_script read count e =
+    (script, is_script, read, (k, ap (λ (n : ℕ). n + k) count, first_bad script (lines (drop (input_parts bytes).journal bytes)) k is_script e))
 
 -- the first bytes of an input and those that come after them are all of it
 pub read_all : (first rest : List ℕ) (room : Option ℕ) (x y z : SourceState) → IsReadTo first room x y → IsRest room rest y z → ReadsOut (first ++ rest) x z
@@ -74,7 +71,7 @@ fault_of left bytes fault (inl none) h = subst (λ (l : Option (List ℕ)). HasF
 fault_of left bytes fault (inr known) h = subst (λ (l : Option (List ℕ)). HasFaultBefore l fault) (sym known) h
 
 bad_of : (left : Option (List ℕ)) (bytes : List ℕ) (line : ℕ) → AreLeft left bytes → IsBad (Some bytes) line → IsBad left line
-bad_of left bytes line (inl none) h = subst (λ (l : Option (List ℕ)). IsBad l line) (sym none) (h.0, tt, tt)
+bad_of left bytes line (inl none) h = subst (λ (l : Option (List ℕ)). IsBad l line) (sym none) (h.0, h.1, tt, tt)
 bad_of left bytes line (inr known) h = subst (λ (l : Option (List ℕ)). IsBad l line) (sym known) h
 
 -- why the bytes say nothing is why the input does

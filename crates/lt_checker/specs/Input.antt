@@ -1,5 +1,5 @@
 -- What an input says that is a script and a journal, and why it says nothing.
-use Rattle.std.specs.Prelude.{◌≡◌, ℕ, ◌+◌, ◌≤◌, List, Option, Some, None, Ok, Err, take}
+use Rattle.std.specs.Prelude.{◌≡◌, ℕ, ◌+◌, ◌≤◌, List, Option, IfSome, Ok, Err, take, drop}
 use Rattle.lt_io.specs.FaultCounts.{CountsFaults}
 use Rattle.lt_io.specs.Source.{SourceState}
 use Rattle.lt_io.specs.Whole.{IsReadWhole}
@@ -7,40 +7,35 @@ use Rattle.lt_io.specs.declared.whole.ReadFailure.{ReadFailure}
 use Rattle.lt_io.specs.declared.whole.ReadFailure.TheVariants.{Memory, Failed, TooLong as Long}
 use Rattle.lt_modes.specs.Script.{ScriptData}
 use Rattle.lt_spec.specs.Log.{Logged}
+use Rattle.lt_spec.specs.Script.{IsScript}
 use Rattle.lt_text.specs.Text.{lines}
 use Rattle.lt_script.specs.declared.fault.ScriptFault.{ScriptFault}
 use Rattle.lt_script.specs.Reading.{read_of}
 use Rattle.lt_journal.specs.Split.{input_parts}
 use Rattle.lt_world.specs.Fields.{WorldData}
-use Rattle.lt_law_journals.specs.Input.{checked_input}
-use Rattle.lt_law_journals.specs.Journals.{IsFinished}
+use Rattle.lt_law_journals.specs.Input.{IsFirstBadIn}
+use Rattle.lt_law_journals.specs.Journals.{IsFinished, journal_lines}
 use Rattle.lt_checker.specs.declared.limits.TheConstants.{MAX_JOURNAL}
 use Rattle.lt_checker.specs.declared.error.InputError.{InputError}
 use Rattle.lt_checker.specs.declared.error.InputError.TheVariants.{ReadFault, TooLong, NoMemory, Refused, BadJournal}
 
 -- if the bytes are known, their lines before the journal denote this script
 abbrev pub DenotesBefore : Option (List ℕ) → ScriptData → Type 0
-DenotesBefore None script = Unit {0}
-DenotesBefore (Some bytes) script = read_of (take (input_parts bytes).script bytes) ≡ Ok script
+DenotesBefore left script = IfSome left (λ bytes. read_of (take (input_parts bytes).script bytes) ≡ Ok script)
 
 -- if the bytes are known, this is the first fault of the lines before the journal
 abbrev pub HasFaultBefore : Option (List ℕ) → ScriptFault → Type 0
-HasFaultBefore None fault = Unit {0}
-HasFaultBefore (Some bytes) fault = read_of (take (input_parts bytes).script bytes) ≡ Err fault
+HasFaultBefore left fault = IfSome left (λ bytes. read_of (take (input_parts bytes).script bytes) ≡ Err fault)
 
--- if the bytes are known, the journal in them is that of this run of the script
+-- if the bytes are known, the lines of the journal in them are those of this run's text
 abbrev pub IsJournalOf : Option (List ℕ) → ScriptData → List Logged → Type 0
-IsJournalOf None script run = Unit {0}
-IsJournalOf (Some bytes) script run = checked_input script (lines bytes) ≡ Ok run
-
--- if the bytes are known, this is the first line in them that is bad
-abbrev pub IsBadLine : Option (List ℕ) → ScriptData → ℕ → Type 0
-IsBadLine None script line = Unit {0}
-IsBadLine (Some bytes) script line = checked_input script (lines bytes) ≡ Err line
+IsJournalOf left script run =
+    IfSome left (λ bytes. lines (drop (input_parts bytes).journal bytes) ≡ journal_lines script run)
 
 -- the input has this first bad line
 abbrev pub IsBad : Option (List ℕ) → ℕ → Type 0
-IsBad left line = (script : ScriptData) × DenotesBefore left script × IsBadLine left script line
+IsBad left line =
+    (script : ScriptData) × IsScript script × DenotesBefore left script × IfSome left (IsFirstBadIn script line)
 
 -- the input is this script and the journal of a run of it that ended at rest, in this world
 pub record IsEndedRun (left : Option (List ℕ)) (script : ScriptData) (world : WorldData) : Type 0 where

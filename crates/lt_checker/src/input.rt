@@ -17,7 +17,7 @@ use crate::head::read_head;
 use crate::rest::{feed_rest, skip_rest};
 use lt_io::{ReadFailure, Source};
 use lt_journal::split;
-use lt_law_journals::law_input;
+use lt_law_journals::law_means;
 use lt_script::{ReadError, Script, read};
 use lt_world::World;
 use std::alloc::{AllocError, Global};
@@ -104,11 +104,12 @@ fn answered(
 ) -> Result<EndedRun, InputError>
     requires few { before ≤ MAX_JOURNAL }
     requires line { IsLineOf (2 * MAX_JOURNAL) told }
+    requires kept { IsScript script }
     ensures answer { (bytes : List ℕ) → read_of (take (input_parts bytes).script bytes) ≡ Ok script → before ≡ (input_parts bytes).lines
         → IsWorldAnswer script (checked script (lines (drop (input_parts bytes).journal bytes))) told → AnswersInput bytes result }
     ensures script { IfOk result (λ ended. ended.script ≡ script) }
 {
-    law_input();
+    law_means();
     match told {
         Ok(world) => Ok(EndedRun { script, world }),
         Err(ReplayError::Memory) => Err(InputError::NoMemory),

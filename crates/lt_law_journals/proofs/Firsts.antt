@@ -1,8 +1,9 @@
 -- The first bad line, and what may follow the lines before it.
-use Rattle.std.proofs.Common.{◌≡◌, ℕ, zero, suc, ◌+◌, ◌<◌, ◌≤◌, cond, Bool, true, List, [], ◌∷◌, ◌++◌, length, map, take, fold, Option, Some, None, Ok, Err, refl, sym, ap, ◌∙◌, inl, inr, arith, bytes_eq, append_assoc, append-nil}
+use Rattle.std.proofs.Common.{◌≡◌, ℕ, zero, suc, ◌+◌, ◌<◌, ◌≤◌, cond, Bool, true, List, [], ◌∷◌, ◌++◌, length, map, take, drop, fold, Option, Some, None, Result, Ok, Err, refl, sym, ap, ◌∙◌, inl, inr, arith, bytes_eq, append_assoc, append-nil}
 use Rattle.std.specs.List.{flat_map}
-use Rattle.std.proofs.lemmas.Bool.{cases_Bool}
-use Rattle.std.proofs.lemmas.List.{map-append}
+use Rattle.std.specs.Prelude.{◌↔◌}
+use Rattle.std.proofs.lemmas.Bool.{cases_Bool, cases_order}
+use Rattle.std.proofs.lemmas.List.{map-append, take-append-drop}
 use Rattle.std.proofs.lemmas.List.Concat.{flat_map-append}
 use Rattle.std.proofs.lemmas.List.Sums.{fold-append}
 use Rattle.lt_modes.specs.Script.{ScriptData}
@@ -14,10 +15,12 @@ use Rattle.lt_journal.specs.declared.line.Line.{Line}
 use Rattle.lt_journal.specs.Grammar.{read_line}
 use Rattle.lt_journal.specs.RunLines.{first_lines, entry_lines, moves_lines, closing_lines, run_lines}
 use Rattle.lt_law_journals.specs.Checking.{Place, Reader, written, closing_at_rest, first_place, by_due, place_after, first_reader, read_on, reader_after, led_to, verdict, verdict_at, checked}
-use Rattle.lt_law_journals.specs.Journals.{IsFinished, IsFirstBad, IsContinued, BeginsWith}
+use Rattle.lt_law_journals.specs.Journals.{IsFinished, IsFirstBad, IsContinued, BeginsWith, IsBeginning, BeginsJournal}
 use Rattle.lt_law_journals.proofs.Fitting.{journal_written}
 use Rattle.lt_law_journals.proofs.Places.{not_bad, next_move, not_at_rest, first_begins}
-use Rattle.lt_law_journals.proofs.Accepting.{at_place, stays_bad, begins_all, accepted_at, all_lines, means, accepts, begun, none_is_some}
+use Rattle.lt_law_journals.proofs.Accepting.{at_place, stays_bad, begins_all, accepted_at, all_lines, means, accepts, begun}
+use Rattle.lt_law_journals.proofs.FitsInRuns.{whole}
+use Rattle.lt_law_ends.proofs.Reach.{runs_reach_rest}
 
 -- where the first bad line is, of lines that are read from this place on
 record Met (script : ScriptData) (place : Place) (n : ℕ) (ls : List (List ℕ)) (k : ℕ) : Type 0 where
@@ -89,31 +92,6 @@ met script place n (line ∷ ls) k e = by_next (place_after script place line) r
         before_some rest (suc j) le =
             let b = rest.before j (omega (arith, le)) in
             (b.0, ap (λ (o : Option Place). (fold (read_on script) (led_to (at_place place n) o) (take j ls)).place) came ∙ b.1)
-
-pub first_bad : (script : ScriptData) (all : List (List ℕ)) (k : ℕ) → IsScript script → checked script all ≡ Err k → IsFirstBad script all k
-first_bad script all k is_script e =
-    let m = met script (first_place script) 0 all k e in
-    let k_is : k ≡ suc m.at = omega (arith, m.k_is) in
-    let stays : k ≤ length all → (more : List (List ℕ)) → checked script (take k all ++ more) ≡ Err k = λ le more.
-    ap (λ (n : ℕ). checked script (take n all ++ more)) k_is ∙ m.stays (omega (arith, k_is, le)) more in
-    record {
-      some = omega (arith, k_is);
-      within = omega (arith, k_is, m.within);
-      before = λ j lt.
-          let b = m.before j (omega (arith, k_is, lt)) in
-          (b.0, begins_all script [] (first_place script) 0 (take j all) b.0 (first_begins script) b.1);
-      not_with = λ le beginning.
-          let here = begun script (take k all) beginning.0 is_script beginning.1 in
-          let none : None ≡ (reader_after script (take k all)).place = sym (ap (λ (n : ℕ). (reader_after script (take n all)).place) k_is ∙ m.ends (omega (arith, k_is, le))) in
-          none_is_some here.0 (none ∙ here.1);
-      missing = λ is_last run done same.
-          let clash : Ok run ≡ Err k = sym (accepts script run is_script done) ∙ (ap (checked script) same ∙ e) in
-          cc;
-      stays = stays;
-      no_run = λ le more run done same.
-          let clash : Ok run ≡ Err k = sym (accepts script run is_script done) ∙ (ap (checked script) same ∙ stays le more) in
-          cc;
-    }
 
 -- the moves of a reader stay
 grows_due : (script : ScriptData) (run : List Logged) (due : List Line) (line : List ℕ) (next : Place) → by_due script run due line ≡ Some next → (later : List Logged) × (next.run ≡ run ++ later)
@@ -197,3 +175,84 @@ continued script read place is_script e = record { only = only; each = each }
               ∙ (ap (checked script) (sym (map-append (written script) b.told rest.0) ∙ (ap (map (written script)) (sym rest.1) ∙ sym (journal_written script (place.run ++ later) is_script done.is_run)))
               ∙ accepts script (place.run ++ later) is_script done),
         )
+
+-- with lines that are right so far a journal begins: the moves so far go on to a finished run
+pub begins_journal : (script : ScriptData) (read : List (List ℕ)) (place : Place) → IsScript script → (reader_after script read).place ≡ Some place → BeginsJournal script read
+begins_journal script read place is_script e =
+    let b = begins_all script [] (first_place script) 0 read place (first_begins script) e in
+    let rest = runs_reach_rest script place.run (whole script is_script) b.is_run in
+    let done : IsFinished script (place.run ++ rest.0) = record { is_run = rest.1; at_rest = rest.2 } in
+    let told = (continued script read place is_script e).each rest.0 done in
+    (place.run ++ rest.0, told.0, done, sym (means script (read ++ told.0) (place.run ++ rest.0) is_script told.1).1)
+
+-- a journal begins with lines that are right so far, and with no others
+pub begins_where_right : (script : ScriptData) (read : List (List ℕ)) → IsScript script → IsBeginning script read ↔ BeginsJournal script read
+begins_where_right script read is_script = (
+  λ beginning.
+      let here = begun script read beginning.0 is_script beginning.1 in
+      begins_journal script read here.0 is_script here.1,
+  λ begins. right_so_far begins (reader_after script read).place refl,
+)
+  where
+    right_so_far : BeginsJournal script read → (o : Option Place) → (reader_after script read).place ≡ o → IsBeginning script read
+    right_so_far begins (Some place) e = (place, begins_all script [] (first_place script) 0 read place (first_begins script) e)
+    right_so_far (run, more, done, same) None e =
+        let reader = reader_after script read in
+        let is_bad : reader ≡ record { place = None; good = reader.good } = λ i. record { place = e i; good = reader.good } in
+        let read_more = fold-append (read_on script) (first_reader script) read more
+        ∙ (ap (λ (r : Reader). fold (read_on script) r more) is_bad ∙ stays_bad script reader.good more) in
+        let clash : Ok run ≡ Err (suc reader.good) = sym (accepts script run is_script done) ∙ (ap (checked script) same ∙ ap (verdict script) read_more) in
+        absurd (cc)
+
+-- whatever follows a line that is bad, it stays the first bad one
+pub bad_stays : (script : ScriptData) (all : List (List ℕ)) (k : ℕ) → checked script all ≡ Err k → k ≤ length all
+    → (more : List (List ℕ)) → checked script (take k all ++ more) ≡ Err k
+bad_stays script all k e le more =
+    let m = met script (first_place script) 0 all k e in
+    let k_is : k ≡ suc m.at = omega (arith, m.k_is) in
+    ap (λ (n : ℕ). checked script (take n all ++ more)) k_is ∙ m.stays (omega (arith, k_is, le)) more
+
+pub first_bad : (script : ScriptData) (all : List (List ℕ)) (k : ℕ) → IsScript script → checked script all ≡ Err k → IsFirstBad script all k
+first_bad script all k is_script e =
+    let m = met script (first_place script) 0 all k e in
+    let k_is : k ≡ suc m.at = omega (arith, m.k_is) in
+    record {
+      some = omega (arith, k_is);
+      within = omega (arith, k_is, m.within);
+      before = λ j lt.
+          let b = m.before j (omega (arith, k_is, lt)) in
+          begins_journal script (take j all) b.0 is_script b.1;
+      not_with = λ le begins.
+          let stays : checked script (take k all ++ begins.1) ≡ Err k = bad_stays script all k e le begins.1 in
+          let clash : Ok begins.0 ≡ Err k = sym (accepts script begins.0 is_script begins.2) ∙ (ap (checked script) begins.3 ∙ stays) in
+          cc;
+      missing = λ is_last run done same.
+          let clash : Ok run ≡ Err k = sym (accepts script run is_script done) ∙ (ap (checked script) same ∙ e) in
+          cc;
+    }
+
+-- there is one first bad line
+one_bad : (script : ScriptData) (all : List (List ℕ)) (j k : ℕ) → IsFirstBad script all j → IsFirstBad script all k → j ≡ k
+one_bad script all j k one other = elim (cases_order j k) [
+  | inl same ↦ same
+  | inr (inl lt) ↦ absurd (one.not_with (omega (arith, lt, other.within)) (other.before j lt))
+  | inr (inr lt) ↦ absurd (other.not_with (omega (arith, lt, one.within)) (one.before k lt))
+]
+
+-- and the lines are refused at it
+pub refused : (script : ScriptData) (all : List (List ℕ)) (k : ℕ) → IsScript script → IsFirstBad script all k → checked script all ≡ Err k
+refused script all k is_script bad = by_answer (checked script all) refl
+  where
+    by_answer : (answer : Result (List Logged) ℕ) → checked script all ≡ answer → checked script all ≡ Err k
+    by_answer (Err other) e = e ∙ ap Err (one_bad script all other k (first_bad script all other is_script e) bad)
+    by_answer (Ok run) e =
+        let m = means script all run is_script e in
+        let within : length all < k = not_within (λ le. bad.not_with le (run, drop k all, m.0, sym m.1 ∙ sym (take-append-drop k all))) in
+        absurd (bad.missing (omega (arith, within, bad.within)) run m.0 (sym m.1))
+      where
+        not_within : (k ≤ length all → ⊥) → length all < k
+        not_within never = elim (cases_order k (length all)) [
+          | inl same ↦ absurd (never (omega (arith, same)))
+          | inr (inl lt) ↦ absurd (never (omega (arith, lt)))
+          | inr (inr lt) ↦ lt
+        ]

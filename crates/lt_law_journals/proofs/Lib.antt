@@ -2,6 +2,7 @@ pub mod Fitting
 pub mod Places
 pub mod Accepting
 pub mod Firsts
+pub mod Answers
 pub mod Short
 pub mod Feeds
 pub mod RowAnswers

@@ -5,6 +5,7 @@ use Rattle.lt_spec.specs.Log.{Logged}
 use Rattle.lt_text.specs.Text.{lines}
 use Rattle.lt_journal.specs.Split.{is_journal_line, input_parts}
 use Rattle.lt_law_journals.specs.Checking.{checked}
+use Rattle.lt_law_journals.specs.Journals.{IsFirstBad}
 
 abbrev pub before_place : List (List ℕ) → Option ℕ → List (List ℕ)
 before_place all None = all
@@ -38,6 +39,11 @@ counted_from before (Err k) = Err (before + k)
 -- the run that the journal in an input of these lines tells, or the number of the first bad line in the whole input
 abbrev pub checked_input : ScriptData → List (List ℕ) → Result (List Logged) ℕ
 checked_input script all = counted_from (lines_before all) (checked script (journal_in all))
+
+-- this line of an input of these bytes, counted from its first, is the first bad one of the journal in it
+abbrev pub IsFirstBadIn : ScriptData → ℕ → List ℕ → Type 0
+IsFirstBadIn script line bytes =
+    (k : ℕ) × (line ≡ (input_parts bytes).lines + k) × IsFirstBad script (lines (drop (input_parts bytes).journal bytes)) k
 
 -- a line feed is the last byte
 abbrev pub EndsInLineFeed : List ℕ → Type 0

@@ -1,5 +1,5 @@
 -- What the laws of checking say of runs and their journals.
-use Rattle.std.specs.Prelude.{◌≡◌, ◌<◌, ◌≤◌, ◌+◌, ℕ, List, ◌++◌, map, take, length, None, Err, Ok, IsTrue}
+use Rattle.std.specs.Prelude.{◌≡◌, ◌<◌, ◌≤◌, ◌+◌, ℕ, List, ◌++◌, map, take, length, None, Ok, IsTrue}
 use Rattle.lt_modes.specs.Script.{ScriptData}
 use Rattle.lt_spec.specs.Log.{Logged}
 use Rattle.lt_spec.specs.World.{world_after, is_at_rest, IsRun}
@@ -37,19 +37,20 @@ HasCome script place = (read : List (List ℕ)) × BeginsWith script read place
 abbrev pub IsBeginning : ScriptData → List (List ℕ) → Type 0
 IsBeginning script read = (place : Place) × BeginsWith script read place
 
--- line k, counted from 1, is the first bad one
+-- with these lines the journal of a finished run begins
+abbrev pub BeginsJournal : ScriptData → List (List ℕ) → Type 0
+BeginsJournal script read =
+    (run : List Logged) × (more : List (List ℕ)) × IsFinished script run × (journal_lines script run ≡ read ++ more)
+
+-- line k, counted from 1, is the first bad one: a line, or the one that is missing after the last
 pub record IsFirstBad (script : ScriptData) (all : List (List ℕ)) (k : ℕ) : Type 0 where
-  -- it is a line, or the one that is missing after the last
   pub some : 0 < k
   pub within : k ≤ length all + 1
-  -- the lines before it are the first ones of a run, and with it they are not
-  pub before : (j : ℕ) → j < k → IsBeginning script (take j all)
-  pub not_with : k ≤ length all → IsBeginning script (take k all) → ⊥
-  -- where it is missing, the lines are the first ones of a run, but not the journal of a finished one
+  -- with the lines before it a journal begins, and with it none
+  pub before : (j : ℕ) → j < k → BeginsJournal script (take j all)
+  pub not_with : k ≤ length all → BeginsJournal script (take k all) → ⊥
+  -- where it is missing, the lines are no journal
   pub missing : k ≡ length all + 1 → (run : List Logged) → IsFinished script run → journal_lines script run ≡ all → ⊥
-  -- whatever follows, line k stays the first bad one, and no finished run has a journal that begins so
-  pub stays : k ≤ length all → (more : List (List ℕ)) → checked script (take k all ++ more) ≡ Err k
-  pub no_run : k ≤ length all → (more : List (List ℕ)) (run : List Logged) → IsFinished script run → journal_lines script run ≡ take k all ++ more → ⊥
 
 -- what is known of the journals that begin with these lines, after which the reader is here
 pub record IsContinued (script : ScriptData) (read : List (List ℕ)) (place : Place) : Type 0 where

@@ -1,4 +1,4 @@
-ghost use Rattle.std.specs.Prelude.{◌≡◌, ◌≤◌, ◌++◌, ℕ, List, Some, Ok, Err, fold, map, take, drop, length, Decides, ◌<◌, ◌^◌, Option};
+ghost use Rattle.std.specs.Prelude.{◌≡◌, ◌≤◌, ◌↔◌, ◌++◌, ℕ, List, Some, Ok, Err, fold, map, take, drop, length, Decides, ◌<◌, ◌^◌, Option};
 ghost use Rattle.std.specs.List.{flat_map, AllByRecursion};
 ghost use Rattle.std.specs.Str.{bytes_eq};
 ghost use Rattle.lt_journal.specs.declared.line.Line.{Line as AnyLine};
@@ -11,10 +11,10 @@ ghost use Rattle.lt_law_journals.specs.Checking.{Place, written, reader_after, c
 ghost use Rattle.lt_law_journals.specs.Feeding.{Feed, new_feed, fed_piece, ended};
 ghost use Rattle.lt_law_journals.specs.Rows.{EmptyRows, ShortRows};
 ghost use Rattle.lt_law_journals.specs.Said.{checked_said};
-ghost use Rattle.lt_law_journals.specs.Input.{script_in, journal_in, lines_before, counted_from, checked_input, EndsInLineFeed, EndsLine, HasJournal, IsSettled};
+ghost use Rattle.lt_law_journals.specs.Input.{script_in, journal_in, lines_before, counted_from, checked_input, IsFirstBadIn, EndsInLineFeed, EndsLine, HasJournal, IsSettled};
 ghost use Rattle.lt_journal.specs.Grammar.{read_line, journal_of};
 ghost use Rattle.lt_journal.specs.Split.{input_parts};
-ghost use Rattle.lt_law_journals.specs.Journals.{IsFinished, BeginsWith, IsBeginning, IsFirstBad, IsContinued, journal_lines};
+ghost use Rattle.lt_law_journals.specs.Journals.{IsFinished, BeginsWith, IsBeginning, BeginsJournal, IsFirstBad, IsContinued, journal_lines};
 ghost use Rattle.lt_spec.specs.World.{IsRun};
 ghost use Rattle.lt_journal.specs.RunLines.{run_lines};
 ghost use Rattle.lt_journal.specs.Text.{text_of};
@@ -32,10 +32,13 @@ pub fn law_means()
         → checked script all ≡ Ok run → IsFinished script run × (all ≡ journal_lines script run) }
 {}
 
-/// Where line `k` is the first bad one, the lines before it are right so far, and no journal begins with line `k` too.
+/// Lines are refused at the first bad one, and it stays the first bad one whatever follows it.
 pub fn law_first()
-    ensures { (script : ScriptData) → (all : List (List ℕ)) → (k : ℕ) → IsScript script
-        → checked script all ≡ Err k → IsFirstBad script all k }
+    ensures exact { (script : ScriptData) → (all : List (List ℕ)) → (k : ℕ) → IsScript script
+        → (checked script all ≡ Err k) ↔ IsFirstBad script all k }
+    ensures stays { (script : ScriptData) → (all : List (List ℕ)) → (k : ℕ)
+        → checked script all ≡ Err k → k ≤ length all
+        → (more : List (List ℕ)) → checked script (take k all ++ more) ≡ Err k }
 {}
 
 /// Lines that are right so far go on to a journal exactly where the moves so far go on to a finished run.
@@ -85,6 +88,16 @@ pub fn law_input()
         ≡ checked_input script (lines bytes) }
 {}
 
+/// An input is accepted exactly where the journal in it is that of a finished run, and refused exactly at its first bad
+/// line.
+pub fn law_answers()
+    ensures accepted { (script : ScriptData) → (bytes : List ℕ) → (run : List Logged) → IsScript script
+        → (checked_input script (lines bytes) ≡ Ok run)
+        ↔ (IsFinished script run × (lines (drop (input_parts bytes).journal bytes) ≡ journal_lines script run)) }
+    ensures refused { (script : ScriptData) → (bytes : List ℕ) → (line : ℕ) → IsScript script
+        → (checked_input script (lines bytes) ≡ Err line) ↔ IsFirstBadIn script line bytes }
+{}
+
 /// Once the line `journal` has come with its line end, an input is cut where it is, whatever comes after.
 pub fn law_settled()
     ensures { (before : List ℕ) → (line : List ℕ) → (rest : List ℕ) → EndsLine before → EndsInLineFeed line
@@ -97,12 +110,15 @@ pub fn law_one_run()
         → IsFinished script one → IsFinished script other → journal_lines script one ≡ journal_lines script other → one ≡ other }
 {}
 
-/// None of some lines is bad exactly where they are the first ones of a run.
+/// None of some lines is bad exactly where they are the first ones of a run, and exactly then a journal begins with
+/// them.
 pub fn law_beginning()
     ensures read { (script : ScriptData) → (read : List (List ℕ)) → (place : Place) → IsScript script
         → (reader_after script read).place ≡ Some place → BeginsWith script read place }
     ensures begun { (script : ScriptData) → (read : List (List ℕ)) → IsScript script
         → IsBeginning script read → (place : Place) × ((reader_after script read).place ≡ Some place) }
+    ensures journal { (script : ScriptData) → (read : List (List ℕ)) → IsScript script
+        → IsBeginning script read ↔ BeginsJournal script read }
 {}
 
 /// What is written of a run is read as the run's lines, of every run whose moves can be counted in a line.

@@ -5,6 +5,7 @@
 mod laws;
 
 pub use laws::{
-    law_accepts, law_beginning, law_bytes, law_closing_lines, law_continues, law_first, law_input,
-    law_means, law_one_run, law_pieces, law_read_text, law_rows, law_said, law_settled,
+    law_accepts, law_answers, law_beginning, law_bytes, law_closing_lines, law_continues,
+    law_first, law_input, law_means, law_one_run, law_pieces, law_read_text, law_rows, law_said,
+    law_settled,
 };

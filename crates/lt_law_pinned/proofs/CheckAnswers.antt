@@ -12,10 +12,13 @@ use Rattle.lt_script.specs.Reading.{read_of}
 use Rattle.lt_journal.specs.Split as split
 use Rattle.lt_journal.specs.Split.{input_parts}
 use Rattle.lt_law_journals.specs.Checking.{checked}
-use Rattle.lt_law_journals.specs.Input.{checked_input, counted_from, journal_in, lines_before}
+use Rattle.lt_law_journals.specs.Input.{checked_input, counted_from, journal_in, lines_before, IsFirstBadIn}
+use Rattle.lt_law_journals.specs.Journals.{IsFinished}
+use Rattle.lt_law_journals.proofs.Answers.{accepted_input, refused_input}
 use Rattle.lt_law_journals.proofs.RowAnswers.{short_rows}
 use Rattle.lt_serve.specs.declared.status.Status.TheVariants.{Done}
-use Rattle.lt_checker.specs.Input.{IsBad, HasFaultBefore}
+use Rattle.lt_spec.specs.Script.{IsScript}
+use Rattle.lt_checker.specs.Input.{IsJournalOf, IsBad, HasFaultBefore}
 use Rattle.lt_serve.specs.TopCall.{Checks, ok_text}
 use Rattle.lt_law_pinned.proofs.AnswerResults.{same_script, same_run, same_line, same_fault, run_or_line, script_or_fault}
 use Rattle.lt_law_pinned.specs.Examples.{one_lock, one_lock_script, the_move}
@@ -78,15 +81,23 @@ answered : (input : List ℕ) (script : ScriptData) (answer : Result (List Logge
 answered input script answer before denoted e =
     subst (λ (s : ScriptData). checked_input s (lines input) ≡ answer) (one_script input script before denoted) e
 
+-- what is told of the journal in an input is what it is answered
+accepted_run : (input : List ℕ) (script : ScriptData) (run : List Logged) → IsScript script → IsFinished script run → IsJournalOf (Some input) script run
+    → checked_input script (lines input) ≡ Ok run
+accepted_run input script run is_script finished journal = (accepted_input script input run is_script).1 (finished, journal)
+
+refused_line : (input : List ℕ) (script : ScriptData) (line : ℕ) → IsScript script → IsFirstBadIn script line input → checked_input script (lines input) ≡ Err line
+refused_line input script line is_script bad = (refused_input script input line is_script).1 bad
+
 right_run : (run : List Logged) (text : List ℕ) → Checks Done (Some checked_lock) run text → run ≡ the_move ∷ []
 right_run run text k =
     same_run run (the_move ∷ []) (checked_input one_lock_script (lines checked_lock))
-    (answered checked_lock k.script (Ok run) right_before k.denoted k.accepted) right_answer
+    (answered checked_lock k.script (Ok run) right_before k.denoted (accepted_run checked_lock k.script run k.is_script k.finished k.accepted)) right_answer
 
 pub never_bad : (line : ℕ) → IsBad (Some checked_lock) line → ⊥
 never_bad line is =
     run_or_line (the_move ∷ []) line (checked_input one_lock_script (lines checked_lock)) right_answer
-    (answered checked_lock is.0 (Err line) right_before is.1 is.2)
+    (answered checked_lock is.0 (Err line) right_before is.2 (refused_line checked_lock is.0 line is.1 is.3))
 
 pub without_fault : (fault : ScriptFault) → HasFaultBefore (Some checked_lock) fault → ⊥
 without_fault fault h =
@@ -102,9 +113,10 @@ check_says = record {
   never_bad = λ line h. never_bad line (h.bad_journal line refl).1;
   bad = λ line h.
       let is = (h.bad_journal line refl).1 in
-      same_line line 7 (checked_input one_lock_script (lines wrong_mode)) (answered wrong_mode is.0 (Err line) wrong_before is.1 is.2) wrong_answer;
+      same_line line 7 (checked_input one_lock_script (lines wrong_mode)) (answered wrong_mode is.0 (Err line) wrong_before is.2 (refused_line wrong_mode is.0 line is.1 is.3)) wrong_answer;
   never_done = λ run old new t.
-      run_or_line run 7 (checked_input one_lock_script (lines wrong_mode)) (answered wrong_mode t.1.script (Ok run) wrong_before t.1.denoted t.1.accepted) wrong_answer;
+      let accepted = accepted_run wrong_mode t.1.script run t.1.is_script t.1.finished t.1.accepted in
+      run_or_line run 7 (checked_input one_lock_script (lines wrong_mode)) (answered wrong_mode t.1.script (Ok run) wrong_before t.1.denoted accepted) wrong_answer;
   fault = λ fault h.
       same_fault fault (record { line = 4; fault = faults.Mode }) (read_of no_mode)
       (subst (λ (bytes : List ℕ). read_of bytes ≡ Err fault) no_mode_before (h.refused fault refl)) no_mode_read;

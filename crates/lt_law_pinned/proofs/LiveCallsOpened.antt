@@ -20,11 +20,12 @@ use Rattle.lt_live_serve.specs.declared.limits.TheConstants.{MAX_INPUT}
 use Rattle.lt_live_serve.specs.declared.status.Status.{Status}
 use Rattle.lt_live_serve.specs.declared.status.Status.TheVariants.{Done, Stuck, Usage, Refused, TooLong, ReadFault, WriteFault, NoMemory, Share}
 use Rattle.lt_live_serve.specs.Over.{is_over}
-use Rattle.lt_live_serve.specs.Runs.{HasFault, IsOverShare, LiveRun, Journals}
-use Rattle.lt_live_serve.specs.Serves.{Did, GoesWell, DenotesOrdered}
+use Rattle.lt_live_serve.specs.Runs.{IsOverShare, LiveRun, Journals}
+use Rattle.lt_live_serve.specs.Serves.{Did, GoesWell}
+use Rattle.lt_call.specs.Scripts.{HasFault, DenotesOrdered}
 use Rattle.lt_live_serve.specs.Status.{outcome_of}
 use Rattle.lt_law_pinned.specs.ToldRuns.{two_writers, two_writers_script}
-use Rattle.lt_law_pinned.specs.LiveCalls.{LiveCodesAre, LiveTextsAre, LiveCall, IsCall, Answers, Reads, IsUntroubled, ReadsWhole, LiveWordsTold, LiveRefusalsTold, LiveCountsTold, LiveEndsTold, no_nodes, one_lock, one_lock_script}
+use Rattle.lt_law_pinned.specs.LiveCalls.{LiveCodesAre, LiveTextsAre, LiveCall, IsCall, Answers, ReadsBytes, IsUntroubled, ReadsWhole, LiveWordsTold, LiveRefusalsTold, LiveCountsTold, LiveEndsTold, no_nodes, one_lock, one_lock_script}
 use Rattle.lt_law_pinned.proofs.Numbers.{one_text, three_text, five_text, seven_text}
 use Rattle.lt_law_pinned.proofs.RunsOpened.{same_script, writers_read}
 
@@ -68,7 +69,7 @@ did_so c status serves e =
     subst (λ (s : Status). Did s c.source.left c.answer.run.entries c.answer.polled.items c.sink.held c.sink_after.held) e serves.did
 
 -- and with the bytes that were read
-pub did_read : (c : LiveCall) (bytes : List ℕ) (status : Status) → Reads bytes c → c.answer.status ≡ status
+pub did_read : (c : LiveCall) (bytes : List ℕ) (status : Status) → ReadsBytes bytes c → c.answer.status ≡ status
     → Did status (Some bytes) c.answer.run.entries c.answer.polled.items c.sink.held c.sink_after.held
 did_read c bytes status reads e =
     subst (λ (left : Option (List ℕ)). Did status left c.answer.run.entries c.answer.polled.items c.sink.held c.sink_after.held) reads.input
@@ -156,7 +157,7 @@ live_refusals_told = record {
   unwritten_memory = λ c h. h.serves.unwritten (leaves c _ h.status_is tt);
 }
   where
-    fault_in : (c : LiveCall) (bytes : List ℕ) (fault : ScriptFault) → Reads bytes c → c.answer.status ≡ Refused fault → read_of bytes ≡ Err fault
+    fault_in : (c : LiveCall) (bytes : List ℕ) (fault : ScriptFault) → ReadsBytes bytes c → c.answer.status ≡ Refused fault → read_of bytes ≡ Err fault
     fault_in c bytes fault reads e = subst (λ (left : Option (List ℕ)). HasFault left fault) reads.input (reads.serves.refused fault e)
 
 says_of : (c : LiveCall) (status : Status) → Answers status c → SaysOfSource MAX_INPUT (outcome_of status) c.source c.source_after
@@ -201,7 +202,7 @@ not_rose n before now most began few less rose =
     let risen : count_after 0 n ≤ now = subst (λ (k : ℕ). count_after k n ≤ now) began rose in
     omega (arith, risen, few, less)
 
-goes_well : (c : LiveCall) (bytes : List ℕ) (script : ScriptData) → Fits bytes script → Reads bytes c → IsUntroubled c
+goes_well : (c : LiveCall) (bytes : List ℕ) (script : ScriptData) → Fits bytes script → ReadsBytes bytes c → IsUntroubled c
     → GoesWell c.words c.answer.status c.source c.source_after c.sink.faults c.sink_after.faults
 goes_well c bytes script fits reads fine = record {
   no_words = reads.no_words;

@@ -19,7 +19,7 @@ use Rattle.lt_live_serve.specs.Runs.{Journals, all_replies}
 use Rattle.lt_live_serve.specs.Status.{cut_of}
 use Rattle.lt_law_pinned.specs.ToldRuns.{two_writers, two_writers_script, both_moves}
 use Rattle.lt_law_pinned.specs.ToldOthers.{falling, crossed}
-use Rattle.lt_law_pinned.specs.LiveCalls.{LiveCall, IsCall, Reads, one_lock, one_lock_script}
+use Rattle.lt_law_pinned.specs.LiveCalls.{LiveCall, IsCall, ReadsBytes, one_lock, one_lock_script}
 use Rattle.lt_law_pinned.specs.LiveRuns.{WritesJournal, JournalPart, LiveRunsTold, LiveSharesTold, crowded, two_moves}
 use Rattle.lt_law_pinned.proofs.RunsOpened.{same_script, writers_read}
 use Rattle.lt_law_pinned.proofs.LiveCallsOpened.{did_so, did_read, live_so, one_lock_read, two_fit}

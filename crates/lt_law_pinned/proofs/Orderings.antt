@@ -14,7 +14,9 @@ use Rattle.lt_gen.specs.Draws.{seeded, draw_of}
 use Rattle.lt_gen.specs.Draws as draws
 use Rattle.rand_core.specs.Pcg32Seed as seeds
 use Rattle.rand_core.specs.Steps as steps
-use Rattle.lt_serve.specs.Schedules.{AreDrawn, IsAt}
+use Rattle.lt_serve.specs.declared.schedule.Schedule.TheVariants.{First, Drawn}
+use Rattle.lt_serve.specs.Schedules.{AreInOrder, IsAt}
+use Rattle.lt_serve.proofs.Ordered.{first_from}
 use Rattle.lt_law_pinned.specs.TwoOrders.{OrdersSay, two_tries, two_tries_script, try_of_a, try_of_b, a_first, b_first}
 use Rattle.lt_law_pinned.proofs.AnswerResults.{same_script}
 
@@ -50,18 +52,18 @@ not_at_first h =
     not_same (sym (h.2 ∙ ap (λ (turn : Turn). logged two_tries_script (start two_tries_script) turn.node turn.step)
     (sym (same_turn (record { node = 0; step = Act 0 }) h.0 h.1))))
 
-drawn_by_7 : AreDrawn 7 two_tries_script b_first
+drawn_by_7 : AreInOrder (Drawn (seeded 7)) two_tries_script b_first
 unfolding conflicts draws.draw_of draws.seeded seeds.pcg32_seed steps.word_bytes steps.u32_at
 drawn_by_7 = ((record { node = 1; step = Act 1 }, refl, refl), ((record { node = 0; step = Act 0 }, refl, refl), tt))
 
-drawn_by_8 : AreDrawn 8 two_tries_script a_first
+drawn_by_8 : AreInOrder (Drawn (seeded 8)) two_tries_script a_first
 unfolding conflicts draws.draw_of draws.seeded seeds.pcg32_seed steps.word_bytes steps.u32_at
 drawn_by_8 = ((record { node = 0; step = Act 0 }, refl, refl), ((record { node = 1; step = Act 1 }, refl, refl), tt))
 
-not_by_7 : AreDrawn 7 two_tries_script a_first → ⊥
+not_by_7 : AreInOrder (Drawn (seeded 7)) two_tries_script a_first → ⊥
 not_by_7 h = not_second (subst (λ (place : ℕ). IsAt two_tries_script (start two_tries_script) place try_of_a) word_of_7 h.0)
 
-not_by_8 : AreDrawn 8 two_tries_script b_first → ⊥
+not_by_8 : AreInOrder (Drawn (seeded 8)) two_tries_script b_first → ⊥
 not_by_8 h = not_at_first (subst (λ (place : ℕ). IsAt two_tries_script (start two_tries_script) place try_of_b) word_of_8 h.0)
 
 in_order : first_run two_tries_script 2 ≡ a_first
@@ -74,8 +76,8 @@ not_swapped e = not_same (sym (head e))
     head : b_first ≡ a_first → try_of_b ≡ try_of_a
     head f = cc
 
-not_in_order : b_first ≡ first_run two_tries_script 2 → ⊥
-not_in_order e = not_swapped (e ∙ in_order)
+not_in_order : AreInOrder First two_tries_script b_first → ⊥
+not_in_order h = not_swapped (first_from two_tries_script (start two_tries_script) b_first h ∙ in_order)
 
 -- the script of a run that is told is this one
 its_script : (script : ScriptData) → read_of two_tries ≡ Ok script → script ≡ two_tries_script
@@ -93,13 +95,13 @@ pub orders_say : OrdersSay
 orders_say = record {
   both_are_runs = (a_then_b, b_then_a);
   not_first = λ old new t.
-      not_in_order (subst (λ (s : ScriptData). b_first ≡ first_run s 2) (its_script t.1.journals.script t.1.journals.denoted) t.1.in_order);
+      not_in_order (subst (λ (s : ScriptData). AreInOrder First s b_first) (its_script t.1.journals.script t.1.journals.denoted) t.1.in_order);
   drawn = drawn_by_7;
   not_drawn = λ old new t.
-      not_by_7 (subst (λ (s : ScriptData). AreDrawn 7 s a_first) (its_script t.1.journals.script t.1.journals.denoted) t.1.drawn);
+      not_by_7 (subst (λ (s : ScriptData). AreInOrder (Drawn (seeded 7)) s a_first) (its_script t.1.journals.script t.1.journals.denoted) t.1.in_order);
   drawn_by_another = drawn_by_8;
   not_drawn_by_another = λ old new t.
-      not_by_8 (subst (λ (s : ScriptData). AreDrawn 8 s b_first) (its_script t.1.journals.script t.1.journals.denoted) t.1.drawn);
+      not_by_8 (subst (λ (s : ScriptData). AreInOrder (Drawn (seeded 8)) s b_first) (its_script t.1.journals.script t.1.journals.denoted) t.1.in_order);
   rising = ((refl, tt), (tt, tt));
   not_rising = λ old new t. false≢true t.1.rising.0.0;
 }

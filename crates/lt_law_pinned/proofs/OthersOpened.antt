@@ -1,5 +1,5 @@
 -- Each field of what is said of the other commands.
-use Rattle.std.proofs.Common.{arith, ◌≡◌, ◌≤◌, ℕ, List, [], ◌++◌, Ok, Option, Some, None, refl, ap, subst, ◌∙◌}
+use Rattle.std.proofs.Common.{arith, ◌≡◌, ◌≤◌, ℕ, List, [], ◌++◌, Ok, Option, Some, None, refl, sym, ap, subst, ◌∙◌}
 use Rattle.std.specs.Prelude.{◌&&◌, ◌==◌, not, nat_lt, take, count_by}
 use Rattle.std.proofs.lemmas.List.Sums.{count_by-le-length}
 use Rattle.std.proofs.lemmas.Bool.{and_parts, false≢true}
@@ -13,10 +13,12 @@ use Rattle.lt_script.specs.Reading.{read_of}
 use Rattle.lt_journal.specs.Split as split
 use Rattle.lt_journal.specs.Split.{input_parts}
 use Rattle.lt_law_journals.specs.Journals.{IsFinished}
+use Rattle.lt_law_journals.proofs.Inputs.{journal_part}
+use Rattle.lt_checker.specs.Input.{IsJournalOf}
 use Rattle.lt_law_ends.specs.EndLaws.{RunsAreShort}
 use Rattle.lt_words.specs.declared.command.Command.TheVariants.{Soak}
 use Rattle.lt_serve.specs.declared.status.Status.TheVariants.{Done, Stuck}
-use Rattle.lt_serve.specs.TopCall.{Checks, HasLinesOf, greatest_script}
+use Rattle.lt_serve.specs.TopCall.{Checks, greatest_script}
 use Rattle.lt_law_pinned.proofs.DrawnScript.{drawn_is}
 use Rattle.lt_law_pinned.specs.ToldRuns.{two_writers, two_writers_script}
 use Rattle.lt_law_pinned.specs.ToldOthers.{SoakTold, CheckedRun, CheckTold, MakeTold, checked_writers, letter_first}
@@ -65,7 +67,8 @@ writers_checked run text k =
 pub check_told : RunsAreShort → CheckTold
 check_told short = record {
   run = λ run t. subst (λ (s : ScriptData). CheckedRun s run) (writers_checked run t.0 t.1) (checked_so short _ run t.0 t.1);
-  same_lines = λ run t. subst (λ (s : ScriptData). HasLinesOf (Some checked_writers) s run) (writers_checked run t.0 t.1) t.1.same_lines;
+  same_lines = λ run t.
+      sym (journal_part checked_writers) ∙ subst (λ (s : ScriptData). IsJournalOf (Some checked_writers) s run) (writers_checked run t.0 t.1) t.1.accepted;
   unknown = λ run t. (t.1.script, checked_so short _ run t.0 t.1);
   not_letter = λ t. begins_with_letter t.1.script t.1.finished;
   never_stuck = λ run t. not_done t.1.done;

@@ -5,6 +5,7 @@ use Rattle.std.proofs.lemmas.Bool.{false≢true}
 use Rattle.lt_modes.specs.Script.{ScriptData}
 use Rattle.lt_modes.specs.Modes.{conflicts}
 use Rattle.lt_spec.specs.Log.{Logged}
+use Rattle.lt_spec.specs.World.{start}
 use Rattle.lt_spec.specs.FixedOrder.{first_run}
 use Rattle.lt_script.specs.Reading.{read_of}
 use Rattle.lt_script.specs.Reading as reading
@@ -14,7 +15,9 @@ use Rattle.lt_journal.specs.Text.{text_of}
 use Rattle.lt_serve.specs.declared.status.Status.{Status}
 use Rattle.lt_serve.specs.declared.status.Status.TheVariants.{Done, Stuck, Cut}
 use Rattle.lt_serve.specs.Endings.{EndsAs, RanTo, cut_of}
-use Rattle.lt_serve.specs.TopCall.{JournalsFirst}
+use Rattle.lt_serve.specs.declared.schedule.Schedule.TheVariants.{First}
+use Rattle.lt_serve.specs.TopCall.{JournalsInOrder}
+use Rattle.lt_serve.proofs.Ordered.{first_from}
 use Rattle.lt_law_pinned.proofs.AnswerResults.{same_script}
 use Rattle.lt_law_pinned.specs.Examples.{two_writers, two_writers_script, two_writers_journal, first_move, both_moves, TwoWriters, CutShort}
 use Rattle.lt_law_pinned.proofs.AnswerTexts.{two_writers_text, cut_text}
@@ -38,14 +41,14 @@ pub record RanFirst (moves : ℕ) (ending : Status) (run : List Logged) (text : 
   pub which : (run ≡ []) ⊎ ((run ≡ first_move) ⊎ (run ≡ both_moves))
   pub journal : text ≡ text_of two_writers_script run (cut_of ending)
 
-ran_first : (moves : ℕ) (ending : Status) (run : List Logged) (text : List ℕ) → JournalsFirst moves ending (Some two_writers) run text
+ran_first : (moves : ℕ) (ending : Status) (run : List Logged) (text : List ℕ) → JournalsInOrder First moves ending (Some two_writers) run text
     → RanFirst moves ending run text
 ran_first moves ending run text j =
     let same = same_script j.journals.script two_writers_script (read_of two_writers) j.journals.denoted two_writers_read in
     let ran = subst (λ (s : ScriptData). RanTo moves ending s run) same j.journals.ran in
     record {
       ends = ran.ends;
-      which = first_runs run (j.in_order ∙ ap (λ (s : ScriptData). first_run s (length run)) same);
+      which = first_runs run (first_from j.journals.script (start j.journals.script) run j.in_order ∙ ap (λ (s : ScriptData). first_run s (length run)) same);
       journal = j.journals.journal ∙ ap (λ (s : ScriptData). text_of s run (cut_of ending)) same;
     }
 

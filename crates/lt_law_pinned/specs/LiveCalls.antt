@@ -73,7 +73,7 @@ pub record Answers (status : Status) (c : LiveCall) : Type 0 where
   pub writes : c.sink.faults ≡ 0
 
 -- it does without words, where the input is these bytes
-pub record Reads (bytes : List ℕ) (c : LiveCall) : Type 0 where
+pub record ReadsBytes (bytes : List ℕ) (c : LiveCall) : Type 0 where
   pub serves : IsCall c
   pub no_words : c.words ≡ 0
   pub input : c.source.left ≡ Some bytes
@@ -109,9 +109,9 @@ pub record LiveWordsTold : Type 0 where
 
 -- why there is no run
 pub record LiveRefusalsTold : Type 0 where
-  pub fault : (c : LiveCall) (fault : ScriptFault) → Reads [] c → c.answer.status ≡ Refused fault → fault ≡ no_nodes
-  pub no_fault : (c : LiveCall) (fault : ScriptFault) → Reads two_writers c → c.answer.status ≢ Refused fault
-  pub no_share : (c : LiveCall) (client : ℕ) → Reads two_writers c → c.answer.status ≢ Share client
+  pub fault : (c : LiveCall) (fault : ScriptFault) → ReadsBytes [] c → c.answer.status ≡ Refused fault → fault ≡ no_nodes
+  pub no_fault : (c : LiveCall) (fault : ScriptFault) → ReadsBytes two_writers c → c.answer.status ≢ Refused fault
+  pub no_share : (c : LiveCall) (client : ℕ) → ReadsBytes two_writers c → c.answer.status ≢ Share client
   -- nothing was done then
   pub no_run : (c : LiveCall) → Answers (Share 3) c → (c.answer.run.entries ≡ []) × (c.answer.polled.items ≡ [])
   pub unwritten : (c : LiveCall) → Answers (Share 3) c → c.sink_after ≡ c.sink
@@ -139,6 +139,6 @@ pub record LiveCountsTold : Type 0 where
 -- which end comes where nothing fails
 pub record LiveEndsTold : Type 0 where
   pub never_cut : (c : LiveCall) (node : ℕ) → IsCall c → c.answer.status ≢ Cut node
-  pub done_or_stuck : (c : LiveCall) → Reads two_writers c → IsUntroubled c → (c.answer.status ≡ Done) ⊎ (c.answer.status ≡ Stuck)
-  pub ordered : (c : LiveCall) → Reads one_lock c → IsUntroubled c → c.answer.status ≡ Done
-  pub never_stuck : (c : LiveCall) → Reads one_lock c → c.answer.status ≢ Stuck
+  pub done_or_stuck : (c : LiveCall) → ReadsBytes two_writers c → IsUntroubled c → (c.answer.status ≡ Done) ⊎ (c.answer.status ≡ Stuck)
+  pub ordered : (c : LiveCall) → ReadsBytes one_lock c → IsUntroubled c → c.answer.status ≡ Done
+  pub never_stuck : (c : LiveCall) → ReadsBytes one_lock c → c.answer.status ≢ Stuck

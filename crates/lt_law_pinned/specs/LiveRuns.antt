@@ -18,15 +18,15 @@ use Rattle.lt_live_serve.specs.declared.status.Status.TheVariants.{Done, Stuck, 
 use Rattle.lt_live_serve.specs.Over.{IsFirstOver}
 use Rattle.lt_law_pinned.specs.ToldRuns.{EndedRun, two_writers, two_writers_script, both_moves}
 use Rattle.lt_law_pinned.specs.ToldOthers.{falling, crossed}
-use Rattle.lt_law_pinned.specs.LiveCalls.{LiveCall, IsCall, Reads, one_lock, one_lock_script}
+use Rattle.lt_law_pinned.specs.LiveCalls.{LiveCall, IsCall, ReadsBytes, one_lock, one_lock_script}
 
 -- with this answer the run is one of the two writers that ended so
 abbrev pub LiveEndIs : Status → Bool → Type 0
-LiveEndIs status waiting = (c : LiveCall) → Reads two_writers c → c.answer.status ≡ status → EndedRun two_writers_script c.answer.run.entries waiting
+LiveEndIs status waiting = (c : LiveCall) → ReadsBytes two_writers c → c.answer.status ≡ status → EndedRun two_writers_script c.answer.run.entries waiting
 
 -- with this answer the journal of the run was appended
 abbrev pub WritesJournal : Status → Type 0
-WritesJournal status = (c : LiveCall) (old new : List ℕ) → Reads two_writers c → c.answer.status ≡ status
+WritesJournal status = (c : LiveCall) (old new : List ℕ) → ReadsBytes two_writers c → c.answer.status ≡ status
     → c.sink.held ≡ Some old → c.sink_after.held ≡ Some new → new ≡ old ++ text_of two_writers_script c.answer.run.entries None
 
 -- a first part of the journal of a run of the two writers
@@ -58,14 +58,14 @@ pub record LiveRunsTold : Type 0 where
   pub not_falling : (c : LiveCall) → IsCall c → c.answer.status ≡ Done → c.answer.run.entries ≡ falling → ⊥
   pub not_crossed : (c : LiveCall) → IsCall c → c.answer.status ≡ Stuck → c.answer.run.entries ≡ crossed → ⊥
   -- the replies that were polled
-  pub stuck_replies : (c : LiveCall) → Reads two_writers c → c.answer.status ≡ Stuck → c.answer.run.entries ≡ both_moves
+  pub stuck_replies : (c : LiveCall) → ReadsBytes two_writers c → c.answer.status ≡ Stuck → c.answer.run.entries ≡ both_moves
       → c.answer.polled.items ≡ (0, reply.Granted) ∷ []
-  pub done_replies : (c : LiveCall) → Reads one_lock c → c.answer.status ≡ Done → c.answer.run.entries ≡ two_moves
+  pub done_replies : (c : LiveCall) → ReadsBytes one_lock c → c.answer.status ≡ Done → c.answer.run.entries ≡ two_moves
       → c.answer.polled.items ≡ (0, reply.Granted) ∷ (0, reply.Unlocked) ∷ []
   -- the journal
   pub done_text : WritesJournal Done
   pub stuck_text : WritesJournal Stuck
-  pub part : (c : LiveCall) (old new : List ℕ) → Reads two_writers c → c.answer.status ≡ WriteFault
+  pub part : (c : LiveCall) (old new : List ℕ) → ReadsBytes two_writers c → c.answer.status ≡ WriteFault
       → c.sink.held ≡ Some old → c.sink_after.held ≡ Some new → JournalPart c.answer.run.entries old new
 
 -- 256 clients, of whom the first two have 17 commands each: one more than their share

@@ -12,7 +12,9 @@ use Rattle.lt_merge.specs.Merging.{AreRising}
 use Rattle.lt_words.specs.declared.command.Command.{Command}
 use Rattle.lt_words.specs.declared.command.Command.TheVariants.{Run, SimFirst, Sim}
 use Rattle.lt_serve.specs.declared.status.Status.TheVariants.{Done}
-use Rattle.lt_serve.specs.Schedules.{AreDrawn}
+use Rattle.lt_gen.specs.Draws.{seeded}
+use Rattle.lt_serve.specs.declared.schedule.Schedule.TheVariants.{Drawn}
+use Rattle.lt_serve.specs.Schedules.{AreInOrder}
 use Rattle.lt_law_pinned.specs.Examples.{Says}
 
 -- each of two nodes has a client that tries a lock
@@ -49,9 +51,9 @@ pub record OrdersSay : Type 0 where
   pub both_are_runs : IsRun two_tries_script a_first × IsRun two_tries_script b_first
   pub not_first : IsNeverMade SimFirst b_first
   -- the numbers of seed 7 draw b's move first, those of seed 8 a's
-  pub drawn : AreDrawn 7 two_tries_script b_first
+  pub drawn : AreInOrder (Drawn (seeded 7)) two_tries_script b_first
   pub not_drawn : IsNeverMade (Sim 7) a_first
-  pub drawn_by_another : AreDrawn 8 two_tries_script a_first
+  pub drawn_by_another : AreInOrder (Drawn (seeded 8)) two_tries_script a_first
   pub not_drawn_by_another : IsNeverMade (Sim 8) b_first
   -- both clocks are 1, so the node decides
   pub rising : AreRising a_first

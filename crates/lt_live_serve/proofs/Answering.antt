@@ -18,7 +18,8 @@ use Rattle.lt_live_serve.specs.declared.served.Served.{Served}
 use Rattle.lt_live_serve.specs.declared.status.Status.{Status}
 use Rattle.lt_live_serve.specs.declared.status.Status.TheVariants.{Done, Stuck, Usage, Refused, TooLong, ReadFault, WriteFault, NoMemory, Cut, Share}
 use Rattle.lt_live_serve.specs.Status.{outcome_of, status_of_end}
-use Rattle.lt_live_serve.specs.Serves.{Serves, Did, Ends, GoesWell, IsUnfit, IsGood, DenotesOrdered}
+use Rattle.lt_live_serve.specs.Serves.{Serves, Did, Ends, GoesWell, IsUnfit, IsGood}
+use Rattle.lt_call.specs.Scripts.{DenotesOrdered}
 
 -- what is known where nothing fails
 abbrev pub IsComplete : ℕ → Status → SourceState → SourceState → ℕ → ℕ → Type 0

@@ -1,11 +1,11 @@
 -- What came of a script: its run, and what the sessions polled.
-use Rattle.std.specs.Prelude.{◌≡◌, ◌≢◌, ℕ, List, Option, Some, None, Ok, Err, length, map}
+use Rattle.std.specs.Prelude.{◌≡◌, ◌≢◌, ℕ, List, Option, Some, None, Ok, length, map}
+use Rattle.lt_call.specs.Scripts.{Denotes}
 use Rattle.lt_modes.specs.Script.{ScriptData}
 use Rattle.lt_lists.specs.Below.{gather_below}
 use Rattle.lt_spec.specs.declared.ending.Ending.{Ending}
 use Rattle.lt_spec.specs.declared.ending.Ending.TheVariants as ending
 use Rattle.lt_live_serve.specs.declared.limits.TheConstants.{MOVES}
-use Rattle.lt_script.specs.declared.fault.ScriptFault.{ScriptFault}
 use Rattle.lt_script.specs.Reading.{read_of}
 use Rattle.lt_spec.specs.Holdings.{lines_of}
 use Rattle.lt_spec.specs.Log.{Logged}
@@ -17,16 +17,6 @@ use Rattle.lt_live.specs.declared.reply.Reply.{Reply}
 use Rattle.lt_live.specs.Replies.{replies_in}
 use Rattle.lt_live_serve.specs.Over.{IsFirstOver}
 use Rattle.lt_live_serve.specs.Status.{cut_of}
-
--- if the bytes are known, they denote this script
-abbrev pub Denotes : Option (List ℕ) → ScriptData → Type 0
-Denotes None script = Unit {0}
-Denotes (Some bytes) script = read_of bytes ≡ Ok script
-
--- if the bytes are known, this is their first fault
-abbrev pub HasFault : Option (List ℕ) → ScriptFault → Type 0
-HasFault None fault = Unit {0}
-HasFault (Some bytes) fault = read_of bytes ≡ Err fault
 
 -- if the bytes are known, they denote a script of which this client is the least that has more commands than its session may submit
 abbrev pub IsOverShare : Option (List ℕ) → ℕ → Type 0

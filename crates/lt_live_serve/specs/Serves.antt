@@ -1,23 +1,21 @@
 -- All that the top call says of an answer: what was written, why the answer comes, and what it says of the source and the sink.
-use Rattle.std.specs.Prelude.{◌≡◌, ◌≢◌, ◌<◌, ◌+◌, ◌⊎◌, ℕ, List, [], Option, Some, None, Ok}
+use Rattle.std.specs.Prelude.{◌≡◌, ◌≢◌, ◌<◌, ◌+◌, ◌⊎◌, ℕ, List, [], Option}
 use Rattle.std.specs.Io.KnownBytes.{Appends}
 use Rattle.lt_io.specs.FaultCounts.{Rose, RoseBy}
 use Rattle.lt_io.specs.Source.{SourceState}
 use Rattle.lt_io.specs.Sink.{AppendsPart}
+use Rattle.lt_call.specs.Scripts.{HasFault, DenotesOrdered}
 use Rattle.lt_call.specs.Outcomes.{WritesNothing, SaysOfSource, SaysOfSink}
-use Rattle.lt_modes.specs.Script.{ScriptData}
 use Rattle.lt_spec.specs.declared.ending.Ending.{Ending}
 use Rattle.lt_spec.specs.declared.ending.Ending.TheVariants as ending
 use Rattle.lt_script.specs.declared.fault.ScriptFault.{ScriptFault}
-use Rattle.lt_script.specs.Reading.{read_of}
-use Rattle.lt_spec.specs.Ordered.{IsOrdered}
 use Rattle.lt_spec.specs.Log.{Logged}
 use Rattle.lt_live.specs.declared.reply.Reply.{Reply}
 use Rattle.lt_live_serve.specs.declared.limits.TheConstants.{MAX_INPUT}
 use Rattle.lt_live_serve.specs.declared.served.Served.{Served}
 use Rattle.lt_live_serve.specs.declared.status.Status.{Status}
-use Rattle.lt_live_serve.specs.declared.status.Status.TheVariants.{Done, Stuck, Usage, Refused, TooLong, ReadFault, WriteFault, NoMemory, Cut, Share}
-use Rattle.lt_live_serve.specs.Runs.{HasFault, IsOverShare, Journals}
+use Rattle.lt_live_serve.specs.declared.status.Status.TheVariants.{Done, Stuck, Usage, Refused, WriteFault, NoMemory, Cut, Share}
+use Rattle.lt_live_serve.specs.Runs.{IsOverShare, Journals}
 use Rattle.lt_live_serve.specs.Status.{outcome_of}
 
 -- it gives no run and no replies, and nothing was written
@@ -38,12 +36,7 @@ Did Done left run polled old new = WroteAll ending.Done left run polled old new
 Did Stuck left run polled old new = WroteAll ending.Stuck left run polled old new
 Did (Cut node) left run polled old new = WroteAll (ending.Cut node) left run polled old new
 Did WriteFault left run polled old new = WrotePart left run polled old new
-Did Usage left run polled old new = DidNothing run polled old new
-Did (Refused fault) left run polled old new = DidNothing run polled old new
-Did TooLong left run polled old new = DidNothing run polled old new
-Did ReadFault left run polled old new = DidNothing run polled old new
-Did NoMemory left run polled old new = DidNothing run polled old new
-Did (Share client) left run polled old new = DidNothing run polled old new
+Did other left run polled old new = DidNothing run polled old new
 
 -- the script has this fault, or this client more commands than its session may submit
 abbrev pub IsUnfit : Option (List ℕ) → Status → Type 0
@@ -57,11 +50,6 @@ pub record IsGood (before after : SourceState) : Type 0 where
   pub not_too_long : RoseBy (MAX_INPUT + 1) before.given after.given → ⊥
   pub no_fault : (fault : ScriptFault) → HasFault before.left fault → ⊥
   pub none_over : (client : ℕ) → IsOverShare before.left client → ⊥
-
--- the bytes are known, and denote an ordered script
-abbrev pub DenotesOrdered : Option (List ℕ) → Type 0
-DenotesOrdered None = ⊥
-DenotesOrdered (Some bytes) = (script : ScriptData) × (read_of bytes ≡ Ok script) × IsOrdered script
 
 -- there are no words, and nothing goes wrong: the input is good, no write failed, and memory wasn't wanting
 pub record GoesWell (words : ℕ) (answer : Status) (before after : SourceState) (writes_before writes_after : ℕ) : Type 0 where

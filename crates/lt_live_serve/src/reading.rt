@@ -1,11 +1,11 @@
 ghost use Rattle.std.specs.Prelude.{◌≡◌, ◌≤◌, Ok, None, length, IfOk, OnOk, IfErr};
 ghost use Rattle.lt_io.specs.Whole.{IsReadWhole};
 ghost use Rattle.lt_call.specs.Outcomes.{IsRefusal, SaysOfSource};
+ghost use Rattle.lt_call.specs.Scripts.{Denotes};
 ghost use Rattle.lt_spec.specs.Script.{IsScript};
 ghost use Rattle.lt_script.specs.Reading.{read_of};
 ghost use Rattle.lt_live_serve.specs.declared.limits.TheConstants.{MAX_INPUT};
 ghost use Rattle.lt_live_serve.specs.Over.{IsFirstOver};
-ghost use Rattle.lt_live_serve.specs.Runs.{Denotes};
 ghost use Rattle.lt_live_serve.specs.Serves.{IsUnfit};
 ghost use Rattle.lt_live_serve.specs.Status.{outcome_of};
 ghost use Rattle.lt_live_serve.specs.Input.{IsFaultOf};

@@ -18,7 +18,7 @@ use Rattle.lt_serve.specs.Serves.{Serves}
 use Rattle.lt_serve.specs.Status.{outcome_of}
 use Rattle.lt_serve.specs.TopCall.{JournalsBy, DidOf}
 use Rattle.lt_serve.proofs.Causing.{written_causes, refused_causes}
-use Rattle.lt_serve.proofs.Completing.{refusal_complete}
+use Rattle.lt_serve.proofs.Completing.{complete_of, refusal_complete}
 use Rattle.lt_serve.proofs.Ended.{stuck_cause}
 
 does_answered : (moves : ℕ) (command : Command) (status : Status) (left : Option (List ℕ)) (run : List Logged) (text : List ℕ)
@@ -48,9 +48,9 @@ pub written_complete : (moves : ℕ) (command : Command) (status : Status) (left
     (before after : SourceState) (w v : ℕ) → DidOf moves command status left run old new → IsEnding (outcome_of status) ⊎ (status ≡ WriteFault) → (status ≡ WriteFault → CountsFaults 1 w v)
     → IsComplete (Some command) status before after w v
 written_complete moves command status left run old new before after w v told (inl h) fault =
-    λ good writes memory. told_answered moves command status left run old new told h
+    complete_of command status before after w v (λ good writes memory. told_answered moves command status left run old new told h)
 written_complete moves command status left run old new before after w v told (inr e) fault =
-    λ good writes memory. absurd (writes (rose 1 w v (fault e)))
+    complete_of command status before after w v (λ good writes memory. absurd (writes (rose 1 w v (fault e))))
 
 refusal_did : (moves : ℕ) (command : Command) (status : Status) (left : Option (List ℕ)) (run : List Logged) (held : Option (List ℕ))
     → IsRefusal command left status → run ≡ [] → DidOf moves command status left run held held

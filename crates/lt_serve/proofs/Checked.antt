@@ -1,5 +1,5 @@
 -- What `check` answers, by what its input says.
-use Rattle.std.proofs.Common.{◌≡◌, ◌∙◌, ℕ, List, Option, Some, None, Result, Ok, Err, refl, sym, ap, subst}
+use Rattle.std.proofs.Common.{◌≡◌, ◌∙◌, ℕ, List, Option, refl, sym, ap, subst}
 use Rattle.lt_io.specs.Source.{SourceState}
 use Rattle.lt_io.specs.Whole.{IsReadWhole}
 use Rattle.lt_call.specs.declared.outcome.Outcome.TheVariants as outcome
@@ -7,7 +7,6 @@ use Rattle.lt_call.specs.Outcomes.{SaysOfSource}
 use Rattle.lt_call.proofs.Answering.{failed_reading, long_reading, memory_reading, refused_reading}
 use Rattle.lt_spec.specs.Log.{Logged}
 use Rattle.lt_modes.specs.Script.{ScriptData}
-use Rattle.lt_text.specs.Text.{lines}
 use Rattle.lt_spec.specs.Script.{IsScript}
 use Rattle.lt_world.specs.Fields.{WorldData}
 use Rattle.lt_spec.specs.Promised.{Promised}
@@ -15,37 +14,19 @@ use Rattle.lt_checker.specs.declared.limits.TheConstants.{MAX_JOURNAL}
 use Rattle.lt_checker.specs.declared.error.InputError.{InputError}
 use Rattle.lt_checker.specs.declared.error.InputError.TheVariants as error
 use Rattle.lt_checker.specs.Input.{IsJournalOf, IsEndedRun, FailsInput}
-use Rattle.lt_law_journals.specs.Checking.{checked}
-use Rattle.lt_law_journals.specs.Input.{counted_from, journal_in, lines_before}
-use Rattle.lt_law_journals.specs.Journals.{IsFinished, journal_lines}
+use Rattle.lt_law_journals.specs.Journals.{IsFinished}
 use Rattle.lt_words.specs.declared.command.Command.TheVariants.{Check}
 use Rattle.lt_serve.specs.declared.made.Made.{Made}
 use Rattle.lt_serve.specs.declared.status.Status.TheVariants.{Done, NoMemory}
 use Rattle.lt_serve.specs.Causes.{IsRefusal, status_of_input}
 use Rattle.lt_serve.specs.Status.{outcome_of}
-use Rattle.lt_serve.specs.TopCall.{Checks, HasLinesOf, ok_text}
-
--- lines that are accepted are those of the text of a finished run
-abbrev pub AcceptedMeans : Type 0
-AcceptedMeans = (script : ScriptData) (all : List (List ℕ)) (run : List Logged) → IsScript script → checked script all ≡ Ok run
-    → IsFinished script run × (all ≡ journal_lines script run)
-
--- so they are those of the run that the journal is accepted as
-has_lines : (left : Option (List ℕ)) (script : ScriptData) (run : List Logged) → AcceptedMeans → IsScript script → IsJournalOf left script run
-    → HasLinesOf left script run
-has_lines None script run means kept accepted = tt
-has_lines (Some bytes) script run means kept accepted =
-    (means script (journal_in (lines bytes)) run kept (uncounted (checked script (journal_in (lines bytes))) accepted)).1
-  where
-    uncounted : (answer : Result (List Logged) ℕ) → counted_from (lines_before (lines bytes)) answer ≡ Ok run → answer ≡ Ok run
-    uncounted (Ok told) e = e
-    uncounted (Err k) e = cc
+use Rattle.lt_serve.specs.TopCall.{Checks, ok_text}
 
 -- the number of moves of the run is the answer to the input that tells the run
-pub counted : (left : Option (List ℕ)) (script : ScriptData) (world : WorldData) (run : List Logged) (made : Made) → AcceptedMeans → IsScript script → IsEndedRun left script world
+pub counted : (left : Option (List ℕ)) (script : ScriptData) (world : WorldData) (run : List Logged) (made : Made) → IsScript script → IsEndedRun left script world
     → run ≡ world.run → Promised script world.run
     → (made.ending ≡ Done) × (made.run.entries ≡ run) × (made.text.items ≡ ok_text run) → Checks made.ending left made.run.entries made.text.items
-counted left script world run made means kept ended is promised h =
+counted left script world run made kept ended is promised h =
     let same : world.run ≡ made.run.entries = sym is ∙ sym h.1 in
     record {
       done = h.0;
@@ -53,7 +34,6 @@ counted left script world run made means kept ended is promised h =
       is_script = kept;
       denoted = ended.denoted;
       accepted = subst (λ (r : List Logged). IsJournalOf left script r) same ended.accepted;
-      same_lines = subst (λ (r : List Logged). HasLinesOf left script r) same (has_lines left script world.run means kept ended.accepted);
       finished = subst (λ (r : List Logged). IsFinished script r) same ended.finished;
       promised = subst (λ (r : List Logged). Promised script r) same promised;
       counted = h.2 ∙ ap ok_text (sym h.1);

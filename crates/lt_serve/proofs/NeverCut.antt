@@ -6,15 +6,16 @@ use Rattle.lt_modes.specs.Script.{ScriptData}
 use Rattle.lt_spec.specs.Log.{Logged}
 use Rattle.lt_law_ends.specs.EndLaws.{NeverCutAtAll}
 use Rattle.lt_call.specs.Outcomes.{IsEnding}
+use Rattle.lt_call.specs.Scripts.{DenotesOrdered}
 use Rattle.lt_words.specs.declared.command.Command.{Command}
 use Rattle.lt_words.specs.declared.command.Command.TheVariants.{Run, SimFirst, Sim, Check, Make, Soak, Order}
 use Rattle.lt_serve.specs.declared.serving.Served.{Served}
 use Rattle.lt_serve.specs.declared.status.Status.{Status}
 use Rattle.lt_serve.specs.declared.status.Status.TheVariants.{Done, Stuck, Usage, Refused, TooLong, ReadFault, WriteFault, NoMemory, Cut, BadJournal}
 use Rattle.lt_serve.specs.Causes.{MayGetStuck, IsUnordered}
-use Rattle.lt_serve.specs.Complete.{IsComplete, IsAnswered}
+use Rattle.lt_serve.specs.Complete.{IsComplete, IsAnswered, GoesWell}
 use Rattle.lt_serve.specs.Endings.{RanTo}
-use Rattle.lt_serve.specs.Ends.{Ends, GoesWell, DenotesOrdered, RunsOrdered}
+use Rattle.lt_serve.specs.Ends.{Ends, RunsOrdered}
 use Rattle.lt_serve.specs.Serves.{Serves}
 use Rattle.lt_serve.specs.Status.{outcome_of}
 use Rattle.lt_serve.specs.TopCall.{JournalsBy, DidOf, Did, greatest_script}
@@ -75,8 +76,7 @@ answered_rests Order status h uncut = inl h
 rests : (asked : Option Command) (status : Status) (before after : SourceState) (w v : ℕ) → IsComplete asked status before after w v
     → ((node : ℕ) → status ≢ Cut node) → GoesWell asked status before after w v → (status ≡ Done) ⊎ (status ≡ Stuck)
 rests asked status before after w v complete uncut well =
-    let all = subst (λ (a : Option Command). IsComplete a status before after w v) well.is_asked complete in
-    answered_rests well.command status (all well.good well.no_write_fault well.memory) uncut
+    answered_rests well.command status (complete well) uncut
 
 denoted_not_stuck : (left : Option (List ℕ)) → DenotesOrdered left → IsUnordered left → ⊥
 denoted_not_stuck None ordered unordered = ordered

@@ -3,16 +3,13 @@ use Rattle.std.proofs.Common.{◌≡◌, ◌∙◌, ℕ, suc, List, [], ◌∷�
 use Rattle.std.specs.Prelude.{option_map}
 use Rattle.lt_modes.specs.Script.{ScriptData}
 use Rattle.lt_spec.specs.Log.{Logged}
-use Rattle.lt_spec.specs.World.{World, start, after, after_run, logged}
+use Rattle.lt_spec.specs.World.{World, after, after_run, logged}
 use Rattle.lt_spec.specs.FixedOrder.{Turn, pick, count_turns, first_run_from}
 use Rattle.lt_law_journals.proofs.Places.{stamp_node}
 use Rattle.lt_world.specs.declared.choice.Choice.{Choice}
 use Rattle.lt_world.specs.Choice.{choice_of}
 use Rattle.lt_serve.specs.declared.schedule.Schedule.{Schedule}
-use Rattle.lt_serve.specs.declared.schedule.Schedule.TheVariants.{First, Drawn}
-use Rattle.lt_gen.specs.Draws.{seeded}
-use Rattle.lt_serve.specs.declared.status.Status.{Status}
-use Rattle.lt_serve.specs.TopCall.{JournalsInOrder, JournalsFirst, JournalsDrawn}
+use Rattle.lt_serve.specs.declared.schedule.Schedule.TheVariants.{First}
 use Rattle.lt_serve.specs.Schedules.{scheduled, IsAt, AreInOrderFrom}
 
 -- the schedule after these moves
@@ -64,20 +61,3 @@ first_from script w (entry ∷ rest) h =
     let later : rest ≡ first_run_from (length rest) script (after script w turn.node turn.step) =
     rw (sym node, sym step) (first_from script (after script w entry.made.stamp.node entry.made.step) rest h.1) in
     ap (λ (e : Logged). e ∷ rest) made ∙ first_more script w turn rest h.0.1 later
-
--- a journal of the first moves, and one of drawn moves
-pub first_journals : (moves : ℕ) (ending : Status) (left : Option (List ℕ)) (run : List Logged) (text : List ℕ)
-    → JournalsInOrder First moves ending left run text → JournalsFirst moves ending left run text
-first_journals moves ending left run text h = record {
-  journals = h.journals;
-  in_order = first_from h.journals.script (start h.journals.script) run h.in_order;
-  in_time = h.in_time;
-}
-
-pub drawn_journals : (seed moves : ℕ) (ending : Status) (left : Option (List ℕ)) (run : List Logged) (text : List ℕ)
-    → JournalsInOrder (Drawn (seeded seed)) moves ending left run text → JournalsDrawn seed moves ending left run text
-drawn_journals seed moves ending left run text h = record {
-  journals = h.journals;
-  drawn = h.in_order;
-  in_time = h.in_time;
-}

@@ -1,29 +1,28 @@
 -- Why an answer comes, and what it says of the source and the sink.
-use Rattle.std.specs.Prelude.{◌≡◌, ◌≢◌, Bool, true, false, ℕ, ◌+◌, ◌≤◌, Option, Some, None, Ok, List}
+use Rattle.std.specs.Prelude.{◌≡◌, Bool, true, false, ℕ, Option, Some, None, IfSome, Ok, List}
 use Rattle.lt_script.specs.declared.fault.ScriptFault.{ScriptFault}
 use Rattle.lt_script.specs.Reading.{read_of}
 use Rattle.lt_spec.specs.Ordered.{IsOrdered}
+use Rattle.lt_call.specs.Scripts.{HasFault}
 use Rattle.lt_words.specs.declared.command.Command.{Command}
-use Rattle.lt_words.specs.declared.command.Command.TheVariants.{Run, SimFirst, Sim, Check, Make, Soak, Order}
+use Rattle.lt_words.specs.declared.command.Command.TheVariants.{Run, SimFirst, Sim, Check, Make, Soak}
 use Rattle.lt_modes.specs.Script.{ScriptData}
 use Rattle.lt_checker.specs.declared.limits.TheConstants.{MAX_JOURNAL}
 use Rattle.lt_checker.specs.declared.error.InputError.{InputError}
 use Rattle.lt_checker.specs.declared.error.InputError.TheVariants as error
 use Rattle.lt_checker.specs.Input.{HasFaultBefore, IsBad}
 use Rattle.lt_serve.specs.declared.limits.TheConstants.{MAX_INPUT}
-use Rattle.lt_serve.specs.TopCall.{HasFault, greatest_script}
+use Rattle.lt_serve.specs.TopCall.{greatest_script}
 use Rattle.lt_gen.specs.Sizes.{can_make}
 use Rattle.lt_serve.specs.declared.status.Status.{Status}
-use Rattle.lt_serve.specs.declared.status.Status.TheVariants.{Done, Stuck, Usage, Refused, TooLong, ReadFault, WriteFault, NoMemory, Cut, BadJournal}
+use Rattle.lt_serve.specs.declared.status.Status.TheVariants.{Stuck, Usage, Refused, TooLong, ReadFault, NoMemory, BadJournal}
 
 -- the command reads the source
 abbrev pub reads : Option Command → Bool
-reads (Some SimFirst) = true
-reads (Some (Sim seed)) = true
-reads (Some Run) = true
-reads (Some Check) = true
-reads (Some Order) = true
-reads other = false
+reads None = false
+reads (Some (Make nodes clients commands seed)) = false
+reads (Some (Soak seed)) = false
+reads other = true
 
 -- so many bytes its input may have
 abbrev pub limit_of : Option Command → ℕ
@@ -31,14 +30,13 @@ limit_of (Some Check) = MAX_JOURNAL
 limit_of other = MAX_INPUT
 
 -- if the bytes are known, this is the first fault of the script that the command reads
-abbrev pub IsRefused : Option Command → Option (List ℕ) → ScriptFault → Type 0
-IsRefused (Some Check) left fault = HasFaultBefore left fault
-IsRefused other left fault = HasFault left fault
+abbrev pub HasFirstFault : Option Command → Option (List ℕ) → ScriptFault → Type 0
+HasFirstFault (Some Check) left fault = HasFaultBefore left fault
+HasFirstFault other left fault = HasFault left fault
 
 -- if the bytes are known, the script that they denote isn't ordered
 abbrev pub IsUnordered : Option (List ℕ) → Type 0
-IsUnordered None = Unit {0}
-IsUnordered (Some bytes) = (script : ScriptData) → read_of bytes ≡ Ok script → IsOrdered script → ⊥
+IsUnordered left = IfSome left (λ bytes. (script : ScriptData) → read_of bytes ≡ Ok script → IsOrdered script → ⊥)
 
 -- a run that the command makes may end with a client waiting: its script isn't ordered
 abbrev pub MayGetStuck : Option Command → Option (List ℕ) → Type 0
@@ -53,7 +51,7 @@ MayGetStuck other left = ⊥
 pub record HasStatusCause (asked : Option Command) (left : Option (List ℕ)) (answer : Status) : Type 0 where
   pub usage : answer ≡ Usage → asked ≡ None
   pub no_command : asked ≡ None → answer ≡ Usage
-  pub refused : (fault : ScriptFault) → answer ≡ Refused fault → IsRefused asked left fault
+  pub refused : (fault : ScriptFault) → answer ≡ Refused fault → HasFirstFault asked left fault
   pub bad_journal : (line : ℕ) → answer ≡ BadJournal line → (asked ≡ Some Check) × IsBad left line
   pub stuck : answer ≡ Stuck → MayGetStuck asked left
   -- these come of reading alone
@@ -62,7 +60,7 @@ pub record HasStatusCause (asked : Option Command) (left : Option (List ℕ)) (a
 
 -- why a command came to no end
 abbrev pub IsRefusal : Command → Option (List ℕ) → Status → Type 0
-IsRefusal command left (Refused fault) = (reads (Some command) ≡ true) × IsRefused (Some command) left fault
+IsRefusal command left (Refused fault) = (reads (Some command) ≡ true) × HasFirstFault (Some command) left fault
 IsRefusal command left TooLong = reads (Some command) ≡ true
 IsRefusal command left ReadFault = reads (Some command) ≡ true
 IsRefusal command left NoMemory = Unit {0}

@@ -4,7 +4,7 @@ use Rattle.lt_modes.specs.Script.{ScriptData}
 use Rattle.lt_spec.specs.Log.{Logged}
 use Rattle.lt_spec.specs.World.{World, start, after, logged}
 use Rattle.lt_spec.specs.FixedOrder.{Turn, pick, count_turns}
-use Rattle.lt_gen.specs.Draws.{seeded, draw_of}
+use Rattle.lt_gen.specs.Draws.{draw_of}
 use Rattle.lt_serve.specs.declared.schedule.Schedule.{Schedule}
 use Rattle.lt_serve.specs.declared.schedule.Schedule.TheVariants.{First, Drawn}
 
@@ -28,7 +28,3 @@ AreInOrderFrom script w schedule (entry ∷ rest) =
 -- each move of the run is the one whose place the schedule gives
 abbrev pub AreInOrder : Schedule → ScriptData → List Logged → Type 0
 AreInOrder schedule script run = AreInOrderFrom script (start script) schedule run
-
--- each move is drawn from the enabled ones, with the numbers of this seed
-abbrev pub AreDrawn : ℕ → ScriptData → List Logged → Type 0
-AreDrawn seed script run = AreInOrder (Drawn (seeded seed)) script run

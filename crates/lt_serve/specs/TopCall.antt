@@ -1,44 +1,32 @@
 -- What each answer of the top call means.
-use Rattle.std.specs.Prelude.{◌≡◌, ℕ, List, [], ◌∷◌, ◌++◌, Option, Some, None, Ok, Err, length, codes}
+use Rattle.std.specs.Prelude.{◌≡◌, ℕ, List, [], ◌∷◌, ◌++◌, Option, Some, None, length, codes}
 use Rattle.std.specs.Fmt.{decimal}
 use Rattle.std.specs.Io.KnownBytes.{Appends}
 use Rattle.lt_io.specs.Sink.{AppendsPart}
+use Rattle.lt_call.specs.Scripts.{Denotes}
 use Rattle.lt_modes.specs.Script.{ScriptData, client_name}
 use Rattle.lt_spec.specs.Log.{Logged}
 use Rattle.lt_merge.specs.Merging.{AreRising}
-use Rattle.lt_spec.specs.FixedOrder.{first_run}
-use Rattle.lt_text.specs.Text.{lines}
 use Rattle.lt_journal.specs.Text.{text_of, lines_text}
 use Rattle.lt_journal.specs.declared.line.Line.TheVariants.{Cut as CutLine}
-use Rattle.lt_law_journals.specs.Input.{journal_in}
-use Rattle.lt_law_journals.specs.Journals.{IsFinished, journal_lines}
+use Rattle.lt_law_journals.specs.Journals.{IsFinished}
 use Rattle.lt_spec.specs.Promised.{Promised}
 use Rattle.lt_checker.specs.Input.{DenotesBefore, IsJournalOf}
 use Rattle.lt_gen.specs.Generator.{script_of}
 use Rattle.lt_spec.specs.Ordered.{first_bad}
 use Rattle.lt_tally.specs.Summary.{summary_of, summary_text}
-use Rattle.lt_script.specs.declared.fault.ScriptFault.{ScriptFault}
 use Rattle.lt_spec.specs.Script.{IsScript}
 use Rattle.lt_script.specs.Printing.{print_of}
-use Rattle.lt_script.specs.Reading.{read_of}
 use Rattle.lt_words.specs.declared.command.Command.{Command}
 use Rattle.lt_words.specs.declared.command.Command.TheVariants.{Run, SimFirst, Sim, Check, Make, Soak, Order}
 use Rattle.lt_serve.specs.declared.status.Status.{Status}
-use Rattle.lt_serve.specs.declared.status.Status.TheVariants.{Done, Stuck, Usage, Refused, TooLong, ReadFault, WriteFault, NoMemory, Cut, BadJournal}
+use Rattle.lt_serve.specs.declared.status.Status.TheVariants.{Done, Stuck, WriteFault, Cut}
 use Rattle.lt_threads.specs.Threads.{GoesFar}
 use Rattle.lt_serve.specs.Endings.{RanTo, StopsInTime, cut_of}
+use Rattle.lt_gen.specs.Draws.{seeded}
 use Rattle.lt_serve.specs.declared.schedule.Schedule.{Schedule}
-use Rattle.lt_serve.specs.Schedules.{AreInOrder, AreDrawn}
-
--- if the bytes are known, they denote this script
-abbrev pub Denotes : Option (List ℕ) → ScriptData → Type 0
-Denotes None script = Unit {0}
-Denotes (Some bytes) script = read_of bytes ≡ Ok script
-
--- if the bytes are known, this is their first fault
-abbrev pub HasFault : Option (List ℕ) → ScriptFault → Type 0
-HasFault None fault = Unit {0}
-HasFault (Some bytes) fault = read_of bytes ≡ Err fault
+use Rattle.lt_serve.specs.declared.schedule.Schedule.TheVariants.{First, Drawn}
+use Rattle.lt_serve.specs.Schedules.{AreInOrder}
 
 -- a run of the script that the bytes denote, which ended so, and its journal
 pub record Journals (moves : ℕ) (ending : Status) (left : Option (List ℕ)) (run : List Logged) (text : List ℕ) : Type 0 where
@@ -51,18 +39,6 @@ pub record Journals (moves : ℕ) (ending : Status) (left : Option (List ℕ)) (
 pub record JournalsInOrder (schedule : Schedule) (moves : ℕ) (ending : Status) (left : Option (List ℕ)) (run : List Logged) (text : List ℕ) : Type 0 where
   pub journals : Journals moves ending left run text
   pub in_order : AreInOrder schedule journals.script run
-  pub in_time : StopsInTime moves journals.script run
-
--- the same, each move the first enabled one
-pub record JournalsFirst (moves : ℕ) (ending : Status) (left : Option (List ℕ)) (run : List Logged) (text : List ℕ) : Type 0 where
-  pub journals : Journals moves ending left run text
-  pub in_order : run ≡ first_run journals.script (length run)
-  pub in_time : StopsInTime moves journals.script run
-
--- the same, each move drawn with the numbers of this seed
-pub record JournalsDrawn (seed moves : ℕ) (ending : Status) (left : Option (List ℕ)) (run : List Logged) (text : List ℕ) : Type 0 where
-  pub journals : Journals moves ending left run text
-  pub drawn : AreDrawn seed journals.script run
   pub in_time : StopsInTime moves journals.script run
 
 -- the same, its moves in the order of their stamps, and each node that could make a further one has made as many as it may
@@ -96,11 +72,6 @@ Prints nodes clients commands seed ending run text =
 abbrev pub ok_text : List Logged → List ℕ
 ok_text run = codes "ok " ++ decimal (length run) ++ codes "\n"
 
--- if the bytes are known, the lines of the journal in them are those of this run's text
-abbrev pub HasLinesOf : Option (List ℕ) → ScriptData → List Logged → Type 0
-HasLinesOf None script run = Unit {0}
-HasLinesOf (Some bytes) script run = journal_in (lines bytes) ≡ journal_lines script run
-
 -- the input is a script and the journal of a run of it that ended at rest, which is the answer's, and the number of its moves is written
 pub record Checks (ending : Status) (left : Option (List ℕ)) (run : List Logged) (text : List ℕ) : Type 0 where
   pub done : ending ≡ Done
@@ -108,7 +79,6 @@ pub record Checks (ending : Status) (left : Option (List ℕ)) (run : List Logge
   pub is_script : IsScript script
   pub denoted : DenotesBefore left script
   pub accepted : IsJournalOf left script run
-  pub same_lines : HasLinesOf left script run
   pub finished : IsFinished script run
   pub promised : Promised script run
   pub counted : text ≡ ok_text run
@@ -129,8 +99,8 @@ pub record TellsOrder (ending : Status) (left : Option (List ℕ)) (run : List L
 
 -- what a command did that ended so: its run, and the text that is to be written
 abbrev pub JournalsBy : ℕ → Command → Status → Option (List ℕ) → List Logged → List ℕ → Type 0
-JournalsBy moves SimFirst ending left run text = JournalsFirst moves ending left run text
-JournalsBy moves (Sim seed) ending left run text = JournalsDrawn seed moves ending left run text
+JournalsBy moves SimFirst ending left run text = JournalsInOrder First moves ending left run text
+JournalsBy moves (Sim seed) ending left run text = JournalsInOrder (Drawn (seeded seed)) moves ending left run text
 JournalsBy moves (Make nodes clients commands seed) ending left run text = Prints nodes clients commands seed ending run text
 JournalsBy moves Check ending left run text = Checks ending left run text
 JournalsBy moves Run ending left run text = JournalsThreads moves ending left run text
@@ -156,12 +126,7 @@ DidOf moves command Done left run old new = WroteAll moves command Done left run
 DidOf moves command Stuck left run old new = WroteAll moves command Stuck left run old new
 DidOf moves command (Cut node) left run old new = WroteAll moves command (Cut node) left run old new
 DidOf moves command WriteFault left run old new = WrotePart moves command left run old new
-DidOf moves command Usage left run old new = DidNothing run old new
-DidOf moves command (Refused fault) left run old new = DidNothing run old new
-DidOf moves command TooLong left run old new = DidNothing run old new
-DidOf moves command ReadFault left run old new = DidNothing run old new
-DidOf moves command NoMemory left run old new = DidNothing run old new
-DidOf moves command (BadJournal line) left run old new = DidNothing run old new
+DidOf moves command other left run old new = DidNothing run old new
 
 -- the same where the words are this command, or none
 abbrev pub Did : ℕ → Option Command → Status → Option (List ℕ) → List Logged → Option (List ℕ) → Option (List ℕ) → Type 0

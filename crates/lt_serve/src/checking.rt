@@ -13,7 +13,6 @@ use crate::made::Made;
 use crate::status::Status;
 use lt_checker::check_input;
 use lt_io::Source;
-use lt_law_journals::law_means;
 use lt_law_promises::law_promised;
 use lt_merge::Run;
 use std::alloc::{AllocError, Global};
@@ -27,7 +26,6 @@ pub(crate) fn checked<S: Source>(alloc: Global, source: &mut S) -> Result<Made, 
     ensures reading { IfErr result (λ answer. SaysOfSource MAX_JOURNAL (outcome_of answer) (S.state source.old) (S.state source.new)) }
     ensures refused { IfErr result (IsRefusal command.Check (S.state source.old).left) }
 {
-    law_means();
     law_promised();
     let ended = check_input(alloc, source)?;
     match with_count(alloc, ended.world.into_run()) {

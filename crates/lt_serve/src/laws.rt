@@ -1,3 +1,9 @@
+ghost use Rattle.std.specs.Prelude.{◌≡◌, List, length};
+ghost use Rattle.lt_modes.specs.Script.{ScriptData};
+ghost use Rattle.lt_spec.specs.Log.{Logged};
+ghost use Rattle.lt_spec.specs.FixedOrder.{first_run};
+ghost use Rattle.lt_serve.specs.declared.schedule.Schedule.TheVariants.{First};
+ghost use Rattle.lt_serve.specs.Schedules.{AreInOrder};
 ghost use Rattle.lt_serve.specs.Literals.{CodesAre, TextsAre, SoakLimitsAre, SoakIs};
 
 use lt_gen::law_generated;
@@ -11,3 +17,9 @@ pub fn law_literals()
 {
     law_generated();
 }
+
+/// A run whose moves are in the order of `sim first` is the run of the fixed order.
+pub fn law_fixed_order()
+    ensures { (script : ScriptData) → (run : List Logged) → AreInOrder First script run
+        → run ≡ first_run script (length run) }
+{}

@@ -103,6 +103,7 @@ pub fn serve_with<R: Threads + Sync, S: Source, K: Sink, G: Gate>(
 }
 
 // Does what the words say, up to so many moves of a node.
+#[tactic(auto, using(crate::proofs::Completing::none_complete, crate::proofs::Completing::memory_complete))]
 fn answered<R: Threads + Sync, S: Source, K: Sink, G: Gate>(
     rt: &R,
     alloc: Global,

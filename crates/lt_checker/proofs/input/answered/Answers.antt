@@ -1,20 +1,30 @@
-use Rattle.std.proofs.Common.{Ok, drop, subst}
+use Rattle.std.proofs.Common.{◌≡◌, Err, drop, subst}
 use Rattle.lt_text.specs.Text.{lines}
 use Rattle.lt_journal.specs.Split.{input_parts}
 use Rattle.lt_law_journals.specs.Checking.{checked}
+use Rattle.lt_checker.specs.declared.error.ReplayError.TheVariants.{Bad}
 use Rattle.lt_checker.specs.Endings.{EndsIn, IsWorldAnswer}
-use Rattle.lt_checker.proofs.Inputs.{input_told}
+use Rattle.lt_checker.proofs.Inputs.{bad_input}
 use Rattle.lt_checker.proofs.input.answered.Goals as goal
 
 pub returns-in-Ok-clause-answer : goal.returns-in-Ok-clause-answer
 returns-in-Ok-clause-answer c = λ bytes read before answers.
     let script = c.args.script in
     let world = c.in-Ok.world in
-    let told = checked script (lines (drop (input_parts bytes).journal bytes)) in
-    let ended : EndsIn script told world = subst (IsWorldAnswer script told) c.in-Ok.is answers in
+    let all = lines (drop (input_parts bytes).journal bytes) in
+    let ended : EndsIn script (checked script all) world = subst (IsWorldAnswer script (checked script all)) c.in-Ok.is answers in
     record {
       denoted = read;
-      accepted = input_told script bytes (Ok world.run) (c.law_input.ensures.journal bytes) (c.law_input.ensures.before bytes) ended.run_is;
+      accepted = (c.law_means.ensures script all world.run c.requires.kept ended.run_is).1;
       finished = ended.finished;
       script_is = ended.script_is;
     }
+
+pub returns-clause-answer : goal.returns-clause-answer
+returns-clause-answer c = λ bytes read before answers.
+    let script = c.args.script in
+    let told = checked script (lines (drop (input_parts bytes).journal bytes)) in
+    let is = c.in-Err-Bad.is in
+    let field = c.in-Err-Bad.field-0-is in
+    let bad : c.args.told ≡ Err (Bad c.in-Err-Bad.line) = cc in
+    bad_input script bytes c.args.before c.in-Err-Bad.line c.requires.kept read before (subst (IsWorldAnswer script told) bad answers)

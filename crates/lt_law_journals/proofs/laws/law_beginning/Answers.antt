@@ -2,6 +2,7 @@ use Rattle.lt_law_journals.specs.Checking.{first_place}
 use Rattle.std.proofs.Common.{[]}
 use Rattle.lt_law_journals.proofs.Places.{first_begins}
 use Rattle.lt_law_journals.proofs.Accepting.{begins_all, begun}
+use Rattle.lt_law_journals.proofs.Firsts.{begins_where_right}
 use Rattle.lt_law_journals.proofs.laws.law_beginning.Goals as goal
 
 pub returns-clause-read : goal.returns-clause-read
@@ -9,3 +10,6 @@ returns-clause-read c = λ script read place is_script e. begins_all script [] (
 
 pub returns-clause-begun : goal.returns-clause-begun
 returns-clause-begun c = λ script read is_script beginning. begun script read beginning.0 is_script beginning.1
+
+pub returns-clause-journal : goal.returns-clause-journal
+returns-clause-journal c = begins_where_right
