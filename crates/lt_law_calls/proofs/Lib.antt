@@ -1,0 +1,4 @@
+pub mod PlainCallsOpened
+pub mod ReportInputs
+pub mod ReportsOpened
+pub mod NestsOpened

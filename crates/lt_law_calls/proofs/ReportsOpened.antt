@@ -1,0 +1,168 @@
+-- Each field of what is said of a report of who waits for whom.
+use Rattle.std.proofs.Common.{◌≡◌, ◌++◌, ℕ, List, [], Ok, Err, Option, Some, refl, sym, ap, ap₂, subst, ◌∙◌}
+use Rattle.std.specs.Prelude.{Result, take, codes}
+use Rattle.std.specs.Io.KnownBytes.{Appends}
+use Rattle.lt_io.specs.Sink.{AppendsPart}
+use Rattle.lt_modes.specs.Script.{ScriptData}
+use Rattle.lt_spec.specs.Log.{Logged}
+use Rattle.lt_spec.specs.Reports.{waits_report}
+use Rattle.lt_spec.specs.World.{world_after}
+use Rattle.lt_text.specs.Text.{lines}
+use Rattle.lt_call.specs.Outcomes.{IsRefused}
+use Rattle.lt_script.specs.declared.fault.ScriptFault.{ScriptFault}
+use Rattle.lt_script.specs.Reading.{read_of}
+use Rattle.lt_journal.specs.Split.{input_parts}
+use Rattle.lt_law_journals.specs.Input.{checked_input}
+use Rattle.lt_checker.specs.Input.{DenotesBefore, IsBad}
+use Rattle.lt_waits.specs.declared.answer.Answer.{Answer}
+use Rattle.lt_waits.specs.declared.answer.Answer.TheVariants.{Done, Usage, Refused, TooLong, ReadFault, WriteFault, NoMemory, BadJournal}
+use Rattle.lt_waits.specs.Answers.{outcome_of}
+use Rattle.lt_waits.specs.Report.{waits_text}
+use Rattle.lt_waits.specs.Serves.{IsReportOf, IsUnfit}
+use Rattle.lt_law_calls.specs.PlainCalls.{PlainCall, ReadsPlain, PlainlyTold}
+use Rattle.lt_law_calls.specs.Reports.{ReportCodesAre, ReportTextsAre, IsReportCall, Reports, ReportsTold, no_nodes_fault, writers_apart, writers_report, both_change, wrong_grant}
+use Rattle.lt_law_calls.proofs.ReportInputs.{InputIs, apart_script, writer_moves, change_script, change_moves, nothing_read, apart_is, change_is, wrong_is, apart_text, change_text}
+use Rattle.lt_law_calls.proofs.PlainCallsOpened.{plainly_told, part_so, appended, one_text, five_text, seven_text}
+
+pub report_codes_are : ReportCodesAre
+report_codes_are = record {
+  done = refl;
+  usage = refl;
+  refused = refl;
+  too_long = refl;
+  read_fault = refl;
+  write_fault = refl;
+  no_memory = refl;
+  bad_journal = refl;
+  input = refl;
+}
+
+pub report_texts_are : ReportTextsAre
+report_texts_are = record {
+  done = refl;
+  usage = refl;
+  refused = ap₂ (λ (line number : List ℕ). codes "lockwaits: " ++ (codes "line " ++ line ++ codes ": S" ++ number)) one_text five_text;
+  too_long = refl;
+  read_fault = refl;
+  write_fault = refl;
+  no_memory = refl;
+  bad_journal = ap (λ (line : List ℕ). codes "lockwaits: line " ++ line ++ codes ": journal") seven_text;
+}
+
+-- a result says one thing
+
+same_script : (a b : ScriptData) (read : Result ScriptData ScriptFault) → read ≡ Ok a → read ≡ Ok b → a ≡ b
+same_script a b read e f = cc
+
+same_fault : (a b : ScriptFault) (read : Result ScriptData ScriptFault) → read ≡ Err a → read ≡ Err b → a ≡ b
+same_fault a b read e f = cc
+
+script_or_fault : (script : ScriptData) (fault : ScriptFault) (read : Result ScriptData ScriptFault) → read ≡ Ok script → read ≡ Err fault → ⊥
+script_or_fault script fault read e f = cc
+
+same_run : (a b : List Logged) (answer : Result (List Logged) ℕ) → answer ≡ Ok a → answer ≡ Ok b → a ≡ b
+same_run a b answer e f = cc
+
+same_line : (a b : ℕ) (answer : Result (List Logged) ℕ) → answer ≡ Err a → answer ≡ Err b → a ≡ b
+same_line a b answer e f = cc
+
+run_or_line : (run : List Logged) (line : ℕ) (answer : Result (List Logged) ℕ) → answer ≡ Ok run → answer ≡ Err line → ⊥
+run_or_line run line answer e f = cc
+
+-- the run that a report is of
+run_so : (bytes : List ℕ) (script other : ScriptData) (answer : Result (List Logged) ℕ) (run : List Logged) → InputIs bytes script answer
+    → DenotesBefore (Some bytes) other → checked_input other (lines bytes) ≡ Ok run → answer ≡ Ok run
+run_so bytes script other answer run is denoted accepted =
+    sym is.answered
+    ∙ ap (λ (s : ScriptData). checked_input s (lines bytes)) (same_script script other (read_of (take (input_parts bytes).script bytes)) is.denoted denoted)
+    ∙ accepted
+
+text_so : (bytes : List ℕ) (script : ScriptData) (run : List Logged) (text : List ℕ) → InputIs bytes script (Ok run) → IsReportOf (Some bytes) text
+    → text ≡ waits_text script (waits_report script (world_after script run))
+text_so bytes script run text is h =
+    h.told
+    ∙ ap₂ (λ (s : ScriptData) (r : List Logged). waits_text s (waits_report s (world_after s r)))
+    (same_script h.script script (read_of (take (input_parts bytes).script bytes)) h.denoted is.denoted)
+    (same_run h.run run (Ok h.run) refl (sym (run_so bytes script h.script (Ok run) h.run is h.denoted h.accepted)))
+
+done_of : (c : PlainCall Answer) (bytes : List ℕ) → ReadsPlain IsReportCall outcome_of bytes c → c.answer ≡ Done
+    → (text : List ℕ) × IsReportOf (Some bytes) text × Appends c.sink.held c.sink_after.held text
+done_of c bytes reads e =
+    let done = reads.serves.done (ap outcome_of e) in
+    (done.0, subst (λ (left : Option (List ℕ)). IsReportOf left done.0) reads.input done.1, done.2)
+
+reports : (bytes : List ℕ) (script : ScriptData) (run : List Logged) (text : List ℕ) → InputIs bytes script (Ok run)
+    → waits_text script (waits_report script (world_after script run)) ≡ text → Reports bytes text
+reports bytes script run text is told c old new h held =
+    let done = done_of c bytes h.0 h.1 in
+    appended c.sink.held c.sink_after.held old new done.0 held.0 held.1 done.2
+    ∙ ap (λ (t : List ℕ). old ++ t) (text_so bytes script run done.0 is done.1 ∙ told)
+
+-- why an input is refused
+unfit_in : (c : PlainCall Answer) (bytes : List ℕ) (answer : Answer) → ReadsPlain IsReportCall outcome_of bytes c → c.answer ≡ answer
+    → IsRefused (outcome_of answer) → IsUnfit (Some bytes) answer
+unfit_in c bytes answer reads e is =
+    subst (λ (a : Answer). IsUnfit (Some bytes) a) e
+    (subst (λ (left : Option (List ℕ)). IsUnfit left c.answer) reads.input
+    (reads.serves.refused (subst (λ (a : Answer). IsRefused (outcome_of a)) (sym e) is)))
+
+bad_so : (bytes : List ℕ) (script : ScriptData) (answer : Result (List Logged) ℕ) (line : ℕ) → InputIs bytes script answer
+    → IsBad (Some bytes) line → answer ≡ Err line
+bad_so bytes script answer line is bad =
+    sym is.answered
+    ∙ ap (λ (s : ScriptData). checked_input s (lines bytes)) (same_script script bad.0 (read_of (take (input_parts bytes).script bytes)) is.denoted bad.1)
+    ∙ bad.2
+
+pub reports_told : ReportsTold
+reports_told = record {
+  ends_text = reports writers_apart apart_script writer_moves writers_report apart_is apart_text;
+  cycle_text = reports both_change change_script change_moves (codes "waits a b\nwaits b a\ncycle a b\n") change_is change_text;
+  part = λ c old new h held.
+      let fault = h.0.serves.write_fault (ap outcome_of h.1) in
+      let report = subst (λ (left : Option (List ℕ)). IsReportOf left fault.0) h.0.input fault.1 in
+      part_so c.sink.held c.sink_after.held old new writers_report held.0 held.1
+      (subst (λ (t : List ℕ). AppendsPart c.sink.held c.sink_after.held t) (text_so writers_apart apart_script writer_moves fault.0 apart_is report ∙ apart_text) fault.2);
+  bad = λ c line h.
+      same_line line 9 (Err line) refl (sym (bad_so wrong_grant apart_script (Err 9) line wrong_is (unfit_in c wrong_grant (BadJournal line) h.0 h.1 tt)));
+  never_bad = λ c line h.
+      run_or_line writer_moves line (Ok writer_moves) refl (bad_so writers_apart apart_script (Ok writer_moves) line apart_is (unfit_in c writers_apart (BadJournal line) h.0 h.1 tt));
+  never_done = λ c h.
+      let done = done_of c wrong_grant h.0 h.1 in
+      run_or_line done.1.run 9 (Ok done.1.run) refl (sym (run_so wrong_grant apart_script done.1.script (Err 9) done.1.run wrong_is done.1.denoted done.1.accepted));
+  fault = λ c fault h. same_fault fault no_nodes_fault (read_of (take (input_parts []).script [])) (unfit_in c [] (Refused fault) h.0 h.1 tt) nothing_read;
+  never_refused = λ c fault h.
+      script_or_fault apart_script fault (read_of (take (input_parts writers_apart).script writers_apart)) apart_is.denoted
+      (unfit_in c writers_apart (Refused fault) h.0 h.1 tt);
+  unknown = λ c old new serves e held.
+      let done = serves.done (ap outcome_of e) in
+      let r = done.1 in (
+        r.script,
+        r.run,
+        record {
+          is_run = r.finished.is_run;
+          at_rest = r.finished.at_rest;
+          told = appended c.sink.held c.sink_after.held old new done.0 held.0 held.1 done.2 ∙ ap (λ (t : List ℕ). old ++ t) r.told;
+          tells = record {
+            some = r.explained.some;
+            cycles = r.explained.cycles;
+            rings = r.explained.rings;
+            ends = r.explained.ends;
+            all = r.explained.all;
+          };
+        },
+      );
+}
+
+none_refused : (answer : Answer) → IsRefused (outcome_of answer) → IsUnfit (Some writers_apart) answer → ⊥
+none_refused (Refused fault) is h =
+    script_or_fault apart_script fault (read_of (take (input_parts writers_apart).script writers_apart)) apart_is.denoted h
+none_refused (BadJournal line) is h = run_or_line writer_moves line (Ok writer_moves) refl (bad_so writers_apart apart_script (Ok writer_moves) line apart_is h)
+none_refused Done is h = h
+none_refused Usage is h = h
+none_refused TooLong is h = h
+none_refused ReadFault is h = h
+none_refused WriteFault is h = h
+none_refused NoMemory is h = h
+
+pub report_plainly_told : PlainlyTold IsReportCall outcome_of 67108864 writers_apart
+report_plainly_told = plainly_told outcome_of IsReportOf IsUnfit 67108864 writers_apart refl none_refused

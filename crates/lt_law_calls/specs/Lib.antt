@@ -1,0 +1,3 @@
+pub mod PlainCalls
+pub mod Reports
+pub mod NestCalls
