@@ -27,3 +27,7 @@ pub mod Orderings
 pub mod OrderSaid
 pub mod ServeAnswers
 pub mod EndSaid
+pub mod PlainCallsOpened
+pub mod ReportInputs
+pub mod ReportsOpened
+pub mod NestsOpened

@@ -24,3 +24,6 @@ pub mod TwoOrders
 pub mod OrderAnswers
 pub mod WholeAnswers
 pub mod EndAnswers
+pub mod PlainCalls
+pub mod Reports
+pub mod NestCalls

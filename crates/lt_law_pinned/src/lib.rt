@@ -4,9 +4,11 @@
 #![tactic(auto)]
 
 mod answers;
+mod calls;
 mod laws;
 mod live;
 
 pub use answers::law_answers;
+pub use calls::{law_nests_told, law_reports_told};
 pub use laws::{law_excluded, law_texts, law_told, law_worlds_excluded};
 pub use live::law_live_told;

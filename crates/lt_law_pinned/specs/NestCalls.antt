@@ -7,7 +7,7 @@ use Rattle.lt_nest_lines.specs.declared.answer.Answer.TheVariants.{Done, Usage, 
 use Rattle.lt_nest_lines.specs.declared.limits.TheConstants.{MAX_SETS, MAX_TRANSACTIONS, MAX_LINES, MAX_INPUT}
 use Rattle.lt_nest_lines.specs.Answers.{outcome_of, status_line}
 use Rattle.lt_nest_lines.specs.Serves.{ServesLines}
-use Rattle.lt_law_calls.specs.PlainCalls.{SinkTells, PlainCall, AnswersSo, SinkHolds, IsPartWritten}
+use Rattle.lt_law_pinned.specs.PlainCalls.{SinkTells, PlainCall, AnswersSo, SinkHolds, IsPartWritten}
 
 pub record NestCodesAre : Type 0 where
   pub done : exit_code (outcome_of Done) ≡ 0

@@ -1,8 +1,8 @@
 ghost use Rattle.lt_nest_lines.specs.Answers.{outcome_of as nest_outcome};
 ghost use Rattle.lt_waits.specs.Answers.{outcome_of as report_outcome};
-ghost use Rattle.lt_law_calls.specs.PlainCalls.{PlainlyTold};
-ghost use Rattle.lt_law_calls.specs.NestCalls.{NestCodesAre, NestTextsAre, NestsTold, IsNestCall, one_waits};
-ghost use Rattle.lt_law_calls.specs.Reports.{ReportCodesAre, ReportTextsAre, ReportsTold, IsReportCall, writers_apart};
+ghost use Rattle.lt_law_pinned.specs.PlainCalls.{PlainlyTold};
+ghost use Rattle.lt_law_pinned.specs.NestCalls.{NestCodesAre, NestTextsAre, NestsTold, IsNestCall, one_waits};
+ghost use Rattle.lt_law_pinned.specs.Reports.{ReportCodesAre, ReportTextsAre, ReportsTold, IsReportCall, writers_apart};
 
 /// What an answer of the program that reports who waits for whom says, field by field, and its exit statuses and texts.
 pub fn law_reports_told()

@@ -19,7 +19,7 @@ use Rattle.lt_waits.specs.declared.answer.Answer.TheVariants.{Done, Usage, Refus
 use Rattle.lt_waits.specs.Answers.{outcome_of, answer_text}
 use Rattle.lt_waits.specs.Report.{waits_text}
 use Rattle.lt_waits.specs.Serves.{ServesReport}
-use Rattle.lt_law_calls.specs.PlainCalls.{SinkTells, PlainCall, AnswersSo, SinkHolds, IsPartWritten}
+use Rattle.lt_law_pinned.specs.PlainCalls.{SinkTells, PlainCall, AnswersSo, SinkHolds, IsPartWritten}
 
 -- the fault of a script of nothing
 abbrev pub no_nodes_fault : ScriptFault

@@ -18,9 +18,9 @@ use Rattle.lt_nest_lines.specs.Input as input
 use Rattle.lt_nest_lines.specs.Written.{report_text}
 use Rattle.lt_nest_lines.specs.Written as written
 use Rattle.lt_nest_lines.specs.Serves.{IsTextOf, IsWritten, IsUnfit}
-use Rattle.lt_law_calls.specs.PlainCalls.{PlainCall, ReadsPlain, PlainlyTold}
-use Rattle.lt_law_calls.specs.NestCalls.{NestCodesAre, NestTextsAre, IsNestCall, WritesNest, RefusesNest, NestsTold, each_word, each_word_text, one_waits, one_waits_text, no_such_set}
-use Rattle.lt_law_calls.proofs.PlainCallsOpened.{plainly_told, part_so, appended, seven_text}
+use Rattle.lt_law_pinned.specs.PlainCalls.{PlainCall, ReadsPlain, PlainlyTold}
+use Rattle.lt_law_pinned.specs.NestCalls.{NestCodesAre, NestTextsAre, IsNestCall, WritesNest, RefusesNest, NestsTold, each_word, each_word_text, one_waits, one_waits_text, no_such_set}
+use Rattle.lt_law_pinned.proofs.PlainCallsOpened.{plainly_told, part_so, appended, seven_text}
 
 pub nest_codes_are : NestCodesAre
 nest_codes_are = record {

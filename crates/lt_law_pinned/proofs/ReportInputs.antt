@@ -20,7 +20,7 @@ use Rattle.lt_law_journals.specs.Checking.{checked}
 use Rattle.lt_law_journals.specs.Input.{checked_input, counted_from, journal_in, lines_before}
 use Rattle.lt_waits.specs.Report.{waits_text}
 use Rattle.lt_law_examples.specs.Worked.{declared_set, declared_client, act}
-use Rattle.lt_law_calls.specs.Reports.{no_nodes_fault, writers_apart, writers_report, both_change, wrong_grant}
+use Rattle.lt_law_pinned.specs.Reports.{no_nodes_fault, writers_apart, writers_report, both_change, wrong_grant}
 
 pub nothing_read : read_of (take (input_parts []).script []) ≡ Err no_nodes_fault
 unfolding reading.script_body reading.read_from text.lines text.cut_at reading.line_step text.words split.after_first_line

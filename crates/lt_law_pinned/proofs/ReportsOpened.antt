@@ -19,10 +19,10 @@ use Rattle.lt_waits.specs.declared.answer.Answer.TheVariants.{Done, Usage, Refus
 use Rattle.lt_waits.specs.Answers.{outcome_of}
 use Rattle.lt_waits.specs.Report.{waits_text}
 use Rattle.lt_waits.specs.Serves.{IsReportOf, IsUnfit}
-use Rattle.lt_law_calls.specs.PlainCalls.{PlainCall, ReadsPlain, PlainlyTold}
-use Rattle.lt_law_calls.specs.Reports.{ReportCodesAre, ReportTextsAre, IsReportCall, Reports, ReportsTold, no_nodes_fault, writers_apart, writers_report, both_change, wrong_grant}
-use Rattle.lt_law_calls.proofs.ReportInputs.{InputIs, apart_script, writer_moves, change_script, change_moves, nothing_read, apart_is, change_is, wrong_is, apart_text, change_text}
-use Rattle.lt_law_calls.proofs.PlainCallsOpened.{plainly_told, part_so, appended, one_text, five_text, seven_text}
+use Rattle.lt_law_pinned.specs.PlainCalls.{PlainCall, ReadsPlain, PlainlyTold}
+use Rattle.lt_law_pinned.specs.Reports.{ReportCodesAre, ReportTextsAre, IsReportCall, Reports, ReportsTold, no_nodes_fault, writers_apart, writers_report, both_change, wrong_grant}
+use Rattle.lt_law_pinned.proofs.ReportInputs.{InputIs, apart_script, writer_moves, change_script, change_moves, nothing_read, apart_is, change_is, wrong_is, apart_text, change_text}
+use Rattle.lt_law_pinned.proofs.PlainCallsOpened.{plainly_told, part_so, appended, one_text, five_text, seven_text}
 
 pub report_codes_are : ReportCodesAre
 report_codes_are = record {

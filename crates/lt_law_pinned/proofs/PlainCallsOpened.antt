@@ -11,7 +11,7 @@ use Rattle.lt_call.specs.declared.outcome.Outcome.{Outcome}
 use Rattle.lt_call.specs.declared.outcome.Outcome.TheVariants.{Done, Usage, Refused, TooLong, ReadFault, WriteFault, NoMemory, BadJournal}
 use Rattle.lt_call.specs.Outcomes.{HasRead, IsRefused, WritesNothing, SaysOfSource}
 use Rattle.lt_call.specs.Calls.{Serves}
-use Rattle.lt_law_calls.specs.PlainCalls.{SinkTells, PlainCall, EndsIn, EndsWhole, EndsUnwritten, PlainlyTold, IsPartWritten}
+use Rattle.lt_law_pinned.specs.PlainCalls.{SinkTells, PlainCall, EndsIn, EndsWhole, EndsUnwritten, PlainlyTold, IsPartWritten}
 
 pub one_text : decimal 1 ≡ codes "1"
 one_text = decimal_digit 1 (omega arith)

@@ -1,4 +1,0 @@
-pub mod PlainCallsOpened
-pub mod ReportInputs
-pub mod ReportsOpened
-pub mod NestsOpened

@@ -1,3 +1,0 @@
-pub mod PlainCalls
-pub mod Reports
-pub mod NestCalls
