@@ -3,7 +3,7 @@
 # that the tool draws, with who waits for whom if somebody waits at the end; and if the program is built, it makes each
 # journal, with the right status, accepts it, and refuses it at each line that is exchanged for another; a word that
 # isn't text gets the line of usage, which the wrapper prints too. Of runs that are stuck, lockwaits tells who waits for
-# whom; and locklive makes a run of each script, whose journal lockrun accepts. If a program isn't built, its runs that are
+# whom, and why; and locklive makes a run of each script, whose journal lockrun accepts. If a program isn't built, its runs that are
 # left out are counted.
 cd "$(dirname "$0")/.." || exit 1
 program=crates/lockrun/out/lockrun
@@ -29,13 +29,14 @@ program_says() {
   fi
 }
 
-# Sees that lockwaits prints the report of the input.
+# Sees that lockwaits, with a word or none, prints this of the input.
 tells_waits() {
   [ -x $waits ] || { left_out=$((left_out + 1)); return; }
   status=0
-  $waits <"$room/input" >"$room/printed" || status=$?
+  # shellcheck disable=SC2086 # a word or none
+  $waits $3 <"$room/input" >"$room/printed" || status=$?
   if [ $status -ne 0 ] || ! cmp -s "$2" "$room/printed"; then
-    fail "$1: lockwaits prints something else than $2, or its status isn't 0"
+    fail "$1: lockwaits $3 prints something else than $2, or its status isn't 0"
   fi
 }
 
@@ -84,7 +85,10 @@ for script in examples/*.script; do
   { cat "$script"; echo journal; cat "$journal"; } >"$room/input"
   sed -n 's/^end /ok /p' "$journal" >"$room/wanted"
   program_says "$name" check 0 "$room/wanted"
-  if grep -q '^waiting ' "$journal"; then tells_waits "$name" "examples/$name.waits"; fi
+  if grep -q '^waiting ' "$journal"; then
+    tells_waits "$name" "examples/$name.waits"
+    tells_waits "$name" "examples/$name.why" why
+  fi
   lines=$(wc -l <"$room/input")
   k=$(($(wc -l <"$script") + 2))
   while [ $k -le "$lines" ]; do

@@ -57,6 +57,8 @@ for script in "$top"/examples/*.script; do
   under "$room/input" "$name, check" 0 "$lockrun" check
   under "$room/input" "$name, lockwaits" 0 "$lockwaits"
   if [ -f "$top/examples/$name.waits" ]; then same "$top/examples/$name.waits" "$name, lockwaits"; fi
+  under "$room/input" "$name, lockwaits why" 0 "$lockwaits" why
+  if [ -f "$top/examples/$name.why" ]; then same "$top/examples/$name.why" "$name, lockwaits why"; fi
   sed '$d' "$room/input" >"$room/shorter"
   under "$room/shorter" "$name, check without the last line" 8 "$lockrun" check
   under "$room/shorter" "$name, lockwaits without the last line" 8 "$lockwaits"

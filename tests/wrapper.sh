@@ -428,7 +428,8 @@ status 2' "$(on_terminal "'$nest/locknest' <'$room/refused'; echo status \$?")"
 }
 if [ "$(on_terminal 'test -t 2 && echo yes')" = yes ]; then nest_on_a_terminal; fi
 
-# lockwaits takes no words, or the files of a script and its journal, which may lack the end of their last lines.
+# lockwaits takes no words or the word `why`, or the files of a script and its journal behind these, which may lack the
+# end of their last lines.
 waits=$room/waits
 make_top "$waits" && mkdir -p "$waits/crates/lockwaits/out" "$waits/crates/lockwaits/src" &&
   : >"$waits/crates/lockwaits/src/main.rt"
@@ -441,7 +442,7 @@ case $input in
   "# fault"*) echo "lockwaits: line 5: S10" >&2; exit 2 ;;
   "# bad"*) echo "lockwaits: line 7: journal" >&2; exit 8 ;;
 esac
-echo "<$input>"' >"$waits/crates/lockwaits/out/lockwaits" && chmod +x "$waits/crates/lockwaits/out/lockwaits"
+echo "$*<$input>"' >"$waits/crates/lockwaits/out/lockwaits" && chmod +x "$waits/crates/lockwaits/out/lockwaits"
 printf 'crates.txt\ncrates/lockwaits/src\ncrates/lockwaits/src/main.rt\n' >"$waits/crates/lockwaits/out/sources"
 expect 'lockwaits' '<nodes 1
 journal
@@ -452,6 +453,17 @@ expect 'lockwaits with two files' '<nodes 1
 journal
 end 0>
 status 0' "$(cd "$room" && said "$waits/lockwaits" 'a script' -journal)"
+expect 'lockwaits why with two files' 'why<nodes 1
+journal
+end 0>
+status 0' "$(cd "$room" && said "$waits/lockwaits" why 'a script' -journal)"
+printf 'nodes 1\njournal\nend 0\n' >"$room/why"
+expect 'lockwaits why, where a file has that name' 'why<x>
+status 0' "$(cd "$room" && echo x | said "$waits/lockwaits" why)"
+expect 'lockwaits why with a file' 'why<nodes 1
+journal
+end 0>
+status 0' "$(cd "$room" && said "$waits/lockwaits" why why)"
 expect 'lockwaits with a file that is none' "lockwaits: $room/none can't be read
 status 125" "$(said "$waits/lockwaits" "$room/a script" "$room/none")"
 expect 'lockrun check with two files' '<check>
@@ -465,6 +477,12 @@ status 1' "$(said "$waits/lockwaits" run </dev/null)"
 expect 'lockwaits with three words' 'lockwaits: usage: lockwaits
 lockwaits: "three" is one word too many
 status 1' "$(said "$waits/lockwaits" one two three </dev/null)"
+expect 'lockwaits why with a word' 'lockwaits: usage: lockwaits
+lockwaits: "not" is no file that can be read, and nothing else may stand there
+status 1' "$(said "$waits/lockwaits" why not </dev/null)"
+expect 'lockwaits why with four words' 'lockwaits: usage: lockwaits
+lockwaits: "three" is one word too many
+status 1' "$(said "$waits/lockwaits" why one two three </dev/null)"
 expect 'lockwaits --version' "lockwaits $(sed -n 's/^version=//p' "$here/lockwaits")
 status 0" "$(said "$waits/lockwaits" --version)"
 expect 'lockwaits --help names the two files' 1 "$("$waits/lockwaits" --help | grep -c '^  ./lockwaits SCRIPT JOURNAL  ')"

@@ -16,7 +16,8 @@ use Rattle.lt_waits.specs.declared.answer.Answer.{Answer}
 use Rattle.lt_waits.specs.Answers.{answer_of_input, outcome_of}
 use Rattle.lt_waits.specs.Explained.{Explains}
 use Rattle.lt_waits.specs.Report.{waits_text}
-use Rattle.lt_waits.specs.Serves.{IsReportOf, IsUnfit}
+use Rattle.lt_waits.specs.Serves.{IsReportOf, IsWhyOf, IsUnfit}
+use Rattle.lt_waits.specs.Why.{NamesRing, why_text}
 
 fails_says : (e : InputError) (before after : SourceState) → FailsInput e before after → SaysOfSource MAX_JOURNAL (outcome_of (answer_of_input e)) before after
 fails_says error.ReadFault before after fails = failed_reading MAX_JOURNAL before after fails.0 fails.1
@@ -55,4 +56,18 @@ reported left script world text ended explained told = record {
   finished = ended.finished;
   explained = explained;
   told = told ∙ ap (λ (s : ScriptData). waits_text script (waits_report script (world_after s world.run))) ended.script_is;
+}
+
+-- and so is what is said of why clients wait
+pub said_why : (left : Option (List ℕ)) (script : ScriptData) (world : WorldData) (text : List ℕ) → IsEndedRun left script world
+    → (ring : Option (List ℕ)) × NamesRing script world.run ring × (text ≡ why_text script world.run ring) → IsWhyOf left text
+said_why left script world text ended said = record {
+  script = script;
+  run = world.run;
+  denoted = ended.denoted;
+  accepted = ended.accepted;
+  finished = ended.finished;
+  ring = said.0;
+  names = said.1;
+  told = said.2;
 }

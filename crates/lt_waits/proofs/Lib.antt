@@ -1,3 +1,4 @@
+mod BehindAll
 mod Closing
 mod Explaining
 mod FoundPaths
@@ -5,8 +6,13 @@ mod Judged
 mod Layers
 mod Least
 mod Marks
+mod Naming
+mod RingEdges
+mod Rounding
 mod Rounds
 mod Rows
+mod SameGraph
 mod SoFar
 mod Told
+mod TrueEdges
 mod Walks

@@ -27,7 +27,7 @@ numbers_push n =
     let place : 0 + n ≡ n = omega arith in
     range_push 0 n ∙ ap (λ (x : ℕ). numbers_below n ++ x ∷ []) place
 
-text_append : (xs ys : List (List ℕ)) → text (xs ++ ys) ≡ text xs ++ text ys
+pub text_append : (xs ys : List (List ℕ)) → text (xs ++ ys) ≡ text xs ++ text ys
 text_append [] ys = refl
 text_append (x ∷ rest) ys =
     ap (λ (t : List ℕ). x ++ 10 ∷ t) (text_append rest ys) ∙ sym (append_assoc x (10 ∷ text rest) (text ys))

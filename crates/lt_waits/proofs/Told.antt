@@ -6,11 +6,11 @@ use Rattle.lt_spec.specs.Rings.{Graph, numbers_below, still_waiting, remaining, 
 use Rattle.lt_spec.specs.Reports.{ReportLine, WaitsLine, CycleLine, NoCycleLine, EndsLine, waits_lines, ends_lines, last_lines, report}
 
 -- tests and functions that agree on a list
-any_same : (p q : ℕ → Bool) (xs : List ℕ) → AllByRecursion (λ x. p x ≡ q x) xs → list_any p xs ≡ list_any q xs
+pub any_same : (p q : ℕ → Bool) (xs : List ℕ) → AllByRecursion (λ x. p x ≡ q x) xs → list_any p xs ≡ list_any q xs
 any_same p q [] same = refl
 any_same p q (x ∷ rest) same = ap₂ ◌||◌ same.0 (any_same p q rest same.1)
 
-filter_agree : (p q : ℕ → Bool) (xs : List ℕ) → AllByRecursion (λ x. p x ≡ q x) xs → filter p xs ≡ filter q xs
+pub filter_agree : (p q : ℕ → Bool) (xs : List ℕ) → AllByRecursion (λ x. p x ≡ q x) xs → filter p xs ≡ filter q xs
 filter_agree p q [] same = refl
 filter_agree p q (x ∷ rest) same = ap₂ (λ (t : Bool) (l : List ℕ). if t then x ∷ l else l) same.0 (filter_agree p q rest same.1)
 
@@ -22,16 +22,16 @@ map_same : {Y : Type 0} (f g : ℕ → Y) (xs : List ℕ) → AllByRecursion (λ
 map_same f g [] same = refl
 map_same {Y} f g (x ∷ rest) same = ap₂ (λ (y : Y) (l : List Y). y ∷ l) same.0 (map_same f g rest same.1)
 
-flat_map_same : {Y : Type 0} (f g : ℕ → List Y) (xs : List ℕ) → AllByRecursion (λ x. f x ≡ g x) xs → flat_map f xs ≡ flat_map g xs
+pub flat_map_same : {Y : Type 0} (f g : ℕ → List Y) (xs : List ℕ) → AllByRecursion (λ x. f x ≡ g x) xs → flat_map f xs ≡ flat_map g xs
 flat_map_same f g [] same = refl
 flat_map_same {Y} f g (x ∷ rest) same = ap₂ (λ (a b : List Y). a ++ b) same.0 (flat_map_same f g rest same.1)
 
 -- what holds of each element, from what holds of each
-all_by : (P Q : ℕ → Type 0) → ((x : ℕ) → P x → Q x) → (xs : List ℕ) → AllByRecursion P xs → AllByRecursion Q xs
+pub all_by : (P Q : ℕ → Type 0) → ((x : ℕ) → P x → Q x) → (xs : List ℕ) → AllByRecursion P xs → AllByRecursion Q xs
 all_by P Q f [] all = tt
 all_by P Q f (x ∷ rest) all = (f x all.0, all_by P Q f rest all.1)
 
-all_filter : (P : ℕ → Type 0) (test : ℕ → Bool) (xs : List ℕ) → AllByRecursion P xs → AllByRecursion P (filter test xs)
+pub all_filter : (P : ℕ → Type 0) (test : ℕ → Bool) (xs : List ℕ) → AllByRecursion P xs → AllByRecursion P (filter test xs)
 all_filter P test [] all = tt
 all_filter P test (x ∷ rest) all = by_test (test x) (all_filter P test rest all.1)
   where
@@ -56,10 +56,10 @@ abbrev pub AreClients : ℕ → List ℕ → Type 0
 AreClients n xs = AllByRecursion (λ x. x < n) xs
 
 module _ (n : ℕ) (a b : Graph) (same : (c d : ℕ) → c < n → d < n → a c d ≡ b c d) where
-  all_clients : AreClients n (numbers_below n)
+  pub all_clients : AreClients n (numbers_below n)
   all_clients = range_below n 0 n (omega arith)
 
-  rows : (c : ℕ) → c < n → (xs : List ℕ) → AreClients n xs → AllByRecursion (λ d. a c d ≡ b c d) xs
+  pub rows : (c : ℕ) → c < n → (xs : List ℕ) → AreClients n xs → AllByRecursion (λ d. a c d ≡ b c d) xs
   rows c h xs all = all_by (λ d. d < n) (λ d. a c d ≡ b c d) (λ d k. same c d h k) xs all
 
   still_same : (xs : List ℕ) → AreClients n xs → still_waiting a xs ≡ still_waiting b xs
@@ -75,7 +75,7 @@ module _ (n : ℕ) (a b : Graph) (same : (c d : ℕ) → c < n → d < n → a c
   remain_same zero = refl
   remain_same (suc k) = still_same (remaining a (numbers_below n) k) (remain_clients k) ∙ ap (still_waiting b) (remain_same k)
 
-  next_same : (xs : List ℕ) (c : ℕ) → AreClients n xs → c < n → next_among a xs c ≡ next_among b xs c
+  pub next_same : (xs : List ℕ) (c : ℕ) → AreClients n xs → c < n → next_among a xs c ≡ next_among b xs c
   next_same xs c all h = find_same (a c) (b c) xs (rows c h xs all)
 
   walk_same : (fuel : ℕ) (xs walk : List ℕ) (o : Option ℕ) → AreClients n xs → IfSome o (λ c. c < n) → ring_from fuel a xs walk o ≡ ring_from fuel b xs walk o

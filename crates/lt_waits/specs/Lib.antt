@@ -1,6 +1,14 @@
 pub mod Answers
+pub mod Behind
+pub mod BehindLaws
+pub mod EdgeLaws
+pub mod Edges
 pub mod Explained
 pub mod Graph
+pub mod Reasons
 pub mod Report
 pub mod Serves
 pub mod Shortest
+pub mod Tallied
+pub mod Why
+pub mod Words

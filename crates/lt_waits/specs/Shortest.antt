@@ -17,6 +17,13 @@ pub record IsRingOf (n : ℕ) (graph : Graph) (clients : List ℕ) : Type 0 wher
 abbrev pub IsShortest : ℕ → Graph → List ℕ → Type 0
 IsShortest n graph clients = (other : List ℕ) → AreBelow n other → IsRing graph other → length clients ≤ length other
 
+-- a ring of the graph: if some clients wait in a ring by locks alone, one of these, and none of these is shorter; else
+-- no ring is shorter
+pub record IsRingNamed (n : ℕ) (locks graph : Graph) (ring : List ℕ) : Type 0 where
+  pub ring_is : IsRingOf n graph ring
+  pub by_locks : HasRing n locks → IsRing locks ring × IsShortest n locks ring
+  pub by_any : (HasRing n locks → ⊥) → IsShortest n graph ring
+
 -- those of these clients that wait for one of the others
 abbrev pub waiting_for : Graph → List ℕ → List ℕ → List ℕ
 waiting_for graph others clients = filter (λ c. list_any (graph c) others) clients

@@ -6,17 +6,28 @@
 mod answer;
 mod arguments;
 mod asking;
+mod behind;
+mod edge;
+mod edge_lines;
 mod graph;
+mod laws;
 mod lines;
+mod locking;
+mod reasons;
 mod reporting;
 mod rings;
+mod saying;
 mod serving;
 mod shortest;
+mod tallied;
 mod waits;
 
 pub use answer::Answer;
 pub use arguments::program;
+pub use edge::Edge;
 pub use graph::WaitGraph;
+pub use laws::{law_behind, law_edges};
 pub use lines::report_of;
 pub use reporting::report;
+pub use saying::why;
 pub use serving::serve;

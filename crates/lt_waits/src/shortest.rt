@@ -143,8 +143,8 @@ fn is_among(clients: &[u16], client: u16) -> bool
     clients.contains(&client)
 }
 
-// Those of these clients that wait for one of the others.
-fn waiting(
+/// Those of these clients that wait for one of the others.
+pub(crate) fn waiting(
     alloc: Global,
     graph: &WaitGraph,
     clients: &[u16],
@@ -162,8 +162,8 @@ fn waiting(
     waiting.collect(alloc)
 }
 
-// Those of these clients that wait for none of the others.
-fn not_waiting(
+/// Those of these clients that wait for none of the others.
+pub(crate) fn not_waiting(
     alloc: Global,
     graph: &WaitGraph,
     clients: &[u16],

@@ -1,0 +1,18 @@
+use Rattle.lt_waits.proofs.Judged.{unfit_says, unfit_refusal, said_why}
+use Rattle.lt_waits.proofs.reasons.ReasonsWork.make.Goals as goal
+
+pub returns-in-Err-clause-reading : goal.returns-in-Err-clause-reading
+returns-in-Err-clause-reading g c =
+    unfit_says c.from.result c.in-Err.error (g.S.Source.state c.args.source.now) (g.S.Source.state c.check_input.new.source) c.from.ensures c.in-Err.ensures.err
+
+pub returns-in-Err-clause-refused : goal.returns-in-Err-clause-refused
+returns-in-Err-clause-refused g c =
+    unfit_refusal c.from.result c.in-Err.error (g.S.Source.state c.args.source.now) (g.S.Source.state c.check_input.new.source) c.from.ensures c.in-Err.ensures.err
+
+pub why-requires : goal.why-requires
+why-requires g c = c.in-Ok.ensures.told.script_is
+
+pub returns-in-Ok-why-clause-text : goal.returns-in-Ok-why-clause-text
+returns-in-Ok-why-clause-text g c =
+    let ended = c.in-Ok.ended in
+    said_why (g.S.Source.state c.args.source.now).left ended.script ended.world c.in-Ok-why.text.items c.in-Ok.ensures.told c.in-Ok-why.ensures

@@ -1,0 +1,49 @@
+use Rattle.std.proofs.Common.{◌≡◌, ◌∙◌, ◌<◌, ◌+◌, ℕ, List, Option, length, ap, sym, subst, arith, IfSome}
+use Rattle.std.proofs.lemmas.Bool.{and_parts}
+use Rattle.std.proofs.lemmas.Result.{IfOk-weaker}
+use Rattle.lt_modes.specs.Script.{ScriptData}
+use Rattle.lt_spec.specs.Holdings.{lines_of}
+use Rattle.lt_spec.specs.Log.{Logged}
+use Rattle.lt_spec.specs.Waiting.{waits_for}
+use Rattle.lt_spec.specs.World.{world_after}
+use Rattle.lt_waits.specs.Graph.{graph_of, Tells}
+use Rattle.lt_waits.specs.Reasons.{by_lock, is_barred, want_of}
+use Rattle.lt_waits.specs.Tallied.{TalliedData}
+use Rattle.lt_waits.specs.Why.{items_of, why_of}
+use Rattle.lt_waits.proofs.Naming.{named_below, part_of, why_said}
+use Rattle.lt_waits.proofs.saying.why.Goals as goal
+
+pub lock_graph-requires : goal.lock_graph-requires
+lock_graph-requires c = c.in_ok-graph.ensures.clients ∙ ap (λ (t : TalliedData). length t.script.clients) (sym c.in_ok-tallied.ensures)
+
+pub text_of-requires-clause-clients : goal.text_of-requires-clause-clients
+text_of-requires-clause-clients c = c.in_ok-graph.ensures.clients ∙ ap (λ (t : TalliedData). length t.script.clients) (sym c.in_ok-tallied.ensures)
+
+pub named_ring-requires-clause-part : goal.named_ring-requires-clause-part
+named_ring-requires-clause-part c = part_of c.in_ok-tallied.tallied.script c.in_ok-tallied.tallied.lines c.in_ok-graph.graph c.in_ok-locks.locks c.in_ok-locks.ensures.clients c.in_ok-locks.ensures.told
+
+pub text_of-requires-clause-ring : goal.text_of-requires-clause-ring
+text_of-requires-clause-ring c =
+    named_below c.in_ok-graph.graph.clients (graph_of c.in_ok-locks.locks) (graph_of c.in_ok-graph.graph) c.in_ok-found.found c.in_ok-found.ensures.named
+
+pub returns : goal.returns
+returns c =
+    let script = c.args.script.now in
+    let run = c.args.world.now.run in
+    let graph = c.in_ok-graph.graph in
+    let locks = c.in_ok-locks.locks in
+    let found = c.in_ok-found.found in
+    let tallied_is : c.in_ok-tallied.tallied ≡ record { script = script; lines = lines_of run } = c.in_ok-tallied.ensures ∙ ap (λ (r : List Logged). record { script = script; lines = lines_of r }) c.run.ensures in
+    let waits = subst (λ (s : ScriptData). Tells graph (waits_for script (world_after s run))) c.requires c.in_ok-graph.ensures.told in
+    let told = subst (λ (t : TalliedData). Tells locks (by_lock t.script t.lines (graph_of graph))) tallied_is c.in_ok-locks.ensures.told in
+    let told_of : (d e : ℕ) → d < graph.clients → e < graph.clients → graph_of locks d e ≡ by_lock script (lines_of run) (graph_of graph) d e =
+    λ d e h k. told d e (omega (arith, h, c.in_ok-locks.ensures.clients)) (omega (arith, k, c.in_ok-locks.ensures.clients)) in
+    IfOk-weaker c.text_of.result _ _
+    (λ text h. why_said script run graph.clients (graph_of locks) (graph_of graph) found text.items c.in_ok-graph.ensures.clients (record {
+      waits = waits;
+      locks_are = told_of;
+      some = c.in_ok-found.ensures.some;
+      named = c.in_ok-found.ensures.named;
+      told = h ∙ ap (λ (t : TalliedData). why_of t.script t.lines (graph_of locks) (graph_of graph) (items_of found)) tallied_is;
+    }))
+    c.text_of.ensures

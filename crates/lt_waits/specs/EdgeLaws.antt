@@ -1,0 +1,25 @@
+-- What a line tells of a client that waits for another one, as a statement.
+use Rattle.std.specs.Prelude.{◌≡◌, ◌<◌, ◌⊎◌, ℕ, List, Some, length, IsTrue}
+use Rattle.lt_modes.specs.Script.{ScriptData}
+use Rattle.lt_spec.specs.Holdings.{Holding, lines_of}
+use Rattle.lt_spec.specs.Log.{Logged}
+use Rattle.lt_spec.specs.Waiting.{waits_for, waits_behind}
+use Rattle.lt_spec.specs.Waits.{WaitsFor}
+use Rattle.lt_spec.specs.WholeScripts.{IsWhole}
+use Rattle.lt_spec.specs.World.{world_after, IsRun}
+use Rattle.lt_waits.specs.Reasons.{is_barred, want_of}
+
+-- what the client wants is what an unanswered ask of it wants; and the other one holds a lock that conflicts with it,
+-- or the ask stands behind one of the other one in the queue, or is parked behind it
+pub record IsTrueEdge (script : ScriptData) (run : List Logged) (client other : ℕ) : Type 0 where
+  pub want : Holding
+  pub want_is : want_of script (lines_of run) client ≡ Some want
+  pub asks : WaitsFor script (world_after script run) client want.set want.mode
+  pub kept : IsTrue (is_barred script (lines_of run) (Some want) other)
+      ⊎ IsTrue (waits_behind script (world_after script run) want.set other client)
+
+-- of each two clients of which the first waits for the second, after any run
+abbrev pub EdgesAreTold : Type 0
+EdgesAreTold = (script : ScriptData) (run : List Logged) → IsWhole script → IsRun script run → (client other : ℕ)
+    → client < length script.clients → other < length script.clients
+    → IsTrue (waits_for script (world_after script run) client other) → IsTrueEdge script run client other

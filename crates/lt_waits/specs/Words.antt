@@ -1,0 +1,8 @@
+-- The words that ask why clients wait.
+use Rattle.std.specs.Prelude.{ℕ, List, [], ◌∷◌, Bool, false, codes}
+use Rattle.std.specs.Str.{bytes_eq}
+
+-- the words are the word `why` alone
+abbrev pub asks_why : List (List ℕ) → Bool
+asks_why (word ∷ []) = bytes_eq word (codes "why")
+asks_why words = false
