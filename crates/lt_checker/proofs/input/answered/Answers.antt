@@ -1,8 +1,7 @@
-use Rattle.std.proofs.Common.{◌≡◌, Err, drop, subst}
+use Rattle.std.proofs.Common.{rules, ◌≡◌, Err, drop, subst}
 use Rattle.lt_text.specs.Text.{lines}
 use Rattle.lt_journal.specs.Split.{input_parts}
 use Rattle.lt_law_journals.specs.Checking.{checked}
-use Rattle.lt_checker.specs.declared.error.ReplayError.TheVariants.{Bad}
 use Rattle.lt_checker.specs.Endings.{EndsIn, IsWorldAnswer}
 use Rattle.lt_checker.proofs.Inputs.{bad_input}
 use Rattle.lt_checker.proofs.input.answered.Goals as goal
@@ -23,8 +22,5 @@ returns-in-Ok-clause-answer c = λ bytes read before answers.
 pub returns-clause-answer : goal.returns-clause-answer
 returns-clause-answer c = λ bytes read before answers.
     let script = c.args.script in
-    let told = checked script (lines (drop (input_parts bytes).journal bytes)) in
-    let is = c.in-Err-Bad.is in
-    let field = c.in-Err-Bad.field-0-is in
-    let bad : c.args.told ≡ Err (Bad c.in-Err-Bad.line) = cc in
-    bad_input script bytes c.args.before c.in-Err-Bad.line c.requires.kept read before (subst (IsWorldAnswer script told) bad answers)
+    let bad : checked script (lines (drop (input_parts bytes).journal bytes)) ≡ Err c.in-Err-Bad.line = search rules in
+    bad_input script bytes c.args.before c.in-Err-Bad.line c.requires.kept read before bad
