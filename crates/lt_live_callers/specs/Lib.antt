@@ -1,3 +1,4 @@
 pub mod Desks
 pub mod Ends
 pub mod Served
+pub mod Texts

@@ -1,7 +1,10 @@
 -- What callers made of a script.
-use Rattle.std.specs.Prelude.{◌≡◌, ℕ, List, [], ◌∷◌, ◌++◌, Option, Some, None, length, map, slice_get}
+use Rattle.std.specs.Prelude.{◌≡◌, ℕ, List, [], ◌∷◌, ◌++◌, Option, Some, None, codes, length, map, slice_get}
 use Rattle.lt_modes.specs.declared.command.Command.{Command}
 use Rattle.lt_modes.specs.Script.{ScriptData}
+use Rattle.lt_spec.specs.Log.{Logged}
+use Rattle.lt_script.specs.Printing.{print_of}
+use Rattle.lt_journal.specs.Text.{text_of}
 use Rattle.lt_live.specs.declared.reply.Reply.{Reply}
 use Rattle.lt_live.specs.declared.ends.Session.{Session}
 use Rattle.lt_live.specs.Words.{submitted, polled, command_held}
@@ -13,6 +16,10 @@ use Rattle.lt_live_callers.specs.declared.served.Called.{Called}
 use Rattle.lt_live_callers.specs.declared.served.Served.{Served}
 use Rattle.lt_live_callers.specs.Desks.{StepOf, Went, replies_of, commands_of, caller_of, called_of, session_of}
 use Rattle.lt_live_callers.specs.Ends.{CallersEndSo}
+
+-- the text of a script, the line `journal`, and the text of a run of it at rest
+abbrev pub with_journal : ScriptData → List Logged → List ℕ
+with_journal script run = print_of script ++ codes "journal\n" ++ text_of script run None
 
 module _ {C : Type 0} where
   -- the second caller is what its steps made of the first; in them it was told what the session polled, in order, and what it

@@ -3,6 +3,8 @@ ghost use Rattle.std.specs.Prelude.{◌≡◌};
 ghost use Rattle.lt_live_callers.specs.declared.error.CallersError.TheVariants as errors;
 
 use std::alloc::AllocError;
+use std::error::Error;
+use std::fmt;
 
 /// Why callers aren't served.
 #[derive(Clone, Copy, Debug, PartialEq, Eq)]
@@ -21,3 +23,20 @@ impl From<AllocError> for CallersError {
         CallersError::NoMemory
     }
 }
+
+impl fmt::Display for CallersError {
+    ghost use Rattle.std.specs.Prelude.{Some};
+    ghost use Rattle.lt_live_callers.specs.Texts.{error_text};
+
+    ghost output = { λ error. Some (error_text error) };
+
+    fn fmt<W: fmt::Write>(&self, f: &mut fmt::Formatter<W>) -> fmt::Result {
+        f.write_str(match self {
+            CallersError::Count => "there isn't one caller for each client",
+            CallersError::Limit => "a node may make no move, or more than it ever may",
+            CallersError::NoMemory => "no memory",
+        })
+    }
+}
+
+impl Error for CallersError {}

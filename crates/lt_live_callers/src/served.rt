@@ -1,8 +1,13 @@
 // What callers are given back.
+ghost use Rattle.std.specs.Prelude.{◌≡◌, IfOk};
+ghost use Rattle.lt_live_callers.specs.Served.{with_journal};
+
 use crate::ending::LiveEnding;
+use lt_journal::write;
 use lt_merge::Run;
 use lt_modes::Command;
-use lt_script::Script;
+use lt_script::{Script, print};
+use std::alloc::{AllocError, Global};
 
 /// A caller as it is at the end, and the command of its own that it might not submit, if there was one.
 #[derive(Drop)]
@@ -18,4 +23,16 @@ pub struct Served<C> {
     pub run: Run,
     pub ending: LiveEnding,
     pub callers: Vec<Called<C>>,
+}
+
+impl<C> Served<C> {
+    /// The script, the line `journal` and the journal of the run, as `lockrun check` reads them.
+    pub fn text(&self, alloc: Global) -> Result<Vec<u8>, AllocError>
+        ensures { IfOk result (λ text. text.items ≡ with_journal self.now.script self.now.run.entries) }
+    {
+        let mut text = print(alloc, &self.script)?;
+        text.extend_from_slice(b"journal\n")?;
+        text.extend_from_slice(&write(alloc, &self.script, &self.run, None)?)?;
+        Ok(text)
+    }
 }
