@@ -12,12 +12,10 @@ mod clerk;
 use accounts::Bank;
 use anyhow::{Result, bail};
 use caller::{BankCaller, callers_of};
-use lt_checker::Checker;
+use lt_checker::check_input;
 use lt_io::{ReaderSource, read_all};
-use lt_live_callers::{Called, Caller, CallersError, serve_callers};
-use lt_merge::Run;
+use lt_live_callers::{Called, Caller, serve_callers};
 use lt_script::Script;
-use std::alloc::Global;
 use std::io::Print;
 use std::str;
 use std::sync::atomic::Ordering;
@@ -42,13 +40,6 @@ fn print_accounts<R: Print>(rt: &R, script: &Script, bank: &Bank) -> Result<()> 
     Ok(())
 }
 
-// Whether the journal is one of a run of the script.
-fn is_accepted(alloc: Global, script: &Script, run: &Run) -> Result<bool> {
-    let mut checker = Checker::new(alloc, script)?;
-    checker.feed(&lt_journal::write(alloc, script, run, None)?)?;
-    Ok(checker.end().is_ok())
-}
-
 // Whether all callers came to an end, and the auditor found no wrong sum.
 fn look_at(callers: &[Called<BankCaller<'_>>]) -> Result<()> {
     for called in callers {
@@ -68,15 +59,12 @@ fn main(rt: HostRuntime) -> Result<()> {
     let script = lt_script::read(alloc, &text)?;
     let bank = Bank::new(alloc, &script)?;
     let callers = callers_of(alloc, &script, &bank)?;
-    let served = match serve_callers(&rt, alloc, &script, callers, MOST_MOVES, THREADS, ROUNDS) {
-        Ok(served) => served,
-        Err(CallersError::NoMemory) => bail!("memory ran out"),
-        Err(_) => bail!("there isn't a caller for each client"),
-    };
+    let served = serve_callers(&rt, alloc, &script, callers, MOST_MOVES, THREADS, ROUNDS)?;
     look_at(&served.callers)?;
     print_accounts(&rt, &served.script, &bank)?;
     println!(rt; "all together: {}", bank.sum())?;
-    if !is_accepted(alloc, &served.script, &served.run)? {
+    let text = served.text(alloc)?;
+    if check_input(alloc, &mut ReaderSource::new(text.as_slice())).is_err() {
         bail!("the journal isn't one of a run");
     }
     println!(rt; "the journal is accepted")?;

@@ -1,33 +1,36 @@
-//! A shop, as a first program that locks: callers on threads of their own buy items, each under locks.
+//! A shop, as a first program that locks: a caller for each client buys items, each under locks.
+//!
+//! It reads a script, and prints what is in stock at the end and that its journal is accepted; or, with the word
+//! `journal`, its script and journal, as `lockrun check` reads them.
 #![tactic(auto)]
 
 use anyhow::{Result, bail};
-use lt_io::{ReaderSource, read_all};
-use lt_live::{Reply, Session, Station, open};
+use lt_checker::check_input;
+use lt_io::{ReaderSource, WriterSink, read_all, write_all};
+use lt_live::Reply;
+use lt_live_callers::{Caller, serve_callers};
 use lt_modes::{Command, Mode};
-use lt_runner::Open;
 use lt_script::Script;
 use std::alloc::Global;
 use std::io::Print;
 use std::sync::atomic::{AtomicU64, Ordering};
-use std::thread::{Threads, for_each_mut, join_mut};
 
-// The most bytes of a script, the most moves of a node, and the places in the rings of a session.
+// The most bytes of a script, the most moves of a node, the threads of callers, with as many of nodes, and the most
+// rounds.
 const MOST_BYTES: usize = 1 << 16;
 
 const MOST_MOVES: u32 = 1 << 16;
 
-const PLACES: u32 = 8;
+const THREADS: usize = 3;
 
-// How many there are of each item, and how many a caller buys.
+const ROUNDS: u32 = 100_000;
+
+// How many there are of each item, how many a caller buys, and how many commands each purchase takes.
 const STOCK: u64 = 100;
 
 const PURCHASES: u32 = 20;
 
-// How often a caller polls before it gives up, and the most turns of a station.
-const POLLS: u32 = 1_000_000_000;
-
-const TURNS: u32 = 2_000_000_000;
+const PARTS: u32 = 5;
 
 const ITEMS: [&str; 4] = ["pens", "cups", "mats", "bags"];
 
@@ -38,48 +41,91 @@ struct Item {
     stock: AtomicU64,
 }
 
-// What all threads share: how many callers are at work, and how many gave up.
 #[derive(Drop)]
 struct Shop {
     order: u8,
     items: Vec<Item>,
-    busy: AtomicU64,
-    gave_up: AtomicU64,
+}
+
+// Who buys for a client: how many commands it gave, how many replies it was told, and the stock that it read last.
+#[derive(Drop)]
+struct Buyer<'a> {
+    shop: &'a Shop,
+    client: u16,
+    given: u32,
+    told: u32,
+    stock: u64,
+}
+
+fn set_named(script: &Script, name: &str) -> Result<u8> {
+    match script.set_number(name.as_bytes()) {
+        Some(set) => Ok(set),
+        None => bail!("the script has no set {name}"),
+    }
 }
 
 fn shop_of(alloc: Global, script: &Script) -> Result<Shop> {
-    let Some(order) = script.set_number("order".as_bytes()) else {
-        bail!("the script has no set order");
-    };
     let mut items = Vec::new(alloc);
     for name in ITEMS {
-        let Some(set) = script.set_number(name.as_bytes()) else {
-            bail!("the script has no set {name}");
-        };
-        let stock = AtomicU64::new(STOCK);
-        items.push(Item { set, stock })?;
+        items.push(Item {
+            set: set_named(script, name)?,
+            stock: AtomicU64::new(STOCK),
+        })?;
     }
     Ok(Shop {
-        order,
+        order: set_named(script, "order")?,
         items,
-        busy: AtomicU64::new(u64::from(script.clients())),
-        gave_up: AtomicU64::new(0),
     })
 }
 
-// Submits the command, and polls until its reply is there.
-fn call(session: &mut Session, command: Command) -> Option<Reply> {
-    if session.left() == 0 || !session.may_submit(command) {
-        return None;
+// Reads the stock under an upgrade, which lets others read, and writes one less under a write.
+fn buy(part: u32, order: u8, item: &Item, stock: &mut u64) -> Command {
+    match part {
+        0 => lock(order, Mode::IntentionWrite),
+        1 => lock(item.set, Mode::Upgrade),
+        2 => {
+            *stock = item.stock.load(Ordering::SeqCst);
+            change(item.set, Mode::Upgrade, Mode::Write)
+        }
+        3 => {
+            item.stock.store(stock.saturating_sub(1), Ordering::SeqCst);
+            unlock(item.set, Mode::Write)
+        }
+        _ => unlock(order, Mode::IntentionWrite),
     }
-    session.submit(command).ok()?;
-    for _poll in 0..POLLS {
-        let reply = session.poll();
-        if reply.is_some() {
-            return reply;
+}
+
+impl Buyer<'_> {
+    fn new<'a>(shop: &'a Shop, client: u16) -> Buyer<'a> {
+        Buyer {
+            shop,
+            client,
+            given: 0,
+            told: 0,
+            stock: 0,
         }
     }
-    None
+}
+
+impl Caller for Buyer<'_> {
+    // Each command is given once the one before it is answered; each caller begins with another item.
+    fn step(&mut self, reply: Option<Reply>) -> Option<Command> {
+        if reply.is_some() {
+            self.told = self.told.saturating_add(1);
+        }
+        if self.told < self.given || self.given >= PURCHASES * PARTS {
+            return None;
+        }
+        let (purchase, part) = (self.given / PARTS, self.given % PARTS);
+        let place = (purchase % 4 + u32::from(self.client)) % 4;
+        let item = self.shop.items.get(place as usize)?;
+        self.given += 1;
+        Some(buy(part, self.shop.order, item, &mut self.stock))
+    }
+
+    fn is_done(&self) -> bool {
+        self.told >= PURCHASES * PARTS
+    }
 }
 
 fn lock(set: u8, mode: Mode) -> Command {
@@ -98,76 +144,6 @@ fn unlock(set: u8, mode: Mode) -> Command {
     Command::Unlock { set, mode }
 }
 
-// Reads the stock under an upgrade, which lets others read, and writes one less under a write.
-fn buy(session: &mut Session, order: u8, item: &Item) -> Option<()> {
-    call(session, lock(order, Mode::IntentionWrite))?;
-    call(session, lock(item.set, Mode::Upgrade))?;
-    let stock = item.stock.load(Ordering::SeqCst);
-    call(session, change(item.set, Mode::Upgrade, Mode::Write))?;
-    item.stock.store(stock.saturating_sub(1), Ordering::SeqCst);
-    call(session, unlock(item.set, Mode::Write))?;
-    call(session, unlock(order, Mode::IntentionWrite))?;
-    Some(())
-}
-
-// Each caller begins with another item.
-fn buy_all(session: &mut Session, shop: &Shop) -> Option<()> {
-    for purchase in 0..PURCHASES {
-        let place = (purchase + u32::from(session.client())) % 4;
-        buy(session, shop.order, shop.items.get(place as usize)?)?;
-    }
-    Some(())
-}
-
-fn run_caller(session: &mut Session, shop: &Shop) {
-    if buy_all(session, shop).is_none() {
-        shop.gave_up.fetch_add(1, Ordering::SeqCst);
-    }
-    shop.busy.fetch_sub(1, Ordering::SeqCst);
-}
-
-fn run_station(station: &mut Station, shop: &Shop) {
-    for _turn in 0..TURNS {
-        if shop.busy.load(Ordering::SeqCst) == 0 {
-            return;
-        }
-        station.turn(&Open);
-    }
-}
-
-fn run_callers<R: Threads + Sync>(rt: &R, sessions: &mut Vec<Session>, shop: &Shop) {
-    let threads = sessions.len().max(1);
-    for_each_mut(
-        rt,
-        sessions,
-        threads,
-        &|_, session| run_caller(session, shop),
-    );
-}
-
-fn run_stations<R: Threads + Sync>(rt: &R, stations: &mut Vec<Station>, shop: &Shop) {
-    let threads = stations.len().max(1);
-    for_each_mut(
-        rt,
-        stations,
-        threads,
-        &|_, station| run_station(station, shop),
-    );
-}
-
-fn work<R: Threads + Sync>(
-    rt: &R,
-    sessions: &mut Vec<Session>,
-    stations: &mut Vec<Station>,
-    shop: &Shop,
-) {
-    join_mut(
-        rt,
-        &mut || run_callers(rt, sessions, shop),
-        &mut || run_stations(rt, stations, shop),
-    );
-}
-
 fn print_stock<R: Print>(rt: &R, shop: &Shop) -> Result<()> {
     for (name, item) in ITEMS.iter().zip(&shop.items) {
         println!(rt; "{name}: {}", item.stock.load(Ordering::SeqCst))?;
@@ -177,13 +153,28 @@ fn print_stock<R: Print>(rt: &R, shop: &Shop) -> Result<()> {
 
 fn main(rt: HostRuntime) -> Result<()> {
     let alloc = rt.alloc();
-    let text = read_all(alloc, &mut ReaderSource::new(rt.stdin()), MOST_BYTES)?;
-    let script = lt_script::read(alloc, &text)?.without_commands(alloc)?;
+    let input = read_all(alloc, &mut ReaderSource::new(rt.stdin()), MOST_BYTES)?;
+    let script = lt_script::read(alloc, &input)?;
     let shop = shop_of(alloc, &script)?;
-    let (mut stations, mut sessions) = open(alloc, &script, MOST_MOVES, PLACES)?;
-    work(&rt, &mut sessions, &mut stations, &shop);
-    if shop.gave_up.load(Ordering::SeqCst) > 0 {
+    let buyers = (0..script.clients())
+        .map(|client| Buyer::new(&shop, client))
+        .collect(alloc)?;
+    let served = serve_callers(&rt, alloc, &script, buyers, MOST_MOVES, THREADS, ROUNDS)?;
+    if !served.callers.iter().all(|called| called.caller.is_done()) {
         bail!("a caller gave up");
     }
-    print_stock(&rt, &shop)
+    let text = served.text(alloc)?;
+    if std::env::args(&rt)?
+        .skip(1)
+        .any(|word| word.as_str() == "journal")
+    {
+        write_all(&mut WriterSink::new(rt.stdout()), &text)?;
+        return Ok(());
+    }
+    print_stock(&rt, &shop)?;
+    if check_input(alloc, &mut ReaderSource::new(text.as_slice())).is_err() {
+        bail!("the journal isn't one of a run");
+    }
+    println!(rt; "the journal is accepted")?;
+    Ok(())
 }
